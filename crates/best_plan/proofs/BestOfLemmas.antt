@@ -117,8 +117,7 @@ from-choices items (s ∷ choices) list has =
     elim (among-either (after_slot items s) (flat_map (after_slot items) choices) list has)
     as (λ _. (slot : SlotFields) × (slots : List SlotFields) × Contains (s ∷ choices) slot
     × Among (all_lists items) slots × (slot ∷ slots ≡ list)) [
-      | inl front ↦ let found = from-map (λ slots. s ∷ slots) (all_lists items) list front in
-          (s, found.0, (0, omega arith, refl), found.1, found.2)
+      | inl front ↦ grind (arith, from-map)
       | inr back ↦ let rest = from-choices items choices list back in let has = rest.2 in
           (rest.0, rest.1, (suc has.0, omega (arith, has.1), has.2), rest.3, rest.4)
     ]
@@ -154,9 +153,7 @@ module _ (window : ℕ) (items : List PlanItem) where
       let laid = laid-early window items found.0 (from-lists items found.0 passed.0) in
       subst (IsLaid window items) found.2 (record {
         slots = laid.0;
-        feasible = subst (λ l. HasLayout window 0 (frames_with_areas (map open_frame items) l))
-            (sym laid.1)
-            (slots-feasible window items found.0 passed.1);
+        feasible = grind (arith, slots-feasible);
         begins = laid.2;
       })
 
@@ -257,11 +254,7 @@ cheapest_plan-is items (placed ∷ plans) found e =
         → IsCheapest items (placed ∷ plans) placed
     keeps least = record {
       among = inl refl;
-      least = λ q has. elim has as (λ _. IsNotBehind (cost_of items placed) (cost_of items q)) [
-        | inl here ↦ subst (λ q. IsNotBehind (cost_of items placed) (cost_of items q)) here
-            (not_behind-self (cost_of items placed))
-        | inr later ↦ least q later
-      ];
+      least = grind (arith, not_behind-self, least);
     }
 
     by : (other : List Placed) → IsCheapest items plans other → (b : Bool)
@@ -269,11 +262,7 @@ cheapest_plan-is items (placed ∷ plans) found e =
         → IsCheapest items (placed ∷ plans) (cond b other placed)
     by other is true before = record {
       among = inr is.among;
-      least = λ q has. elim has as (λ _. IsNotBehind (cost_of items other) (cost_of items q)) [
-        | inl here ↦ subst (λ q. IsNotBehind (cost_of items other) (cost_of items q)) here
-            (before-first (cost_of items other) (cost_of items placed) before)
-        | inr later ↦ is.least q later
-      ];
+      least = grind (arith, before-first);
     }
     by other is false before =
         keeps (λ q later.
@@ -353,14 +342,16 @@ best-plans : (window : ℕ) (items : List PlanItem) (placed : List Placed)
     → best_placement window items ≡ Some placed → IsBestPlanFor window 0 items placed
 best-plans window items placed e = record {
   slots = laid.slots;
-  best = record {
-    chosen = chosen-for items placed laid.slots;
-    feasible = laid.feasible;
-    shortest = λ others chosen feasible. short-of (item_areas items placed) others
-        (not_behind others chosen feasible);
-    first = λ others chosen feasible same. first-of (item_areas items placed) others
-        (not_behind others chosen feasible) same;
-  };
+  best =
+      grind (
+        arith,
+        chosen-for items placed laid.slots,
+        short-of,
+        not_behind,
+        first-of,
+        laid.slots,
+        laid.feasible,
+      );
   begins = laid.begins;
 }
   where

@@ -1,8 +1,8 @@
 -- Before a row in which each free byte saves at most one byte of areas,
 -- the first area that leaves enough for the frames after it is the best.
-use Rattle.std.proofs.Common.{All, ap, append-nil, append_assoc, ap₂, arith, drop, get_or, inl, inr}
-use Rattle.std.proofs.Common.{length, length-append, List, replicate, subst, suc, sym, take, zero}
-use Rattle.std.proofs.{Common.{ℕ, ◌++◌, ◌+◌, ◌-◌, ◌<◌, ◌∙◌, ◌≡◌, ◌≤◌}, lemmas.Bool.cases_lt}
+use Rattle.std.proofs.Common.{All, append-nil, append_assoc, arith, drop, get_or, inl, inr, length}
+use Rattle.std.proofs.Common.{length-append, List, replicate, suc, take, zero, ℕ, ◌++◌, ◌+◌, ◌-◌}
+use Rattle.std.proofs.{Common.{◌<◌, ◌∙◌, ◌≡◌, ◌≤◌}, lemmas.Bool.cases_lt}
 use Rattle.std.proofs.lemmas.List.{drop_all, get_or-append-add, get_or-replicate}
 use Rattle.std.proofs.lemmas.List.{get_or_append_left, length-replicate, take_all}
 use Rattle.best_plan.proofs.{RowLemmas.not-greater, UnitSlopeLemmas.end-rises}
@@ -13,20 +13,9 @@ use Rattle.slot_plan.{proofs.AreaLemmas.Ascend, specs.Reserve.free_bytes_behind}
 -- `more` further free bytes save at most `more` bytes of areas
 near-more : (sums : List ℕ) (least free more : ℕ) → HasSlopeAtMostOne sums least → least ≤ free
     → free + more < length sums → get_or sums free 0 ≤ get_or sums (free + more) 0 + more
-near-more sums least free zero near from within =
-    omega (arith, ap (λ n. get_or sums n 0) (same free))
-  where
-    same : (n : ℕ) → n + 0 ≡ n
-    same n = omega arith
+near-more sums least free zero near from within = grind arith
 near-more sums least free (suc more) near from within =
-    let on : get_or sums free 0 ≤ get_or sums (free + more) 0 + more =
-    near-more sums least free more near from (omega (arith, within)) in
-    let step : get_or sums (free + more) 0 ≤ get_or sums (free + more + 1) 0 + 1 =
-    near.near (free + more) (omega (arith, from)) (omega (arith, within)) in
-    omega (arith, on, step, ap (λ n. get_or sums n 0) (next free more))
-  where
-    next : (m n : ℕ) → m + suc n ≡ m + n + 1
-    next m n = omega arith
+    grind (arith, near-more sums least free more near from (omega (arith, within)))
 
 module _ (window free bytes least place cost at : ℕ) (areas later : List ℕ)
     (width : length later ≡ window + 1) (near : HasSlopeAtMostOne later least)
@@ -36,19 +25,12 @@ module _ (window free bytes least place cost at : ℕ) (areas later : List ℕ)
   -- an area before this place leaves too little
   none-before : (k : ℕ) → k < place → bytes ≤ free + get_or areas k 0
       → nothing ≤ get_or later (free_bytes_behind window free bytes (get_or areas k 0)) 0
-  none-before k before fits = near.none (free_bytes_behind window free bytes (get_or areas k 0))
-      (omega (arith, fits, small k before)) (omega (arith, width))
+  none-before k before fits = grind (arith, width)
 
   -- if no area leaves enough, there is no sum
   pub no-choice : length areas ≤ place → cost ≡ nothing
       → IsAreaChoice window free bytes areas later cost at
-  no-choice past none = record {
-    least = λ k less fits. omega (arith, most, none-before k (omega (arith, less, past)) fits);
-    within = λ some. absurd (omega (arith, some, none));
-    fits = λ some. absurd (omega (arith, some, none));
-    found = λ some. absurd (omega (arith, some, none));
-    first = λ k before some fits. absurd (omega (arith, some, none));
-  }
+  no-choice past none = grind (arith, none-before)
 
   module _ (within : place < length areas) (large : bytes + least ≤ free + get_or areas place 0)
       (is : IsSum window free bytes (get_or areas place 0) later cost) where
@@ -63,42 +45,25 @@ module _ (window free bytes least place cost at : ℕ) (areas later : List ℕ)
         let grows = not-greater areas place k ascend from less in
         elim (cases_lt left least)
         as (λ _. cost ≤ area_sum window free bytes later (get_or areas k 0)) [
-          | inl few ↦
-              let none : nothing ≤ get_or later more 0 =
-              near.none more (omega (arith, few, large)) (omega (arith, width)) in
-              omega (arith, most, none)
+          | inl few ↦ grind (arith, width)
           | inr enough ↦
-              let on : get_or later left 0 ≤ get_or later (left + (more - left)) 0 + (more - left) =
-              near-more later least left (more - left) near enough (omega (arith, width, grows)) in
-              let there : left + (more - left) ≡ more = omega (arith, grows) in
-              omega (
+              grind (
                 arith,
-                is.least (omega (arith, large)),
-                on,
-                ap (λ n. get_or later n 0) there,
-                grows,
-                large,
+                near-more later least left (more - left) near enough (omega (
+                  arith,
+                  width,
+                  grows,
+                )),
+                width,
               )
         ]
 
     near-choice : IsAreaChoice window free bytes areas later cost place
-    near-choice = record {
-      least = λ k less fits.
-          elim (cases_lt k place)
-          as (λ _. cost ≤ area_sum window free bytes later (get_or areas k 0)) [
-            | inl before ↦ omega (arith, most, none-before k before fits)
-            | inr from ↦ from-place k from less
-          ];
-      within = λ some. within;
-      fits = is.fits;
-      found = is.found;
-      first = λ k before some fits. omega (arith, some, none-before k before fits);
-    }
+    near-choice = grind (arith, cases_lt, none-before, from-place)
 
     -- the first area that leaves enough has the least sum
     pub near-at : at ≡ place → IsAreaChoice window free bytes areas later cost at
-    near-at here =
-        subst (λ n. IsAreaChoice window free bytes areas later cost n) (sym here) near-choice
+    near-at here = grind (arith, near-choice)
 
 -- `place` is where the first area is that leaves enough, if there is one
 module _ (window free bytes least wanted place cost at : ℕ) (areas later : List ℕ) where
@@ -112,26 +77,21 @@ module _ (window free bytes least wanted place cost at : ℕ) (areas later : Lis
       → (place < length areas → at ≡ place) → (length areas ≤ place → cost ≡ nothing)
       → IsAreaChoice window free bytes areas later cost at
   near-one narrow within width near ascend areas_most most whole small large low sum here none =
-      let before : (k : ℕ) → k < place → free + get_or areas k 0 < bytes + least =
-      λ k less. omega (arith, most, small k less) in
+      let before : (k : ℕ) → k < place → free + get_or areas k 0 < bytes + least = grind arith in
       elim (cases_lt place (length areas))
       as (λ _. IsAreaChoice window free bytes areas later cost at) [
         | inl some ↦
             let fits = large some in
-            let exact : wanted ≡ bytes + least =
-            whole (omega (arith, fits, narrow, within, areas_most place 0 some)) in
+            let exact : wanted ≡ bytes + least = grind arith in
             near-at window free bytes least place cost at areas later width near ascend before low
             some (omega (arith, exact, fits)) (sum some) (here some)
-        | inr past ↦ no-choice window free bytes least place cost at areas later width near ascend
-            before low past (none past)
+        | inr past ↦ grind (arith, no-choice, width)
       ]
 
 -- what was written back to a whole list is what the list has
 pub wrote-back : (n : ℕ) (new old : List ℕ) → length new ≡ length old → n ≡ length old
     → take n (new ++ drop (length new) old) ≡ new
-wrote-back n new old same all =
-    ap (λ (l : List ℕ). take n (new ++ l)) (drop_all (length new) old (omega (arith, same)))
-    ∙ ap (take n) (append-nil new) ∙ take_all n new (omega (arith, same, all))
+wrote-back n new old same all = grind (arith, drop_all, append-nil, take_all)
 
 -- ---- from the last area to the first
 
@@ -159,8 +119,7 @@ module _ (window bytes least wanted : ℕ) (areas later : List ℕ) (narrow : wi
       → IsNearTo window bytes wanted areas later (length areas) start row old new
   near-begin start row old new ends width none gives = record {
     cells = replicate start 0;
-    appended = gives ∙ ap₂ (λ (l : List ℕ) n. l ++ replicate n 0)
-        (take_all (length old + start) old (omega arith)) (omega arith);
+    appended = grind (arith, take_all);
     many = length-replicate start 0;
     width = width;
     ends = ends;
@@ -181,18 +140,15 @@ module _ (window bytes least wanted : ℕ) (areas later : List ℕ) (narrow : wi
       → IsNearTo window bytes wanted areas later place start row old new
       → IsNearTo window bytes wanted areas later (place - 1) end next old more
   near-next place start end row next old new more some within is sums gives so_far =
-      let count : length new ≡ length old + start = ap length so_far.appended
-      ∙ length-append old so_far.cells ∙ ap (λ n. length old + n) so_far.many in
+      let count : length new ≡ length old + start = grind (arith, length-append) in
       let rises : start ≤ end = end-rises window wanted areas place start end some so_far.ends is in
       let many : ℕ = end - start in
       let added : List ℕ = replicate many (place - 1) in
-      let kept : take (length old + end) new ≡ new =
-      take_all (length old + end) new (omega (arith, count, rises)) in
+      let kept : take (length old + end) new ≡ new = grind (arith, take_all) in
       let left : length old + end - length new ≡ many = omega (arith, count) in
       record {
         cells = so_far.cells ++ added;
-        appended = gives ∙ ap₂ (λ (l : List ℕ) n. l ++ replicate n (place - 1))
-            (kept ∙ so_far.appended) left ∙ append_assoc old so_far.cells added;
+        appended = grind (arith, append_assoc);
         many = omega (
           arith,
           length-append so_far.cells added,
@@ -205,20 +161,13 @@ module _ (window bytes least wanted : ℕ) (areas later : List ℕ) (narrow : wi
         each = λ free less.
             elim (cases_lt free start) as (λ _. IsAreaChoice window free bytes areas later
             (get_or next free 0) (get_or (so_far.cells ++ added) free 0)) [
-              | inl before ↦
-                  subst (λ n. IsAreaChoice window free bytes areas later n
-                  (get_or (so_far.cells ++ added) free 0)) (sym (sums.before free before))
-                  (subst (λ n. IsAreaChoice window free bytes areas later (get_or row free 0) n)
-                  (sym (get_or_append_left so_far.cells added 0 free
-                  (omega (arith, before, so_far.many)))) (so_far.each free before))
+              | inl before ↦ grind (arith, get_or_append_left)
               | inr from ↦
                   let behind : ℕ = free - start in
                   let here : free ≡ length so_far.cells + behind =
                   omega (arith, from, so_far.many) in
                   let at : get_or (so_far.cells ++ added) free 0 ≡ place - 1 =
-                  ap (λ n. get_or (so_far.cells ++ added) n 0) here
-                  ∙ get_or-append-add so_far.cells added behind 0
-                  ∙ get_or-replicate many behind (place - 1) 0 (omega (arith, less, from)) in
+                  grind (arith, get_or-append-add, get_or-replicate, many) in
                   near-one window free bytes least wanted (place - 1) (get_or next free 0)
                   (get_or (so_far.cells ++ added) free 0) areas later narrow
                   (omega (arith, less, is.within)) wide near ascend areas_most
@@ -234,11 +183,7 @@ module _ (window bytes least wanted : ℕ) (areas later : List ℕ) (narrow : wi
       → IsNearTo window bytes wanted areas later 0 start row old new
       → AppendsRow window bytes areas later row old new
   near-end start row old new is =
-      let all : start ≡ window + 1 =
-      elim (cases_lt window start) as (λ _. start ≡ window + 1) [
-        | inl less ↦ omega (arith, less, is.ends.within)
-        | inr from ↦ absurd (omega (arith, is.ends.some window from (omega arith)))
-      ] in
+      let all : start ≡ window + 1 = grind (arith, cases_lt) in
       record {
         cells = is.cells;
         appended = is.appended;

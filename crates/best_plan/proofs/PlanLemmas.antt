@@ -1,7 +1,7 @@
 -- The best plan with a lead-in, and without one.
-use Rattle.std.proofs.Common.{All, ap, arith, Contains, false, get_or, length, List, map, refl}
-use Rattle.std.proofs.Common.{subst, sym, true, ℕ, [], ◌++◌, ◌<◌, ◌∙◌, ◌∷◌, ◌≡◌, ◌≤◌}
-use Rattle.std.proofs.lemmas.{Bool.true≢false, List.{get_or-map, get_or_default, length-map}}
+use Rattle.std.proofs.Common.{All, ap, arith, false, get_or, length, List, map, refl, subst, sym}
+use Rattle.std.proofs.{Common.{true, ℕ, [], ◌<◌, ◌∙◌, ◌∷◌, ◌≡◌, ◌≤◌}, lemmas.Bool.true≢false}
+use Rattle.std.proofs.lemmas.List.{get_or-map, get_or_default, length-map}
 use Rattle.best_plan.proofs.SumLemmas.{fits-laid, laid-fits, table-bound, table-own, table-sums}
 use Rattle.best_plan.proofs.WalkLemmas.{best-walked, IsWalked, table-width, walked-best}
 use Rattle.best_plan.proofs.WalkLemmas.{walked-more}
@@ -13,10 +13,9 @@ use Rattle.frame_header.specs.Fields.{ClassFields, HeaderFields, SlotFields}
 use Rattle.frame_header.specs.Slots.{all_slots, areas_of, largest_slot}
 use Rattle.frame_header.specs.Tables.{area_of, class_of}
 use Rattle.slot_plan.proofs.{AreaLemmas.{Ascend, Contains-area, lead-ascend}, PartLemmas.frames-by}
-use Rattle.slot_plan.{proofs.ReserveLemmas.AllFit, specs.Layouts.HasLayout}
-use Rattle.slot_plan.specs.Lists.{CanBeLaid, frames_with_areas}
-use Rattle.slot_plan.specs.Parts.{lead_in_item, need_item, own_frame, own_slot_area, PlanItem}
-use Rattle.slot_plan.specs.{Parts.slot_areas, Reserve.{free_bytes_behind, open_frames, own_area_of}}
+use Rattle.slot_plan.specs.{Layouts.HasLayout, Lists.{CanBeLaid, frames_with_areas}}
+use Rattle.slot_plan.specs.Parts.{lead_in_item, need_item, own_frame, PlanItem, slot_areas}
+use Rattle.slot_plan.specs.Reserve.{free_bytes_behind, open_frames, own_area_of}
 use Rattle.slot_plan.specs.declared.needs.{Need.Need, Placed.Placed}
 
 module _ (window : ℕ) (choices : HeaderFields → List SlotFields) (needs : List Need)
@@ -25,62 +24,55 @@ module _ (window : ℕ) (choices : HeaderFields → List SlotFields) (needs : Li
   pub whole-sum : length needs ≤ 200000 → HasLayout window window (map own_frame needs)
       → IsTable window choices needs sums places → get_or sums window 0 ≤ 288200000
   whole-sum few feasible table =
-      let own = table-own window choices needs sums places table in
-      let fit = subst (AllFit window window) (sym (frames-by choices own_area_of needs))
-      (fits-laid window window (map own_frame needs) feasible) in
-      let least = (table-sums window choices needs sums places table window (omega arith)).least
-      (map own_slot_area needs) own fit in
-      let bound =
-      table-bound window choices needs sums places (map own_slot_area needs) table own in
-      omega (arith, least, bound, few)
+      grind (
+        arith,
+        table-own window choices needs sums places table,
+        frames-by choices own_area_of
+            needs,
+        fits-laid window window (map own_frame needs) feasible,
+        table-sums window choices needs
+            sums places table window (omega arith),
+        table-bound,
+      )
 
   -- if the table has a sum for no free bytes, the frames can be laid without a lead-in
   pub can-sum : IsTable window choices needs sums places → get_or sums 0 0 < nothing
       → CanBeLaid window (open_frames choices needs)
   unfolding CanBeLaid
   can-sum table some =
-      let found = (table-sums window choices needs sums places table 0 (omega arith)).some some in (
-        found.0,
-        found.1,
-        laid-fits window 0 (frames_with_areas (open_frames choices needs) found.0)
-            (omega arith) found.2,
-      )
+      grind (arith, table-sums window choices needs sums places table 0 (omega arith), laid-fits)
 
   -- if the table has no sum for no free bytes, the frames can't be laid without a lead-in
   pub cannot-sum : length needs ≤ 200000 → IsTable window choices needs sums places
       → nothing ≤ get_or sums 0 0 → CanBeLaid window (open_frames choices needs) → ⊥
   unfolding CanBeLaid
   cannot-sum few table none can =
-      let least = (table-sums window choices needs sums places table 0 (omega arith)).least can.0
-      can.1 (fits-laid window 0 (frames_with_areas (open_frames choices needs) can.0) can.2) in
-      omega
-      (arith, least, none, table-bound window choices needs sums places can.0 table can.1, few)
+      grind (
+        arith,
+        table-sums window choices needs sums places table 0 (omega arith),
+        fits-laid
+            window 0 (frames_with_areas (open_frames choices needs) can.0) can.2,
+        table-bound window
+            choices needs sums places can.0 table can.1,
+      )
 
   -- if the table has a sum for no free bytes, the walk from there is the best plan
   pub plan-without : (old new placed : List Placed) → IsTable window choices needs sums places
       → get_or sums 0 0 < nothing → old ≡ [] → WalksTable window choices 0 needs old new
       → placed ≡ new → IsBestPlan window choices needs placed
   unfolding items_with_lead_in
-  plan-without old new placed table some none walk is =
-      let all : walk.more ≡ placed = sym (is ∙ walk.appended ∙ ap (λ l. l ++ walk.more) none) in
-      record {
-        lead_in = false;
-        without = ((λ _. can-sum table some), (λ _. refl));
-        whole = subst (IsBestPlanFor window 0 (map (need_item choices) needs)) all walk.best;
-      }
+  plan-without old new placed table some none walk is = grind (arith, can-sum)
 
   -- the first sum of the table is the sum for no free bytes
   pub first-sum : (value : ℕ) → IsTable window choices needs sums places
       → value ≡ get_or sums 0 value → get_or sums 0 0 ≡ value
-  first-sum value table is = get_or_default sums 0 0 value
-      (omega (arith, table-width window choices needs sums places table)) ∙ sym is
+  first-sum value table is = grind (arith, get_or_default, table-width)
 
 -- the place of the least sum is the place of a slot
 pub lead-within : (class : ClassFields) (sums : List ℕ) (window cost place : ℕ)
     → IsAreaChoice window 0 0 (slot_areas class false all_slots) sums cost place → cost < nothing
     → place < length all_slots
-lead-within class sums window cost place is some =
-    omega (arith, is.within some, length-map all_slots (λ s. area_of class s false))
+lead-within class sums window cost place is some = grind (arith, length-map)
 
 module _ (window : ℕ) (class : ClassFields) (sums : List ℕ) (cost place : ℕ) where
   -- if the frames have a sum after a whole window, they have one after some lead-in
@@ -88,15 +80,17 @@ module _ (window : ℕ) (class : ClassFields) (sums : List ℕ) (cost place : �
       → All (λ n. n ≤ 1441) (slot_areas class false all_slots) → get_or sums window 0 ≤ 288200000
       → IsAreaChoice window 0 0 (slot_areas class false all_slots) sums cost place → cost < nothing
   lead-some spanned most some is =
-      let has = Contains-area class false all_slots largest_slot
-      (Contains-all_slots largest_slot (omega arith, omega arith)) in
-      let areas : List ℕ = slot_areas class false all_slots in
-      let area : ℕ = get_or areas has.0 0 in
-      let at : area ≡ area_of class largest_slot false =
-      get_or_default areas has.0 0 (area_of class largest_slot false) has.1 ∙ has.2 in
-      let full : free_bytes_behind window 0 0 area ≡ window = omega (arith, at, spanned) in
-      let low = is.least has.0 has.1 (omega arith) in
-      omega (arith, low, ap (λ n. get_or sums n 0) full, most has.0 0 has.1, some)
+      grind (
+        arith,
+        Contains-area class false all_slots largest_slot (Contains-all_slots
+            largest_slot (omega arith, omega arith)),
+        Contains-all_slots largest_slot (
+          omega arith,
+          omega
+              arith,
+        ),
+        get_or_default,
+      )
 
   -- the slot at the place of the least sum is the best lead-in by the table
   pub lead-by : (slots : List SlotFields) (slot : SlotFields) (lead : Placed)
@@ -105,20 +99,7 @@ module _ (window : ℕ) (class : ClassFields) (sums : List ℕ) (cost place : �
       → lead.slot ≡ slot → lead.lead_in ≡ true → lead.begin ≡ 0
       → IsLeadInOfSums window class sums lead
   lead-by slots slot lead choice some all at ascend is first begin =
-      let within = lead-within class sums window cost place choice some in
-      let here : slot ≡ get_or all_slots place slot = at ∙ ap (λ l. get_or l place slot) all in
-      record {
-        cost = cost;
-        place = place;
-        choice = choice;
-        some = some;
-        area = ap (λ s. area_of class s false) (is ∙ here)
-            ∙ sym (get_or-map (λ s. area_of class s false) all_slots place slot 0 within);
-        chosen = subst (Contains all_slots) (sym is) (place, within, sym here);
-        ascending = lead-ascend class all_slots refl ascend;
-        lead_in = first;
-        begin = begin;
-      }
+      grind (arith, lead-within, get_or-map, lead-ascend)
 
 with-lead-in : (choices : HeaderFields → List SlotFields) (needs : List Need) (d : Need)
     → 0 < length needs → items_with_lead_in true choices needs
@@ -154,17 +135,7 @@ module _ (window : ℕ) (choices : HeaderFields → List SlotFields) (needs : Li
       → nothing ≤ get_or sums 0 0 → old ≡ lead ∷ [] → WalksTable window choices free needs old new
       → placed ≡ new → IsBestPlan window choices needs placed
   plan-behind old new placed few none first walk result =
-      let all : lead ∷ walk.more ≡ placed =
-      sym (result ∙ walk.appended ∙ ap (λ l. l ++ walk.more) first) in
-      record {
-        lead_in = true;
-        without = (
-          (λ e. absurd (true≢false e)),
-          (λ can. absurd (cannot-sum window choices needs sums places few table none can)),
-        );
-        whole = subst (IsBestPlanFor window 0 (items_with_lead_in true choices needs)) all
-            (lead-whole walk.more walk.best);
-      }
+      grind (arith, true≢false, cannot-sum, lead-whole walk.more walk.best)
 
 -- ---- what the call over all slots requires, and what it gives
 -- some lead-in has a sum by the table, and the cheapest in the list is the cheapest of all slots
@@ -175,11 +146,4 @@ pub lead-ready : (window room : ℕ) (class : ClassFields) (sums areas : List �
     → get_or sums window 0 ≤ 288200000 → IsAreaChoice room 0 0 areas sums cost place
     → IsAreaChoice window 0 0 (slot_areas class false all_slots) sums cost place × (cost < nothing)
 lead-ready window room class sums areas slots cost place same are all spanned most some is =
-    let every : areas ≡ slot_areas class false all_slots = are ∙ ap (slot_areas class false) all in
-    let choice =
-    subst (λ n. IsAreaChoice n 0 0 (slot_areas class false all_slots) sums cost place) same
-    (subst (λ l. IsAreaChoice room 0 0 l sums cost place) every is) in (
-      choice,
-      lead-some window class sums cost place (omega (arith, spanned, same))
-          (subst (All (λ n. n ≤ 1441)) every most) some choice,
-    )
+    grind (arith, lead-some)

@@ -1,6 +1,6 @@
 -- The least over the areas so far, and the row so far.
-use Rattle.std.proofs.Common.{ap, append_assoc, arith, get_or, inl, inr, length, List, refl, subst}
-use Rattle.std.proofs.Common.{suc, sym, zero, ℕ, [], ◌++◌, ◌+◌, ◌<◌, ◌∙◌, ◌∷◌, ◌≡◌, ◌≤◌}
+use Rattle.std.proofs.Common.{ap, append_assoc, arith, get_or, inl, inr, length, List, refl, suc}
+use Rattle.std.proofs.Common.{zero, ℕ, [], ◌++◌, ◌+◌, ◌<◌, ◌∙◌, ◌∷◌, ◌≡◌, ◌≤◌}
 use Rattle.std.proofs.lemmas.{Bool.cases_lt, List.{get_or_append_left, get_or_push, length_push}}
 use Rattle.best_plan.specs.Rows.{area_sum, IsAreaChoice, nothing}
 use Rattle.slot_plan.proofs.AreaLemmas.{Ascend}
@@ -19,13 +19,7 @@ pub record IsChoiceTo (window free bytes : ℕ) (areas later : List ℕ)
 -- areas ascend
 pub not-greater : (ns : List ℕ) (j k : ℕ) → Ascend ns → j ≤ k → k < length ns
     → get_or ns j 0 ≤ get_or ns k 0
-not-greater ns j k ascend from within =
-    elim (cases_lt j k) as (λ _. get_or ns j 0 ≤ get_or ns k 0) [
-      | inl before ↦ omega (arith, ascend j k 0 before within)
-      | inr till ↦
-          let at : j ≡ k = omega (arith, from, till) in
-          omega (arith, ap (λ n. get_or ns n 0) at)
-    ]
+not-greater ns j k ascend from within = grind (arith, cases_lt, within)
 
 -- ---- the bounds of sums
 
@@ -56,31 +50,14 @@ row-more window bytes areas later to row old new cost place is so_far =
     let cells : List ℕ = so_far.cells ++ place ∷ [] in
     record {
       cells = cells;
-      appended =
-          ap (λ l. l ++ place ∷ []) so_far.appended ∙ append_assoc old so_far.cells (place ∷ []);
+      appended = grind (arith, append_assoc);
       width = length_push row cost ∙ ap (λ n. n + 1) so_far.width;
       many = length_push so_far.cells place ∙ ap (λ n. n + 1) so_far.many;
       each = λ free less.
           elim (cases_lt free to) as (λ _. IsAreaChoice window free bytes areas later
           (get_or (row ++ cost ∷ []) free 0) (get_or cells free 0)) [
-            | inl before ↦
-                let sum =
-                get_or_append_left row (cost ∷ []) 0 free (omega (arith, before, so_far.width)) in
-                let at = get_or_append_left so_far.cells (place ∷ []) 0 free
-                (omega (arith, before, so_far.many)) in
-                subst (λ n. IsAreaChoice window free bytes areas later
-                (get_or (row ++ cost ∷ []) free 0) n) (sym at)
-                (subst (λ n. IsAreaChoice window free bytes areas later n
-                (get_or so_far.cells free 0))
-                (sym sum) (so_far.each free before))
-            | inr from ↦
-                let here : to ≡ free = omega (arith, less, from) in
-                let sum = get_or_push row cost 0 free (so_far.width ∙ here) in
-                let at = get_or_push so_far.cells place 0 free (so_far.many ∙ here) in
-                subst (λ n. IsAreaChoice window free bytes areas later
-                (get_or (row ++ cost ∷ []) free 0) n) (sym at)
-                (subst (λ n. IsAreaChoice window free bytes areas later n place) (sym sum)
-                (subst (λ n. IsAreaChoice window n bytes areas later cost place) here is))
+            | inl before ↦ grind (arith, get_or_append_left)
+            | inr from ↦ grind (arith, get_or_push)
           ];
     }
 

@@ -5,7 +5,7 @@ use Rattle.std.proofs.lemmas.{Bool.true≢false, List.append-nil}
 use Rattle.best_plan.specs.{Best.{IsBestPlanFor, items_with_lead_in}, Laws.BestIsShortest}
 use Rattle.frame_header.specs.{Fields.{ClassFields, HeaderFields, SlotFields}, Slots.all_slots}
 use Rattle.frame_header.specs.Tables.{area_of, class_of}
-use Rattle.slot_plan.{proofs.AreaLemmas.Contains-area, specs.Layouts.HasLayout}
+use Rattle.slot_plan.proofs.AreaLemmas.{Contains-area}
 use Rattle.slot_plan.specs.Lists.{AreChosenAreas, CanBeLaid, frames_with_areas}
 use Rattle.slot_plan.specs.Parts.{all_items, AreLeadIns, IsLeadIn, lead_in_item, need_item}
 use Rattle.slot_plan.specs.Parts.{open_frame, part_items, PlanItem, slot_areas}
@@ -49,10 +49,7 @@ module _ (choices : HeaderFields → List SlotFields) (first : Need) (needs : Li
       → IsBestPlanFor window 0 (items_behind all_slots) best
       → sum (item_areas (items_behind all_slots) best)
       ≤ sum (item_areas (items_behind (slot ∷ [])) placed)
-  with-lead window placed best has plan is =
-      let areas : List ℕ = item_areas (items_behind (slot ∷ [])) placed in
-      is.best.shortest areas (widened areas has plan.least.chosen)
-      (subst (HasLayout window 0) (same-frames areas) plan.least.feasible)
+  with-lead window placed best has plan is = grind (arith, widened, same-frames)
 
 -- the frames of one part are its lead-in, if any, and its own
 pub whole-one : (choices : HeaderFields → List SlotFields) (needs : List Need)
@@ -78,20 +75,13 @@ by-lead : (window : ℕ) (choices : HeaderFields → List SlotFields) (needs : L
     → IsLeadIn window choices needs other → IsPlanFor window (part_items choices needs other) placed
     → Holds choices needs placed best lead_in (other ∷ []) (part_items choices needs other)
 unfolding IsLeadIn part_items items_with_lead_in
-by-lead window choices needs placed best false None without is alone plan = (
-  ((λ _. refl), (λ _. refl)),
-  is.best.shortest (item_areas (map (need_item choices) needs) placed) plan.least.chosen
-      plan.least.feasible,
-)
-by-lead window choices needs placed best true None without is alone plan =
-    absurd (true≢false (without.1 alone))
+by-lead window choices needs placed best false None without is alone plan = grind arith
+by-lead window choices needs placed best true None without is alone plan = grind (arith, true≢false)
 by-lead window choices [] placed best lead_in (Some slot) without is alone plan = absurd alone
 by-lead window choices (first ∷ needs) placed best false (Some slot) without is alone plan =
     absurd (alone.0 (without.0 refl))
-by-lead window choices (first ∷ needs) placed best true (Some slot) without is alone plan = (
-  ((λ e. absurd (true≢false e)), (λ e. absurd (some-one slot e))),
-  with-lead choices first needs slot window placed best alone.2 plan is,
-)
+by-lead window choices (first ∷ needs) placed best true (Some slot) without is alone plan =
+    grind (arith, true≢false, some-one, with-lead)
 
 by-leads : (window : ℕ) (choices : HeaderFields → List SlotFields) (needs : List Need)
     (placed best : List Placed) (lead_in : Bool) (lead_ins : List (Option SlotFields))

@@ -1,13 +1,12 @@
 -- Lists of numbers: the sums of a table are the least of all lists that fit,
 -- and the first areas that have them are the lexicographically least list.
-use Rattle.std.proofs.Common.{ap, arith, Contains, fold, get_or, inl, inr, length, List, map, refl}
-use Rattle.std.proofs.Common.{subst, sum, sym, ℕ, [], ◌*◌, ◌+◌, ◌<◌, ◌∙◌, ◌∷◌, ◌≡◌, ◌≤◌, ◌⊎◌}
+use Rattle.std.proofs.Common.{ap, arith, Contains, fold, get_or, length, List, map, refl, subst}
+use Rattle.std.proofs.Common.{sum, sym, ℕ, [], ◌*◌, ◌+◌, ◌<◌, ◌∙◌, ◌∷◌, ◌≡◌, ◌≤◌}
 use Rattle.std.proofs.lemmas.{Bool.cases_lt, List.get_or_default}
 use Rattle.best_plan.specs.{Best.IsShortestList, Rows.{area_sum, IsAreaChoice, nothing}}
-use Rattle.best_plan.specs.Table.{IsTable, need_areas}
+use Rattle.best_plan.specs.Table.{IsTable}
 use Rattle.frame_header.specs.Fields.{HeaderFields, SlotFields}
-use Rattle.slot_plan.proofs.AreaLemmas.{Ascend}
-use Rattle.slot_plan.proofs.ReserveLemmas.{AllFit, fit-layout, layout-fit, starts_of}
+use Rattle.slot_plan.proofs.{AreaLemmas.Ascend, ReserveLemmas.{AllFit, fit-layout, layout-fit}}
 use Rattle.slot_plan.specs.Layouts.{FrameLengths, HasLayout}
 use Rattle.slot_plan.specs.Lists.{AreChosenAreas, frames_with_areas, IsNotBehind, OpenFrame}
 use Rattle.slot_plan.specs.Parts.{need_item, open_frame, own_slot_area}
@@ -24,10 +23,12 @@ fits-laid window free frames feasible =
 pub laid-fits : (window free : ℕ) (frames : List FrameLengths) → free ≤ window
     → AllFit window free frames → HasLayout window free frames
 unfolding HasLayout
-laid-fits window free frames within fit = (
-  starts_of window 0 free frames,
-  layout-fit window 0 free free frames (omega arith) (omega (arith, within)) fit,
-)
+laid-fits window free frames within fit =
+    grind (
+      arith,
+      layout-fit window 0 free free frames (omega arith) (omega (arith, within)) fit,
+      fit,
+    )
 
 -- ---- the sums
 
@@ -94,24 +95,12 @@ first-none window free = record {
 sum-is : (window free : ℕ) (opens : List OpenFrame) (areas : List ℕ) (cost : ℕ)
     → IsFirst window free opens areas → IsLeastSum window free opens cost → cost < nothing
     → sum areas ≡ cost
-sum-is window free opens areas cost is sums some =
-    let found = sums.some some in
-    omega (arith, sums.least areas is.chosen is.fit, is.shortest found.0 found.1 found.2, found.3)
+sum-is window free opens areas cost is sums some = grind (arith, some)
 
 -- a lesser area comes before a greater one
 place-before : (ns : List ℕ) (j k : ℕ) → Ascend ns → j < length ns → k < length ns
     → get_or ns j 0 < get_or ns k 0 → j < k
-place-before ns j k ascend within here less =
-    elim (cases_lt j k) as (λ _. j < k) [
-      | inl before ↦ before
-      | inr from ↦
-          elim (cases_lt k j) as (λ _. j < k) [
-            | inl behind ↦ absurd (omega (arith, less, ascend k j 0 behind within))
-            | inr till ↦
-                let at : j ≡ k = omega (arith, from, till) in
-                absurd (omega (arith, less, ap (λ n. get_or ns n 0) at))
-          ]
-    ]
+place-before ns j k ascend within here less = grind (arith, cases_lt)
 
 module _ (window free : ℕ) (o : OpenFrame) (opens : List OpenFrame) (later : List ℕ)
     (cost place : ℕ) (is : IsAreaChoice window free o.bytes o.areas later cost place)
@@ -121,13 +110,12 @@ module _ (window free : ℕ) (o : OpenFrame) (opens : List OpenFrame) (later : L
   unfolding AreChosenAreas AllFit frames_with_areas
   least-more [] chosen fit = absurd chosen
   least-more (area ∷ others) chosen fit =
-      let left : ℕ = free_bytes_behind window free o.bytes area in
-      let rest =
-      (behind left (behind-within window free o.bytes area)).least others chosen.1 fit.1 in
-      let here : cost ≤ area_sum window free o.bytes later area =
-      subst (λ n. o.bytes ≤ free + n → cost ≤ area_sum window free o.bytes later n)
-      (placed-at o.areas area chosen.0) (is.least chosen.0.0 chosen.0.1) fit.0 in
-      omega (arith, here, rest, sum-cons area others)
+      grind (
+        arith,
+        behind-within window free o.bytes area,
+        placed-at o.areas area chosen.0,
+        sum-cons area others,
+      )
 
   -- the least sum over the areas of a frame, with the
   -- sums of the frames after it, is the least of all
@@ -159,9 +147,7 @@ module _ (window free : ℕ) (o : OpenFrame) (opens : List OpenFrame) (later : L
         let there = placed-at o.areas other has in
         let before = place-before o.areas has.0 place ascend has.1 (is.within some)
         (omega (arith, there, at, less)) in
-        let more : cost < area_sum window free o.bytes later other =
-        subst (λ n. o.bytes ≤ free + n → cost < area_sum window free o.bytes later n) there
-        (is.first has.0 before some) room in
+        let more : cost < area_sum window free o.bytes later other = grind (arith, some) in
         let rest = (behind (free_bytes_behind window free o.bytes other)
         (behind-within window free o.bytes other)).least others chosen fit in
         omega (arith, more, rest, same)
@@ -174,27 +160,7 @@ module _ (window free : ℕ) (o : OpenFrame) (opens : List OpenFrame) (later : L
     unfolding AreChosenAreas AllFit frames_with_areas IsNotBehind
     first-of areas rest total [] chosen fit same = absurd chosen
     first-of areas rest total (other ∷ others) chosen fit same =
-        elim (cases_lt area other) as (λ _. (area < other)
-        ⊎ ((area ≡ other) × IsNotBehind areas others)) [
-          | inl before ↦ inl before
-          | inr from ↦
-              elim (cases_lt other area) as (λ _. (area < other)
-              ⊎ ((area ≡ other) × IsNotBehind areas others)) [
-                | inl less ↦ absurd (not-before other others
-                    chosen.0 fit.0 chosen.1 fit.1 (omega (arith, same, sum-cons other others)) less)
-                | inr till ↦
-                    let here : area ≡ other = omega (arith, from, till) in
-                    let fits : AllFit window (free_bytes_behind window free o.bytes area)
-                    (frames_with_areas opens others) = subst (λ n. AllFit window
-                    (free_bytes_behind window free o.bytes n) (frames_with_areas opens others))
-                    (sym here) fit.1 in
-                    inr (
-                      here,
-                      rest.first others chosen.1 fits
-                          (omega (arith, same, total, here, sum-cons other others)),
-                    )
-              ]
-        ]
+        grind (arith, cases_lt, not-before, sum-cons)
 
     -- the first area with the least sum, followed by the first list after it, is the first list
     pub first-more : (areas : List ℕ)
@@ -203,8 +169,7 @@ module _ (window free : ℕ) (o : OpenFrame) (opens : List OpenFrame) (later : L
     unfolding AreChosenAreas AllFit frames_with_areas
     first-more areas rest =
         let left : ℕ = free_bytes_behind window free o.bytes area in
-        let found : cost ≡ area_sum window free o.bytes later area =
-        subst (λ n. cost ≡ area_sum window free o.bytes later n) at (is.found some) in
+        let found : cost ≡ area_sum window free o.bytes later area = grind (arith, some) in
         let total : area + sum areas ≡ cost =
         omega (
           arith,
@@ -213,17 +178,10 @@ module _ (window free : ℕ) (o : OpenFrame) (opens : List OpenFrame) (later : L
               (behind left (behind-within window free o.bytes area)) (omega (arith, found, some)),
         ) in
         record {
-          chosen =
-              (subst (Contains o.areas) at (at-place o.areas place (is.within some)), rest.chosen);
+          chosen = grind (arith, at-place o.areas place (is.within some), some);
           fit = (subst (λ n. o.bytes ≤ free + n) at (is.fits some), rest.fit);
-          shortest = λ others chosen fit. omega (
-            arith,
-            sum-cons area areas,
-            total,
-            least-more others chosen fit,
-          );
-          first = λ others chosen fit same. first-of areas rest total others chosen fit
-              (omega (arith, same, total, sum-cons area areas));
+          shortest = grind (arith, sum-cons, least-more);
+          first = grind (arith, first-of, sum-cons);
         }
 
 -- the first of the lists with the least sum is the shortest
@@ -232,10 +190,8 @@ pub shortest-first : (window free : ℕ) (opens : List OpenFrame) (areas : List 
 shortest-first window free opens areas within is = record {
   chosen = is.chosen;
   feasible = laid-fits window free (frames_with_areas opens areas) within is.fit;
-  shortest = λ others chosen feasible. is.shortest others chosen
-      (fits-laid window free (frames_with_areas opens others) feasible);
-  first = λ others chosen feasible same. is.first others chosen
-      (fits-laid window free (frames_with_areas opens others) feasible) same;
+  shortest = grind (arith, fits-laid);
+  first = grind (arith, fits-laid);
 }
 
 -- the shortest list is the first of the lists with the least sum
@@ -244,10 +200,8 @@ pub first-shortest : (window free : ℕ) (opens : List OpenFrame) (areas : List 
 first-shortest window free opens areas within is = record {
   chosen = is.chosen;
   fit = fits-laid window free (frames_with_areas opens areas) is.feasible;
-  shortest = λ others chosen fit. is.shortest others chosen
-      (laid-fits window free (frames_with_areas opens others) within fit);
-  first = λ others chosen fit same. is.first others chosen
-      (laid-fits window free (frames_with_areas opens others) within fit) same;
+  shortest = grind (arith, laid-fits);
+  first = grind (arith, laid-fits);
 }
 
 -- ---- the sums of a table
@@ -257,8 +211,7 @@ pub table-sums : (window : ℕ) (choices : HeaderFields → List SlotFields) (ne
     (sums places : List ℕ) → IsTable window choices needs sums places → (left : ℕ) → left ≤ window
     → IsLeastSum window left (open_frames choices needs) (get_or sums left 0)
 unfolding IsTable
-table-sums window choices [] sums places table left within =
-    subst (IsLeastSum window left []) (sym (table.zeros left within)) (no-sum window left)
+table-sums window choices [] sums places table left within = grind (arith, no-sum)
 table-sums window choices (need ∷ needs) sums places table left within =
     more-sums window left (open_frame (need_item choices need)) (open_frames choices needs)
     table.later (get_or sums left 0) (get_or table.cells left 0) (table.row.each left within)
@@ -271,11 +224,13 @@ pub table-bound : (window : ℕ) (choices : HeaderFields → List SlotFields) (n
 unfolding IsTable AreChosenAreas
 table-bound window choices [] sums places [] table chosen = omega arith
 table-bound window choices (need ∷ needs) sums places (area ∷ areas) table chosen =
-    let rest =
-    table-bound window choices needs table.later table.before areas table.behind chosen.1 in
-    let here = table.most chosen.0.0 0 chosen.0.1 in
-    omega
-    (arith, rest, here, placed-at (need_areas choices need) area chosen.0, sum-cons area areas)
+    grind (
+      arith,
+      placed-at,
+      sum-cons,
+      table-bound window choices needs table.later table.before
+          areas table.behind chosen.1,
+    )
 table-bound window choices _ sums places _ table chosen = absurd chosen
 
 -- each frame may keep its slot

@@ -9,7 +9,6 @@ use Rattle.std.proofs.lemmas.List.{length-replicate, length-take-le, map-append,
 use Rattle.std.proofs.lemmas.List.{take_more}
 use Rattle.best_plan.specs.Rows.{AppendsFirstAreas, AppendsRow, HasUnitSlope, HasWindowRoom}
 use Rattle.best_plan.specs.Rows.{IsAreaChoice, IsEndAt, IsFirstArea}
-use Rattle.slot_plan.specs.Reserve.{free_bytes_behind}
 
 -- ---- the places, from the last area to the first
 -- the places for the free bytes so far, each the first with which the main data fit
@@ -37,35 +36,28 @@ pub first-more : (window bytes : ℕ) (areas : List ℕ) (to end : ℕ) (old new
     → next ≡ take (length old + end) new ++ replicate (length old + end - length new) (to - 1)
     → IsFirstTo window bytes areas to old new → IsFirstTo window bytes areas (to - 1) old next
 first-more window bytes areas to end old new next some within is gives so_far =
-    let count : length new ≡ length old + length so_far.cells =
-    ap length so_far.appended ∙ length-append old so_far.cells in
+    let count : length new ≡ length old + length so_far.cells = grind (arith, length-append) in
     let rises : length so_far.cells ≤ end =
     end-rises window bytes areas to (length so_far.cells) end some so_far.ends is in
     let many : ℕ = end - length so_far.cells in
     let more : List ℕ = replicate many (to - 1) in
-    let kept : take (length old + end) new ≡ new =
-    take_all (length old + end) new (omega (arith, count, rises)) in
+    let kept : take (length old + end) new ≡ new = grind (arith, take_all) in
     let left : length old + end - length new ≡ many = omega (arith, count) in
     let long : length (so_far.cells ++ more) ≡ end =
     omega (arith, length-append so_far.cells more, length-replicate many (to - 1), rises) in
     record {
       cells = so_far.cells ++ more;
-      appended =
-          gives ∙ ap₂ (λ (l : List ℕ) n. l ++ replicate n (to - 1)) (kept ∙ so_far.appended) left
-          ∙ append_assoc old so_far.cells more;
+      appended = grind (arith, append_assoc);
       ends = subst (IsEndAt window bytes areas (to - 1)) (sym long) is;
       each = λ free less.
           elim (cases_lt free (length so_far.cells))
           as (λ _. IsFirstArea bytes areas free (get_or (so_far.cells ++ more) free 0)) [
-            | inl before ↦ subst (IsFirstArea bytes areas free)
-                (sym (get_or_append_left so_far.cells more 0 free before)) (so_far.each free before)
+            | inl before ↦ grind (arith, get_or_append_left)
             | inr from ↦
                 let behind : ℕ = free - length so_far.cells in
                 let here : free ≡ length so_far.cells + behind = omega (arith, from) in
                 let at : get_or (so_far.cells ++ more) free 0 ≡ to - 1 =
-                ap (λ n. get_or (so_far.cells ++ more) n 0) here
-                ∙ get_or-append-add so_far.cells more behind 0 ∙ get_or-replicate many behind
-                (to - 1) 0 (omega (arith, less, long, here, rises)) in
+                grind (arith, get_or-append-add, get_or-replicate) in
                 subst (IsFirstArea bytes areas free) (sym at) (record {
                   within = omega (arith, some, within);
                   fits = so_far.ends.large free from (omega (arith, less, long, is.within));
@@ -78,11 +70,7 @@ first-more window bytes areas to end old new next some within is gives so_far =
 pub first-all : (window bytes : ℕ) (areas : List ℕ) (to : ℕ) (old new : List ℕ) → to ≡ 0
     → IsFirstTo window bytes areas to old new → AppendsFirstAreas window bytes areas old new
 first-all window bytes areas to old new all so_far =
-    let many : length so_far.cells ≡ window + 1 =
-    elim (cases_lt window (length so_far.cells)) as (λ _. length so_far.cells ≡ window + 1) [
-      | inl less ↦ omega (arith, less, so_far.ends.within)
-      | inr from ↦ absurd (omega (arith, all, so_far.ends.some window from (omega arith)))
-    ] in
+    let many : length so_far.cells ≡ window + 1 = grind (arith, cases_lt) in
     record {
       cells = so_far.cells;
       appended = so_far.appended;
@@ -96,38 +84,13 @@ first-all window bytes areas to old new all so_far =
 even-left : (window bytes : ℕ) (areas : List ℕ) (free place : ℕ) → HasWindowRoom window bytes areas
     → free
     ≤ window → IsFirstArea bytes areas free place → (free + get_or areas place 0) - bytes ≤ window
-even-left window bytes areas free place room within is =
-    elim (cases_lt 0 place) as (λ _. (free + get_or areas place 0) - bytes ≤ window) [
-      | inl some ↦
-          omega (arith, room.near place some is.within, is.small (place - 1) (omega (arith, some)))
-      | inr none ↦
-          let at : place ≡ 0 = omega (arith, none) in
-          omega (arith, room.least, ap (λ n. get_or areas n 0) at, within)
-    ]
+even-left window bytes areas free place room within is = grind (arith, cases_lt)
 
 even-choice : (window bytes : ℕ) (areas later : List ℕ) (free place : ℕ) → length later ≡ window + 1
     → HasUnitSlope later → HasWindowRoom window bytes areas → free ≤ window
     → IsFirstArea bytes areas free place
     → IsAreaChoice window free bytes areas later (get_or later free 0 + bytes) place
-even-choice window bytes areas later free place width even room within is =
-    let area : ℕ = get_or areas place 0 in
-    let left : ℕ = free_bytes_behind window free bytes area in
-    let here : left ≡ (free + area) - bytes =
-    omega (arith, even-left window bytes areas free place room within is) in
-    let now = even free (omega (arith, width, within)) in
-    let then = even left (omega (arith, width)) in
-    record {
-      least = λ k less fits. omega (
-        arith,
-        now,
-        even (free_bytes_behind window free bytes (get_or areas k 0)) (omega (arith, width)),
-        fits,
-      );
-      within = λ _. is.within;
-      fits = λ _. is.fits;
-      found = λ _. omega (arith, now, then, here, is.fits);
-      first = λ k before _ fits. absurd (omega (arith, is.small k before, fits));
-    }
+even-choice window bytes areas later free place width even room within is = grind (arith, even-left)
 
 -- before a row in which each free byte saves one, these places and sums are the row
 pub even-row : (window bytes : ℕ) (areas later sums old new : List ℕ) → length later ≡ window + 1
@@ -156,8 +119,7 @@ pub even-again : (later sums : List ℕ) (bytes : ℕ) → HasUnitSlope later
 even-again later sums bytes even is free less =
     let many : length sums ≡ length later = ap length is ∙ length-map later (λ n. n + bytes) in
     let sum : (k : ℕ) → k < length sums → get_or sums k 0 ≡ get_or later k 0 + bytes =
-    λ k within. ap (λ l. get_or l k 0) is
-    ∙ get_or-map (λ n. n + bytes) later k 0 0 (omega (arith, many, within)) in
+    grind (arith, get_or-map) in
     omega (arith, sum free less, sum 0 (omega (arith, less)), even free (omega (arith, many, less)))
 
 -- ---- `bytes` added to each sum
@@ -166,12 +128,7 @@ module _ (bytes : ℕ) (xs ys : List ℕ) (i d : ℕ) where
   -- the next sum hasn't changed
   pub added-here : i < length xs → ys ≡ map (λ n. n + bytes) (take i xs) ++ drop i xs
       → get_or ys i d ≡ get_or xs i d
-  added-here less is =
-      let size : length (map (λ n. n + bytes) (take i xs)) ≡ i =
-      length-map (take i xs) (λ n. n + bytes) ∙ length-take-le i xs (omega (arith, less)) in
-      ap (λ l. get_or l i d) is
-      ∙ get_or-append_right (map (λ n. n + bytes) (take i xs)) (drop i xs) i i d size (omega arith)
-      ∙ get_or-drop i xs (i - i) d ∙ ap (λ n. get_or xs n d) (omega arith)
+  added-here less is = grind (arith, length-map, length-take-le, get_or-append_right, get_or-drop)
 
   -- adding the main data to the sum at i adds them to one more sum
   pub added-more : (sum : ℕ) → i < length xs → ys ≡ map (λ n. n + bytes) (take i xs) ++ drop i xs
@@ -180,8 +137,7 @@ module _ (bytes : ℕ) (xs ys : List ℕ) (i d : ℕ) where
   added-more sum less is at =
       let f : ℕ → ℕ = λ n. n + bytes in
       let x : ℕ = get_or xs i d in
-      let size : length (map f (take i xs)) ≡ i =
-      length-map (take i xs) f ∙ length-take-le i xs (omega (arith, less)) in
+      let size : length (map f (take i xs)) ≡ i = grind (arith, length-map, length-take-le) in
       ap₂ (λ (l : List ℕ) (n : ℕ). set l i n) is (at ∙ ap f (added-here less is))
       ∙ ap (λ t. set (map f (take i xs) ++ t) i (f x)) (drop_more xs i d less)
       ∙ set_at (map f (take i xs)) x (drop (i + 1) xs) (f x) i size

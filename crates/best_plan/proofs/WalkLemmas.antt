@@ -9,8 +9,7 @@ use Rattle.best_plan.specs.Rows.{AppendsRow, area_sum, IsAreaChoice, nothing}
 use Rattle.best_plan.specs.Table.{CanWalkTable, IsTable, IsTableEnd, need_areas, WalksTable}
 use Rattle.frame_header.specs.Fields.{HeaderFields, SlotFields}
 use Rattle.slot_plan.proofs.{AreaLemmas.Ascend, PartLemmas.next_need}
-use Rattle.slot_plan.{proofs.ReserveLemmas.{begins-frees, frees_of}, specs.Layouts.FrameLengths}
-use Rattle.slot_plan.specs.Lists.{frames_with_areas}
+use Rattle.slot_plan.{proofs.ReserveLemmas.{begins-frees, frees_of}, specs.Lists.frames_with_areas}
 use Rattle.slot_plan.specs.Parts.{item_area, need_item, open_frame, own_slot_area, PlanItem}
 use Rattle.slot_plan.specs.{Parts.slot_areas, Plans.{AreItemSlots, item_areas}}
 use Rattle.slot_plan.specs.{Reserve.free_bytes_behind, declared.needs.{Need.Need, Placed.Placed}}
@@ -22,10 +21,7 @@ pub table-none : (window : ℕ) (choices : HeaderFields → List SlotFields) (ne
     (sums places : List ℕ) → IsTableEnd window sums [] → places ≡ []
     → IsTable window choices (drop (length needs) needs) sums places
 unfolding IsTable
-table-none window choices needs sums places end none =
-    subst (λ l. IsTable window choices l sums places)
-    (sym (drop_all (length needs) needs (omega arith)))
-    (record { width = end.width; zeros = end.zeros; none = none })
+table-none window choices needs sums places end none = grind (arith, drop_all)
 
 -- one more row is the table from one frame earlier on
 pub table-more : (window : ℕ) (choices : HeaderFields → List SlotFields) (needs : List Need) (i : ℕ)
@@ -96,29 +92,23 @@ walked-more window free item items p placed later cost place ascend choice some 
 pub best-walked : (window free : ℕ) (items : List PlanItem) (placed : List Placed) → free ≤ window
     → IsWalked window free items placed → IsBestPlanFor window free items placed
 best-walked window free items placed within is =
-    let frames : List FrameLengths =
-    frames_with_areas (map open_frame items) (item_areas items placed) in
     record {
       slots = is.slots;
       best = shortest-first window free (map open_frame items)
           (item_areas items placed) within is.list;
-      begins = is.begins ∙ begins-frees window 0 free free frames (omega arith)
-          (omega (arith, within)) is.list.fit;
+      begins = grind (arith, begins-frees);
     }
 
 -- what is best for the frames was walked
 pub walked-best : (window free : ℕ) (items : List PlanItem) (placed : List Placed) → free ≤ window
     → IsBestPlanFor window free items placed → IsWalked window free items placed
 walked-best window free items placed within is =
-    let frames : List FrameLengths =
-    frames_with_areas (map open_frame items) (item_areas items placed) in
     let list =
     first-shortest window free (map open_frame items) (item_areas items placed) within is.best in
     record {
       slots = is.slots;
       list = list;
-      begins = is.begins ∙ sym (begins-frees window 0 free free frames (omega arith)
-          (omega (arith, within)) list.fit);
+      begins = grind (arith, begins-frees);
     }
 
 -- ---- the row of the first frame
@@ -147,19 +137,15 @@ opened window choices free need rest sums places within some table =
     let from : length places - (window + 1) ≡ length table.before =
     omega (arith, count, table.row.many) in
     let place : get_or places (length places - (window + 1) + free) 0 ≡ get_or table.cells free 0 =
-    ap (λ n. get_or places (n + free) 0) from
-    ∙ ap (λ l. get_or l (length table.before + free) 0) table.appended
-    ∙ get_or-append-add table.before table.cells free 0 in
+    grind (arith, get_or-append-add) in
     let before : take (length places - (window + 1)) places ≡ table.before =
-    ap (λ n. take n places) from ∙ ap (take (length table.before)) table.appended
-    ∙ take-front table.before table.cells in
+    grind (arith, take-front) in
     record {
       later = table.later;
       cost = get_or sums free 0;
       long = omega (arith, count, table.row.many);
       some = some;
-      choice = subst (IsAreaChoice window free need.bytes (need_areas choices need)
-          table.later (get_or sums free 0)) (sym place) (table.row.each free within);
+      choice = grind arith;
       behind = subst (IsTable window choices rest table.later) (sym before) table.behind;
     }
 
@@ -169,8 +155,7 @@ pub walk-open : {window : ℕ} {choices : HeaderFields → List SlotFields} {fre
     → need ≡ get_or needs i need → CanWalkTable window choices free (drop i needs) places
     → IsOpen window choices free need (drop (i + 1) needs) places
 walk-open {window} {choices} {free} {places} needs i need within lt is can =
-    opened window choices free need (drop (i + 1) needs) can.sums places within can.some
-    (subst (λ l. IsTable window choices l can.sums places) (next_need needs i need lt is) can.table)
+    grind (arith, opened, next_need)
 
 -- the walk can continue from what that choice leaves
 pub walk-next : (window : ℕ) (choices : HeaderFields → List SlotFields) (free after area : ℕ)
@@ -180,9 +165,7 @@ pub walk-next : (window : ℕ) (choices : HeaderFields → List SlotFields) (fre
     → after ≡ free_bytes_behind window free need.bytes area → left
     ≡ take (length places - (window + 1)) places → CanWalkTable window choices after rest left
 walk-next window choices free after area need rest places left front is gives taken =
-    let found : front.cost ≡ area_sum window free need.bytes front.later area =
-    subst (λ n. front.cost ≡ area_sum window free need.bytes front.later n) (sym is)
-    (front.choice.found front.some) in
+    let found : front.cost ≡ area_sum window free need.bytes front.later area = grind arith in
     record {
       sums = front.later;
       table = subst (IsTable window choices rest front.later) (sym taken) front.behind;
@@ -258,9 +241,7 @@ module _ {window : ℕ} {choices : HeaderFields → List SlotFields} {free : ℕ
     (is : value ≡ get_or places (count - (window + 1) + free) value) where
   -- the place that is read is the place that the table has for the free bytes
   pub place-is : get_or places (length places - (window + 1) + free) 0 ≡ value
-  place-is = get_or_default places (length places - (window + 1) + free) 0 value
-      (omega (arith, front.long, within))
-      ∙ ap (λ n. get_or places (n - (window + 1) + free) value) (sym all) ∙ sym is
+  place-is = grind (arith, get_or_default)
 
   -- the area is the one at that place
   pub area-is : (area : ℕ) → area ≡ get_or (need_areas choices need) value 0 → area

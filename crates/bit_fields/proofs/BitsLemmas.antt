@@ -1,14 +1,13 @@
 -- The laws of the bits of bytes and of the numbers that bits spell, general in their widths.
-use Rattle.std.proofs.Common.{add_assoc, ap, append-nil, append_assoc, ap₂, arith, drop, get_or}
-use Rattle.std.proofs.Common.{length, length-append, length-drop, List, lit<, mod-eq_of_lt}
-use Rattle.std.proofs.Common.{mul_assoc, one-add, refl, suc, sym, take, take-append-drop, zero, ℕ}
-use Rattle.std.proofs.Common.{[], ◌%◌, ◌*◌, ◌++◌, ◌+◌, ◌-◌, ◌/◌, ◌<◌, ◌^◌, ◌∙◌, ◌∷◌, ◌≡◌, ◌≤◌}
-use Rattle.std.proofs.Math.Nat.{add-mul, add_comm, mod-one, pow-suc, suc-add, zero-add}
+use Rattle.std.proofs.Common.{ap, append-nil, append_assoc, ap₂, arith, drop, get_or, length}
+use Rattle.std.proofs.Common.{length-append, length-drop, List, mod-eq_of_lt, one-add, refl, suc}
+use Rattle.std.proofs.Common.{sym, take, take-append-drop, zero, ℕ, [], ◌%◌, ◌*◌, ◌++◌, ◌+◌, ◌-◌}
+use Rattle.std.proofs.Common.{◌/◌, ◌<◌, ◌^◌, ◌∙◌, ◌∷◌, ◌≡◌, ◌≤◌}
+use Rattle.std.proofs.Math.Nat.{add_comm, mod-one, pow-suc, suc-add, zero-add}
 use Rattle.std.proofs.Math.Seq.{drop-append-add, take-append-add, take-nil}
 use Rattle.std.proofs.lemmas.List.{drop-append-le, drop_all, drop_at, length-take-le}
 use Rattle.std.proofs.lemmas.List.{nil_from_length, take-append-le, take_at}
-use Rattle.std.proofs.lemmas.Nat.{from_be_bytes-to_be_bytes_8, mod-pow-add, mod_below, mul-add-lt}
-use Rattle.std.proofs.lemmas.Nat.{pow-add, shr-shr, shr_high, shr_split}
+use Rattle.std.proofs.lemmas.Nat.{mod-pow-add, mul-add-lt, pow-add, shr-shr, shr_high, shr_split}
 use Rattle.std.proofs.lemmas.Nat.Bits.{bit_at-lt, bit_at_cat_low}
 use Rattle.std.specs.Int.{from_be_bytes, to_be_bytes, w32, w64}
 use Rattle.bit_fields.specs.Bits.{AreBelow, AreBits, AreBytes, bits, bits_of, bytes, number}
@@ -25,8 +24,7 @@ length-bits_of (suc width) n = ap suc (length-bits_of width n)
 pub length-bits : (xs : List ℕ) → length (bits xs) ≡ 8 * length xs
 unfolding bits
 length-bits [] = refl
-length-bits (x ∷ xs) =
-    omega (arith, length-append (bits_of 8 x) (bits xs), length-bits_of 8 x, length-bits xs)
+length-bits (x ∷ xs) = grind (arith, length-append, length-bits_of, length-bits xs)
 
 -- ---- each is below a limit
 -- if two lists are each below the limit, so are both together
@@ -58,8 +56,7 @@ AreBits-bits_of (suc width) n = (bit_at-lt n width, AreBits-bits_of width n)
 pub AreBits-bits : (xs : List ℕ) → AreBits (bits xs)
 unfolding bits
 AreBits-bits [] = tt
-AreBits-bits (x ∷ xs) =
-    AreBelow-append 2 (bits_of 8 x) (bits xs) (AreBits-bits_of 8 x) (AreBits-bits xs)
+AreBits-bits (x ∷ xs) = grind (arith, AreBelow-append, AreBits-bits_of, AreBits-bits xs)
 
 -- ---- the number of bits
 -- no bits spell 0
@@ -71,17 +68,14 @@ number-nil = refl
 pub number-below : (bs : List ℕ) → AreBits bs → number bs < 2 ^ length bs
 unfolding number
 number-below [] h = omega arith
-number-below (b ∷ bs) h =
-    rw pow-suc (mul-add-lt b (2 ^ length bs) (number bs) 2 h.0 (number-below bs h.1))
+number-below (b ∷ bs) h = search (arith, pow-suc, mul-add-lt, number-below bs h.1)
 
 -- bits followed by others spell the number of the first, shifted left by the count of the others,
 -- plus the number of the others
 pub number-append : (cs bs : List ℕ) → number (cs ++ bs) ≡ number cs * 2 ^ length bs + number bs
 unfolding number
 number-append [] bs = omega arith
-number-append (c ∷ cs) bs =
-    rw (number-append cs bs, length-append cs bs, pow-add 2 (length cs) (length bs))
-    (grind (arith, add-mul, mul_assoc, add_assoc))
+number-append (c ∷ cs) bs = grind (arith, length-append, pow-add, number-append cs bs)
 
 -- the lowest bits of a number spell its remainder by the power of 2 of their width
 pub number-bits_of : (width n : ℕ) → number (bits_of width n) ≡ n % 2 ^ width
@@ -101,8 +95,7 @@ pub bits_of-cat_low : (width place high n : ℕ) → width ≤ place
 unfolding bits_of
 bits_of-cat_low zero place high n h = refl
 bits_of-cat_low (suc width) place high n h =
-    ap₂ (λ b bs. b ∷ bs) (bit_at_cat_low high place n width h)
-    (bits_of-cat_low width place high n (omega arith))
+    grind (arith, bit_at_cat_low, bits_of-cat_low width place high n (omega arith))
 
 -- a number modulo the power of 2 of the width has the same bits
 pub bits_of-mod : (width n : ℕ) → bits_of width (n % 2 ^ width) ≡ bits_of width n
@@ -115,10 +108,7 @@ pub bits_of-number : (bs : List ℕ) → AreBits bs → bits_of (length bs) (num
 unfolding bits_of number
 bits_of-number [] h = refl
 bits_of-number (b ∷ bs) h =
-    let below : number bs < 2 ^ length bs = number-below bs h.1 in
-    ap₂ (λ c cs. c ∷ cs)
-    (ap (λ n. n % 2) (shr_high b (length bs) (number bs) below) ∙ mod-eq_of_lt h.0)
-    (bits_of-cat_low (length bs) (length bs) b (number bs) (omega arith) ∙ bits_of-number bs h.1)
+    grind (arith, number-below, shr_high, bits_of-cat_low, bits_of-number bs h.1)
 
 -- ---- bits of a sum of widths
 -- the bits of a sum of two widths are the high bits and then the low ones
@@ -126,56 +116,41 @@ pub bits_of-add : (high low n : ℕ)
     → bits_of (high + low) n ≡ bits_of high (n / 2 ^ low) ++ bits_of low n
 unfolding bits_of
 bits_of-add zero low n = ap (λ w. bits_of w n) (zero-add low)
-bits_of-add (suc high) low n =
-    rw suc-add
-    (ap₂ (λ b bs. b ∷ bs)
-    (ap (λ m. m % 2) (ap (λ w. n / 2 ^ w) (add_comm high low) ∙ sym (shr-shr n low high)))
-    (bits_of-add high low n))
+bits_of-add (suc high) low n = search (arith, suc-add, add_comm, shr-shr, bits_of-add high low n)
 
 -- the bits of two numbers put side by side are the bits of the one followed by the bits of the
 -- other
 pub bits_of-cat : (high low a n : ℕ) → n < 2 ^ low
     → bits_of (high + low) (a * 2 ^ low + n) ≡ bits_of high a ++ bits_of low n
-bits_of-cat high low a n h =
-    bits_of-add high low (a * 2 ^ low + n)
-    ∙ ap₂ (λ xs ys. xs ++ ys) (ap (bits_of high) (shr_high a low n h))
-    (bits_of-cat_low low low a n (omega arith))
+bits_of-cat high low a n h = grind (arith, bits_of-add, bits_of-cat_low)
 
 -- the high bits of a number are the bits of the number shifted right by the low ones
 pub take-bits_of : (high low n : ℕ)
     → take high (bits_of (high + low) n) ≡ bits_of high (n / 2 ^ low)
-take-bits_of high low n =
-    ap (take high) (bits_of-add high low n)
-    ∙ take_at (bits_of high (n / 2 ^ low)) (bits_of low n) high (length-bits_of high (n / 2 ^ low))
+take-bits_of high low n = grind (arith, bits_of-add, take_at, length-bits_of)
 
 -- without the high bits the low bits are left
 pub drop-bits_of : (high low n : ℕ) → drop high (bits_of (high + low) n) ≡ bits_of low n
-drop-bits_of high low n =
-    ap (drop high) (bits_of-add high low n)
-    ∙ drop_at (bits_of high (n / 2 ^ low)) (bits_of low n) high (length-bits_of high (n / 2 ^ low))
+drop-bits_of high low n = grind (arith, bits_of-add, drop_at, length-bits_of)
 
 -- `width` bits in the middle of the bits of a number are the bits of the number shifted right
 pub middle-bits_of : (before width after n : ℕ)
     → take width (drop before (bits_of (before + (width + after)) n))
     ≡ bits_of width (n / 2 ^ after)
-middle-bits_of before width after n =
-    ap (take width) (drop-bits_of before (width + after) n) ∙ take-bits_of width after n
+middle-bits_of before width after n = grind (arith, drop-bits_of, take-bits_of)
 
 -- bits in the middle spell the remainder of the shifted number
 pub number-middle : (before width after n : ℕ)
     → number (take width (drop before (bits_of (before + (width + after)) n)))
     ≡ n / 2 ^ after % 2 ^ width
-number-middle before width after n =
-    ap number (middle-bits_of before width after n) ∙ number-bits_of width (n / 2 ^ after)
+number-middle before width after n = grind (arith, middle-bits_of, number-bits_of)
 
 -- the same, by the width of the whole number
 pub number-middle_of : (whole before width n : ℕ) → before + width ≤ whole
     → number (take width (drop before (bits_of whole n)))
     ≡ n / 2 ^ (whole - before - width) % 2 ^ width
 number-middle_of whole before width n h =
-    let e : before + (width + (whole - before - width)) ≡ whole = omega arith in
-    ap (λ w. number (take width (drop before (bits_of w n)))) (sym e)
-    ∙ number-middle before width (whole - before - width) n
+    grind (arith, number-middle before width (whole - before - width) n)
 
 -- ---- the bits of bytes
 -- no bytes have no bits
@@ -196,8 +171,7 @@ bits-one x = bits-cons x [] ∙ ap (λ bs. bits_of 8 x ++ bs) bits-nil ∙ appen
 pub bits-append : (xs ys : List ℕ) → bits (xs ++ ys) ≡ bits xs ++ bits ys
 unfolding bits
 bits-append [] ys = refl
-bits-append (x ∷ xs) ys = ap (λ bs. bits_of 8 x ++ bs) (bits-append xs ys)
-    ∙ sym (append_assoc (bits_of 8 x) (bits xs) (bits ys))
+bits-append (x ∷ xs) ys = grind (arith, append_assoc, bits-append xs ys)
 
 eights : (k : ℕ) (x : ℕ) → 8 * suc k ≡ length (bits_of 8 x) + 8 * k
 eights k x = omega (arith, length-bits_of 8 x)
@@ -208,9 +182,7 @@ unfolding bits
 take-bits zero xs = refl
 take-bits (suc k) [] = take-nil (8 * suc k)
 take-bits (suc k) (x ∷ xs) =
-    ap (λ n. take n (bits_of 8 x ++ bits xs)) (eights k x)
-    ∙ take-append-add (bits_of 8 x) (bits xs) (8 * k)
-    ∙ ap (λ bs. bits_of 8 x ++ bs) (take-bits k xs)
+    grind (arith, eights k x, take-append-add (bits_of 8 x) (bits xs) (8 * k), take-bits k xs)
 
 -- dropping the first 8 * k bits of bytes leaves the bits of the bytes after the first k
 pub drop-bits : (k : ℕ) (xs : List ℕ) → drop (8 * k) (bits xs) ≡ bits (drop k xs)
@@ -218,22 +190,16 @@ unfolding bits
 drop-bits zero xs = refl
 drop-bits (suc k) [] = drop_all (8 * suc k) [] (omega arith)
 drop-bits (suc k) (x ∷ xs) =
-    ap (λ n. drop n (bits_of 8 x ++ bits xs)) (eights k x)
-    ∙ drop-append-add (bits_of 8 x) (bits xs) (8 * k)
-    ∙ drop-bits k xs
+    grind (arith, eights k x, drop-append-add (bits_of 8 x) (bits xs) (8 * k), drop-bits k xs)
 
 -- bits in the middle of others spell a shift and a remainder of the number of all
 pub number-within : (from width : ℕ) (bs : List ℕ) → AreBits bs → from + width ≤ length bs
     → number (take width (drop from bs)) ≡ number bs / 2 ^ (length bs - from - width) % 2 ^ width
-number-within from width bs h l =
-    ap (λ cs. number (take width (drop from cs))) (sym (bits_of-number bs h))
-    ∙ number-middle_of (length bs) from width (number bs) l
+number-within from width bs h l = grind (arith, bits_of-number, number-middle_of)
 
 -- bytes have the bits of the number that they spell
 pub bits-bits_of : (xs : List ℕ) → bits xs ≡ bits_of (8 * length xs) (number (bits xs))
-bits-bits_of xs =
-    sym (bits_of-number (bits xs) (AreBits-bits xs))
-    ∙ ap (λ w. bits_of w (number (bits xs))) (length-bits xs)
+bits-bits_of xs = grind (arith, bits_of-number (bits xs) (AreBits-bits xs), length-bits xs)
 
 -- from a bit on, bytes have eight times their count less this offset left
 pub length-left : (place : ℕ) (xs : List ℕ) → length (drop place (bits xs)) ≡ 8 * length xs - place
@@ -247,9 +213,7 @@ number-bits-below xs = rw (← length-bits xs) (number-below (bits xs) (AreBits-
 pub number-bits-push : (xs : List ℕ) (x : ℕ) → x < 256
     → number (bits (xs ++ x ∷ [])) ≡ number (bits xs) * 256 + x
 number-bits-push xs x h =
-    ap number (bits-append xs (x ∷ []) ∙ ap (λ bs. bits xs ++ bs) (bits-one x))
-    ∙ number-append (bits xs) (bits_of 8 x)
-    ∙ ap₂ (λ w n. number (bits xs) * 2 ^ w + n) (length-bits_of 8 x) (number-bits_of-below 8 x h)
+    grind (arith, bits-append, bits-one, number-append, length-bits_of, number-bits_of-below)
 
 -- ---- the bytes of bits
 -- no bits spell no bytes
@@ -279,11 +243,13 @@ length-bytes (suc k) bs h =
 -- what bits spell in groups of eight are bytes
 pub AreBytes-bytes : (bs : List ℕ) → AreBits bs → AreBytes (bytes bs)
 unfolding bytes
-AreBytes-bytes (a ∷ b ∷ c ∷ d ∷ e ∷ f ∷ g ∷ h ∷ bs) all = (
-  number-below (a ∷ b ∷ c ∷ d ∷ e ∷ f ∷ g ∷ h ∷ [])
-      (AreBelow-take 2 8 (a ∷ b ∷ c ∷ d ∷ e ∷ f ∷ g ∷ h ∷ bs) all),
-  AreBytes-bytes bs (AreBelow-drop 2 8 (a ∷ b ∷ c ∷ d ∷ e ∷ f ∷ g ∷ h ∷ bs) all),
-)
+AreBytes-bytes (a ∷ b ∷ c ∷ d ∷ e ∷ f ∷ g ∷ h ∷ bs) all =
+    grind (
+      arith,
+      number-below,
+      AreBytes-bytes bs (AreBelow-drop 2 8 (a ∷ b ∷ c ∷ d ∷ e ∷ f ∷ g ∷ h
+          ∷ bs) all),
+    )
 AreBytes-bytes bs all = tt
 
 -- the bits of whole bytes followed by more bits spell these bytes, then the bytes of the other bits
@@ -314,9 +280,7 @@ drop-bytes k bs h =
 pub bytes-bits : (xs : List ℕ) → AreBytes xs → bytes (bits xs) ≡ xs
 bytes-bits [] h = ap bytes bits-nil ∙ bytes-nil
 bytes-bits (x ∷ xs) h =
-    ap bytes (bits-cons x xs)
-    ∙ bytes-eight (bits_of 8 x) (bits xs) (length-bits_of 8 x)
-    ∙ ap₂ (λ y ys. y ∷ ys) (number-bits_of-below 8 x h.0) (bytes-bits xs h.1)
+    grind (arith, bits-cons, bytes-eight, length-bits_of, number-bits_of-below, bytes-bits xs h.1)
 
 -- the bytes of bits, a multiple of eight, have these bits
 pub bits-bytes : (k : ℕ) (bs : List ℕ) → AreBits bs → length bs ≡ 8 * k → bits (bytes bs) ≡ bs
@@ -345,8 +309,7 @@ AreBytes-from_places (x ∷ xs) h = (h 0, AreBytes-from_places xs (λ i. h (suc 
 
 -- the numbers of a slice of `u8` are bytes
 pub AreBytes-from_slice : (xs : List ℕ) → ((i : ℕ) → Fits w8 (get_or xs i 0)) → AreBytes xs
-AreBytes-from_slice xs h =
-    AreBytes-from_places xs (λ i. let fits : Fits w8 (get_or xs i 0) = h i in omega arith)
+AreBytes-from_slice xs h = grind (arith, AreBytes-from_places)
 
 -- each of some bytes is below 256, and so is the 0 after them
 pub places_below : (xs : List ℕ) → AreBytes xs → (i : ℕ) → get_or xs i 0 < 256
@@ -376,8 +339,7 @@ number-bits-be_bytes xs l h = absurd (omega arith)
 -- four bytes have the bits of their big-endian number
 pub bits-be_bytes : (xs : List ℕ) → length xs ≡ 4 → AreBytes xs
     → bits xs ≡ bits_of 32 (from_be_bytes w32 xs)
-bits-be_bytes xs l h =
-    bits-bits_of xs ∙ ap₂ (λ k n. bits_of (8 * k) n) l (number-bits-be_bytes xs l h)
+bits-be_bytes xs l h = grind (arith, bits-bits_of, number-bits-be_bytes)
 
 -- ---- eight bytes as one big-endian number
 number-eight : (a b c d e f g h : ℕ) → AreBytes (a ∷ b ∷ c ∷ d ∷ e ∷ f ∷ g ∷ h ∷ [])
@@ -405,41 +367,13 @@ pub number-bits-be_bytes_8 : (xs : List ℕ) → length xs ≡ 8 → AreBytes xs
 number-bits-be_bytes_8 (a ∷ b ∷ c ∷ d ∷ e ∷ f ∷ g ∷ h ∷ []) l all = number-eight a b c d e f g h all
 number-bits-be_bytes_8 xs l all = absurd (omega arith)
 
-AreBytes-to_be_bytes_8 : (n : ℕ) → AreBytes (to_be_bytes w64 n)
-AreBytes-to_be_bytes_8 n = (
-  mod_below _ 256 (lit< tt),
-  (
-    mod_below _ 256 (lit< tt),
-    (
-      mod_below _ 256 (lit< tt),
-      (
-        mod_below _ 256 (lit< tt),
-        (
-          mod_below _ 256 (lit< tt),
-          (
-            mod_below _ 256 (lit< tt),
-            (mod_below _ 256 (lit< tt), (mod_below _ 256 (lit< tt), tt)),
-          ),
-        ),
-      ),
-    ),
-  ),
-)
-
 -- a number as eight big-endian bytes has the 64 bits of the number
 pub bits-to_be_bytes_8 : (n : ℕ) → n < 2 ^ 64 → bits (to_be_bytes w64 n) ≡ bits_of 64 n
-bits-to_be_bytes_8 n h =
-    bits-bits_of (to_be_bytes w64 n)
-    ∙ ap (bits_of 64) (number-bits-be_bytes_8 (to_be_bytes w64 n) refl (AreBytes-to_be_bytes_8 n)
-    ∙ from_be_bytes-to_be_bytes_8 n h)
+bits-to_be_bytes_8 n h = grind (arith, bits-bits_of, number-bits-be_bytes_8)
 
 -- bits that lie within the first of two lists of bytes are the same with the second list after it
 pub bits-front : (main rest : List ℕ) (start count : ℕ) → 8 * start + count ≤ 8 * length main
     → take count (drop (8 * start) (bits (main ++ rest)))
     ≡ take count (drop (8 * start) (bits main))
 bits-front main rest start count within =
-    ap (λ (l : List ℕ). take count (drop (8 * start) l)) (bits-append main rest)
-    ∙ ap (take count)
-    (drop-append-le (8 * start) (bits main) (bits rest) (omega (arith, within, length-bits main)))
-    ∙ take-append-le count (drop (8 * start) (bits main)) (bits rest)
-    (omega (arith, within, length-bits main, length-drop (8 * start) (bits main)))
+    grind (arith, bits-append, drop-append-le, length-bits, take-append-le, length-drop)

@@ -2,7 +2,7 @@
 use Rattle.std.proofs.Common.{ap, append_assoc, ap₂, arith, drop, get_or, length, length-drop}
 use Rattle.std.proofs.Common.{length-take, List, lt_of_lt_of_le, pow_mono, set, sym, take}
 use Rattle.std.proofs.Common.{take-append-drop, ℕ, ◌%◌, ◌*◌, ◌++◌, ◌+◌, ◌-◌, ◌/◌, ◌<◌, ◌^◌, ◌∙◌}
-use Rattle.std.proofs.{Common.{◌≡◌, ◌≤◌}, Math.{Nat.div-one, Seq.take-add}}
+use Rattle.std.proofs.{Common.{◌≡◌, ◌≤◌}, Math.Seq.take-add}
 use Rattle.std.proofs.lemmas.List.{drop-append-le, drop-drop, drop-set, drop_all, length-take-le}
 use Rattle.std.proofs.lemmas.List.{take-take, take_more}
 use Rattle.std.proofs.lemmas.Nat.{mod_below, mul-add-lt, pow-add, pow_pos, shl_whole, shr-shr}
@@ -19,8 +19,7 @@ use Rattle.bit_fields.specs.{Bits.{bits, bits_of, number}, Groups.group}
 pub read_more : (xs : List ℕ) (i : ℕ) → i < length xs → get_or xs i 0 < 256
     → number (bits (take (i + 1) xs)) ≡ number (bits (take i xs)) * 256 + get_or xs i 0
 read_more xs i h byte =
-    ap (λ ys. number (bits ys)) (take_more xs i 0 h)
-    ∙ number-bits-push (take i xs) (get_or xs i 0) byte
+    grind (arith, take_more xs i 0 h, number-bits-push (take i xs) (get_or xs i 0) byte)
 
 -- the number of up to four bytes, read before a fifth, is below 2 ^ 32
 pub read_small : (xs : List ℕ) (i window : ℕ) → length xs ≤ 5 → i < length xs
@@ -34,15 +33,7 @@ read_small xs i window few h e =
 pub write_none : (xs : List ℕ) (window : ℕ)
     → bits (drop (length xs) xs) ≡ bits_of (8 * (length xs - length xs)) window
 unfolding bits_of
-write_none xs window =
-    let e : 0 ≡ 8 * (length xs - length xs) = omega arith in
-    ap bits (drop_all (length xs) xs (omega arith)) ∙ bits-nil ∙ ap (λ w. bits_of w window) e
-
--- before anything is written all of the number is left
-pub left_none : (xs : List ℕ) (window : ℕ) → window ≡ window / 2 ^ (8 * (length xs - length xs))
-left_none xs window =
-    let e : 0 ≡ 8 * (length xs - length xs) = omega arith in
-    sym (div-one window) ∙ ap (λ w. window / 2 ^ w) e
+write_none xs window = grind (arith, drop_all, bits-nil)
 
 module _ (xs : List ℕ) (i window rest : ℕ) (within : i < length xs) where
   -- after the lowest byte of what is left is written at place i, all bytes from there on are
@@ -51,20 +42,18 @@ module _ (xs : List ℕ) (i window rest : ℕ) (within : i < length xs) where
       → rest ≡ window / 2 ^ (8 * (length xs - (i + 1)))
       → bits (drop i (set xs i (rest % 256))) ≡ bits_of (8 * (length xs - i)) window
   write_more written left =
-      let e : 8 + 8 * (length xs - (i + 1)) ≡ 8 * (length xs - i) = omega arith in
-      ap bits (drop-set xs i (rest % 256) within)
-      ∙ bits-cons (rest % 256) (drop (i + 1) xs)
-      ∙ ap₂ (λ cs ds. cs ++ ds) (bits_of-mod 8 rest ∙ ap (bits_of 8) left) written
-      ∙ sym (bits_of-add 8 (8 * (length xs - (i + 1))) window)
-      ∙ ap (λ w. bits_of w window) e
+      grind (
+        arith,
+        drop-set xs i (rest % 256) within,
+        bits-cons (rest % 256) (drop (i + 1) xs),
+        bits_of-mod 8 rest,
+        bits_of-add 8 (8 * (length xs - (i + 1))) window,
+      )
 
   -- what is left after that is the number above that byte
   pub left_more : rest ≡ window / 2 ^ (8 * (length xs - (i + 1)))
       → rest / 256 ≡ window / 2 ^ (8 * (length xs - i))
-  left_more left =
-      let e : 8 * (length xs - (i + 1)) + 8 ≡ 8 * (length xs - i) = omega arith in
-      ap (λ n. n / 256) left ∙ shr-shr window (8 * (length xs - (i + 1))) 8
-      ∙ ap (λ w. window / 2 ^ w) e
+  left_more left = grind (arith, shr-shr window (8 * (length xs - (i + 1))) 8)
 
 -- ---- a group within the few bytes that it is in
 -- a group is a shift and a remainder of the number of the bytes around it
@@ -74,8 +63,7 @@ pub read_group : (xs : List ℕ) (from width first last window : ℕ) → 8 * fi
     → window / 2 ^ (8 * last - (from + width)) % 2 ^ width ≡ group from width (bits xs)
 read_group xs from width first last window h l ordered within e =
     let part : List ℕ = take (last - first) (drop first xs) in
-    let size : length part ≡ last - first =
-    length-take-le (last - first) (drop first xs) (simp length-drop (omega arith)) in
+    let size : length part ≡ last - first = grind (arith, length-take-le, length-drop) in
     let many : length (bits part) ≡ 8 * (last - first) = length-bits part ∙ ap (λ n. 8 * n) size in
     let shift : 8 * last - (from + width) ≡ length (bits part) - (from - 8 * first) - width =
     omega arith in
@@ -87,9 +75,7 @@ read_group xs from width first last window h l ordered within e =
 module _ (total window n low value : ℕ) (small : window < 2 ^ total) (room : n + low ≤ total)
     (fits : value < 2 ^ n) where
   above_small : window / 2 ^ (n + low) < 2 ^ (total - (n + low))
-  above_small =
-      let e : total - (n + low) + (n + low) ≡ total = omega arith in
-      shr_below window (total - (n + low)) (n + low) (rw e small)
+  above_small = grind (arith, shr_below)
 
   -- what is above the group loses no bits in 64
   pub above_whole : total ≤ 64
@@ -117,8 +103,10 @@ module _ (total window n low value : ℕ) (small : window < 2 ^ total) (room : n
       < 2 ^ total
   whole_small =
       let e : low + (total - low) ≡ total = omega arith in
-      let product : 2 ^ (low + (total - low)) ≡ 2 ^ low * 2 ^ (total - low) =
-      pow-add 2 low (total - low) in
+      let product : 2 ^ (low + (total - low)) ≡ 2 ^ low * 2 ^ (total - low) = grind (
+        arith,
+        pow-add,
+      ) in
       rw (← ap (λ k. 2 ^ k) e, product)
       (mul-add-lt (window / 2 ^ (n + low) * 2 ^ n + value) (2 ^ low) (window % 2 ^ low)
       (2 ^ (total - low)) upper_small (mod_below window (2 ^ low) (pow_pos low)))
@@ -129,17 +117,17 @@ put_bits : (offset n low window value : ℕ) → value < 2 ^ n
     + window % 2 ^ low) ≡ take offset (bits_of (offset + n + low) window) ++ bits_of n value
     ++ drop (offset + n) (bits_of (offset + n + low) window)
 put_bits offset n low window value fits =
-    let e : offset + (n + low) ≡ offset + n + low = omega arith in
-    let front : bits_of offset (window / 2 ^ (n + low))
-    ≡ take offset (bits_of (offset + n + low) window) =
-    sym (take-bits_of offset (n + low) window) ∙ ap (λ w. take offset (bits_of w window)) e in
-    let back : bits_of low (window % 2 ^ low)
-    ≡ drop (offset + n) (bits_of (offset + n + low) window) =
-    bits_of-mod low window ∙ sym (drop-bits_of (offset + n) low window) in
-    bits_of-cat (offset + n) low (window / 2 ^ (n + low) * 2 ^ n + value) (window % 2 ^ low)
-    (mod_below window (2 ^ low) (pow_pos low))
-    ∙ ap₂ (λ cs ds. cs ++ ds) (bits_of-cat offset n (window / 2 ^ (n + low)) value fits
-    ∙ ap (λ cs. cs ++ bits_of n value) front) back
+    grind (
+      arith,
+      take-bits_of offset (n + low) window,
+      bits_of-mod low window,
+      drop-bits_of
+          (offset + n) low window,
+      bits_of-cat (offset + n) low (window / 2 ^ (n + low) * 2 ^ n +
+          value) (window % 2 ^ low) (mod_below window (2 ^ low) (pow_pos low)),
+      bits_of-cat offset n
+          (window / 2 ^ (n + low)) value fits,
+    )
 
 -- what is changed in a part of a list is changed at the same place in the list
 put_in_part : (bs : List ℕ) (start size offset n : ℕ) (vs : List ℕ) → offset + n ≤ size
@@ -150,16 +138,19 @@ put_in_part bs start size offset n vs h l =
     let rest : List ℕ = drop start bs in
     let long : size ≤ length (drop start bs) = simp length-drop (omega arith) in
     let front : take start bs ++ take offset (take size (drop start bs))
-    ≡ take (start + offset) bs = ap (λ cs. take start bs ++ cs)
-    (take-take offset size (drop start bs) (omega arith)) ∙ sym (take-add start offset bs) in
-    let full : length (take size (drop start bs)) ≡ size =
-    length-take-le size (drop start bs) long in
+    ≡ take (start + offset) bs = grind (arith, take-take, take-add) in
+    let full : length (take size (drop start bs)) ≡ size = grind (arith, length-take-le) in
     let place : start + (offset + n) ≡ start + offset + n = omega arith in
     let back : drop (offset + n) (take size (drop start bs)) ++ drop size (drop start bs)
     ≡ drop (start + offset + n) bs =
-    sym (drop-append-le (offset + n) (take size (drop start bs)) (drop size (drop start bs))
-    (omega arith)) ∙ ap (drop (offset + n)) (take-append-drop size (drop start bs))
-    ∙ drop-drop (offset + n) start bs ∙ ap (λ k. drop k bs) place in
+    grind (
+      arith,
+      drop-append-le (offset + n) (take size (drop start bs)) (drop size (drop
+          start bs)) (omega arith),
+      take-append-drop size (drop start bs),
+      drop-drop (offset + n)
+          start bs,
+    ) in
     ap (λ cs. take start bs ++ cs) (append_assoc (take offset (take size (drop start bs)) ++ vs)
     (drop (offset + n) (take size (drop start bs))) (drop size (drop start bs))
     ∙ ap (λ cs. (take offset (take size (drop start bs)) ++ vs) ++ cs) back)
@@ -191,18 +182,11 @@ module _ (xs ys : List ℕ) (from n first last window value : ℕ) (low : 8 * fi
       let start : 8 * first + offset ≡ from = omega arith in
       let were : bits_of (offset + n + spare) window
       ≡ take (8 * (last - first)) (drop (8 * first) (bits xs)) =
-      ap₂ bits_of (sym width) old
-      ∙ sym (bits-bits_of part)
-      ∙ sym (take-bits (last - first) (drop first xs))
-      ∙ ap (take (8 * (last - first))) (sym (drop-bits first xs)) in
+      grind (arith, bits-bits_of, take-bits, drop-bits) in
       let part_put : bits ys
       ≡ take offset (take (8 * (last - first)) (drop (8 * first) (bits xs))) ++ bits_of n value
       ++ drop (offset + n) (take (8 * (last - first)) (drop (8 * first) (bits xs))) =
-      new
-      ∙ ap (λ w. bits_of w
-      ((window / 2 ^ (n + spare) * 2 ^ n + value) * 2 ^ spare + window % 2 ^ spare)) width
-      ∙ put_bits offset n spare window value fits
-      ∙ ap (λ bs. take offset bs ++ bits_of n value ++ drop (offset + n) bs) were in
+      grind (arith, put_bits) in
       bits-append (take first xs) (ys ++ drop (last - first) (drop first xs))
       ∙ ap₂ (λ cs ds. cs ++ ds) (sym (take-bits first xs))
       (bits-append ys (drop (last - first) (drop first xs))

@@ -1,9 +1,9 @@
 -- The laws of successive groups of bits: numbers and bits give each other back.
 use Rattle.std.proofs.Common.{ap, append-nil, append_assoc, ap₂, arith, drop, length, length-append}
-use Rattle.std.proofs.Common.{length-drop, length-take, List, lt_of_lt_of_le, mod-eq_of_lt}
-use Rattle.std.proofs.Common.{pow_mono, refl, subst, suc, sum, sym, take, take-append-drop, ℕ, []}
-use Rattle.std.proofs.Common.{◌%◌, ◌*◌, ◌++◌, ◌+◌, ◌-◌, ◌/◌, ◌<◌, ◌^◌, ◌∙◌, ◌∷◌, ◌≡◌, ◌≤◌}
-use Rattle.std.proofs.Math.{Nat.add_comm, Seq.take-add}
+use Rattle.std.proofs.Common.{length-drop, length-take, List, mod-eq_of_lt, pow_mono, refl, suc}
+use Rattle.std.proofs.Common.{sum, sym, take, take-append-drop, ℕ, [], ◌%◌, ◌*◌, ◌++◌, ◌+◌, ◌-◌}
+use Rattle.std.proofs.{Common.{◌/◌, ◌<◌, ◌^◌, ◌∙◌, ◌∷◌, ◌≡◌, ◌≤◌}, Math.Nat.add_comm}
+use Rattle.std.proofs.Math.Seq.{take-add}
 use Rattle.std.proofs.lemmas.List.{drop-append-le, drop-drop, drop-take, drop_at, length-take-le}
 use Rattle.std.proofs.lemmas.List.{take-append-le, take-take, take_all, take_at, Sums.sum_by-cons}
 use Rattle.std.proofs.lemmas.Nat.{mul-add-lt, pow-add, shr_high}
@@ -40,10 +40,14 @@ unfolding group_bits
 length-group_bits [] ns h = refl
 length-group_bits (width ∷ widths) [] h = absurd (omega arith)
 length-group_bits (width ∷ widths) (n ∷ ns) h =
-    let rest : length (group_bits widths ns) ≡ sum widths =
-    length-group_bits widths ns (omega arith) in
-    let both : sum (width ∷ widths) ≡ width + sum widths = sum-cons width widths in
-    omega (arith, length-append (bits_of width n) (group_bits widths ns), length-bits_of width n)
+    grind (
+      arith,
+      sum-cons,
+      length-append,
+      length-bits_of,
+      length-group_bits widths ns (omega
+          arith),
+    )
 
 -- ---- zeros and ones, and numbers that fit
 -- numbers in groups are spelled by zeros and ones
@@ -52,26 +56,26 @@ unfolding group_bits
 AreBits-group_bits [] ns = tt
 AreBits-group_bits (width ∷ widths) [] = tt
 AreBits-group_bits (width ∷ widths) (n ∷ ns) =
-    AreBelow-append 2 (bits_of width n) (group_bits widths ns) (AreBits-bits_of width n)
-    (AreBits-group_bits widths ns)
+    grind (arith, AreBelow-append, AreBits-bits_of, AreBits-group_bits widths ns)
 
 -- a group of `width` bits is below 2 ^ width
 pub group-below : (from width : ℕ) (bs : List ℕ) → AreBits bs → group from width bs < 2 ^ width
 unfolding group
 group-below from width bs h =
-    let few : length (take width (drop from bs)) ≤ width = simp length-take (omega arith) in
-    lt_of_lt_of_le (number-below (take width (drop from bs))
-    (AreBelow-take 2 width (drop from bs) (AreBelow-drop 2 from bs h))) (pow_mono few)
+    grind (arith, length-take, number-below, AreBelow-take, AreBelow-drop, pow_mono)
 
 -- the numbers of groups of bits fit in these groups
 pub NumbersFit-numbers_at : (widths bs : List ℕ) → AreBits bs
     → NumbersFit widths (numbers_at widths bs)
 unfolding numbers_at group
 NumbersFit-numbers_at [] bs h = tt
-NumbersFit-numbers_at (width ∷ widths) bs h = (
-  group-below 0 width bs h,
-  NumbersFit-numbers_at widths (drop width bs) (AreBelow-drop 2 width bs h),
-)
+NumbersFit-numbers_at (width ∷ widths) bs h =
+    grind (
+      arith,
+      group-below 0 width bs h,
+      NumbersFit-numbers_at widths (drop width bs)
+          (AreBelow-drop 2 width bs h),
+    )
 
 -- ---- there and back
 -- numbers that fit are read from the bits that spell them, whatever follows
@@ -82,20 +86,21 @@ numbers_at-group_bits_more [] [] more h = refl
 numbers_at-group_bits_more [] (n ∷ ns) more h = absurd h
 numbers_at-group_bits_more (width ∷ widths) [] more h = absurd h
 numbers_at-group_bits_more (width ∷ widths) (n ∷ ns) more h =
-    let l : length (bits_of width n) ≡ width = length-bits_of width n in
-    rw append_assoc
-    (ap₂ (λ m ms. m ∷ ms)
-    (ap number (take_at (bits_of width n) (group_bits widths ns ++ more) width l)
-    ∙ number-bits_of-below width n h.0)
-    (ap (numbers_at widths) (drop_at (bits_of width n) (group_bits widths ns ++ more) width l)
-    ∙ numbers_at-group_bits_more widths ns more h.1))
+    grind (
+      arith,
+      length-bits_of,
+      append_assoc,
+      take_at,
+      number-bits_of-below,
+      drop_at,
+      numbers_at-group_bits_more widths ns more h.1,
+    )
 
 -- the same where nothing follows
 pub numbers_at-group_bits : (widths ns : List ℕ) → NumbersFit widths ns
     → numbers_at widths (group_bits widths ns) ≡ ns
 numbers_at-group_bits widths ns h =
-    ap (numbers_at widths) (sym (append-nil (group_bits widths ns)))
-    ∙ numbers_at-group_bits_more widths ns [] h
+    grind (arith, append-nil (group_bits widths ns), numbers_at-group_bits_more widths ns)
 
 -- the first bits are those that the numbers of the groups spell
 pub group_bits-numbers_at_front : (widths bs : List ℕ) → AreBits bs → sum widths ≤ length bs
@@ -116,8 +121,7 @@ group_bits-numbers_at_front (width ∷ widths) bs all h =
 -- the numbers of the groups that bits are spell these bits
 pub group_bits-numbers_at : (widths bs : List ℕ) → AreBits bs → length bs ≡ sum widths
     → group_bits widths (numbers_at widths bs) ≡ bs
-group_bits-numbers_at widths bs all h =
-    group_bits-numbers_at_front widths bs all (omega arith) ∙ take_all (sum widths) bs (omega arith)
+group_bits-numbers_at widths bs all h = grind (arith, group_bits-numbers_at_front, take_all)
 
 -- ---- groups that follow others
 -- the numbers of joined groups are the numbers of the first, followed by those of the groups after
@@ -127,10 +131,7 @@ pub numbers_at-append : (widths more bs : List ℕ) → numbers_at (widths ++ mo
 unfolding numbers_at
 numbers_at-append [] more bs = refl
 numbers_at-append (width ∷ widths) more bs =
-    ap (λ ns. number (take width bs) ∷ ns)
-    (numbers_at-append widths more (drop width bs)
-    ∙ ap (λ ds. numbers_at widths (drop width bs) ++ numbers_at more ds)
-    (drop-drop (sum widths) width bs ∙ ap (λ n. drop n bs) (sym (sum-cons width widths))))
+    grind (arith, drop-drop, sum-cons, numbers_at-append widths more (drop width bs))
 
 -- the bits of joined groups are the bits of the first followed by the bits of the others
 pub group_bits-append : (widths more ns ms : List ℕ) → length ns ≡ length widths
@@ -140,8 +141,7 @@ group_bits-append [] more [] ms h = refl
 group_bits-append [] more (n ∷ ns) ms h = absurd (omega arith)
 group_bits-append (width ∷ widths) more [] ms h = absurd (omega arith)
 group_bits-append (width ∷ widths) more (n ∷ ns) ms h =
-    ap (λ bs. bits_of width n ++ bs) (group_bits-append widths more ns ms (omega arith))
-    ∙ sym (append_assoc (bits_of width n) (group_bits widths ns) (group_bits more ms))
+    grind (arith, append_assoc, group_bits-append widths more ns ms (omega arith))
 
 -- ---- only the bits of the groups count
 -- bits after the groups don't change their numbers
@@ -170,10 +170,12 @@ pub group-take : (from width n : ℕ) (bs : List ℕ) → from + width ≤ n
     → group from width (take n bs) ≡ group from width bs
 unfolding group
 group-take from width n bs h =
-    let e : from + (n - from) ≡ n = omega arith in
-    ap (λ k. number (take width (drop from (take k bs)))) (sym e)
-    ∙ ap (λ ds. number (take width ds)) (drop-take from (n - from) bs)
-    ∙ ap number (take-take width (n - from) (drop from bs) (omega arith))
+    grind (
+      arith,
+      drop-take from (n - from) bs,
+      take-take width (n - from) (drop from bs) (omega
+          arith),
+    )
 
 -- a group of the bits after `more` bits is the group of all bits that begins `more` bits later
 pub group-drop : (more from width : ℕ) (bs : List ℕ)
@@ -186,12 +188,13 @@ pub group-bits_part : (from width first count : ℕ) (xs : List ℕ) → 8 * fir
     → from + width ≤ 8 * (first + count) → group from width (bits xs)
     ≡ group (from - 8 * first) width (bits (take count (drop first xs)))
 group-bits_part from width first count xs h l =
-    let e : 8 * first + (from - 8 * first) ≡ from = omega arith in
-    ap (λ k. group k width (bits xs)) (sym e)
-    ∙ sym (group-drop (8 * first) (from - 8 * first) width (bits xs))
-    ∙ ap (group (from - 8 * first) width) (drop-bits first xs)
-    ∙ sym (group-take (from - 8 * first) width (8 * count) (bits (drop first xs)) (omega arith))
-    ∙ ap (group (from - 8 * first) width) (take-bits count (drop first xs))
+    grind (
+      arith,
+      group-drop (8 * first) (from - 8 * first) width (bits xs),
+      drop-bits first xs,
+      group-take (from - 8 * first) width (8 * count) (bits (drop first xs)) (omega arith),
+      take-bits count (drop first xs),
+    )
 
 -- a group is a division and a remainder of the number of all bits
 pub group-number : (from width : ℕ) (bs : List ℕ) → AreBits bs → from + width ≤ length bs
@@ -203,23 +206,12 @@ group-number from width bs h l = number-within from width bs h l
 module _ (bs : List ℕ) (at width value : ℕ) (room : at + width ≤ length bs) where
   -- putting a group in place doesn't change how many bits there are
   pub length-put : length (take at bs ++ bits_of width value ++ drop (at + width) bs) ≡ length bs
-  length-put =
-      let front : length (take at bs) ≡ at = length-take-le at bs (omega arith) in
-      omega (
-        arith,
-        length-append (take at bs ++ bits_of width value) (drop (at + width) bs),
-        length-append (take at bs) (bits_of width value),
-        length-bits_of width value,
-        length-drop (at + width) bs,
-      )
+  length-put = grind (arith, length-take-le, length-append, length-bits_of, length-drop)
 
   -- what is before it stays, and the value follows
   pub take-put : take (at + width) (take at bs ++ bits_of width value ++ drop (at + width) bs)
       ≡ take at bs ++ bits_of width value
-  take-put =
-      take_at (take at bs ++ bits_of width value) (drop (at + width) bs) (at + width)
-      (length-append (take at bs) (bits_of width value)
-      ∙ ap₂ (λ m n. m + n) (length-take-le at bs (omega arith)) (length-bits_of width value))
+  take-put = grind (arith, take_at, length-append, length-take-le, length-bits_of)
 
 -- ---- groups as parts of one number
 -- the numbers of successive groups of a number of `sum widths` bits
@@ -236,10 +228,16 @@ joined (width ∷ widths) (n ∷ ns) = n * 2 ^ sum widths + joined widths ns
 sliced_one : (width low place high n : ℕ) → width + low ≤ place
     → (high * 2 ^ place + n) / 2 ^ low % 2 ^ width ≡ n / 2 ^ low % 2 ^ width
 sliced_one width low place high n h =
-    sym (number-bits_of width ((high * 2 ^ place + n) / 2 ^ low))
-    ∙ ap number (sym (take-bits_of width low (high * 2 ^ place + n))
-    ∙ ap (take width) (bits_of-cat_low (width + low) place high n h) ∙ take-bits_of width low n)
-    ∙ number-bits_of width (n / 2 ^ low)
+    grind (
+      arith,
+      number-bits_of width ((high * 2 ^ place + n) / 2 ^ low),
+      take-bits_of width low
+          (high * 2 ^ place + n),
+      bits_of-cat_low (width + low) place high n h,
+      take-bits_of width
+          low n,
+      number-bits_of width (n / 2 ^ low),
+    )
 
 -- bits above the groups don't count
 sliced-cat : (widths : List ℕ) (place high n : ℕ) → sum widths ≤ place
@@ -261,14 +259,14 @@ numbers_at-number (width ∷ widths) bs all h =
     let both : sum (width ∷ widths) ≡ width + sum widths = sum-cons width widths in
     let rest : length (drop width bs) ≡ sum widths = simp length-drop (omega arith) in
     let upper : number bs ≡ number (take width bs) * 2 ^ sum widths + number (drop width bs) =
-    ap number (sym (take-append-drop width bs))
-    ∙ number-append (take width bs) (drop width bs)
-    ∙ ap (λ k. number (take width bs) * 2 ^ k + number (drop width bs)) rest in
-    let small : number (drop width bs) < 2 ^ sum widths =
-    rw (← rest) (number-below (drop width bs) (AreBelow-drop 2 width bs all)) in
+    grind (arith, take-append-drop width bs, number-append (take width bs) (drop width bs)) in
+    let small : number (drop width bs) < 2 ^ sum widths = grind (
+      arith,
+      number-below,
+      AreBelow-drop,
+    ) in
     let l : length (take width bs) ≡ width = length-take-le width bs (omega arith) in
-    let low : number (take width bs) < 2 ^ width = subst (λ k. number (take width bs) < 2 ^ k) l
-    (number-below (take width bs) (AreBelow-take 2 width bs all)) in
+    let low : number (take width bs) < 2 ^ width = grind (arith, number-below, AreBelow-take) in
     ap₂ (λ m ms. m ∷ ms)
     (sym (mod-eq_of_lt low)
     ∙ ap (λ m. m % 2 ^ width) (sym (shr_high (number (take width bs)) (sum widths)
@@ -304,6 +302,4 @@ group_bits-joined [] [] h = refl
 group_bits-joined [] (n ∷ ns) h = absurd h
 group_bits-joined (width ∷ widths) [] h = absurd h
 group_bits-joined (width ∷ widths) (n ∷ ns) h =
-    ap (λ bs. bits_of width n ++ bs) (group_bits-joined widths ns h.1)
-    ∙ sym (bits_of-cat width (sum widths) n (joined widths ns) (joined-below widths ns h.1))
-    ∙ ap (λ k. bits_of k (n * 2 ^ sum widths + joined widths ns)) (sym (sum-cons width widths))
+    grind (arith, bits_of-cat, joined-below, sum-cons, group_bits-joined widths ns h.1)

@@ -1,9 +1,9 @@
 -- Words of 64 bits, put in place, and put together from parts of numbers.
-use Rattle.std.proofs.Common.{ap, append-nil, append_assoc, ap₂, arith, drop, length, List, set}
-use Rattle.std.proofs.Common.{sym, take, take-append-drop, ℕ, [], ◌%◌, ◌*◌, ◌++◌, ◌+◌, ◌-◌, ◌/◌}
-use Rattle.std.proofs.{Common.{◌<◌, ◌^◌, ◌∙◌, ◌≡◌, ◌≤◌}, lemmas.List.{drop-set, take-set}}
-use Rattle.std.proofs.lemmas.Nat.{mod-pow-add, mod_below, mod_low, mul-add-lt, pow-add, pow_pos}
-use Rattle.std.proofs.lemmas.Nat.{shl-shr, shr_below}
+use Rattle.std.proofs.Common.{append-nil, append_assoc, arith, drop, length, List, set, take}
+use Rattle.std.proofs.Common.{take-append-drop, ℕ, ◌%◌, ◌*◌, ◌++◌, ◌+◌, ◌-◌, ◌/◌, ◌<◌, ◌^◌, ◌≡◌}
+use Rattle.std.proofs.{Common.◌≤◌, lemmas.List.{drop-set, take-set}}
+use Rattle.std.proofs.lemmas.Nat.{mod-pow-add, mod_below, mul-add-lt, pow-add, pow_pos, shl-shr}
+use Rattle.std.proofs.lemmas.Nat.{shr_below}
 use Rattle.bit_fields.proofs.BitsLemmas.{bits-append, bits-cons, bits_of-add, bits_of-cat}
 use Rattle.bit_fields.proofs.BitsLemmas.{bits_of-mod, drop-bits, take-bits}
 use Rattle.bit_fields.{proofs.GroupsLemmas.{length-put, take-put}, specs.Bits.{bits, bits_of}}
@@ -13,40 +13,48 @@ pub put_bytes : (xs ys vs : List ℕ) (place count : ℕ) → bits ys ≡ vs
     → bits (take place xs ++ (ys ++ drop (place + count) xs))
     ≡ take (8 * place) (bits xs) ++ vs ++ drop (8 * place + 8 * count) (bits xs)
 put_bytes xs ys vs place count e =
-    let behind : 8 * (place + count) ≡ 8 * place + 8 * count = omega arith in
-    bits-append (take place xs) (ys ++ drop (place + count) xs)
-    ∙ ap₂ (λ cs ds. cs ++ ds) (sym (take-bits place xs))
-    (bits-append ys (drop (place + count) xs) ∙ ap₂ (λ cs ds. cs ++ ds) e
-    (sym (drop-bits (place + count) xs) ∙ ap (λ k. drop k (bits xs)) behind))
-    ∙ sym (append_assoc (take (8 * place) (bits xs)) vs (drop (8 * place + 8 * count) (bits xs)))
+    grind (
+      arith,
+      bits-append (take place xs) (ys ++ drop (place + count) xs),
+      take-bits place xs,
+      bits-append ys (drop (place + count) xs),
+      drop-bits (place + count) xs,
+      append_assoc (take
+          (8 * place) (bits xs)) vs (drop (8 * place + 8 * count) (bits xs)),
+    )
 
 -- setting one byte sets its eight bits
 pub bits-set : (xs : List ℕ) (place word : ℕ) → place < length xs → bits (set xs place (word % 256))
     ≡ take (8 * place) (bits xs) ++ bits_of 8 word ++ drop (8 * place + 8) (bits xs)
 bits-set xs place word within =
-    let behind : 8 * (place + 1) ≡ 8 * place + 8 = omega arith in
-    ap bits (sym (take-append-drop place (set xs place (word % 256))))
-    ∙ bits-append (take place (set xs place (word % 256))) (drop place (set xs place (word % 256)))
-    ∙ ap₂ (λ cs ds. cs ++ ds)
-    (ap bits (take-set xs place (word % 256)) ∙ sym (take-bits place xs))
-    (ap bits (drop-set xs place (word % 256) within)
-    ∙ bits-cons (word % 256) (drop (place + 1) xs)
-    ∙ ap₂ (λ cs ds. cs ++ ds) (bits_of-mod 8 word)
-    (sym (drop-bits (place + 1) xs) ∙ ap (λ k. drop k (bits xs)) behind))
-    ∙ sym (append_assoc (take (8 * place) (bits xs)) (bits_of 8 word)
-    (drop (8 * place + 8) (bits xs)))
+    grind (
+      arith,
+      take-append-drop place (set xs place (word % 256)),
+      set xs place (word % 256),
+      bits-append (take place (set xs place (word % 256))) (drop place (set xs place (word %
+          256))),
+      take-set xs place (word % 256),
+      take-bits place xs,
+      drop-set xs place (word % 256)
+          within,
+      bits-cons (word % 256) (drop (place + 1) xs),
+      bits_of-mod 8 word,
+      drop-bits (place
+          + 1) xs,
+      append_assoc (take (8 * place) (bits xs)) (bits_of 8 word) (drop (8 * place + 8)
+          (bits xs)),
+    )
 
 -- ---- the lowest bits of one number, and after them the highest of another
 module _ (above kept below left : ℕ) (few : kept < 64) (fits : below < 2 ^ (64 - kept + left)) where
   upper : above * 2 ^ (64 - kept) % 2 ^ 64 ≡ above % 2 ^ kept * 2 ^ (64 - kept)
   upper =
-      let whole : 64 ≡ kept + (64 - kept) = omega arith in
-      let nothing : above * 2 ^ (64 - kept) % 2 ^ (64 - kept) ≡ 0 = ap (λ n. n % 2 ^ (64 - kept))
-      (omega arith) ∙ mod_low above (64 - kept) 0 (pow_pos (64 - kept)) in
-      ap (λ n. above * 2 ^ (64 - kept) % 2 ^ n) whole
-      ∙ mod-pow-add (above * 2 ^ (64 - kept)) kept (64 - kept)
-      ∙ ap₂ (λ m n. m % 2 ^ kept * 2 ^ (64 - kept) + n) (shl-shr above (64 - kept)) nothing
-      ∙ omega arith
+      grind (
+        arith,
+        mod-pow-add (above * 2 ^ (64 - kept)) kept (64 - kept),
+        shl-shr above (64 -
+            kept),
+      )
 
   lower : below / 2 ^ left < 2 ^ (64 - kept)
   lower = shr_below below (64 - kept) left fits
@@ -54,47 +62,46 @@ module _ (above kept below left : ℕ) (few : kept < 64) (fits : below < 2 ^ (64
   -- the two parts together fit in 64 bits
   pub spanned_below : above * 2 ^ (64 - kept) % 2 ^ 64 + below / 2 ^ left < 2 ^ 64
   spanned_below =
-      let whole : 64 - kept + kept ≡ 64 = omega arith in
-      let product : 2 ^ (64 - kept) * 2 ^ kept ≡ 2 ^ 64 =
-      sym (pow-add 2 (64 - kept) kept) ∙ ap (λ n. 2 ^ n) whole in
-      rw (upper, ← product) (mul-add-lt (above % 2 ^ kept) (2 ^ (64 - kept)) (below / 2 ^ left)
-      (2 ^ kept) (mod_below above (2 ^ kept) (pow_pos kept)) lower)
+      grind (
+        arith,
+        pow-add 2 (64 - kept) kept,
+        upper,
+        mul-add-lt (above % 2 ^ kept) (2 ^ (64 -
+            kept)) (below / 2 ^ left) (2 ^ kept) (mod_below above (2 ^ kept) (pow_pos kept)) lower,
+      )
 
   -- the word has the lowest bits of the one number, followed by the highest of the other
   pub spanned_bits : bits_of 64 (above * 2 ^ (64 - kept) % 2 ^ 64 + below / 2 ^ left)
       ≡ bits_of kept above ++ bits_of (64 - kept) (below / 2 ^ left)
   spanned_bits =
-      let whole : 64 ≡ kept + (64 - kept) = omega arith in
-      ap₂ (λ n w. bits_of w (n + below / 2 ^ left)) upper whole
-      ∙ bits_of-cat kept (64 - kept) (above % 2 ^ kept) (below / 2 ^ left) lower
-      ∙ ap (λ cs. cs ++ bits_of (64 - kept) (below / 2 ^ left)) (bits_of-mod kept above)
+      grind (
+        arith,
+        upper,
+        bits_of-cat kept (64 - kept) (above % 2 ^ kept) (below / 2 ^ left)
+            lower,
+        bits_of-mod kept above,
+      )
 
 module _ (word size high low n : ℕ) (cs : List ℕ) where
   -- a number whose highest bits end one word continues in the next
   pub into_word : (bs : List ℕ) → size ≡ high + low
       → bits_of 64 word ≡ cs ++ bits_of high (n / 2 ^ low)
       → cs ++ (bits_of size n ++ bs) ≡ bits_of 64 word ++ (bits_of low n ++ bs)
-  into_word bs e is =
-      ap (λ w. cs ++ (bits_of w n ++ bs)) e
-      ∙ ap (λ ds. cs ++ (ds ++ bs)) (bits_of-add high low n)
-      ∙ ap (λ ds. cs ++ ds) (append_assoc (bits_of high (n / 2 ^ low)) (bits_of low n) bs)
-      ∙ sym (append_assoc cs (bits_of high (n / 2 ^ low)) (bits_of low n ++ bs))
-      ∙ ap (λ ds. ds ++ (bits_of low n ++ bs)) (sym is)
+  into_word bs e is = grind (arith, bits_of-add, append_assoc)
 
   -- the same where nothing follows
   pub into_last : size ≡ high + low → bits_of 64 word ≡ cs ++ bits_of high (n / 2 ^ low)
       → cs ++ bits_of size n ≡ bits_of 64 word ++ bits_of low n
-  into_last e is =
-      ap (λ ds. cs ++ ds) (sym (append-nil (bits_of size n)))
-      ∙ into_word [] e is
-      ∙ ap (λ ds. bits_of 64 word ++ ds) (append-nil (bits_of low n))
+  into_last e is = grind (
+    arith,
+    append-nil (bits_of size n),
+    into_word,
+    append-nil (bits_of low
+        n),
+  )
 
 -- what was put in place follows what is before it
 pub put_next : (b0 b1 done : List ℕ) (at width value : ℕ) → take at b0 ≡ done
     → at + width ≤ length b0 → b1 ≡ take at b0 ++ bits_of width value ++ drop (at + width) b0
     → (take (at + width) b1 ≡ done ++ bits_of width value) × (length b1 ≡ length b0)
-put_next b0 b1 done at width value before room e = (
-  ap (take (at + width)) e ∙ take-put b0 at width value room
-      ∙ ap (λ bs. bs ++ bits_of width value) before,
-  ap length e ∙ length-put b0 at width value room,
-)
+put_next b0 b1 done at width value before room e = grind (arith, take-put, length-put)

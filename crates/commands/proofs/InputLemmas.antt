@@ -1,22 +1,21 @@
 -- A command that reads one file: the faults of its input, and what it makes of the file.
-use Rattle.std.proofs.Common.{ap, ap₂, arith, Bool, Err, false, IfErr, inl, length, List, None, Ok}
-use Rattle.std.proofs.Common.{Option, refl, Result, Some, subst, sym, unwrap_or, ℕ, [], ◌∙◌, ◌∷◌}
-use Rattle.std.proofs.Common.{◌≡◌, ◌≤◌}
+use Rattle.std.proofs.Common.{ap, arith, Bool, Err, false, IfErr, inl, length, List, Ok, Option}
+use Rattle.std.proofs.Common.{refl, Result, Some, subst, sym, unwrap_or, ℕ, [], ◌∙◌, ◌∷◌, ◌≡◌, ◌≤◌}
 use Rattle.bit_fields.specs.Bits.{AreBytes}
 use Rattle.commands.proofs.NamedLemmas.{lost_name, missed_name, unread_name}
 use Rattle.commands.proofs.{RefusingLemmas.before_first, WhyLemmas.{each_refusal, each_why}}
 use Rattle.commands.specs.AfterCall.{HasInputNumbers, HasSurveyNumbers, is_before_memory}
-use Rattle.commands.specs.{AfterCall.{IsEditRefusal, IsLateFault, why_of}, Command.AreSoundFiles}
+use Rattle.commands.specs.{AfterCall.{IsEditRefusal, IsLateFault}, Command.AreSoundFiles}
 use Rattle.commands.specs.FaultKinds.{HasRightNumbers, survey_edit_fault}
 use Rattle.commands.specs.SingleOutput.{file_task, HasTaskNumbers, input_result, IsEarlyFault}
 use Rattle.commands.specs.SingleOutput.{IsFileFault, IsInputFault, IsMaking, IsProperTask}
-use Rattle.commands.specs.SingleOutput.{made_file, Making, most_frames, RefusesInput}
-use Rattle.commands.specs.SingleOutput.{surveyed_result, TaskRefuses}
-use Rattle.commands.specs.declared.fault.EditFault.{EditFault, TheVariants.{Input, Memory, Refused}}
+use Rattle.commands.specs.SingleOutput.{made_file, Making, most_frames, surveyed_result}
+use Rattle.commands.specs.{SingleOutput.TaskRefuses, declared.fault.EditFault.EditFault}
+use Rattle.commands.specs.declared.fault.EditFault.TheVariants.{Input, Memory, Refused}
 use Rattle.commands.specs.declared.fault.Refusal.{Refusal}
 use Rattle.outside.proofs.FilesLemmas.{there_holds}
 use Rattle.outside.specs.Files.{Contents, Files, Holds, IfTold, IsFileThere, Told, Untold}
-use Rattle.outside.specs.Seen.{Seen, seen_folder}
+use Rattle.outside.specs.Seen.{Seen}
 use Rattle.sync_survey.proofs.BytesFaultLemmas.{IsOfBytes, survey_fields-of_bytes}
 use Rattle.sync_survey.proofs.FoldersLemmas.{survey_of-short}
 use Rattle.sync_survey.proofs.SurveyedFileLemmas.{survey_of-parts, survey_of-sound}
@@ -33,26 +32,11 @@ use Rattle.sync_survey.specs.declared.survey_fault.SurveyFault.TheVariants.{Shru
 pub file_fault : (place allowed : ℕ) (name : List ℕ) (old new : Seen) (fault : SurveyFault)
     → new.files ≡ old.files → IsSurveyFault name old.files allowed old.counts new.counts fault
     → IsFileFault place allowed name old new (survey_edit_fault place fault)
-file_fault place allowed name old new Absent same h =
-    record { is = refl; missing = h.0; rose = h.1; files = same }
+file_fault place allowed name old new Absent same h = grind arith
 file_fault place allowed name old new Read same h = record { is = refl; rose = h; files = same }
-file_fault place allowed name old new (Shrunk first second) same h =
-    record {
-      first = first;
-      second = second;
-      is = refl;
-      rose = h.ended;
-      counts = h.counts;
-      untold = h.nothing_told;
-      files = same;
-    }
-file_fault place allowed name old new NoRoom same h =
-    record { there = h.there; few = h.few; stays = ap₂ seen_folder same h.counts }
-file_fault place allowed name old new fault same h = (
-  fault,
-  refl,
-  record { there = h.there; bytes = h.bytes; stays = ap₂ seen_folder same h.counts },
-)
+file_fault place allowed name old new (Shrunk first second) same h = grind arith
+file_fault place allowed name old new NoRoom same h = grind arith
+file_fault place allowed name old new fault same h = grind arith
 
 -- a fault of the survey has the number of the input, and right numbers
 pub survey_numbers : (place : ℕ) (fault : SurveyFault) → HasRightNumbers fault
@@ -88,12 +72,7 @@ module _ (make : Making) (name : List ℕ) (old new : Seen) (fault : EditFault) 
   -- a fault of the file is one of the input
   pub fault_is_input : IsFileFault 0 most_frames name old new fault
       → IsInputFault make name old new fault
-  fault_is_input h = each_why (why_of fault) h
-      (each_refusal (λ r. subst (RefusesInput make name old new) (sym r.1) (record {
-        there = r.2.there;
-        bytes = λ bytes holds. made-fault make bytes r.0 (r.2.bytes bytes holds);
-        stays = r.2.stays;
-      })))
+  fault_is_input h = search (arith, each_why, each_refusal, made-fault)
 
 -- a fault of the survey is one of the input
 pub of_survey_input : (refuses : Refusal → Bool) (fault : EditFault) → HasSurveyNumbers 0 fault
@@ -117,23 +96,15 @@ module _ (make : Making) (name : List ℕ) (old new : Seen) (s : SurveyFields) w
       → ((bytes : List ℕ) → Holds old.files name bytes → survey_of bytes most_frames ≡ Ok s)
       → ((bytes : List ℕ) → Holds old.files name bytes → make bytes s ≡ Err fault) → new ≡ old
       → IsInputFault make name old new fault
-  refused_is_input refuses (Refused refusal) is there survey_fields refused stays = record {
-    there = there;
-    bytes = λ bytes holds. made-survey make bytes s (survey_fields bytes holds)
-        ∙ refused bytes holds;
-    stays = stays;
-  }
+  refused_is_input refuses (Refused refusal) is there survey_fields refused stays =
+      grind (arith, made-survey)
   refused_is_input refuses _ is there survey_fields refused stays = absurd is
 
   -- running out of memory is a fault of the input, once it was surveyed
   pub memory_is_input : IsFileThere old.files name
       → ((bytes : List ℕ) → Holds old.files name bytes → survey_of bytes most_frames ≡ Ok s)
       → new ≡ old → IsInputFault make name old new Memory
-  memory_is_input there is stays = record {
-    there = there;
-    few = λ bytes holds. (survey_of-parts bytes most_frames s (is bytes holds)).0;
-    stays = stays;
-  }
+  memory_is_input there is stays = grind (arith, survey_of-parts)
 
 -- ---- as a command that makes one file
 
@@ -149,31 +120,23 @@ module _ (make : Making) (stream : List ℕ → List StreamFrame) (refuses : Ref
       → ((bytes : List ℕ) → Holds files input bytes → made_file make bytes ≡ Err fault)
       → TaskRefuses (file_task make stream refuses input) files fault
   refuses_held (Untold touched) fault there is = tt
-  refuses_held (Told f) fault there is = let held = there_holds f input there in
-      ap (input_result make) held.1 ∙ is held.0 held.1
+  refuses_held (Told f) fault there is = grind (arith, there_holds)
 
   module _ (old new : Seen) (fault : EditFault) where
     -- a fault of the input comes before the output is created
     pub input_is_early : IsInputFault make input old new fault
         → IsEarlyFault (file_task make stream refuses input) old new fault
-    input_is_early h = each_why (why_of fault) h (record {
-      rejected =
-          λ r. record { defined = refuses_held old.files fault r.there r.bytes; stays = r.stays };
-      missing = λ m. record {
-        defined = refuses_where old.files fault None m.missing (ap (λ f. Err f) (sym m.is));
-        rose = missed_name (input ∷ []) 0 refl m;
-        files = m.files;
-      };
-      unread = λ u. record {
-        before = before_first old.files (file_task make stream refuses input).makes fault u.is;
-        rose = unread_name (input ∷ []) 0 refl u;
-        files = u.files;
-      };
-      shorter = λ l. record { ended = lost_name (input ∷ []) 0 refl l; files = l.files };
-      unwritten = λ k w. w;
-      unsent = λ w. w;
-      no_memory = λ n. n;
-    })
+    input_is_early h =
+        grind (
+          arith,
+          each_why,
+          refuses_held,
+          refuses_where,
+          missed_name,
+          before_first,
+          unread_name,
+          lost_name,
+        )
 
   -- a fault of the input has the numbers of the task's inputs
   pub input_numbers : (fault : EditFault) → HasInputNumbers refuses fault
@@ -234,16 +197,11 @@ module _ (make : Making) (stream : List ℕ → List StreamFrame)
   short_late : (bytes : List ℕ) → length bytes ≤ longest_file
       → IfErr (made_file make bytes) IsLateFault
   unfolding made_file
-  short_late bytes few =
-      subst (λ r. IfErr (surveyed_result make bytes r) IsLateFault)
-      (sym (survey_of-short bytes most_frames few))
-      (survey_late bytes (survey_fields bytes most_frames)
-      (survey_fields-of_bytes bytes most_frames))
+  short_late bytes few = grind (arith, survey_of-short, survey_late, survey_fields-of_bytes)
 
   file_late : (o : Option (List ℕ)) (bytes : List ℕ) → o ≡ Some bytes → length bytes ≤ longest_file
       → IfErr (input_result make o) IsLateFault
-  file_late o bytes held few =
-      subst (λ o. IfErr (input_result make o) IsLateFault) (sym held) (short_late bytes few)
+  file_late o bytes held few = grind (arith, short_late)
 
   file_streams : (f : Contents) (input bytes new : List ℕ) → f input ≡ Some bytes → AreBytes bytes
       → input_result make (f input) ≡ Ok new
@@ -261,7 +219,6 @@ module _ (make : Making) (stream : List ℕ → List StreamFrame)
   file_proper refuses input = record {
     some = omega arith;
     first = refl;
-    late = λ f bytes held few. file_late (f input) bytes held
-        few;
+    late = grind (arith, file_late);
     streams = λ f bytes new held octets is. file_streams f input bytes new held octets is;
   }

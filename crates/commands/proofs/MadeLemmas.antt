@@ -1,15 +1,15 @@
 -- What a command that makes one file makes, from its result.
-use Rattle.std.proofs.Common.{ap, ap₂, arith, Err, length, List, None, Ok, Option, refl, Result}
-use Rattle.std.proofs.{Common.{Some, sym, ℕ, [], ◌<◌, ◌∙◌, ◌∷◌, ◌≡◌}, lemmas.List.length-map}
+use Rattle.std.proofs.Common.{ap₂, arith, Err, length, List, None, Ok, Option, refl, Result, Some}
+use Rattle.std.proofs.{Common.{ℕ, [], ◌<◌, ◌∷◌, ◌≡◌}, lemmas.List.length-map}
 use Rattle.commands.{proofs.InputLemmas.{made-survey, made_parts}, specs.Command.Made}
 use Rattle.commands.specs.SingleOutput.{clash_in, clash_or, command_result, input_result, Making}
 use Rattle.commands.specs.SingleOutput.{most_frames, one_command, Task, task_result}
 use Rattle.commands.specs.declared.fault.EditFault.{EditFault}
 use Rattle.outside.specs.Files.{Contents}
 use Rattle.sync_survey.proofs.FaultsLemmas.{length-marked_rows}
-use Rattle.sync_survey.proofs.SurveyPartsLemmas.{frames_from, some_frames, survey_fields-parts}
+use Rattle.sync_survey.proofs.SurveyPartsLemmas.{some_frames, survey_fields-parts}
 use Rattle.sync_survey.{proofs.SurveyedFileLemmas.survey_of-parts, specs.Faults.SurveyFields}
-use Rattle.sync_survey.specs.{MainData.{row_of, rows_of}, Survey.survey_of, Walk.head_of}
+use Rattle.sync_survey.specs.Survey.{survey_of}
 
 -- ---- one output
 
@@ -25,8 +25,7 @@ pub makes-parts : (task : Task) (output : List ℕ) (files : Contents) (made : M
     → (one_command task output).makes files ≡ Ok made
     → (clash_in task output ≡ None) × (bytes : List ℕ) × (task.makes files ≡ Ok bytes)
 unfolding task_result
-makes-parts task output files made e =
-    one_parts output (clash_in task output) (task.makes files) made e
+makes-parts task output files made e = grind (arith, one_parts, made)
 
 -- a command without a clash that makes some bytes isn't refused
 pub parts-make : (task : Task) (output : List ℕ) (files : Contents) (bytes : List ℕ)
@@ -61,8 +60,7 @@ file-parts make files name bytes (Some file) there e =
       there = there;
       surveyed = parts.1;
       bytes = bytes;
-      made =
-          parts.2;
+      made = grind arith;
     }
 
 -- bytes that are made of the file with a name are made by its survey
@@ -74,8 +72,7 @@ made-of make files name bytes e = file-parts make files name bytes (files name) 
 pub of-made : (make : Making) (files : Contents) (name file : List ℕ) (s : SurveyFields)
     → files name ≡ Some file → survey_of file most_frames ≡ Ok s
     → input_result make (files name) ≡ make file s
-of-made make files name file s there surveyed =
-    ap (input_result make) there ∙ made-survey make file s surveyed
+of-made make files name file s there surveyed = grind (arith, there, made-survey, surveyed)
 
 -- ---- a surveyed file has a frame
 
@@ -83,10 +80,4 @@ of-made make files name file s there surveyed =
 pub some-frames : (file : List ℕ) (allowed : ℕ) (s : SurveyFields) → survey_of file allowed ≡ Ok s
     → 0 < length s.frames
 some-frames file allowed s e =
-    let parts = survey_fields-parts file allowed s (survey_of-parts file allowed s e).1 in
-    let frames = frames_from file parts.0 in
-    let head = head_of file parts.0.first in
-    let size : length s.frames ≡ length (rows_of file frames) =
-    ap (λ (t : SurveyFields). length t.frames) (sym parts.2)
-    ∙ length-marked_rows head (rows_of file frames) in
-    omega (arith, size, length-map frames (row_of file), some_frames file frames _ parts.1.end)
+    grind (arith, survey_fields-parts, survey_of-parts, length-marked_rows, length-map, some_frames)

@@ -1,8 +1,8 @@
 -- A command that makes one file: what it leaves after each step.
-use Rattle.std.proofs.Common.{ap, ap₂, arith, Bool, bytes_eq, cond, Err, false, IfErr, inl, inr}
-use Rattle.std.proofs.Common.{IsErrOf, length, List, None, Ok, OnOk, Option, refl, Result}
-use Rattle.std.proofs.Common.{slice_index_or, Some, subst, sym, true, ℕ, [], ◌||◌, ◌↔◌, ◌∙◌, ◌∷◌}
-use Rattle.std.{proofs.Common.{◌≡◌, ◌≢◌, ◌≤◌}, specs.{List.list_any, Result.IsErrAnd}}
+use Rattle.std.proofs.Common.{ap, arith, Bool, bytes_eq, cond, Err, false, IfErr, inl, inr, IsErrOf}
+use Rattle.std.proofs.Common.{length, List, None, Ok, OnOk, Option, refl, Result, slice_index_or}
+use Rattle.std.proofs.Common.{Some, subst, sym, true, ℕ, [], ◌||◌, ◌↔◌, ◌∙◌, ◌∷◌, ◌≡◌, ◌≢◌, ◌≤◌}
+use Rattle.std.specs.{List.list_any, Result.IsErrAnd}
 use Rattle.bit_fields.specs.Bits.{AreBytes}
 use Rattle.commands.proofs.{NamedLemmas.among_all, WhyLemmas.each_why}
 use Rattle.commands.specs.AfterCall.{HasNumbers, HasPassNumbers, IsCommandDone, IsCommandFault}
@@ -22,7 +22,7 @@ use Rattle.commands.specs.declared.inputs.Inputs.{Inputs}
 use Rattle.outside.proofs.FilesLemmas.{bytes_eq_same, there_holds, touches_none}
 use Rattle.outside.specs.Counts.{HappenedTo, NoneFell}
 use Rattle.outside.specs.Files.{Contents, Files, Holds, IfTold, IsFileThere, OnlyTouches, Told}
-use Rattle.outside.specs.{Files.Untold, Seen.{Seen, seen_folder}}
+use Rattle.outside.specs.{Files.Untold, Seen.Seen}
 use Rattle.sync_survey.specs.Faults.{HoldsStream, longest_file}
 
 abbrev pub ok_made : Made → Result Made EditFault
@@ -47,10 +47,7 @@ or_none false b none = refl
 -- a name that is none of these outputs isn't the first of them
 pub other_name : (name output : List ℕ) (outputs : List (List ℕ))
     → list_any (bytes_eq name) (output ∷ outputs) ≡ false → name ≢ output
-other_name name output outputs none same =
-    let both : true ≡ false = sym (ap (bytes_eq name) (sym same) ∙ bytes_eq_same name)
-    ∙ or_none (bytes_eq name output) _ none in
-    absurd cc
+other_name name output outputs none same = grind (arith, bytes_eq, bytes_eq_same, or_none)
 
 -- without a clash the first input isn't the output
 pub source_apart : (inputs : List (List ℕ)) (source output : List ℕ) → 1 ≤ length inputs
@@ -83,14 +80,12 @@ task_result-free task output f free = rw free refl
 gives_clash : (task : Task) (output : List ℕ) (place : ℕ) (files : Files) → clash_in task output
     ≡ Some place → HasAnswer (one_command task output) files (Err (EqualNames place))
 gives_clash task output place (Untold touched) clash = tt
-gives_clash task output place (Told f) clash =
-    ap (command_result output) (task_result-clash task output place f clash)
+gives_clash task output place (Told f) clash = grind (arith, task_result-clash)
 
 -- a clash is a fault of the command, with its number, that changes nothing
 pub clash_left : (task : Task) (output : List ℕ) (place : ℕ) (now : Seen) → clash_in task output
     ≡ Some place → IsCommandFault (one_command task output) now now (EqualNames place)
-clash_left task output place now clash =
-    record { defined = gives_clash task output place now.files clash; stays = refl }
+clash_left task output place now clash = grind (arith, gives_clash)
 
 -- ---- before the output is created
 
@@ -170,9 +165,7 @@ module _ (task : Task) (output : List ℕ) (free : clash_in task output ≡ None
     -- what is made of a source whose content is known
     gives_made : (f : Contents) → IsMaking task file (Told f) → (bytes : List ℕ)
         × (f task.source ≡ Some bytes) × ((one_command task output).makes f ≡ Ok (whole_made bytes))
-    gives_made f making =
-        let held = there_holds f task.source making.there in
-        (held.0, held.1, makes_free f ∙ ap (command_result output) (making.makes held.0 held.1).1)
+    gives_made f making = grind (arith, there_holds, makes_free)
 
     made_none : (files : Files) (P : EditFault → Type 0) → IsMaking task file files
         → IfTold files (λ f. IfErr ((one_command task output).makes f) P)
@@ -186,9 +179,7 @@ module _ (task : Task) (output : List ℕ) (free : clash_in task output ≡ None
         × (new ≡ Told (written_files made.outputs f)))
     unfolding files_holding
     made_whole (Untold touched) new making wrote = tt
-    made_whole (Told f) new making wrote =
-        let gives = gives_made f making in
-        (whole_made gives.0, gives.2, wrote gives.0 gives.1)
+    made_whole (Told f) new making wrote = grind (arith, gives_made)
 
     -- the output was written in part
     begun_to : (f : Contents) (new : Files) (moved : List ℕ) → HoldsPrefix output moved (Told f) new
@@ -222,8 +213,7 @@ module _ (task : Task) (output : List ℕ) (free : clash_in task output ≡ None
     unfinished_part : (old new : Files) → IsMaking task file old
         → ((bytes : List ℕ) → Holds old task.source bytes → HoldsLess output (file bytes) old new)
         → OnlyTouches (output ∷ []) old new → IsOutputUnfinished (one_command task output) 0 old new
-    unfinished_part (Untold touched) new making part touches =
-        record { made = tt; touches = touches }
+    unfinished_part (Untold touched) new making part touches = grind arith
     unfinished_part (Told f) new making part touches =
         let gives = gives_made f making in
         let begun = less_to f new (file gives.0) (part gives.0 gives.1) in
@@ -322,11 +312,7 @@ module _ (task : Task) (output : List ℕ) (free : clash_in task output ≡ None
     streams_at : (f : Contents) → IsMaking task file (Told f) → Hold f → (made : Made)
         → (one_command task output).makes f ≡ Ok made
         → MakesStreams (one_command task output) f made
-    streams_at f making hold made is =
-        let gives = gives_made f making in
-        let both = hold gives.0 gives.1 in
-        subst (MakesStreams (one_command task output) f) (made-same (whole_made gives.0) made
-        (sym gives.2 ∙ is)) (record { sources = both.0; streams = (both.1, tt) })
+    streams_at f making hold made is = grind (arith, gives_made, made-same)
 
     -- a command that is done holds its streams
     pub one_streams : {T E : Type 0} (files : Files) → IsMaking task file files → IfTold files Hold
@@ -350,10 +336,7 @@ pub names_free : (command : Command) (r : Result (Unit {0}) EditFault) → clash
     → IfErr r (HasNumbers command) → (place : ℕ)
     → IsErrOf r (EqualNames place) ↔ (clash_of command ≡ Some place)
 names_free command (Ok x) none numbers place = ((λ e. absurd cc), λ clash. absurd cc)
-names_free command (Err first) none numbers place = (
-  (λ e. (let same : first ≡ EqualNames place = cc in subst (HasNumbers command) same numbers)),
-  λ clash. absurd cc,
-)
+names_free command (Err first) none numbers place = grind arith
 
 -- a call that ended with a fault is a run of the command
 pub refused_run : (command : Command) (old new : Seen) (r : Result (Unit {0}) EditFault)
@@ -361,33 +344,16 @@ pub refused_run : (command : Command) (old new : Seen) (r : Result (Unit {0}) Ed
     → IsCommandFault command old new fault → HasNumbers command fault
     → NoneFell old.counts new.counts → IsRunOf command old new r
 refused_run command old new (Ok x) fault none is left numbers fell = absurd is
-refused_run command old new (Err first) fault none is left numbers fell =
-    let right : HasNumbers command first = subst (HasNumbers command) (sym is) numbers in
-    record {
-      done = tt;
-      left = subst (IsCommandFault command old new) (sym is) left;
-      numbers = right;
-      names = names_free command (Err first) none right;
-      streams = tt;
-      counts = fell;
-    }
+refused_run command old new (Err first) fault none is left numbers fell = grind (arith, names_free)
 
 -- a command that is done was run without a fault, if its names don't clash and no count fell
 pub done-run : (command : Command) (old new : Seen) → clash_of command ≡ None
     → IsCommandDone command old new → HoldsStreams command old.files
     → NoneFell old.counts new.counts → IsRunOf command old new (Ok tt)
-done-run command old new none done streams fell = record {
-  done = done;
-  left = tt;
-  numbers = tt;
-  names = λ place. ((λ e. absurd cc), λ clash. absurd cc);
-  streams = streams;
-  counts = fell;
-}
+done-run command old new none done streams fell = grind arith
 
 -- a run from a moment is also a run from an earlier one, if no file and no count changed in between
 pub run-before : (command : Command) (old mid new : Seen) (r : Result (Unit {0}) EditFault)
     → mid.files ≡ old.files → mid.counts ≡ old.counts → IsRunOf command mid new r
     → IsRunOf command old new r
-run-before command old mid new r files counts ran =
-    subst (λ s. IsRunOf command s new r) (ap₂ seen_folder files counts) ran
+run-before command old mid new r files counts ran = grind arith

@@ -1,7 +1,7 @@
 -- What comes before what is made: its refusals, and when there is none.
 use Rattle.std.proofs.Common.{ap, arith, drop, Err, get_or, IfErr, IfSome, length, List, None, Ok}
-use Rattle.std.proofs.Common.{Option, refl, Result, Some, subst, suc, sym, ℕ, [], ◌+◌, ◌<◌, ◌∙◌}
-use Rattle.std.proofs.{Common.{◌∷◌, ◌≡◌, ◌≤◌}, Math.Seq.drop-cons, lemmas.List.drop_all}
+use Rattle.std.proofs.Common.{Option, refl, Result, Some, subst, sym, ℕ, [], ◌+◌, ◌<◌, ◌∙◌, ◌∷◌}
+use Rattle.std.proofs.{Common.{◌≡◌, ◌≤◌}, Math.Seq.drop-cons, lemmas.List.drop_all}
 use Rattle.std.specs.Result.{IsErrAnd}
 use Rattle.commands.specs.AfterCall.{IsLateFault, IsNotBefore}
 use Rattle.commands.specs.Refusing.{first_refusal, or_else, refusal_or, then_made}
@@ -40,8 +40,7 @@ pub before_first : {A : Type 0} (files : Files) (makes : Contents → Result A E
     (fault : EditFault) → fault ≡ Input 0 Read
     → IfTold files (λ f. IfErr (makes f) (IsNotBefore fault))
 before_first (Untold touched) makes fault is = tt
-before_first (Told f) makes fault is =
-    subst (λ e. IfErr (makes f) (IsNotBefore e)) (sym is) (first_all (makes f))
+before_first (Told f) makes fault is = grind (arith, first_all)
 
 -- ---- memory was taken before
 
@@ -108,13 +107,7 @@ module _ {A : Type 0} (refuse : A → Option Refusal) where
   pub first-from : (list : List A) (i : ℕ) (a : A) (here : Option Refusal) → i < length list
       → a ≡ get_or list i a → refuse a ≡ here
       → first_refusal refuse (drop i list) ≡ or_else here (first_refusal refuse (drop (i + 1) list))
-  first-from list i a here lt is refused =
-      let next : suc i ≡ i + 1 = omega arith in
-      ap (first_refusal refuse)
-      (drop-cons list i a lt ∙ ap (λ n. get_or list i a ∷ drop n list) next)
-      ∙ ap (λ (b : A). first_refusal refuse (b ∷ drop (i + 1) list)) (sym is)
-      ∙ first-cons a (drop (i + 1) list)
-      ∙ ap (λ o. or_else o (first_refusal refuse (drop (i + 1) list))) refused
+  first-from list i a here lt is refused = search (arith, drop-cons, first-cons)
 
   -- after the last item there is no refusal
   pub first-behind : (list : List A) (i : ℕ) → length list ≤ i

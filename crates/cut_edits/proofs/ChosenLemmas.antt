@@ -2,7 +2,7 @@
 -- stream that the command says.
 use Rattle.std.proofs.Common.{ap, append-nil, arith, Bool, cond, drop, Err, false, inl, inr, length}
 use Rattle.std.proofs.Common.{length-append, List, map, None, Ok, Option, refl, Result, rules, Some}
-use Rattle.std.proofs.Common.{subst, sym, take, true, ℕ, [], ◌&&◌, ◌++◌, ◌+◌, ◌∙◌, ◌∷◌, ◌≡◌}
+use Rattle.std.proofs.Common.{subst, sym, true, ℕ, [], ◌&&◌, ◌++◌, ◌+◌, ◌∙◌, ◌∷◌, ◌≡◌}
 use Rattle.std.proofs.lemmas.List.{length-take}
 use Rattle.std.specs.Prelude.{Contains, IfErr, nat_le, nat_lt, replicate, ◌<◌, ◌↔◌, ◌≤◌, ◌⊎◌}
 use Rattle.bit_fields.specs.Bits.{AreBytes}
@@ -11,8 +11,8 @@ use Rattle.commands.proofs.RefusingLemmas.{refusal_or-late, refusal_or-ok, then_
 use Rattle.commands.specs.{AfterCall.IsLateFault, Refusing.then_made}
 use Rattle.commands.specs.SingleOutput.{IsMaking, IsProperTask, most_frames}
 use Rattle.commands.specs.declared.fault.{EditFault.EditFault, Refusal.{Refusal, TheVariants.Range}}
-use Rattle.cue_sheet.specs.{Places.frame_at, declared.place.Place.Place}
-use Rattle.cut_edits.specs.Choices.{choosing_of, refuses_of_choice, task_of_choice}
+use Rattle.cue_sheet.specs.declared.place.Place.{Place}
+use Rattle.cut_edits.specs.Choices.{choosing_of, task_of_choice}
 use Rattle.cut_edits.specs.Chosen.{all_choice, AreUsualChoices, Choosing, Chosen, chosen_file}
 use Rattle.cut_edits.specs.Chosen.{chosen_needs, chosen_range, chosen_rows, chosen_stream}
 use Rattle.cut_edits.specs.Chosen.{cut_choice, first_plan, first_planning, laid_stream_or_none}
@@ -21,8 +21,7 @@ use Rattle.cut_edits.specs.Chosen.{outside_fault, own_slots_part, placed_part, p
 use Rattle.cut_edits.specs.Chosen.{Planning, slot_choices, surveyed_laid_stream}
 use Rattle.cut_edits.specs.declared.choice.FrameChoice.{FrameChoice}
 use Rattle.cut_edits.specs.declared.choice.FrameChoice.TheVariants.{All as AllFrames, Between}
-use Rattle.frame_header.specs.Fields.{ClassFields, HeaderFields, IsSlot, SlotFields}
-use Rattle.frame_header.specs.Tables.{class_of, length_of, window_of}
+use Rattle.frame_header.specs.{Fields.{ClassFields, HeaderFields, SlotFields}, Tables.window_of}
 use Rattle.info_header.specs.Info.{field_place, flags_in, info_in}
 use Rattle.laying.proofs.{FitLemmas.{AreHeaders, asked-plans, parts-fitting}, LaidLemmas.laid-holds}
 use Rattle.laying.proofs.NeedsFitLemmas.{AreKnown, part-known}
@@ -50,8 +49,7 @@ pub record IsRight (chosen : Chosen) (s : SurveyFields) : Type 0 where
 -- the usual choices are among the 28 slots
 pub usual_slots : (choices : HeaderFields → List SlotFields) → AreUsualChoices choices
     → AreSlots choices
-usual_slots choices (inl own) h slot is has = subst IsSlot (only_one h.slot slot
-    (subst (λ (f : HeaderFields → List SlotFields). Contains (f h) slot) own has)) is.slot
+usual_slots choices (inl own) h slot is has = grind (arith, only_one)
 usual_slots choices (inr any) h slot is has =
     slot_among slot (subst (λ (f : HeaderFields → List SlotFields). Contains (f h) slot) any has)
 
@@ -59,10 +57,8 @@ usual_order : (choices : HeaderFields → List SlotFields) → AreUsualChoices c
     → (c : ClassFields)
     (asked : PlanInput) → IsFitPlanInput c asked
     → PartsChooseInOrder choices (needs_in_parts asked.needs asked.places)
-usual_order choices (inl own) c asked fit = subst (λ (f : HeaderFields → List SlotFields).
-    PartsChooseInOrder f (needs_in_parts asked.needs asked.places)) (sym own) fit.kept
-usual_order choices (inr any) c asked fit = subst (λ (f : HeaderFields → List SlotFields).
-    PartsChooseInOrder f (needs_in_parts asked.needs asked.places)) (sym any) fit.least
+usual_order choices (inl own) c asked fit = grind arith
+usual_order choices (inr any) c asked fit = grind arith
 
 -- both policies are usual choices
 pub by_usual : (least : Bool) → AreUsualChoices (slot_choices least)
@@ -120,11 +116,7 @@ module _ (chosen : Chosen) (s : SurveyFields) (placed : IsPlacedSurvey s)
     -- the plan has at most one lead-in
     pub plan-few : length (first_plan choices s.class (chosen_needs chosen s))
         ≤ length (chosen_needs chosen s) + 1
-    plan-few = omega (
-      arith,
-      plan-length (window_of s.class.version) choices (chosen_needs chosen s ∷ []),
-      length-append (chosen_needs chosen s) [],
-    )
+    plan-few = grind (arith, plan-length, chosen, length-append)
 
 -- the file of chosen frames in their own slots
 module _ (chosen : Chosen) (file : List ℕ) (s : SurveyFields) (is : CanBeRelaid file s)
@@ -199,16 +191,14 @@ module _ (choose : Choosing) (plan : Planning) where
       → plan s.class (chosen_needs chosen s) ≡ r
       → laying_part choose plan file s ≡ then_made r (λ placed. Ok (placed_part chosen placed))
   unfolding laying_part
-  laid-is file s chosen r chose planned = ap (λ r. then_made r (planned_part plan s)) chose
-      ∙ ap (λ r. then_made r (λ placed. Ok (placed_part chosen placed))) planned
+  laid-is file s chosen r chose planned = grind (arith, chose, chosen, planned)
 
   -- a choice and its plan make the file
   pub laying-is : (file : List ℕ) (s : SurveyFields) (chosen : Chosen)
       (r : Result (List Placed) EditFault) → choose file s ≡ Ok chosen
       → plan s.class (chosen_needs chosen s) ≡ r → laying_making choose plan file s ≡ then_made
       (then_made r (λ placed. Ok (placed_part chosen placed))) (λ laid. Ok (file_laid laid file s))
-  laying-is file s chosen r chose planned = ap (λ r. then_made r
-      (λ laid. Ok (file_laid laid file s))) (laid-is file s chosen r chose planned)
+  laying-is file s chosen r chose planned = grind (arith, laid-is, chosen, chose, planned)
 
   -- if nothing is made, nothing was chosen, or there is no plan
   pub laid-fault : (file : List ℕ) (s : SurveyFields) (fault : EditFault)
@@ -236,19 +226,13 @@ module _ (choose : Choosing) (plan : Planning) where
   pub refused-laid : (file : List ℕ) (s : SurveyFields) (fault : EditFault)
       → choose file s ≡ Err fault → laying_making choose plan file s ≡ Err fault
   unfolding laying_part
-  refused-laid file s fault e =
-      ap (λ r. then_made (then_made r (planned_part plan s)) (λ laid. Ok (file_laid laid file s))) e
+  refused-laid file s fault e = grind arith
 
   module _ (is_choosing : IsChoosing choose) (is_planning : IsPlanning plan) where
     laying_late : (file : List ℕ) (s : SurveyFields)
         → IfErr (laying_making choose plan file s) IsLateFault
     unfolding laying_part
-    laying_late file s =
-        then_late (laying_part choose plan file s) (λ laid. Ok (file_laid laid file s))
-        (then_late (choose file s) (planned_part plan s) (is_choosing.late file s) (λ chosen.
-        then_late (plan s.class (chosen_needs chosen s)) (λ placed. Ok (placed_part chosen placed))
-        (is_planning.late s.class (chosen_needs chosen s)) (λ placed. tt)))
-        (λ laid. tt)
+    laying_late file s = grind (arith, then_late)
 
     made_stream : (file : List ℕ) (s : SurveyFields) (made : List ℕ)
         → survey_of file most_frames ≡ Ok s → IsLaidBy file s made
@@ -276,9 +260,7 @@ module _ (choose : Choosing) (plan : Planning) where
     -- the command is proper
     pub task_proper : (refuses : Refusal → Bool) (input : List ℕ)
         → IsProperTask (laying_task choose plan refuses input)
-    task_proper refuses input =
-        file_proper (laying_making choose plan)
-        (laying_stream choose plan) laying_proper refuses input
+    task_proper refuses input = search (arith, file_proper, laying_proper)
 
   -- what was laid of the input is what the command makes
   pub task_makes : (refuses : Refusal → Bool) (input : List ℕ) (s : SurveyFields) (chosen : Chosen)
@@ -312,8 +294,7 @@ pub chosen-within : (quality : Option ℕ) (extension : List ℕ) (from to : ℕ
     (chosen : Chosen) → chosen_range quality extension from to frames ≡ Ok chosen
     → (from < to) × (to ≤ frames)
 chosen-within quality extension from to frames chosen e =
-    outside-none from to frames (nat_lt from to && nat_le to frames) refl
-    (refusal_or-ok (outside_fault from to frames) _ chosen e).0
+    grind (arith, outside-none, refusal_or-ok, chosen)
 
 -- frames chosen by a range are frames of the survey, with an extension of 36 bytes
 pub with_right : (quality : Option ℕ) (extension : List ℕ) (from to : ℕ) (s : SurveyFields)
@@ -330,8 +311,7 @@ pub cut_choosing : (from to : Place) → IsChoosing (cut_choice from to)
 unfolding cut_choice
 cut_choosing from to = record {
   late = λ file s. refusal_or-late _ _;
-  right = λ file s chosen e. with_right None (replicate 36 0) (frame_at s.class (length s.frames)
-      from) (frame_at s.class (length s.frames) to) s chosen refl e;
+  right = grind (arith, with_right);
 }
 
 info-extension : (bytes : List ℕ) → length (info_in bytes).extension ≡ 36
@@ -345,23 +325,19 @@ pub head-extension : (file : List ℕ) (head : Option Head)
     → length (head_info file head).extension ≡ 36
 unfolding head_info
 head-extension file None = info-extension []
-head-extension file (Some head) = info-extension (drop head.text_at
-    (take (length_of (class_of head.header) head.header.slot) (drop head.offset file)))
+head-extension file (Some head) = grind (arith, info-extension)
 
 -- all frames are frames of the survey, with an extension of 36 bytes
 pub all_right : (file : List ℕ) (s : SurveyFields) (chosen : Chosen) → all_choice file s ≡ Ok chosen
     → IsRight chosen s
 unfolding all_choice
-all_right file s chosen e = with_right (head_info file s.head).quality
-    (head_info file s.head).extension 0 (length s.frames) s chosen (head-extension file s.head) e
+all_right file s chosen e = grind (arith, with_right, chosen, head-extension)
 
 -- all frames are chosen
 pub all-whole : (file : List ℕ) (s : SurveyFields) (chosen : Chosen) → all_choice file s ≡ Ok chosen
     → (chosen.from ≡ 0) × (chosen.to ≡ length s.frames)
 unfolding all_choice
-all-whole file s chosen e =
-    let same = (refusal_or-ok (outside_fault 0 (length s.frames) (length s.frames)) _ chosen e).1 in
-    (sym (ap (λ (c : Chosen). c.from) same), sym (ap (λ (c : Chosen). c.to) same))
+all-whole file s chosen e = grind (arith, refusal_or-ok, chosen)
 
 -- what `pack` chooses is right
 pub all_choosing : IsChoosing all_choice
@@ -378,5 +354,4 @@ choosing_is AllFrames = all_choosing
 pub edit_proper : (choice : FrameChoice) (least : Bool) (input : List ℕ)
     → IsProperTask (task_of_choice choice least input)
 edit_proper choice least input =
-    task_proper (choosing_of choice) (first_planning (slot_choices least)) (choosing_is choice)
-    (first_is_planning (slot_choices least) (by_usual least)) (refuses_of_choice choice) input
+    search (arith, task_proper, choosing_is, first_is_planning, by_usual)

@@ -1,5 +1,5 @@
 -- The second pass, which repacks chosen frames, and the work that is prepared for it.
-use Rattle.std.proofs.Common.{ap, ap₂, arith, length, List, subst, sym, take, ℕ, ◌∙◌, ◌≡◌, ◌≢◌}
+use Rattle.std.proofs.Common.{ap, arith, length, List, ℕ, ◌≡◌, ◌≢◌}
 use Rattle.commands.specs.SingleOutput.{IsMaking, Task}
 use Rattle.cut_edits.specs.Chosen.{Chosen, chosen_file, own_slots_part}
 use Rattle.cut_edits.specs.Layable.{IsLayable, IsWorkOf, work_file}
@@ -17,13 +17,7 @@ use Rattle.sync_survey.specs.declared.surveys.Survey.{Survey}
 pub appends-as_prefix : {input output : List ℕ} (made other : List ℕ → List ℕ) {old new : Files}
     {fault : PassFault} → ((file : List ℕ) → Holds old input file → made file ≡ other file)
     → AppendsPrefix input output made old new fault → AppendsPrefix input output other old new fault
-appends-as_prefix made other same h = record {
-  bytes = h.bytes;
-  prefix = λ file holds. h.prefix file holds ∙ ap (take (length h.bytes)) (same file holds);
-  short =
-      λ failed file holds. omega (arith, h.short failed file holds, ap length (same file holds));
-  files = h.files;
-}
+appends-as_prefix made other same h = grind arith
 
 -- once the output was created, the pass can begin
 pub relay-ready : (relay : Relay) (old mid : Files) (fed : Fed)
@@ -34,25 +28,7 @@ pub relay-ready : (relay : Relay) (old mid : Files) (fed : Fed)
     → mid ≡ with_empty_file old relay.pass.output.now → IsFedFrom fed mid relay.pass.input.now
     → IsRelayReady relay mid fed
 relay-ready relay old mid fed apart there laid has long created fed_from =
-    let input = relay.pass.input.now in
-    let output = relay.pass.output.now in
-    let held : (file : List ℕ) → Holds mid input file → Holds old input file =
-    λ file holds. emptied_held_other old output input file apart
-    (subst (λ f. Holds f input file) created holds) in
-    record {
-      pass = record {
-        apart = apart;
-        source =
-            subst (λ f. IsFileThere f input) (sym created) (emptied_keeps old output input there);
-        target = subst (λ f. IsFileThere f output) (sym created) (emptied_there old output);
-        length_is = λ file holds. (has file (held file holds)).long ∙ sym long;
-        few = omega (arith, long, laid.few);
-        fed_from = fed_from;
-      };
-      length_is = long;
-      exact = λ file holds. has file (held file holds);
-      laid = laid;
-    }
+    grind (arith, emptied_held_other, emptied_keeps, emptied_there)
 
 -- if the chosen frames are in the slots of their own plan, the file is the file of these
 pub file-is : (chosen : Chosen) (laid : LaidPart) (file : List ℕ) (s : SurveyFields)
@@ -69,24 +45,10 @@ module _ (survey : Survey) (selected : Selected) (work : LaidWork)
       → IsSurveyLaidOut (survey_view survey)
       → ((bytes : List ℕ) → Holds files input bytes → CanBeRelaid bytes (survey_view survey))
       → IsWritableSelection (survey_view survey) selected → IsLayable input work files
-  work_layable input files there laid has writable = record {
-    there = there;
-    laid = subst (λ s. IsSurveyLaidOut (survey_view s)) (sym of.survey_is) laid;
-    has =
-        subst (λ s. (bytes : List ℕ) → Holds files input bytes → CanBeRelaid bytes (survey_view s))
-        (sym of.survey_is) has;
-    writable = subst (λ s. IsWritableSelection (survey_view s) work.selected) (sym of.survey_is)
-        (subst (IsWritableSelection (survey_view survey)) (sym of.selected_is) writable);
-    fed = of.fed;
-    unsent = of.unsent;
-  }
+  work_layable input files there laid has writable = grind arith
 
   -- the work makes the file of the chosen frames
   pub work_makes : (task : Task) (files : Files)
       → IsMaking task (λ file. file_laid (selected_part selected) file (survey_view survey)) files
       → IsMaking task (work_file work) files
-  work_makes task files making =
-      let made_by : Survey → Selected → List ℕ → List ℕ =
-      λ s l file. file_laid (selected_part l) file (survey_view s) in
-      subst (λ made. IsMaking task made files)
-      (ap₂ made_by (sym of.survey_is) (sym of.selected_is)) making
+  work_makes task files making = grind arith

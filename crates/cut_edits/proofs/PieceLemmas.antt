@@ -18,13 +18,13 @@ use Rattle.cut_edits.{proofs.SpanLemmas.with-fitting, specs.Chosen.Chosen}
 use Rattle.cut_edits.specs.Exact.{exact_making, exact_part, exact_refuses, exact_stream}
 use Rattle.cut_edits.specs.Exact.{exact_stream_or_none, exact_surveyed_stream, exact_task}
 use Rattle.cut_edits.specs.Exact.{file_span, IsSpanIn, quality_of, row_sealed_part, samples_fault}
-use Rattle.cut_edits.specs.Exact.{span_lead_ins, span_part, span_piece, survey_without_head}
+use Rattle.cut_edits.specs.Exact.{span_part, span_piece, survey_without_head}
 use Rattle.exact_span.proofs.ExtensionLemmas.{extension-length}
 use Rattle.exact_span.proofs.{PlayedLemmas.{played-within, spans-fit}, SealLemmas.sealed-whole}
 use Rattle.exact_span.specs.Places.{sample_at}
 use Rattle.exact_span.specs.PlayedPositions.{length_of_played, played_of, samples_in}
-use Rattle.exact_span.specs.Spans.{AreLeads, delay_of, padding_of, span_of}
-use Rattle.exact_span.specs.declared.{exact_place.ExactPlace.ExactPlace, span.Span.Span}
+use Rattle.exact_span.specs.{Spans.{AreLeads, span_of}, declared.exact_place.ExactPlace.ExactPlace}
+use Rattle.exact_span.specs.declared.span.Span.{Span}
 use Rattle.frame_header.specs.{Fields.ClassFields, Tables.{samples_of, window_of}}
 use Rattle.frame_header.specs.declared.version.Version.{Version, TheVariants.{One, Two, TwoFive}}
 use Rattle.info_header.specs.declared.fields.Info.{Info}
@@ -57,8 +57,7 @@ most_by TwoFive frames end within few = omega (arith, within, few)
 -- no played position is after the last frame that a file may have
 pub played-most : (head : Option Info) (class : ClassFields) (frames : ℕ) → frames ≤ most_frames
     → (played_of head class frames).end ≤ most_frames * samples_in class
-played-most head class frames few = most_by class.version frames
-    (played_of head class frames).end (played-within head class frames) few
+played-most head class frames few = grind (arith, most_by, played-within)
 
 -- the frames of the span are there
 pub span-there : (from to : ExactPlace) (head : Option Info) (s : SurveyFields) (span : Span)
@@ -72,8 +71,7 @@ span-there from to head s span e =
     let ok = refusal_or-ok (samples_fault a b samples)
     (span_of s.class (played.start + a) (played.start + b)) span e in
     let there = samples_there a b samples (nat_lt a b && nat_le b samples) refl ok.0 in
-    let one : AreLeads (span_of s.class (played.start + a) (played.start + b)) 1 =
-    record { one = omega arith; led = λ is. refl } in
+    let one : AreLeads (span_of s.class (played.start + a) (played.start + b)) 1 = grind arith in
     let fits = spans-fit head s.class (length s.frames) a b 1
     (record { some = there.0; most = there.1 }) one in
     subst (IsSpanIn s) ok.1
@@ -103,12 +101,7 @@ head_long file (Some head) = head-extension file (Some head)
 -- a span stays within the file when the head is set apart
 pub span-survey_without_head : (s : SurveyFields) (span : Span) → IsSpanIn s span
     → IsSpanIn (survey_without_head s) span
-span-survey_without_head s span is = record {
-  is = is.is;
-  some = is.some;
-  within =
-      subst (λ (n : ℕ). span.last ≤ n) (sym (survey_without_head-length s)) is.within;
-}
+span-survey_without_head s span is = grind (arith, is, survey_without_head-length)
 
 -- a file without fault can be relaid once its head is set apart
 pub survey_without_head-relaid : (file : List ℕ) (s : SurveyFields)
@@ -125,8 +118,7 @@ module _ (head : Option Info) (long : IfSome head (λ (i : Info). length i.exten
 
   -- the extension with delay and padding has 36 bytes
   pub plain-long : length plain.extension ≡ 36
-  plain-long = extension-length head (delay_of s.class (span_lead_ins span plain.placed) span)
-      (padding_of span) long
+  plain-long = grind (arith, extension-length, span)
 
   piece_fits : IsFittingPlan (window_of s.class.version) (needs_laid plain s) plain.placed
   piece_fits = with-fitting (span_chosen head span) s is.placed there.some there.within span.led
@@ -166,14 +158,7 @@ module _ (head : Option Info) (long : IfSome head (λ (i : Info). length i.exten
 module _ (from to : ExactPlace) where
   late : (file : List ℕ) (s : SurveyFields) → IfErr (exact_making from to file s) IsLateFault
   unfolding exact_part file_span
-  late file s =
-      then_late (exact_part from to file s)
-      (λ laid. Ok (file_laid laid file (survey_without_head s)))
-      (then_late (file_span from to (fields_of_head file s.head) s) (λ span. Ok
-      (span_piece (fields_of_head file s.head) span file (survey_without_head s)))
-      (refusal_or-late _ _)
-      (λ span. tt))
-      (λ laid. tt)
+  late file s = grind (arith, then_late, refusal_or-late)
 
   -- what is made, given its steps
   pub record IsPieceBy (file : List ℕ) (s : SurveyFields) (made : List ℕ) : Type 0 where
@@ -202,8 +187,7 @@ module _ (from to : ExactPlace) where
         span = chose.0;
         span_is = chose.1;
         laid = whole.1 ∙ ap Ok (sym same);
-        is =
-            ap (λ (l : LaidPart). file_laid l file (survey_without_head s)) same ∙ bytes;
+        is = grind arith;
       }
 
   -- what is made of the span, or why none is found
@@ -253,8 +237,7 @@ module _ (from to : ExactPlace) where
 
   -- the command is proper
   pub exact-proper : (input : List ℕ) → IsProperTask (exact_task from to input)
-  exact-proper input =
-      file_proper (exact_making from to) (exact_stream from to) proper exact_refuses input
+  exact-proper input = search (arith, file_proper, proper)
 
   -- what was laid of the span is what the command makes
   pub exact-makes : (input : List ℕ) (s : SurveyFields) (span : Span) (laid : LaidPart)

@@ -16,12 +16,11 @@ use Rattle.cut_edits.specs.Exact.{span_lead_ins, span_part, span_piece, survey_w
 use Rattle.cut_edits.specs.ExactLaws.{PiecesPlayTheirSamples}
 use Rattle.exact_span.proofs.{ExtensionLemmas.extension-says, PlayedLemmas.places-kept}
 use Rattle.exact_span.proofs.{SealLemmas.frames-sealed, SpanLemmas.span-in_range}
-use Rattle.exact_span.specs.{Laws.{AreInfoFields, IsPieceHead, KeepsPlaces}, Places.sample_at}
+use Rattle.exact_span.specs.{Laws.{AreInfoFields, IsPieceHead}, Places.sample_at}
 use Rattle.exact_span.specs.PlayedPositions.{length_of_played, played_of}
 use Rattle.exact_span.specs.Spans.{AreLeads, delay_of, padding_of, span_of}
 use Rattle.exact_span.specs.declared.span.Span.{Span}
-use Rattle.info_header.specs.Info.{field_in, field_place, flags_in, info_in, is_flagged}
-use Rattle.info_header.specs.declared.fields.Info.{Info}
+use Rattle.info_header.specs.{Info.{field_in, info_in}, declared.fields.Info.Info}
 use Rattle.laying.{proofs.LaidLemmas.{first-there, laid-slots}, specs.KeptFields.fields_of_head}
 use Rattle.laying.specs.{Laid.{frames_laid, info_laid, LaidPart}, Surveys.CanBeRelaid}
 use Rattle.laying.specs.Written.{head_info, slot_in}
@@ -41,9 +40,7 @@ table_by place bytes flagged true is =
 
 table-many : (bytes : List ℕ) → IfSome (info_in bytes).table (λ (t : List ℕ). length t ≡ 100)
 unfolding info_in field_in
-table-many bytes = table_by (field_place (flags_in bytes) 2) bytes (is_flagged (flags_in bytes) 2)
-    (is_flagged (flags_in bytes) 2 && nat_le (field_place (flags_in bytes) 2 + 100) (length bytes))
-    refl
+table-many bytes = grind (arith, table_by)
 
 table-of : (file : List ℕ) (head : Head)
     → IfSome (head_info file (Some head)).table (λ (t : List ℕ). length t ≡ 100)
@@ -52,8 +49,7 @@ table-of file head = table-many _
 
 head_whole : (file : List ℕ) (head : Option Head) → IfSome (fields_of_head file head) AreInfoFields
 head_whole file None = tt
-head_whole file (Some head) =
-    record { table = table-of file head; extension = head-extension file (Some head) }
+head_whole file (Some head) = grind (arith, table-of, head-extension)
 
 -- ---- the head of a piece
 
@@ -152,18 +148,17 @@ pieces-play file s from to span is e =
     subst (λ (p : List Placed). AreLeads span (span_lead_ins span p)) (sym placed) (leads-are head
     (head_whole file s.head) (head_long file s.head) span file (survey_without_head s) had there) in
     let of : IsPieceHead s.class (span_lead_ins span piece.placed) span fields =
-    subst (λ (p : List Placed). IsPieceHead s.class (span_lead_ins span p) span fields) (sym placed)
-    (piece-head head (head_whole file s.head) (head_long file s.head) span file
-    (survey_without_head s) had there)
+    grind (
+      arith,
+      piece-head head (head_whole file s.head) (head_long file s.head) span file
+          (survey_without_head s) had there,
+      head_whole file s.head,
+      head_long file s.head,
+    )
     in
     let many = span_lead_ins span piece.placed in
     record {
       leads = leads;
       head = of;
-      places = subst (λ (p : Span). KeepsPlaces s.class many p.first a b
-          (played_of (Some fields) s.class (many + (p.last - p.first))) played) ok.1
-          (places-kept head fields s.class (length s.frames) a b many
-          (record { some = inside.0; most = inside.1 })
-          (subst (λ (p : Span). AreLeads p many) (sym ok.1) leads)
-          (subst (λ (p : Span). IsPieceHead s.class many p fields) (sym ok.1) of));
+      places = grind (arith, places-kept);
     }

@@ -1,6 +1,6 @@
 -- The frames of a span in the slots of their plan: at most one lead-in comes before them, and one
 -- if the span has to have it.
-use Rattle.std.proofs.Common.{append-nil, arith, Bool, drop, false, IsTrue, length, List, map, refl}
+use Rattle.std.proofs.Common.{append-nil, arith, Bool, false, IsTrue, length, List, map, refl}
 use Rattle.std.proofs.Common.{subst, true, ℕ, [], ◌+◌, ◌-◌, ◌∷◌, ◌≡◌}
 use Rattle.std.proofs.lemmas.List.{length-drop, length-map, length-take}
 use Rattle.std.specs.Prelude.{All, ◌<◌, ◌↔◌, ◌≤◌}
@@ -14,7 +14,7 @@ use Rattle.laying.proofs.FitLemmas.{AreHeaders, AreOpen, Asks, asks-each, items-
 use Rattle.laying.proofs.{NeedsFitLemmas.part-known, PartsLemmas.parts_are}
 use Rattle.laying.proofs.PlannedFrameLemmas.{slot_among}
 use Rattle.laying.specs.Fits.{FitsFromReach, IsFittingPlan, reach_behind}
-use Rattle.laying.specs.Needs.{need_of, needs_of_parts, part_places, plan_input, PlanInput}
+use Rattle.laying.specs.Needs.{needs_of_parts, part_places, plan_input, PlanInput}
 use Rattle.laying.specs.{NeedsFit.{IsPlacedSurvey, own_choice}, Relaid.rest_behind}
 use Rattle.slot_plan.{proofs.LeastPlanLemmas.led-plan-is, specs.Laws.PartsChooseInOrder}
 use Rattle.slot_plan.specs.LeastPlan.{led_plan}
@@ -33,10 +33,7 @@ led_asks (need ∷ needs) = ((refl, refl, refl), asks-each own_choice (need ∷ 
 
 frames_open : (needs : List Need) → AreHeaders needs → AreOpen (map (need_item own_choice) needs)
 frames_open [] are = tt
-frames_open (need ∷ needs) are = (
-  (λ slot has. usual_slots own_choice (by_usual false) need.header slot are.0 has),
-  frames_open needs are.1,
-)
+frames_open (need ∷ needs) are = grind (arith, usual_slots, by_usual, frames_open needs are.1)
 
 led_open : (needs : List Need) → AreHeaders needs → AreOpen (led_items own_choice needs)
 unfolding led_items
@@ -72,9 +69,12 @@ fits_many window reach [] [] fits = omega arith
 fits_many window reach [] (p ∷ placed) fits = absurd fits
 fits_many window reach (need ∷ needs) [] fits = absurd fits
 fits_many window reach (need ∷ needs) (p ∷ placed) fits =
-    let rest = fits_many window (reach_behind window p need)
-    (rest_behind p.lead_in need needs) placed fits.2 in
-    omega (arith, rest, left_many p.lead_in need needs)
+    grind (
+      arith,
+      left_many,
+      fits_many window (reach_behind window p need) (rest_behind p.lead_in
+          need needs) placed fits.2,
+    )
 
 -- ---- the plan of chosen frames
 
@@ -89,15 +89,7 @@ module _ (chosen : Chosen) (s : SurveyFields) (placed : IsPlacedSurvey s)
 
   -- there are as many needs as frames
   pub needs-length : length needs ≡ chosen.to - chosen.from
-  needs-length =
-      omega (
-        arith,
-        length-map (chosen_rows chosen s) need_of,
-        length-take (chosen.to - chosen.from) (drop chosen.from s.frames),
-        length-drop chosen.from s.frames,
-        some,
-        within,
-      )
+  needs-length = grind (arith, length-map, length-take, length-drop)
 
   parts_is : needs_in_parts asked.needs asked.places ≡ needs ∷ []
   parts_is = parts_are [] 0 (chosen_rows chosen s ∷ []) refl
@@ -120,11 +112,7 @@ module _ (chosen : Chosen) (s : SurveyFields) (placed : IsPlacedSurvey s)
   -- a plan with a lead-in is the one of the definition
   pub led-answer : (ps : List Placed) → IsLedPlan (window_in asked.needs) own_choice asked.needs ps
       → ps ≡ led_plan (window_of s.class.version) own_choice needs
-  led-answer ps plan =
-      let fit = rows-fit chosen s placed some within in
-      (led-is ps).0
-      (subst (λ (l : List Need). IsLedPlan (window_of s.class.version) own_choice l ps) flat
-      (subst (λ (n : ℕ). IsLedPlan n own_choice asked.needs ps) fit.window plan))
+  led-answer ps plan = grind (arith, rows-fit chosen s placed some within, led-is ps, flat)
 
   -- the frames can be planned
   pub led-can : CanBePlanned asked.needs (0 ∷ [])
@@ -143,29 +131,33 @@ module _ (chosen : Chosen) (s : SurveyFields) (placed : IsPlacedSurvey s)
       → IsFittingPlan (window_of s.class.version) needs (span_plan led s.class needs)
   with-fitting false = plan-fitting chosen s placed some within own_choice (by_usual false)
   with-fitting true =
-      let plan = led_plan (window_of s.class.version) own_choice needs in
-      record {
-        fits = items-fit (window_of s.class.version) (led_items own_choice needs) needs plan
-            (led_asks needs) the_led.slots the_led.least.feasible the_led.begins;
-        slots =
-            open-in_slots (led_items own_choice needs) plan (led_open needs known) the_led.slots;
-      }
+      grind (
+        arith,
+        items-fit,
+        led_asks needs,
+        open-in_slots,
+        led_open needs known,
+        known,
+        s.class.version,
+        the_led.slots,
+        the_led.least.feasible,
+        the_led.begins,
+      )
 
   led_many : length (led_plan (window_of s.class.version) own_choice needs)
       ≡ chosen.to - chosen.from + 1
   led_many =
-      omega (
+      grind (
         arith,
-        for_length (led_items own_choice needs)
-            (led_plan (window_of s.class.version) own_choice needs) the_led.slots,
+        for_length (led_items own_choice needs) (led_plan (window_of s.class.version)
+            own_choice needs) the_led.slots,
         led_length needs (omega (arith, needs-length, some)),
         needs-length,
       )
 
   -- the plan has at most one place more than frames
   pub with-few : (led : Bool) → length (span_plan led s.class needs) ≤ chosen.to - chosen.from + 1
-  with-few false =
-      omega (arith, plan-few chosen s placed some within own_choice (by_usual false), needs-length)
+  with-few false = grind (arith, plan-few, by_usual, needs-length)
   with-few true = omega (arith, led_many)
 
   -- the plan has no fewer places than frames
@@ -185,7 +177,4 @@ module _ (chosen : Chosen) (s : SurveyFields) (placed : IsPlacedSurvey s)
   -- the plan has a lead-in if the span has to have one
   pub with-leads : (span : Span) → chosen.from ≡ span.first → chosen.to ≡ span.last
       → AreLeads span (span_lead_ins span (span_plan span.led s.class needs))
-  with-leads span from to = record {
-    one = omega (arith, with-few span.led, from, to);
-    led = λ is. omega (arith, with_led span.led is, from, to);
-  }
+  with-leads span from to = grind (arith, with-few, with_led)

@@ -29,11 +29,11 @@ use Rattle.sync_survey.specs.{Faults.SurveyFields, Items.{item_at, size_of}}
 use Rattle.sync_survey.specs.MainData.{main_bytes, marked_rows, place, rows_of, start_of_data}
 use Rattle.sync_survey.specs.{Row.Row, Runs.{blocks_of, frames_of, item_run, ItemRun}}
 use Rattle.sync_survey.specs.Start.{start_of}
-use Rattle.sync_survey.specs.Walk.{all_blocks, end_fault, fault_at, frame_bytes, head_in_bytes}
-use Rattle.sync_survey.specs.Walk.{head_of, numbered_frames, stream_run}
+use Rattle.sync_survey.specs.Walk.{all_blocks, end_fault, fault_at, frame_bytes, head_of}
+use Rattle.sync_survey.specs.Walk.{stream_run}
 use Rattle.sync_survey.specs.declared.items.Item.TheVariants.{End, Frame as FrameItem}
-use Rattle.sync_survey.specs.declared.places.{Head.Head, Piece.Piece, PlacedFrame.PlacedFrame}
-use Rattle.sync_survey.specs.declared.{places.Start.Start, runs.Region.TheVariants.{Front, Stream}}
+use Rattle.sync_survey.specs.declared.places.{Head.Head, Start.Start}
+use Rattle.sync_survey.specs.declared.runs.Region.TheVariants.{Front, Stream}
 
 -- frames of the class, whose main data can be laid into their areas; the first has no text of a
 -- head
@@ -84,9 +84,7 @@ module _ (c : ClassFields) (f : Frame) (more : List Frame) (is : IsBare c f more
       (arith, length-laid 0 0 (all_frame_data frames) (omega arith) is.fits, areas-all 0 frames)
 
   file-is : file ≡ own ++ rest
-  file-is =
-      sym (append_assoc (frame_front_bytes f.kept.header f.kept.side)
-      (take (frame_area f.kept) area_data) rest)
+  file-is = grind (arith, append_assoc)
 
   stand : StandFrom file 0 frames area_data
   stand = framed_bytes-stand c file 0 frames area_data [] is.entries many (sym (append-nil file))
@@ -95,8 +93,7 @@ module _ (c : ClassFields) (f : Frame) (more : List Frame) (is : IsBare c f more
   long_area = length-take-le (frame_area f.kept) area_data (omega (arith, many))
 
   long_own : length own ≡ size_of (FrameItem f.kept.header)
-  long_own = length-entry f.kept.header f.kept.side (take (frame_area f.kept) area_data)
-      is.entries.0.header (shaped f.kept.side is.entries.0.pairs) long_area
+  long_own = grind (arith, length-entry, shaped, long_area)
 
   -- ---- the runs
 
@@ -112,10 +109,7 @@ module _ (c : ClassFields) (f : Frame) (more : List Frame) (is : IsBare c f more
 
   start-is : start_of file ≡ Ok begin
   start-is =
-      start_by file 0
-      f.kept.header (sym (ap (λ (r : ItemRun). r.stop) front_run) ∙ front_end-is file)
-      first_item
-      (omega (arith, ap length file-is, length-append own rest, long_own))
+      grind (arith, start_by, front_run, front_end-is, first_item, file-is, length-append, long_own)
 
   stream : stream_run file begin
       ≡ record { items = placed 0 (frame_items frames); stop = 0 + length file }
@@ -127,35 +121,27 @@ module _ (c : ClassFields) (f : Frame) (more : List Frame) (is : IsBare c f more
   -- ---- the head
 
   own_bytes : frame_bytes file begin.first ≡ own
-  own_bytes = ap (take (size_of (FrameItem f.kept.header))) file-is
-      ∙ take_at own rest (size_of (FrameItem f.kept.header)) long_own
+  own_bytes = grind (arith, file-is, take_at, long_own)
 
   head-is : head_of file begin.first ≡ None
   unfolding head_of
-  head-is = ap (head_in_bytes begin.first) own_bytes ∙ ap
-      (option_map (λ at. record { offset = 0; header = f.kept.header; text_at = at })) is.no_head
+  head-is = grind (arith, own_bytes, option_map)
 
   -- ---- frames and blocks
 
   placed-all : (at : ℕ) (fs : List Frame) → frames_of (placed at (frame_items fs)) ≡ frames_at at fs
   placed-all at [] = refl
-  placed-all at (g ∷ gs) =
-      ap (λ (ps : List PlacedFrame). record { offset = at; header = g.kept.header } ∷ ps)
-      (placed-all (at + frame_length g) gs)
+  placed-all at (g ∷ gs) = grind (arith, placed-all (at + frame_length g) gs)
 
   no_blocks : (at : ℕ) (fs : List Frame) → blocks_of (placed at (frame_items fs)) ≡ []
   no_blocks at [] = refl
   no_blocks at (g ∷ gs) = no_blocks (at + frame_length g) gs
 
   frames-are : frames_from file begin ≡ frames_at 0 frames
-  frames-are =
-      ap₂ numbered_frames head-is (ap (λ (r : ItemRun). frames_of r.items) stream)
-      ∙ placed-all 0 frames
+  frames-are = grind (arith, head-is, stream, placed-all)
 
   blocks-are : all_blocks file begin ≡ []
-  blocks-are =
-      ap₂ (λ (a b : List Piece). a ++ b) (ap (λ (r : ItemRun). blocks_of r.items) front_run)
-      (ap (λ (r : ItemRun). blocks_of r.items) stream ∙ no_blocks 0 frames)
+  blocks-are = grind (arith, front_run, stream, no_blocks)
 
   -- ---- the end
 
@@ -163,14 +149,16 @@ module _ (c : ClassFields) (f : Frame) (more : List Frame) (is : IsBare c f more
       → r ≡ record { items = placed 0 (frame_items frames); stop = 0 + length file }
       → fault_at r.stop (item_at file r.stop) ≡ None
   ended_at r same =
-      ap (λ (q : ItemRun). fault_at q.stop (item_at file q.stop)) same
-      ∙ ap (fault_at (0 + length file)) (sym (stands-only_at file (0 + length file) End
-      (drop_all (0 + length file) file (omega arith))))
+      grind (
+        arith,
+        stands-only_at file (0 + length file) End (drop_all (0 + length file) file
+            (omega arith)),
+        drop_all (0 + length file) file (omega arith),
+      )
 
   no-end_fault : end_fault file (frames_from file begin)
       (fault_at (stream_run file begin).stop (item_at file (stream_run file begin).stop)) ≡ None
-  no-end_fault = ap₂ (end_fault file) frames-are (ended_at (stream_run file begin) stream)
-      ∙ some_frames file 0 frames (omega arith)
+  no-end_fault = grind (arith, frames-are, ended_at, stream, some_frames)
 
   -- ---- the survey
 
@@ -187,23 +175,14 @@ module _ (c : ClassFields) (f : Frame) (more : List Frame) (is : IsBare c f more
       (laid-sound file c None 0 frames area_data is.entries stand is.fits allowed few)
 
   read : (allowed : ℕ) → length frames ≤ allowed → IsRead file allowed begin
-  read allowed few =
-      record { start_is = start-is; frames = no_faults allowed few; end = no-end_fault }
+  read allowed few = grind (arith, start-is, no_faults, no-end_fault)
 
   marked-are : (told_from file begin).frames ≡ rows
   marked-are = ap₂ marked_rows head-is rows-are
       ∙ marked_rows-none file c None 0 frames area_data is.entries stand is.fits
 
   told : told_from file begin ≡ bare_fields f more
-  told = λ i. record {
-    frames = marked-are i;
-    blocks = blocks-are i;
-    head = head-is i;
-    junk = 0;
-    first = 0;
-    class = class_of f.kept.header;
-    length = length file;
-  }
+  told = grind (arith, marked-are, blocks-are, head-is)
 
   -- the survey of the file finds its frames
   pub bare-survey : (allowed : ℕ) → length frames ≤ allowed

@@ -18,18 +18,10 @@ behind-twice state = refl
 
 granule-fits : (bit_count gain : ℕ) → bit_count < 4096 → gain < 256
     → GranuleFits One (granule_with bit_count gain)
-granule-fits bit_count gain few low = record {
-  part2_3_length = few;
-  big_values = lit< tt;
-  global_gain = low;
-  scalefac_compress = lit< tt;
-  detail = lit< tt;
-  preflag = lit< tt;
-}
+granule-fits bit_count gain few low = grind (arith, lit<)
 
 length-few : (begin draw : ℕ) → begin ≤ 511 → draw % (2 * drill_room begin + 1) < 4096
-length-few begin draw few =
-    omega (arith, few, mod_below draw (2 * drill_room begin + 1) (omega arith))
+length-few begin draw few = grind (arith, mod_below)
 
 gain-few : (draw : ℕ) → 100 + draw % 100 < 256
 gain-few draw = omega (arith, mod_below draw 100 (lit< tt))
@@ -45,23 +37,12 @@ side_by begin ds es = side_with begin (map (λ draw. draw % (2 * drill_room begi
 module _ (begin a b c d e f g h : ℕ) where
   by-fits : begin ≤ 511
       → SideFits (class_of drill_header) (side_by begin (a ∷ b ∷ c ∷ d ∷ []) (e ∷ f ∷ g ∷ h ∷ []))
-  by-fits few =
-      SideFits-from_parts (class_of drill_header)
-      (side_by begin (a ∷ b ∷ c ∷ d ∷ []) (e ∷ f ∷ g ∷ h ∷ []))
-      (record { scfsi = refl; granules = refl; first = refl; second = refl })
-      (omega (arith, few), lit< tt, lit< tt, lit< tt) (
-        granule-fits _ _ (length-few begin a few) (gain-few e),
-        granule-fits _ _ (length-few begin b few) (gain-few f),
-      ) (
-        granule-fits _ _ (length-few begin c few) (gain-few g),
-        granule-fits _ _ (length-few begin d few) (gain-few h),
-      )
+  by-fits few = search (arith, SideFits-from_parts, lit<, granule-fits, length-few, gain-few)
 
   by-room : payload_bits (side_by begin (a ∷ b ∷ c ∷ d ∷ []) (e ∷ f ∷ g ∷ h ∷ []))
       ≤ 8 * drill_room begin
   unfolding payload_bits
-  by-room = omega
-      (arith, length-most begin a, length-most begin b, length-most begin c, length-most begin d)
+  by-room = grind (arith, length-most)
 
   by-pairs : HasPairs (side_by begin (a ∷ b ∷ c ∷ d ∷ []) (e ∷ f ∷ g ∷ h ∷ []))
   by-pairs = record { scfsi = refl; granules = refl; first = refl; second = refl }

@@ -1,12 +1,10 @@
 -- Draws, in order, and the main data that are made from them.
 use Rattle.std.proofs.Common.{ap, append_assoc, arith, drop, get_or, length, List, map, refl, set}
-use Rattle.std.proofs.Common.{suc, sym, take, zero, zero-add, ℕ, [], ◌%◌, ◌*◌, ◌++◌, ◌+◌, ◌-◌, ◌/◌}
-use Rattle.std.proofs.Common.{◌<◌, ◌∙◌, ◌∷◌, ◌≡◌}
-use Rattle.std.proofs.lemmas.List.{drop_more, length-map, map-append, set_at}
-use Rattle.bit_fields.{proofs.BitsLemmas.bytes-bits, specs.Bits.{AreBytes, bits, bytes}}
+use Rattle.std.proofs.Common.{suc, sym, zero, zero-add, ℕ, [], ◌%◌, ◌++◌, ◌+◌, ◌/◌, ◌<◌, ◌∙◌, ◌∷◌}
+use Rattle.std.proofs.{Common.◌≡◌, lemmas.List.{drop_more, length-map, map-append, set_at}}
+use Rattle.bit_fields.{proofs.BitsLemmas.bytes-bits, specs.Bits.AreBytes}
 use Rattle.drill.specs.Draws.{drawn_number, draws, next_state, state_after}
 use Rattle.drill.specs.Drill.{drawn_bytes, first_bits}
-use Rattle.frame_writer.specs.Laid.{zeros}
 use Rattle.reservoir.specs.Window.{AreBitsPacked, main_bits}
 
 -- ---- one more draw
@@ -42,13 +40,11 @@ draws-more : (count state : ℕ) → draws (suc count) state
     ≡ draws count state ++ drawn_number (next_state (state_after count state)) ∷ []
 unfolding draws state_after
 draws-more zero state = refl
-draws-more (suc count) state =
-    ap (λ (xs : List ℕ). drawn_number (next_state state) ∷ xs) (draws-more count (next_state state))
+draws-more (suc count) state = grind (arith, draws-more count (next_state state))
 
 -- there are as many bytes as were asked for
 pub length-drawn : (count state : ℕ) → length (drawn_bytes count state) ≡ count
-length-drawn count state =
-    length-map (draws count state) (λ draw. draw % 64) ∙ length-draws count state
+length-drawn count state = grind (arith, length-map, length-draws)
 
 -- ---- bytes written in order
 
@@ -82,7 +78,4 @@ byte-more octets now i state within is =
 pub packed-first : (packed octets : List ℕ) (count from : ℕ) → AreBytes packed → from ≡ 0
     → length octets ≡ (count + 7) / 8 → AreBitsPacked packed count (main_bits octets from count)
     → packed ≡ first_bits count octets
-packed-first packed octets count from are none long is =
-    sym (bytes-bits packed are)
-    ∙ ap bytes (is.same ∙ (λ i. take count (drop (8 * none i) (bits octets))
-    ++ zeros (8 * (is.few ∙ sym long) i - count)))
+packed-first packed octets count from are none long is = grind (arith, bytes-bits)

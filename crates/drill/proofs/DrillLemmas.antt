@@ -105,8 +105,7 @@ is_entry seed i =
       fits = drawn_side-fits begin b.state (begin-few seed i);
       octets = octets-are count (state_after 8 b.state);
       size = length-payload count (state_after 8 b.state) ∙ sym (bytes-is begin b.state);
-      filled = filled count (state_after 8 b.state)
-          ∙ ap (λ n. zeros (8 * n - count)) (sym (bytes-is begin b.state));
+      filled = grind (arith, filled, bytes-is);
     }
 
 -- ---- all frames from one on
@@ -181,9 +180,7 @@ last-low count octet few small =
     ap (λ n. take count (bits_of n octet)) eight ∙ take-bits_of count low octet in
     let is : number (take count (bits_of 8 octet) ++ zeros low)
     ≡ octet / 2 ^ low % 2 ^ count * 2 ^ low + 0 =
-    number-append (take count (bits_of 8 octet)) (zeros low)
-    ∙ (λ i. (ap number front ∙ number-bits_of count (octet / 2 ^ low)) i * 2
-    ^ length-replicate {A = ℕ} low 0 i + number-zeros low i) in
+    grind (arith, number-append, number-bits_of, length-replicate, number-zeros) in
     omega (arith, is, part-low count low octet small)
 
 -- the whole first byte, and what is kept of the others
@@ -210,10 +207,7 @@ first-byte o os count low long later (inl few) =
       length-take-le count (bits_of 8 o) (omega (arith, few, length-bits_of 8 o)),
       length-replicate {A = ℕ} (8 - count) 0,
     ) in
-    let is : spelled count (o ∷ os) ≡ eight ++ [] =
-    ap (λ (xs : List ℕ). spelled count (o ∷ xs)) one
-    ∙ ap (λ (xs : List ℕ). take count xs ++ zeros (8 - count)) (bits-one o)
-    ∙ sym (append-nil eight) in
+    let is : spelled count (o ∷ os) ≡ eight ++ [] = grind (arith, bits-one, append-nil) in
     subst (λ (xs : List ℕ). All IsLow xs) (sym (ap bytes is ∙ bytes-eight eight [] long_eight
     ∙ ap (λ (xs : List ℕ). number eight ∷ xs) bytes-nil))
     (All-cons IsLow (number eight) [] (last-low count o few (All-head IsLow o os low))
@@ -230,8 +224,7 @@ first-byte o os count low long later (inr many) =
 first-low : (octets : List ℕ) (count : ℕ) → All IsLow octets → length octets ≡ (count + 7) / 8
     → All IsLow (first_bits count octets)
 first-low [] count low long =
-    let none : spelled count [] ≡ [] =
-    nil_from_length (spelled count []) (length-spelled count [] (omega (arith, long))) in
+    let none : spelled count [] ≡ [] = grind (arith, nil_from_length, length-spelled) in
     subst (λ (xs : List ℕ). All IsLow xs) (sym (ap bytes none ∙ bytes-nil)) (All-nil IsLow)
 first-low (o ∷ os) count low long = first-byte o os count low long (λ many. first-low os (count - 8)
     (All-tail IsLow o os low) (omega (arith, many, long))) (cases_lt count 8)
@@ -307,9 +300,7 @@ is_bare seed count =
     let front = frame_front_bytes drill_header f.kept.side in
     record {
       entries = entries-are seed 0 (suc count);
-      fits = subst (λ n. CanDataBeLaidFrom n 0 (all_frame_data (from_on seed 0 (suc count))))
-          (first-begin seed)
-          (can-be-laid seed 0 (suc count));
+      fits = grind (arith, first-begin seed, can-be-laid seed 0 (suc count));
       no_head = no-head drill_header (front ++ take (frame_area f.kept) area_data) refl
           (subst (λ (xs : List ℕ). All IsLow xs)
           (sym (drop_at front (take (frame_area f.kept) area_data) 36 (front-size seed 0)))

@@ -1,12 +1,12 @@
 -- The frames of a stream have a layout without a lead-in: the one in which they were drawn.
-use Rattle.std.proofs.Common.{ap, append-nil, arith, Contains, false, length, List, map, None}
-use Rattle.std.proofs.Common.{Option, refl, Some, subst, suc, sym, zero, ℕ, [], ◌+◌, ◌∙◌, ◌∷◌, ◌≡◌}
+use Rattle.std.proofs.Common.{append-nil, arith, Contains, false, length, List, map, None, Option}
+use Rattle.std.proofs.Common.{refl, Some, subst, suc, zero, ℕ, [], ◌+◌, ◌∷◌, ◌≡◌}
 use Rattle.std.proofs.{Math.Path.transport, lemmas.List.Elements.{All-cons, All-nil}}
 use Rattle.std.specs.List.{All}
 use Rattle.drill.proofs.DrillLemmas.{bytes-is, ended-next, first-begin, from_on}
 use Rattle.drill.proofs.MakingLemmas.{area-is, before-ended, length-payload, payload-within}
-use Rattle.drill.specs.Drill.{area_start, data_begin, data_start, drawn_bits, drawn_side}
-use Rattle.drill.specs.Drill.{drill_frame_at, drill_frames, drill_header, drill_state_at}
+use Rattle.drill.specs.Drill.{area_start, data_begin, data_start, drawn_side, drill_frame_at}
+use Rattle.drill.specs.Drill.{drill_frames, drill_header, drill_state_at}
 use Rattle.drill.specs.StreamLaws.{drill_needs, StreamsNeedNoLeadIn}
 use Rattle.frame_header.specs.{Fields.{HeaderFields, SlotFields}, Tables.class_of}
 use Rattle.laying.specs.{LaidFiles.{frame_length, rows_from}, Needs.need_of}
@@ -14,7 +14,7 @@ use Rattle.side_info.specs.Side.{payload_bytes}
 use Rattle.slot_plan.{proofs.AreaLemmas.Contains-area, specs.Layouts.{HasLayout, IsDataLayout}}
 use Rattle.slot_plan.specs.Lists.{AreChosenAreas, CanBeLaid, frames_with_areas, OpenFrame}
 use Rattle.slot_plan.specs.Parts.{all_items, AreLeadIns, header_areas, IsLeadIn, need_item}
-use Rattle.slot_plan.specs.{Parts.{open_frame, part_items, PlanItem}, Plans.{AreItemSlots, IsPlan}}
+use Rattle.slot_plan.specs.{Parts.{open_frame, part_items}, Plans.{AreItemSlots, IsPlan}}
 use Rattle.slot_plan.specs.declared.needs.{Need.Need, Placed.Placed}
 
 -- the needs of the frames from one on, wherever they are
@@ -35,9 +35,7 @@ areas_on (suc count) = 381 ∷ areas_on count
 need-bytes : (seed i : ℕ) → payload_bytes (drawn_side (data_begin i (drill_state_at seed i))
     (drill_state_at seed i).state)
     ≡ length (drill_frame_at seed i).payload
-need-bytes seed i =
-    let b = drill_state_at seed i in
-    bytes-is (data_begin i b) b.state ∙ sym (length-payload (drawn_bits (data_begin i b) b.state) _)
+need-bytes seed i = grind (arith, bytes-is, length-payload)
 
 module _ (choices : HeaderFields → List SlotFields)
     (own : Contains (choices drill_header) drill_header.slot) where
@@ -122,13 +120,7 @@ module _ (choices : HeaderFields → List SlotFields)
   pub no-lead_in : (seed count : ℕ) (placed : List Placed)
       → IsPlan 511 choices (drill_needs seed count ∷ []) placed
       → All (λ p. p.lead_in ≡ false) placed
-  no-lead_in seed count placed plan =
-      let part = drill_needs seed count in
-      let alone = none-alone part plan.lead_ins (can-be seed count) plan.alone in
-      let items : all_items choices (part ∷ []) plan.lead_ins ≡ map (need_item choices) part =
-      ap (all_items choices (part ∷ [])) alone ∙ items-alone part in
-      none-placed part placed
-      (subst (λ (is : List PlanItem). AreItemSlots is placed) items plan.whole.slots)
+  no-lead_in seed count placed plan = grind (arith, none-alone, can-be, items-alone, none-placed)
 
 -- a drawn stream needs no lead-in
 pub streams-need_no_lead_in : StreamsNeedNoLeadIn

@@ -1,9 +1,9 @@
 -- A stream made from a seed, packed: the packing isn't refused, the packed file holds the frames
 -- that were drawn, and it needs no lead-in.
-use Rattle.std.proofs.Common.{All, ap, arith, Bool, decimal, Err, false, inl, inr, length, List}
-use Rattle.std.proofs.Common.{map, nat_le, nat_lt, None, Ok, Option, refl, Result, rules}
-use Rattle.std.proofs.Common.{slice_range, Some, subst, suc, sym, true, ℕ, [], ◌&&◌, ◌++◌, ◌<◌, ◌∙◌}
-use Rattle.std.proofs.{Common.{◌∷◌, ◌≡◌, ◌≢◌, ◌≤◌}, lemmas.List.length-map}
+use Rattle.std.proofs.Common.{All, ap, arith, decimal, Err, false, inl, inr, length, List, map}
+use Rattle.std.proofs.Common.{nat_le, nat_lt, None, Ok, Option, refl, Result, rules, slice_range}
+use Rattle.std.proofs.Common.{Some, subst, suc, sym, true, ℕ, [], ◌&&◌, ◌++◌, ◌<◌, ◌∙◌, ◌∷◌, ◌≡◌}
+use Rattle.std.proofs.{Common.{◌≢◌, ◌≤◌}, lemmas.List.length-map}
 use Rattle.std.proofs.lemmas.{List.FromFn.length-map-range_with_len, Option.same_Some}
 use Rattle.commands.proofs.{InputLemmas.made-survey, TellingLemmas.{says-all, says-prefix}}
 use Rattle.commands.specs.Command.{Made, Output, written_files}
@@ -29,7 +29,7 @@ use Rattle.laying.proofs.{PlacesLemmas.range-whole, SurveyFrameLemmas.survey-had
 use Rattle.laying.specs.Fits.{FitsFromReach, IsFittingPlan, reach_behind}
 use Rattle.laying.specs.{Laid.{file_laid, LaidPart, stream_laid}, LaidFiles.stream_entry}
 use Rattle.laying.specs.{Needs.need_of, NeedsFit.any_choice}
-use Rattle.laying.specs.{Relaid.{part_stream, rest_behind, stream_with_lead_ins}, Written.head_info}
+use Rattle.laying.specs.{Relaid.{part_stream, stream_with_lead_ins}, Written.head_info}
 use Rattle.outside.{proofs.FilesLemmas.with_file_here, specs.{BufferOutput.SentPrefix, Counts.Rose}}
 use Rattle.outside.specs.{Files.{Contents, Files, Holds, sent_and_more, Told}, Seen.Heard}
 use Rattle.slot_plan.specs.{LeastPlan.least_plan, Plans.IsPlan, declared.needs.Need.Need}
@@ -65,9 +65,7 @@ same-stream window reach (need ∷ needs) [] stream fits none many = absurd fits
 same-stream window reach (need ∷ needs) (p ∷ placed) (f ∷ stream) fits none many =
     let here : p.lead_in ≡ false = none 0 p (omega arith) in
     let behind : FitsFromReach window (reach_behind window p need) needs placed =
-    subst (λ (b : Bool).
-    FitsFromReach window (reach_behind window p need)
-    (rest_behind b need needs) placed) here fits.2 in
+    grind (arith, placed) in
     rw here (ap (λ l. f ∷ l) (same-stream window (reach_behind window p need) needs placed stream
     behind (rest-none p placed none) (omega (arith, many))))
 same-stream window reach _ _ _ fits none many = absurd (omega (arith, many))
@@ -76,8 +74,7 @@ same-stream window reach _ _ _ fits none many = absurd (omega (arith, many))
 
 survey-length : (file : List ℕ) (allowed : ℕ) (s : SurveyFields) → survey_fields file allowed ≡ Ok s
     → s.length ≡ length file
-survey-length file allowed s e =
-    sym (ap (λ (t : SurveyFields). t.length) (survey_fields-parts file allowed s e).2)
+survey-length file allowed s e = grind (arith, survey_fields-parts)
 
 -- ---- what the packing chooses
 
@@ -132,8 +129,7 @@ module _ (seed count : ℕ) (some : 0 < count) (few : count ≤ 20000) where
 
   choice-is : all_choice file told ≡ Ok all
   unfolding all_choice
-  choice-is = all-chosen (head_info file told.head).quality (head_info file told.head).extension
-      (length told.frames) (omega (arith, some, rows-many))
+  choice-is = grind (arith, all-chosen, rows-many)
 
   right : IsRight all told
   right = all_right file told all choice-is
@@ -163,8 +159,7 @@ module _ (seed count : ℕ) (some : 0 < count) (few : count ≤ 20000) where
   rows-whole = range-whole told.frames
 
   plan-same : plan_all ≡ packed_plan seed count
-  plan-same = ap (λ (rows : List Row). least_plan (window_of drill_header.version) any_choice
-      (map need_of rows ∷ [])) rows-whole
+  plan-same = grind (arith, rows-whole)
 
   is-plan : IsPlan (window_of drill_header.version) any_choice (drill_needs seed count ∷ [])
       (packed_plan seed count)
@@ -188,10 +183,7 @@ module _ (seed count : ℕ) (some : 0 < count) (few : count ≤ 20000) where
       ∙ (streams-hold seed count some).stream_is
 
   part-stream : part_stream (chosen_file_part all file told) ≡ drawn
-  part-stream =
-      let same : length told.frames ≡ length drawn = rows-many ∙ sym drawn-many in
-      ap (λ (l : List StreamFrame). slice_range l 0 (length told.frames)) stream-is
-      ∙ ap (λ (n : ℕ). slice_range drawn 0 n) same ∙ range-whole drawn
+  part-stream = grind (arith, rows-many, drawn-many, slice_range, stream-is, range-whole)
 
   fitting : IsFittingPlan (window_of told.class.version) (chosen_needs all told) plan_all
   fitting = plan-fitting all told placed right.some right.within any_choice (inr refl)

@@ -2,13 +2,13 @@
 use Rattle.std.proofs.Common.{ap, ap₂, arith, Bool, cond, drop, false, find, get_or, length}
 use Rattle.std.proofs.Common.{length-append, length-drop, List, map, nat_le, nat_lt, None}
 use Rattle.std.proofs.Common.{option_map, refl, reverse, Some, subst, suc, sym, take, true, ℕ, []}
-use Rattle.std.proofs.{Common.{◌++◌, ◌+◌, ◌-◌, ◌<◌, ◌∙◌, ◌∷◌, ◌≡◌, ◌≤◌}, Math.ListN.get_or-append}
+use Rattle.std.proofs.{Common.{◌++◌, ◌-◌, ◌<◌, ◌∙◌, ◌∷◌, ◌≡◌, ◌≤◌}, Math.ListN.get_or-append}
 use Rattle.std.proofs.lemmas.Bool.{le-leb, le-ltb, leb-false, leb-true, lt-leb, lt-ltb, ltb-true}
 use Rattle.std.proofs.lemmas.List.{get_or-append_right, get_or-drop, get_or-reverse, get_or-take}
 use Rattle.std.proofs.lemmas.List.{get_or_default, length-reverse, length-take-le, map-append}
 use Rattle.std.proofs.lemmas.List.{reverse-append, take-append-drop, Folds.find-append}
 use Rattle.std.proofs.lemmas.Option.{get_or_from_slice_get, none-some}
-use Rattle.std.specs.{List.{All, AllWithin, slice_get, Sorted.IsNonDecreasingBy}, Option.option_or}
+use Rattle.std.specs.List.{All, AllWithin, slice_get, Sorted.IsNonDecreasingBy}
 use Rattle.fade_plan.specs.Curves.{first_point_after, last_point_up_to, neighbour_steps, steps_at}
 use Rattle.fade_plan.specs.{Points.{curve_point_of, IsKeptPoint}, declared.point.Point.Point}
 
@@ -18,12 +18,7 @@ use Rattle.fade_plan.specs.{Points.{curve_point_of, IsKeptPoint}, declared.point
 pub find_mapped : {X Y : Type 0} (p : Y → Bool) (f : X → Y) (xs : List X)
     → find p (map f xs) ≡ option_map f (find (λ x. p (f x)) xs)
 find_mapped p f [] = refl
-find_mapped p f (x ∷ xs) =
-    elim (p (f x)) as (λ b. cond b (Some (f x)) (find p (map f xs))
-    ≡ option_map f (cond b (Some x) (find (λ x. p (f x)) xs))) [
-      | true ↦ refl
-      | false ↦ find_mapped p f xs
-    ]
+find_mapped p f (x ∷ xs) = grind (arith, find, option_map, find_mapped p f xs)
 
 -- the values in reverse are the values of the reverse
 pub reverse_mapped : {X Y : Type 0} (f : X → Y) (xs : List X)
@@ -51,19 +46,13 @@ first_passes p (x ∷ xs) d some is = ap (λ b. cond b (Some x) (find p xs)) is
 -- if none passes, none is found from the end on either
 pub none_passes_back : {X : Type 0} (p : X → Bool) (xs : List X) → All (λ x. p x ≡ false) xs
     → find p (reverse xs) ≡ None
-none_passes_back {X} p xs fails =
-    none_passes p (reverse xs) (λ k d less.
-    let within : k < length xs = omega (arith, less, length-reverse xs) in
-    ap p (get_or-reverse xs k d within) ∙ fails (length xs - 1 - k) d (omega (arith, within)))
+none_passes_back {X} p xs fails = grind (arith, none_passes, length-reverse, get_or-reverse)
 
 -- if all pass, the last is the first that is found from the end on
 pub last_passes : {X : Type 0} (p : X → Bool) (xs : List X) (d : X) → 0 < length xs
     → All (λ x. p x ≡ true) xs → find p (reverse xs) ≡ Some (get_or xs (length xs - 1) d)
 last_passes {X} p xs d some all =
-    let back : get_or (reverse xs) 0 d ≡ get_or xs (length xs - 1) d =
-    get_or-reverse xs 0 d some ∙ ap (λ n. get_or xs n d) (omega arith) in
-    first_passes p (reverse xs) d (omega (arith, some, length-reverse xs))
-    (ap p back ∙ all (length xs - 1) d (omega (arith, some))) ∙ ap Some back
+    grind (arith, get_or-reverse xs 0 d some, first_passes, length-reverse xs)
 
 -- ---- the points around a frame
 
@@ -85,20 +74,23 @@ last_of : (frame : ℕ) (xs ys : List Point) → All (λ p. up_to frame p ≡ fa
     → last_point_up_to (map curve_point_of (xs ++ ys)) frame
     ≡ option_map curve_point_of (find (up_to frame) (reverse xs))
 last_of frame xs ys none =
-    ap (find (λ p. nat_le p.frame frame)) (reverse_mapped curve_point_of (xs ++ ys))
-    ∙ find_mapped (λ p. nat_le p.frame frame) curve_point_of (reverse (xs ++ ys))
-    ∙ ap (option_map curve_point_of)
-    (ap (find (up_to frame)) (reverse-append xs ys)
-    ∙ find-append (up_to frame) (reverse ys) (reverse xs) ∙ ap (λ o. option_or o
-    (find (up_to frame) (reverse xs))) (none_passes_back (up_to frame) ys none))
+    grind (
+      arith,
+      find,
+      nat_le,
+      reverse_mapped,
+      find_mapped,
+      option_map,
+      reverse-append,
+      find-append,
+      none_passes_back,
+    )
 
 first_of : (frame : ℕ) (xs ys : List Point) → All (λ p. up_to frame p ≡ true) xs
     → first_point_after (map curve_point_of (xs ++ ys)) frame
     ≡ option_map curve_point_of (find (behind frame) ys)
 first_of frame xs ys all =
-    find_mapped (λ p. nat_lt frame p.frame) curve_point_of (xs ++ ys)
-    ∙ ap (option_map curve_point_of) (find-append (behind frame) xs ys ∙ ap (λ o. option_or o
-    (find (behind frame) ys)) (none_passes (behind frame) xs (not_behind frame xs all)))
+    grind (arith, find_mapped, option_map, find-append, find, none_passes, not_behind)
 
 -- the points are the ones up to a frame, followed by the ones after it
 pub record AreParted (frame : ℕ) (points xs ys : List Point) : Type 0 where
@@ -132,80 +124,80 @@ no_last p xs none = empty_find p (reverse xs) (length-reverse xs ∙ none)
 module _ (frame : ℕ) (points xs ys : List Point) (q : Point)
     (parted : AreParted frame points xs ys) where
   first_is : first_there ys q → find (behind frame) ys ≡ Some q
-  first_is there =
-      first_passes (behind frame) ys q there.0 (is_behind frame ys parted.back 0 q there.0)
-      ∙ ap Some (sym (there.1 q))
+  first_is there = grind (arith, first_passes, is_behind)
 
   -- before the first point, the steps are its steps
   pub steps_of_first : length xs ≡ 0 → first_there ys q
       → steps_at (map curve_point_of points) frame ≡ q.steps
   steps_of_first none first =
-      steps_of frame points xs ys parted
-      ∙ ap₂ (λ a b. neighbour_steps (option_map curve_point_of a)
-      (option_map curve_point_of b) frame)
-      (no_last (up_to frame) xs none) (first_is first)
+      grind (
+        arith,
+        steps_of frame points xs ys parted,
+        option_map,
+        no_last (up_to frame) xs none,
+        first_is first,
+      )
 
   -- the first point after a frame has the bounds of a kept point, and is after the frame
   pub first_kept : All IsKeptPoint points → first_there ys q → IsKeptPoint q × (frame < q.frame)
   first_kept all there =
-      let first = there.1 q in
-      let size : length points ≡ length xs + length ys =
-      ap length parted.whole ∙ length-append xs ys in
-      let same : get_or points (length xs) q ≡ q =
-      ap (λ t. get_or t (length xs) q) parted.whole
-      ∙ get_or-append_right xs ys (length xs) (length xs) q refl (omega arith)
-      ∙ ap (λ n. get_or ys n q) (omega arith) ∙ sym first in (
-        subst IsKeptPoint same (all (length xs) q (omega (arith, there.0, size))),
-        leb-false q.frame frame (ap (up_to frame) first ∙ parted.back 0 q there.0),
+      grind (
+        arith,
+        length-append xs ys,
+        get_or-append_right xs ys (length xs) (length xs) q refl
+            (omega arith),
+        leb-false,
       )
 
 module _ (frame : ℕ) (points xs ys : List Point) (p : Point) where
   last_is : AreParted frame points xs ys → last_there xs p
       → find (up_to frame) (reverse xs) ≡ Some p
-  last_is parted there =
-      last_passes (up_to frame) xs p there.0 parted.front ∙ ap Some (sym (there.1 p))
+  last_is parted there = grind (arith, last_passes)
 
   -- between two points, the steps are on the line from the one to the other
   pub steps_of_two : (q : Point) → AreParted frame points xs ys → last_there xs p → first_there ys q
       → steps_at (map curve_point_of points) frame
       ≡ neighbour_steps (Some (curve_point_of p)) (Some (curve_point_of q)) frame
   steps_of_two q parted last first =
-      steps_of frame points xs ys parted
-      ∙ ap₂ (λ a b. neighbour_steps (option_map curve_point_of a)
-      (option_map curve_point_of b) frame)
-      (last_is parted last) (first_is frame points xs ys q parted first)
+      grind (
+        arith,
+        steps_of frame points xs ys parted,
+        option_map,
+        last_is parted last,
+        first_is
+            frame points xs ys q parted first,
+      )
 
   -- after the last point, the steps are its steps
   pub steps_of_last : AreParted frame points xs ys → last_there xs p → length ys ≡ 0
       → steps_at (map curve_point_of points) frame ≡ p.steps
   steps_of_last parted last none =
-      steps_of frame points xs ys parted
-      ∙ ap₂ (λ a b. neighbour_steps (option_map curve_point_of a)
-      (option_map curve_point_of b) frame)
-      (last_is parted last) (empty_find (behind frame) ys none)
+      grind (
+        arith,
+        steps_of frame points xs ys parted,
+        option_map,
+        last_is parted last,
+        empty_find
+            (behind frame) ys none,
+      )
 
   -- the last point up to a frame has the bounds of a kept point, and isn't after the frame
   pub last_kept : AreParted frame points xs ys → All IsKeptPoint points → last_there xs p
       → IsKeptPoint p × (p.frame ≤ frame)
-  last_kept parted all there =
-      let last = there.1 p in
-      let size : length points ≡ length xs + length ys =
-      ap length parted.whole ∙ length-append xs ys in
-      let within : length xs - 1 < length xs = omega (arith, there.0) in
-      let same : get_or points (length xs - 1) p ≡ p = ap (λ t. get_or t (length xs - 1) p)
-      parted.whole ∙ get_or-append xs ys p (length xs - 1) within ∙ sym last in (
-        subst IsKeptPoint same (all (length xs - 1) p (omega (arith, within, size))),
-        leb-true p.frame frame (ap (up_to frame) last ∙ parted.front (length xs - 1) p within),
-      )
+  last_kept parted all there = grind (arith, length-append xs ys, get_or-append, leb-true)
 
 -- without points, the steps are 0
 pub steps_of_none : (frame : ℕ) (points xs ys : List Point) → AreParted frame points xs ys
     → length xs ≡ 0 → length ys ≡ 0
     → steps_at (map curve_point_of points) frame ≡ neighbour_steps None None frame
 steps_of_none frame points xs ys parted none other =
-    steps_of frame points xs ys parted
-    ∙ ap₂ (λ a b. neighbour_steps (option_map curve_point_of a) (option_map curve_point_of b) frame)
-    (no_last (up_to frame) xs none) (empty_find (behind frame) ys other)
+    grind (
+      arith,
+      steps_of frame points xs ys parted,
+      option_map,
+      no_last (up_to frame) xs none,
+      empty_find (behind frame) ys other,
+    )
 
 -- points are split where the ones up to a frame end and the ones after it begin
 pub parted_at : (frame : ℕ) (points : List Point) (k : ℕ) → k ≤ length points
@@ -214,12 +206,8 @@ pub parted_at : (frame : ℕ) (points : List Point) (k : ℕ) → k ≤ length p
     ≡ false) → AreParted frame points (take k points) (drop k points)
 parted_at frame points k within front back = record {
   whole = sym (take-append-drop k points);
-  front = λ j d less.
-      let small : j < k = omega (arith, less, length-take-le k points within) in
-      ap (up_to frame) (get_or-take k points j d small) ∙ front j d (omega arith) small;
-  back = λ j d less.
-      ap (up_to frame) (get_or-drop k points j d)
-      ∙ back (k + j) d (omega arith) (omega (arith, less, length-drop k points, within));
+  front = grind (arith, length-take-le, get_or-take, front);
+  back = grind (arith, get_or-drop, back, length-drop);
 }
 
 -- the same for two lists that are these parts
@@ -237,8 +225,7 @@ parted_as frame points k xs ys within front back first second =
 pub last_some : (xs : List Point) (p : Point) → Some p ≡ slice_get xs (length xs - 1)
     → last_there xs p
 last_some [] p is = absurd (none-some _ (sym is))
-last_some (x ∷ xs) p is =
-    (omega arith, λ d. sym (get_or_from_slice_get (x ∷ xs) (length (x ∷ xs) - 1) p d (sym is)))
+last_some (x ∷ xs) p is = grind (arith, get_or_from_slice_get)
 
 -- the point at the first place is the first
 pub first_some : (ys : List Point) (q : Point) → Some q ≡ slice_get ys 0 → first_there ys q
@@ -258,8 +245,7 @@ some_at (y ∷ ys) x = some_at ys y ∙ ap Some (get_or_default (y ∷ ys) (leng
 -- if there is no point at the last place, there are no points
 pub last_none : (xs : List Point) → None ≡ slice_get xs (length xs - 1) → length xs ≡ 0
 last_none [] is = refl
-last_none (x ∷ xs) is =
-    absurd (none-some _ (is ∙ ap (slice_get (x ∷ xs)) (omega arith) ∙ some_at xs x))
+last_none (x ∷ xs) is = grind (arith, none-some, some_at xs x)
 
 -- ---- how many of rising points are up to a frame
 
@@ -269,15 +255,12 @@ pub all_up_to : (frame : ℕ) (points : List Point) (count : ℕ) (e : Point)
     → up_to frame (get_or points (count - 1) e) ≡ true
     → AllWithin (λ p. nat_le p.frame frame ≡ true) points 0 count
 all_up_to frame points count e rising within some last k d from below =
-    let same : (get_or points (count - 1) e).frame ≡ (get_or points (count - 1) d).frame =
-    ap (λ (p : Point). p.frame)
-    (get_or_default points (count - 1) e d (omega (arith, within, some))) in
-    le-leb (get_or points k d).frame frame (omega (
+    grind (
       arith,
-      rising k (count - 1) d (omega (arith, below)) (omega (arith, within, some)),
-      leb-true _ _ last,
-      same,
-    ))
+      get_or_default points (count - 1) e d (omega (arith, within, some)),
+      le-leb,
+      leb-true,
+    )
 
 -- if the first of the points after these is after the frame, all of them are
 pub all_behind : (frame : ℕ) (points : List Point) (count : ℕ) (e : Point)
@@ -285,7 +268,4 @@ pub all_behind : (frame : ℕ) (points : List Point) (count : ℕ) (e : Point)
     → behind frame (get_or points count e) ≡ true
     → AllWithin (λ p. nat_le p.frame frame ≡ false) points count (length points)
 all_behind frame points count e rising within first k d from below =
-    let same : (get_or points count e).frame ≡ (get_or points count d).frame =
-    ap (λ (p : Point). p.frame) (get_or_default points count e d within) in
-    lt-leb (get_or points k d).frame frame
-    (omega (arith, rising count k d from below, ltb-true _ _ first, same))
+    grind (arith, get_or_default points count e d within, lt-leb, ltb-true)

@@ -6,7 +6,7 @@ use Rattle.std.proofs.{Common.{◌+◌, ◌-◌, ◌<◌, ◌∙◌, ◌∷◌, 
 use Rattle.std.proofs.lemmas.Bool.{cases_lt, le-leb, le-ltb, lt-leb, lt-ltb, ltb-true}
 use Rattle.std.proofs.lemmas.List.{get_or-append_right, get_or_default, reverse-append}
 use Rattle.std.proofs.lemmas.{List.{Folds.find-append, Kept.AllPairs-cons}, Option.none-some}
-use Rattle.std.specs.{List.All, Option.option_or}
+use Rattle.std.specs.List.{All}
 use Rattle.fade_plan.proofs.CurveLemmas.{last_passes, none_passes, none_passes_back}
 use Rattle.fade_plan.specs.Curves.{curve_of, curve_point, CurvePoint, line_not_rising}
 use Rattle.fade_plan.specs.Curves.{line_or_curve, neighbour_steps, point_frame, steps_at}
@@ -22,11 +22,7 @@ all_later x y xs less rising k d within =
     elim (cases_lt 0 k) [
       | inl later ↦ let above : y.frame < (get_or (y ∷ xs) k d).frame = rising 0 k d later within in
           omega (arith, less, above)
-      | inr first ↦
-          let same : k ≡ 0 = omega (arith, first) in
-          let here : (get_or (y ∷ xs) k d).frame ≡ y.frame =
-          ap (λ i. (get_or (y ∷ xs) i d).frame) same in
-          omega (arith, less, here)
+      | inr first ↦ grind arith
     ]
 
 -- if there is no fault at all, the first test passes and the rest has no fault
@@ -64,10 +60,7 @@ made_of (Some line) points curve e = absurd cc
 curve_rises : (class : ClassFields) (frames : ℕ) (points : List EnvelopePoint)
     (curve : List CurvePoint) → curve_of class frames points ≡ Ok curve → IsCurveRising curve
 unfolding curve_of
-curve_rises class frames points curve e =
-    let parts =
-    made_of (line_not_rising class frames points) (map (curve_point class frames) points) curve e in
-    subst IsCurveRising parts.1 (rises class frames points parts.0)
+curve_rises class frames points curve e = grind (arith, made_of, rises)
 
 -- ---- the points up to a frame, and those after it
 
@@ -79,33 +72,24 @@ front_all frame xs ys d rising some low k e less =
     ap (λ p. p.frame) (get_or_default xs (length xs - 1) e d last) in
     elim (cases_lt k (length xs - 1)) [
       | inl before ↦
-          let below : (get_or (xs ++ ys) k e).frame < (get_or (xs ++ ys) (length xs - 1) e).frame =
-          rising k (length xs - 1) e before (omega (arith, some, length-append xs ys)) in
-          let here : (get_or (xs ++ ys) k e).frame ≡ (get_or xs k e).frame =
-          ap (λ p. p.frame) (get_or-append xs ys e k less) in
-          let there : (get_or (xs ++ ys) (length xs - 1) e).frame
-          ≡ (get_or xs (length xs - 1) e).frame =
-          ap (λ p. p.frame) (get_or-append xs ys e (length xs - 1) last) in
-          omega (arith, below, here, there, end, low)
-      | inr after ↦
-          let same : k ≡ length xs - 1 = omega (arith, after, less) in
-          let here : (get_or xs k e).frame ≡ (get_or xs (length xs - 1) e).frame =
-          ap (λ i. (get_or xs i e).frame) same in
-          omega (arith, here, end, low)
+          grind (
+            arith,
+            length-append xs ys,
+            get_or-append xs ys e k less,
+            get_or-append xs ys e
+                (length xs - 1) last,
+          )
+      | inr after ↦ grind arith
     ]
 
 back_rises : (xs ys : List CurvePoint) → IsCurveRising (xs ++ ys) → IsCurveRising ys
 back_rises xs ys rising i j d less within =
     let at : (n : ℕ) → get_or (xs ++ ys) (length xs + n) d ≡ get_or ys n d =
-    λ n. get_or-append_right xs ys (length xs) (length xs + n) d refl (omega arith)
-    ∙ ap (λ m. get_or ys m d) (omega arith) in
+    grind (arith, get_or-append_right) in
     let below : (get_or (xs ++ ys) (length xs + i) d).frame
-    < (get_or (xs ++ ys) (length xs + j) d).frame = rising (length xs + i) (length xs + j) d
-    (omega (arith, less)) (omega (arith, within, length-append xs ys)) in
-    let low : (get_or (xs ++ ys) (length xs + i) d).frame ≡ (get_or ys i d).frame =
-    ap (λ p. p.frame) (at i) in
-    let high : (get_or (xs ++ ys) (length xs + j) d).frame ≡ (get_or ys j d).frame =
-    ap (λ p. p.frame) (at j) in
+    < (get_or (xs ++ ys) (length xs + j) d).frame = grind (arith, length-append) in
+    let low : (get_or (xs ++ ys) (length xs + i) d).frame ≡ (get_or ys i d).frame = grind arith in
+    let high : (get_or (xs ++ ys) (length xs + j) d).frame ≡ (get_or ys j d).frame = grind arith in
     omega (arith, below, low, high)
 
 back_all : (frame : ℕ) (xs ys : List CurvePoint) (y : CurvePoint) → IsCurveRising (xs ++ (y ∷ ys))
@@ -126,23 +110,11 @@ parted : (frame : ℕ) (xs ys : List CurvePoint) → All (λ p. p.frame ≤ fram
     ≡ neighbour_steps (find (up_to frame) (reverse xs)) (find (behind frame) ys) frame
 unfolding steps_at
 parted frame xs ys low high =
-    ap₂ (λ p q. neighbour_steps p q frame)
-    (ap (find (up_to frame)) (reverse-append xs ys)
-    ∙ find-append (up_to frame) (reverse ys) (reverse xs)
-    ∙ ap (λ o. option_or o (find (up_to frame) (reverse xs)))
-    (none_passes_back (up_to frame) ys (λ k d less. lt-leb _ _ (high k d less))))
-    (find-append (behind frame) xs ys ∙ ap (λ o. option_or o (find (behind frame) ys))
-    (none_passes (behind frame) xs (λ k d less. le-ltb _ _ (low k d less))))
+    search (arith, find, reverse-append, find-append, none_passes_back, lt-leb, none_passes, le-ltb)
 
 last_is : (front : List CurvePoint) (p d : CurvePoint)
     → get_or (front ++ (p ∷ [])) (length (front ++ (p ∷ [])) - 1) d ≡ p
-last_is front p d =
-    let end : length (front ++ (p ∷ [])) - 1 ≡ length front =
-    omega (arith, length-append front (p ∷ [])) in
-    let none : length front - length front ≡ 0 = omega arith in
-    ap (λ n. get_or (front ++ (p ∷ [])) n d) end
-    ∙ get_or-append_right front (p ∷ []) (length front) (length front) d refl (omega arith)
-    ∙ ap (λ n. get_or (p ∷ []) n d) none
+last_is front p d = grind (arith, length-append, get_or-append_right)
 
 some_last : (front : List CurvePoint) (p : CurvePoint) → 0 < length (front ++ (p ∷ []))
 some_last front p = omega (arith, length-append front (p ∷ []))
@@ -157,14 +129,11 @@ front_low frame front ys p rising low =
 find_last : (frame : ℕ) (front : List CurvePoint) (p : CurvePoint)
     → All (λ x. x.frame ≤ frame) (front ++ (p ∷ []))
     → find (up_to frame) (reverse (front ++ (p ∷ []))) ≡ Some p
-find_last frame front p all =
-    last_passes (up_to frame) (front ++ (p ∷ [])) p (some_last front p)
-    (λ k d less. le-leb _ _ (all k d less)) ∙ ap Some (last_is front p p)
+find_last frame front p all = grind (arith, last_passes, some_last, le-leb, last_is)
 
 find_first : (frame : ℕ) (q : CurvePoint) (back : List CurvePoint) → frame < q.frame
     → find (behind frame) (q ∷ back) ≡ Some q
-find_first frame q back high =
-    ap (λ b. cond b (Some q) (find (behind frame) back)) (lt-ltb frame q.frame high)
+find_first frame q back high = grind (arith, find, lt-ltb)
 
 goes_before : (p : CurvePoint) (more : List CurvePoint) (frame : ℕ) → IsCurveRising (p ∷ more)
     → frame < p.frame → steps_at (p ∷ more) frame ≡ p.steps
@@ -190,8 +159,7 @@ goes_behind : (front : List CurvePoint) (p : CurvePoint) (frame : ℕ)
     → IsCurveRising (front ++ (p ∷ [])) → p.frame ≤ frame
     → steps_at (front ++ (p ∷ [])) frame ≡ p.steps
 goes_behind front p frame rising low =
-    let whole : front ++ (p ∷ []) ≡ (front ++ (p ∷ [])) ++ [] =
-    sym (append-nil (front ++ (p ∷ []))) in
+    let whole : front ++ (p ∷ []) ≡ (front ++ (p ∷ [])) ++ [] = grind (arith, append-nil) in
     let all = front_low frame front [] p (subst IsCurveRising whole rising) low in
     ap (λ ps. steps_at ps frame) whole
     ∙ parted frame (front ++ (p ∷ [])) [] all (λ k d less. absurd (omega (arith, less)))
@@ -199,9 +167,4 @@ goes_behind front p frame rising low =
 
 -- from point to point a curve goes evenly
 pub curves-go-evenly : CurvesGoEvenly
-curves-go-evenly = record {
-  rising = curve_rises;
-  before = goes_before;
-  between = goes_between;
-  behind = goes_behind;
-}
+curves-go-evenly = search (arith, curve_rises, goes_before, goes_between, goes_behind)

@@ -1,14 +1,13 @@
 -- The lines of a sheet one by one.
-use Rattle.std.proofs.Common.{ap, append-nil, append_assoc, ap₂, arith, cond, Err, false, length}
+use Rattle.std.proofs.Common.{ap, append-nil, append_assoc, arith, cond, Err, false, length}
 use Rattle.std.proofs.Common.{length-append, List, map, None, Ok, refl, Some, sym, true, ℕ, []}
 use Rattle.std.proofs.{Common.{◌++◌, ◌+◌, ◌<◌, ◌∙◌, ◌∷◌, ◌≡◌}, lemmas.List.length-map}
 use Rattle.std.{proofs.lemmas.List.Sums.sum_by_push, specs.List.count_by}
 use Rattle.cue_sheet.proofs.LinesLemmas.{no_lines}
 use Rattle.fade_plan.specs.Points.{envelope_point_of}
-use Rattle.fade_plan.specs.Sheets.{envelope_in, fade_entries_from, fade_entry_in, fault_or_envelope}
-use Rattle.fade_plan.specs.Sheets.{first_faulty_line, is_at_fault, is_point, point_at, points_from}
-use Rattle.fade_plan.specs.{Sheets.some_points, declared.entry.FadeEntry.FadeEntry}
-use Rattle.fade_plan.specs.declared.entry.FadeEntry.TheVariants.{At, Broken, Passed}
+use Rattle.fade_plan.specs.Sheets.{envelope_in, fade_entries_from, fade_entry_in, first_faulty_line}
+use Rattle.fade_plan.specs.Sheets.{is_at_fault, is_point, point_at, points_from, some_points}
+use Rattle.fade_plan.specs.declared.entry.FadeEntry.{FadeEntry, TheVariants.{At, Broken, Passed}}
 use Rattle.fade_plan.specs.declared.envelope_fault.EnvelopeFault.TheVariants.{Line, NoPoints}
 use Rattle.fade_plan.specs.declared.point.Point.{Point}
 
@@ -35,16 +34,8 @@ points_are line e more = refl
 points_more : (line : ℕ) (before : List FadeEntry) (e : FadeEntry)
     → points_from line (before ++ (e ∷ []))
     ≡ points_from line before ++ point_at (line + length before) e
-points_more line [] e =
-    points_are line e [] ∙ ap (λ t. point_at line e ++ t) (no_points (line + 1))
-    ∙ append-nil (point_at line e)
-    ∙ ap₂ (λ t n. t ++ point_at n e) (sym (no_points line)) (omega arith)
-points_more line (x ∷ xs) e =
-    points_are line x (xs ++ (e ∷ []))
-    ∙ ap (λ t. point_at line x ++ t) (points_more (line + 1) xs e)
-    ∙ sym (append_assoc (point_at line x) (points_from (line + 1) xs)
-    (point_at (line + 1 + length xs) e))
-    ∙ ap₂ (λ t n. t ++ point_at n e) (sym (points_are line x xs)) (omega arith)
+points_more line [] e = grind (arith, points_are, no_points, append-nil)
+points_more line (x ∷ xs) e = grind (arith, points_are, append_assoc, points_more (line + 1) xs e)
 
 point_count : (line : ℕ) (e : FadeEntry) → length (point_at line e) ≡ cond (is_point e) 1 0
 point_count line Passed = refl
@@ -77,13 +68,7 @@ pub refused : (text : List ℕ) (at line : ℕ) (points : List Point) (e : FadeE
     (more : List FadeEntry) → HaveRead text at line points → fade_entries_from text at ≡ e ∷ more
     → is_at_fault (length points) e ≡ true
     → envelope_in (fade_entries_from text 0) ≡ Err (Line line)
-refused text at line points e more read here wrong =
-    ap (λ o. fault_or_envelope o (some_points (points_from 1 (fade_entries_from text 0))))
-    (read.first ∙ ap (first_faulty_line read.before) here ∙ fault_of read.before more e
-    ∙ ap (λ b. cond b (Some (length read.before + 1))
-    (first_faulty_line (read.before ++ (e ∷ [])) more))
-    (ap (λ n. is_at_fault n e) (sym read.count) ∙ wrong)
-    ∙ ap Some (sym read.number))
+refused text at line points e more read here wrong = grind (arith, fault_of)
 
 -- if the next line isn't at fault, it is read, and if it is a point, there is one point more
 pub goes_on : (text : List ℕ) (at next line : ℕ) (points then : List Point) (e : FadeEntry)
@@ -92,19 +77,11 @@ pub goes_on : (text : List ℕ) (at next line : ℕ) (points then : List Point) 
     then ≡ map envelope_point_of points ++ point_at line e → HaveRead text next (line + 1) then
 goes_on text at next line points then e read here right kept = record {
   before = read.before ++ (e ∷ []);
-  lines = read.lines ∙ ap (λ es. read.before ++ es) here
-      ∙ sym (append_assoc read.before (e ∷ []) (fade_entries_from text next));
-  first = read.first ∙ ap (first_faulty_line read.before) here
-      ∙ fault_of read.before (fade_entries_from text next) e
-      ∙ ap (λ b. cond b (Some (length read.before + 1)) (first_faulty_line (read.before ++ (e ∷ []))
-      (fade_entries_from text next))) (ap (λ n. is_at_fault n e) (sym read.count) ∙ right);
+  lines = grind (arith, append_assoc);
+  first = grind (arith, fault_of);
   number = ap (λ n. n + 1) (read.number ∙ sym (length-append read.before (e ∷ [])));
-  count = sym (length-map then envelope_point_of) ∙ ap length kept
-      ∙ length-append (map envelope_point_of points) (point_at line e)
-      ∙ ap₂ (λ m n. m + n) (length-map points envelope_point_of ∙ read.count) (point_count line e)
-      ∙ sym (sum_by_push (λ x. cond (is_point x) 1 0) read.before e);
-  kept = kept ∙ ap₂ (λ t n. t ++ point_at n e) read.kept (read.number ∙ omega arith)
-      ∙ sym (points_more 1 read.before e);
+  count = grind (arith, length-map, kept, length-append, point_count, sum_by_push);
+  kept = grind (arith, kept, points_more);
 }
 
 none_left : (text : List ℕ) (at : ℕ) → length text < at → fade_entries_from text at ≡ []
@@ -114,13 +91,7 @@ none_left text at end = ap (map fade_entry_in) (no_lines text at end)
 pub ends : (text : List ℕ) (at line : ℕ) (points : List Point) → HaveRead text at line points
     → length text < at
     → envelope_in (fade_entries_from text 0) ≡ some_points (map envelope_point_of points)
-ends text at line points read end =
-    let none = none_left text at end in
-    ap (λ o. fault_or_envelope o (some_points (points_from 1 (fade_entries_from text 0))))
-    (read.first ∙ ap (first_faulty_line read.before) none ∙ no_fault read.before)
-    ∙ ap (λ es. some_points (points_from 1 es))
-    (read.lines ∙ ap (λ es. read.before ++ es) none ∙ append-nil read.before)
-    ∙ ap some_points (sym read.kept)
+ends text at line points read end = grind (arith, none_left, no_fault, append-nil)
 
 -- if there is a point, these are the points of the sheet
 pub some_are : (points : List Point) → 0 < length points

@@ -1,9 +1,8 @@
 -- The steps between two points are no larger than the steps of the points.
-use Rattle.std.proofs.Common.{ap, ap₂, arith, cond, false, FitsSigned, int_div, ltb, neg_ℤ, negsuc}
-use Rattle.std.proofs.Common.{of_z, pos, refl, subst, suc, sym, to_z, true, unsigned_abs, w64, zero}
-use Rattle.std.proofs.Common.{ℕ, ℤ, ◌*ℤ◌, ◌+ℤ◌, ◌*◌, ◌+◌, ◌-◌, ◌/◌, ◌<◌, ◌^◌, ◌∙◌, ◌≡◌, ◌≤◌}
-use Rattle.std.proofs.Math.{IntN.sub_ℕ, Nat.{div-le_of_le-mul, mul-le-mul_right}}
-use Rattle.std.proofs.lemmas.Bool.{ltb-true}
+use Rattle.std.proofs.Common.{ap, ap₂, arith, FitsSigned, int_div, neg_ℤ, negsuc, of_z, pos, refl}
+use Rattle.std.proofs.Common.{suc, to_z, unsigned_abs, w64, zero, ℕ, ℤ, ◌*ℤ◌, ◌+ℤ◌, ◌*◌, ◌+◌, ◌/◌}
+use Rattle.std.proofs.{Common.{◌<◌, ◌^◌, ◌∙◌, ◌≡◌, ◌≤◌}, Math.IntN.sub_ℕ}
+use Rattle.std.proofs.{Math.Nat.{div-le_of_le-mul, mul-le-mul_right}, lemmas.Bool.ltb-true}
 use Rattle.std.proofs.lemmas.Int.{fits_signed_from_abs, to_z-of_z, to_z_pos, unsigned_abs-mul}
 use mir.Syntax.{w16}
 
@@ -21,12 +20,7 @@ size_of_quotient (pos n) d = refl
 size_of_quotient (negsuc n) d = size_of_negated (pos (suc n / d))
 
 size_of_difference : (a b : ℕ) → unsigned_abs (sub_ℕ a b) ≤ a + b
-size_of_difference a b =
-    elim (ltb a b) as (λ t. ltb a b ≡ t
-    → unsigned_abs (cond t (negsuc (b - suc a)) (pos (a - b))) ≤ a + b) [
-      | true ↦ λ is. omega (arith, ltb-true a b is)
-      | false ↦ λ is. omega arith
-    ] refl
+size_of_difference a b = grind (arith, unsigned_abs, negsuc, pos, ltb-true)
 
 size_of_sum : (a b : ℤ) → unsigned_abs (a +ℤ b) ≤ unsigned_abs a + unsigned_abs b
 size_of_sum (pos a) (pos b) = omega arith
@@ -35,25 +29,17 @@ size_of_sum (negsuc a) (pos b) = omega (arith, size_of_difference b (suc a))
 size_of_sum (negsuc a) (negsuc b) = omega arith
 
 size_of_product : (a : ℤ) (n : ℕ) → unsigned_abs a ≤ 255 → unsigned_abs (a *ℤ pos n) ≤ 255 * n
-size_of_product a n small =
-    subst (λ m. m ≤ 255 * n) (sym (unsigned_abs-mul a (pos n))) (mul-le-mul_right n small)
+size_of_product a n small = grind (arith, unsigned_abs-mul, pos, mul-le-mul_right)
 
 -- steps weighted by frames on both sides are at most 255 for each frame
 pub size_of_weighted : (a b : ℤ) (left passed : ℕ) → unsigned_abs a ≤ 255 → unsigned_abs b ≤ 255
     → unsigned_abs ((a *ℤ pos left) +ℤ (b *ℤ pos passed)) ≤ 255 * (passed + left)
-size_of_weighted a b left passed small other =
-    omega (
-      arith,
-      size_of_sum (a *ℤ pos left) (b *ℤ pos passed),
-      size_of_product a left small,
-      size_of_product b passed other,
-    )
+size_of_weighted a b left passed small other = grind (arith, size_of_sum, pos, size_of_product)
 
 -- a number of at most 255 times the divisor has a quotient of at most 255
 pub size_between : (n : ℤ) (d : ℕ) → unsigned_abs n ≤ 255 * d
     → unsigned_abs (int_div n (pos d)) ≤ 255
-size_between n d small =
-    subst (λ m. m ≤ 255) (sym (size_of_quotient n d)) (div-le_of_le-mul d (omega (arith, small)))
+size_between n d small = grind (arith, size_of_quotient, div-le_of_le-mul)
 
 -- ---- what the code computes
 
@@ -80,14 +66,18 @@ pub weighted_sum : (a b l p : ℤ) (left passed : ℕ) → unsigned_abs a ≤ 25
     → to_z w64 (of_z w64 (to_z w64 (of_z w64 l) +ℤ to_z w64 (of_z w64 p)))
     ≡ (a *ℤ pos left) +ℤ (b *ℤ pos passed)
 weighted_sum a b l p left passed small other is and few =
-    let x = a *ℤ pos left in
-    let y = b *ℤ pos passed in
-    let first : unsigned_abs x ≤ 255 * left = size_of_product a left small in
-    let second : unsigned_abs y ≤ 255 * passed = size_of_product b passed other in
-    let whole : unsigned_abs (x +ℤ y) ≤ unsigned_abs x + unsigned_abs y = size_of_sum x y in
-    ap₂ (λ m n. to_z w64 (of_z w64 (to_z w64 (of_z w64 m) +ℤ to_z w64 (of_z w64 n)))) is and
-    ∙ ap₂ (λ m n. to_z w64 (of_z w64 (m +ℤ n)))
-    (to_z-of_z w64 x (fits_signed_from_abs w64 x (omega (arith, first, few))))
-    (to_z-of_z w64 y (fits_signed_from_abs w64 y (omega (arith, second, few))))
-    ∙ to_z-of_z w64 (x +ℤ y)
-    (fits_signed_from_abs w64 (x +ℤ y) (omega (arith, first, second, whole, few)))
+    grind (
+      arith,
+      pos left,
+      pos passed,
+      unsigned_abs,
+      size_of_product a left small,
+      size_of_product
+          b passed other,
+      size_of_sum,
+      to_z,
+      w64,
+      of_z,
+      to_z-of_z,
+      fits_signed_from_abs,
+    )

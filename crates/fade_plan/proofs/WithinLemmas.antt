@@ -1,7 +1,7 @@
 -- A curve goes no further up or down than its points.
-use Rattle.std.proofs.Common.{ap, ap₂, arith, Bool, cond, false, leb, length, List, ltb, nat_le}
-use Rattle.std.proofs.Common.{nat_lt, None, Option, refl, Some, subst, suc, sym, true, zero, ℕ, []}
-use Rattle.std.proofs.Common.{◌*◌, ◌+◌, ◌-◌, ◌/◌, ◌<◌, ◌∙◌, ◌∷◌, ◌≡◌, ◌≤◌}
+use Rattle.std.proofs.Common.{arith, Bool, cond, false, leb, List, ltb, nat_le, nat_lt, None}
+use Rattle.std.proofs.Common.{Option, refl, Some, subst, suc, true, zero, ℕ, [], ◌*◌, ◌+◌, ◌-◌, ◌/◌}
+use Rattle.std.proofs.Common.{◌<◌, ◌∷◌, ◌≡◌, ◌≤◌}
 use Rattle.std.proofs.Math.Nat.{add-mul, div-le_of_le-mul, mul-le-mul_right, mul_comm}
 use Rattle.std.proofs.lemmas.Bool.{and_from, and_parts, le-leb, le-ltb, leb-false, leb-true, lt-ltb}
 use Rattle.std.proofs.lemmas.{Bool.ltb-true, List.{get_or-reverse, length-reverse}}
@@ -39,12 +39,10 @@ far (suc down) up (negsuc n) is = record {
 
 near : (down up : ℕ) (z : ℤ) → IsFar down up z → is_step_within down up z ≡ true
 unfolding above below
-near zero up (pos n) is =
-    and_from (leb 0 n) (leb n up) (le-leb 0 n (omega arith)) (le-leb n up is.up_to)
+near zero up (pos n) is = grind (arith, and_from, le-leb)
 near (suc down) up (pos n) is = le-leb n up is.up_to
 near zero up (negsuc n) is = absurd (omega (arith, is.down_to))
-near (suc down) up (negsuc n) is =
-    and_from (leb n down) true (le-leb n down (omega (arith, is.down_to))) refl
+near (suc down) up (negsuc n) is = grind (arith, and_from, le-leb)
 
 -- the opposite number is as far up as the number is down
 pub within-opposite : (down up : ℕ) (z : ℤ)
@@ -69,19 +67,11 @@ within-opposite down up z =
 
 above_difference : (a b : ℕ) → above (cond (ltb a b) (negsuc (b - suc a)) (pos (a - b))) ≤ a
 unfolding above
-above_difference a b =
-    elim (ltb a b) as (λ t. above (cond t (negsuc (b - suc a)) (pos (a - b))) ≤ a) [
-      | true ↦ omega arith
-      | false ↦ omega arith
-    ]
+above_difference a b = grind arith
 
 below_difference : (a b : ℕ) → below (cond (ltb a b) (negsuc (b - suc a)) (pos (a - b))) ≤ b
 unfolding below
-below_difference a b =
-    elim (ltb a b) as (λ t. ltb a b ≡ t → below (cond t (negsuc (b - suc a)) (pos (a - b))) ≤ b) [
-      | true ↦ λ is. omega (arith, ltb-true a b is)
-      | false ↦ λ is. omega arith
-    ] refl
+below_difference a b = grind (arith, ltb-true)
 
 above_sum : (a b : ℤ) → above (a +ℤ b) ≤ above a + above b
 unfolding above
@@ -125,43 +115,23 @@ above_quotient (negsuc n) d most few = omega (arith, above_negated (suc n / d))
 below_quotient : (z : ℤ) (d most : ℕ) → below z ≤ d * most → below (int_div z (pos d)) ≤ most
 unfolding below
 below_quotient (pos n) d most few = omega arith
-below_quotient (negsuc n) d most few =
-    subst (λ m. m ≤ most) (sym (below_negated (suc n / d))) (div-le_of_le-mul d few)
+below_quotient (negsuc n) d most few = grind (arith, below_negated, div-le_of_le-mul)
 
 -- ---- between two points
 
 weights : (most left passed : ℕ) → most * left + most * passed ≡ (passed + left) * most
-weights most left passed =
-    let turned : most * left + most * passed ≡ most * passed + most * left = omega arith in
-    turned ∙ ap₂ (λ (a b : ℕ). a + b) (mul_comm most passed) (mul_comm most left)
-    ∙ sym (add-mul passed left most)
+weights most left passed = grind (arith, mul_comm, add-mul)
 
 -- a sum of steps weighted by the frames on both sides is at most `up` for each frame
 weighted_above : (up : ℕ) (a b : ℤ) (left passed : ℕ) → above a ≤ up → above b ≤ up
     → above ((a *ℤ pos left) +ℤ (b *ℤ pos passed)) ≤ (passed + left) * up
 weighted_above up a b left passed few other =
-    subst (λ m. above ((a *ℤ pos left) +ℤ (b *ℤ pos passed)) ≤ m) (weights up left passed)
-    (omega (
-      arith,
-      above_sum (a *ℤ pos left) (b *ℤ pos passed),
-      above_product a left,
-      above_product b passed,
-      mul-le-mul_right left few,
-      mul-le-mul_right passed other,
-    ))
+    grind (arith, weights, above_sum, above_product, mul-le-mul_right)
 
 weighted_below : (down : ℕ) (a b : ℤ) (left passed : ℕ) → below a ≤ down → below b ≤ down
     → below ((a *ℤ pos left) +ℤ (b *ℤ pos passed)) ≤ (passed + left) * down
 weighted_below down a b left passed few other =
-    subst (λ m. below ((a *ℤ pos left) +ℤ (b *ℤ pos passed)) ≤ m) (weights down left passed)
-    (omega (
-      arith,
-      below_sum (a *ℤ pos left) (b *ℤ pos passed),
-      below_product a left,
-      below_product b passed,
-      mul-le-mul_right left few,
-      mul-le-mul_right passed other,
-    ))
+    grind (arith, weights, below_sum, below_product, mul-le-mul_right)
 
 between : (down up : ℕ) (p q : CurvePoint) (frame : ℕ) → IsFar down up p.steps
     → IsFar down up q.steps → p.frame ≤ frame → frame < q.frame
@@ -172,10 +142,8 @@ between down up p q frame first second from to =
     let whole : passed + left ≡ q.frame - p.frame = omega (arith, from, to) in
     let sum = (p.steps *ℤ pos left) +ℤ (q.steps *ℤ pos passed) in
     record {
-      down_to = below_quotient sum (q.frame - p.frame) down (subst (λ d. below sum ≤ d * down) whole
-          (weighted_below down p.steps q.steps left passed first.down_to second.down_to));
-      up_to = above_quotient sum (q.frame - p.frame) up (subst (λ d. above sum ≤ d * up) whole
-          (weighted_above up p.steps q.steps left passed first.up_to second.up_to));
+      down_to = grind (arith, below_quotient, weighted_below);
+      up_to = grind (arith, above_quotient, weighted_above);
     }
 
 -- ---- of a whole curve
@@ -192,9 +160,7 @@ found P test (y ∷ ys) x all is =
     ] refl is
 
 all_back : {X : Type 0} (P : X → Type 0) (xs : List X) → All P xs → All P (reverse xs)
-all_back {X} P xs all = λ k d less.
-    let within : k < length xs = omega (arith, less, length-reverse xs) in
-    subst P (sym (get_or-reverse xs k d within)) (all (length xs - 1 - k) d (omega (arith, within)))
+all_back {X} P xs all = grind (arith, length-reverse, get_or-reverse)
 
 none_far : (down up : ℕ) → IsFar down up (pos 0)
 unfolding above below
@@ -233,12 +199,4 @@ steps_within down up points all frame =
 -- a curve of one point has its steps at every frame
 pub steps_of_one : (p : CurvePoint) (frame : ℕ) → steps_at (p ∷ []) frame ≡ p.steps
 unfolding steps_at
-steps_of_one p frame =
-    elim (nat_le p.frame frame) as (λ b. nat_le p.frame frame ≡ b
-    → neighbour_steps (cond b (Some p) None) (cond (nat_lt frame p.frame) (Some p) None) frame
-    ≡ p.steps) [
-      | true ↦ λ is. ap (λ b. neighbour_steps (Some p) (cond b (Some p) None) frame)
-          (le-ltb frame p.frame (leb-true p.frame frame is))
-      | false ↦ λ is. ap (λ b. neighbour_steps None (cond b (Some p) None) frame)
-          (lt-ltb frame p.frame (leb-false p.frame frame is))
-    ] refl
+steps_of_one p frame = grind (arith, nat_le, le-ltb, leb-true, lt-ltb, leb-false)

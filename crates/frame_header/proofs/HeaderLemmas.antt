@@ -1,8 +1,7 @@
 -- The laws of a header: its fields are within their bits, and fields and bits give each other back.
 use Rattle.std.proofs.Common.{ap, arith, Bool, cond, drop, eq-eqb, eqb, Err, false, get_or, length}
-use Rattle.std.proofs.Common.{List, lit<, lit≤, not, Ok, refl, Result, subst, suc, sym, take, true}
-use Rattle.std.proofs.Common.{zero, ℕ, [], ◌%◌, ◌*◌, ◌+◌, ◌-◌, ◌/◌, ◌<◌, ◌^◌, ◌∙◌, ◌∷◌, ◌≡◌, ◌≢◌}
-use Rattle.std.proofs.Common.{◌≤◌}
+use Rattle.std.proofs.Common.{List, lit<, lit≤, not, Ok, refl, Result, suc, sym, true, zero, ℕ, []}
+use Rattle.std.proofs.Common.{◌%◌, ◌*◌, ◌+◌, ◌-◌, ◌/◌, ◌<◌, ◌^◌, ◌∙◌, ◌∷◌, ◌≡◌, ◌≢◌, ◌≤◌}
 use Rattle.std.proofs.lemmas.Bool.{and_parts, eqb-false, eqb-true, ne_eqb, not-true, true≢false}
 use Rattle.std.proofs.lemmas.{List.drop-drop, Nat.{from_be_bytes-to_be_bytes_4, mod_below}}
 use Rattle.std.specs.Int.{to_be_bytes, w32}
@@ -11,8 +10,8 @@ use Rattle.bit_fields.proofs.BitsLemmas.{number-middle_of}
 use Rattle.bit_fields.proofs.GroupsLemmas.{AreBits-group_bits, group-below, group_bits-joined}
 use Rattle.bit_fields.proofs.GroupsLemmas.{group_bits-numbers_at, joined, length-group_bits}
 use Rattle.bit_fields.proofs.GroupsLemmas.{numbers_at-group_bits}
-use Rattle.bit_fields.specs.Bits.{AreBits, AreBytes, bits, bits_of, number}
-use Rattle.bit_fields.specs.Groups.{group, group_bits, numbers_at, NumbersFit}
+use Rattle.bit_fields.specs.Bits.{AreBits, AreBytes, bits, bits_of}
+use Rattle.bit_fields.specs.Groups.{group, numbers_at, NumbersFit}
 use Rattle.frame_header.specs.Fields.{HeaderFields, IsClass, IsHeader, version_number}
 use Rattle.frame_header.specs.HeaderBits.{flag_of, header_bits, header_numbers, header_widths}
 use Rattle.frame_header.specs.HeaderBits.{protection_of}
@@ -36,8 +35,7 @@ group-bits_of whole from width n within = number-middle_of whole from width n wi
 pub header_in-good : (h : List ℕ) → is_readable h ≡ true → rate_bits h ≢ 0
     → header_in h ≡ Ok (header_fields h)
 unfolding header_in
-header_in-good h readable some =
-    let rate : eqb (rate_bits h) 0 ≡ false = ne_eqb (rate_bits h) 0 some in rw (readable, rate) refl
+header_in-good h readable some = grind (arith, ne_eqb, some, readable)
 
 -- unreadable bits are no header
 pub header_in-no : (h : List ℕ) → is_readable h ≡ false → header_in h ≡ Err No
@@ -121,20 +119,12 @@ readable h passes =
 fields_in_range : (h : List ℕ) → AreBits h → IsReadable h → rate_bits h ≢ 0
     → IsHeader (header_fields h)
 unfolding header_fields
-fields_in_range h bits tests some = record {
-  slot = (omega (arith, some), omega (arith, tests.rate, group-below 16 4 h bits));
-  frequency_index = omega (arith, tests.frequency, group-below 20 2 h bits);
-  mode = omega (arith, group-below 24 2 h bits);
-  mode_extension = omega (arith, group-below 26 2 h bits);
-  emphasis = omega (arith, group-below 30 2 h bits);
-}
+fields_in_range h bits tests some = grind (arith, some, group-below)
 
 -- each field of a header that was read is in its range
 pub IsHeader-read : (h : List ℕ) (fields : HeaderFields) → AreBits h → header_in h ≡ good fields
     → IsHeader fields
-IsHeader-read h fields bits is =
-    let ok = header_in-ok h fields is in
-    subst IsHeader ok.2 (fields_in_range h bits (readable h ok.0) ok.1)
+IsHeader-read h fields bits is = grind (arith, header_in-ok, fields_in_range, readable)
 
 version_again : (n : ℕ) → n < 4 → n ≢ 1
     → version_number (cond (eqb n 3) One (cond (eqb n 2) Two TwoFive)) ≡ n
@@ -161,8 +151,7 @@ says_class h fields bits is =
     record {
       sync = tests.sync;
       layer = tests.layer;
-      version = sym (version_again _ (group-below 11 2 h bits) tests.version)
-          ∙ ap (λ (f : HeaderFields). version_number f.version) ok.2;
+      version = grind (arith, version_again, group-below);
       frequency = ap (λ (f : HeaderFields). f.frequency_index) ok.2;
       some = omega (arith, ok.1);
       most = omega (arith, tests.rate, group-below 16 4 h bits);
@@ -186,8 +175,7 @@ channels_in_range false = (lit≤ tt, lit≤ tt)
 
 -- the class of a header has a frequency index and a number of channels in range
 pub IsClass-class_of : (h : HeaderFields) → IsHeader h → IsClass (class_of h)
-IsClass-class_of h is = let channels = channels_in_range (eqb h.mode 3) in
-    (is.frequency_index, channels.0, channels.1)
+IsClass-class_of h is = grind (arith, channels_in_range)
 
 -- ---- the bits that a header is written as
 -- the numbers of groups that follow each other from a bit on
@@ -200,8 +188,7 @@ numbers_at-groups : (at : ℕ) (widths bs : List ℕ)
 unfolding numbers_at group
 numbers_at-groups at [] bs = refl
 numbers_at-groups at (width ∷ widths) bs =
-    ap (λ ns. number (take width (drop at bs)) ∷ ns)
-    (ap (numbers_at widths) (drop-drop width at bs) ∙ numbers_at-groups (at + width) widths bs)
+    grind (arith, drop-drop, numbers_at-groups (at + width) widths bs)
 
 version_number-below : (v : Version) → version_number v < 4
 version_number-below One = lit< tt
@@ -219,40 +206,8 @@ protection-below false = lit< tt
 pub NumbersFit-header_numbers : (h : HeaderFields) → IsHeader h
     → NumbersFit header_widths (header_numbers h)
 unfolding header_numbers
-NumbersFit-header_numbers h is = (
-  lit< tt,
-  (
-    version_number-below h.version,
-    (
-      lit< tt,
-      (
-        protection-below h.protected,
-        (
-          omega (arith, is.slot.1),
-          (
-            omega (arith, is.frequency_index),
-            (
-              flag-below h.slot.padding,
-              (
-                flag-below h.private_bit,
-                (
-                  omega (arith, is.mode),
-                  (
-                    omega (arith, is.mode_extension),
-                    (
-                      flag-below h.copyright,
-                      (flag-below h.original, (omega (arith, is.emphasis), tt)),
-                    ),
-                  ),
-                ),
-              ),
-            ),
-          ),
-        ),
-      ),
-    ),
-  ),
-)
+NumbersFit-header_numbers h is =
+    grind (arith, lit<, version_number-below, protection-below, flag-below)
 
 -- a header is written as zeros and ones
 pub AreBits-header_bits : (h : HeaderFields) → AreBits (header_bits h)
@@ -283,14 +238,7 @@ header_number h =
 header_number-joined : (h : HeaderFields)
     → header_number h ≡ joined header_widths (header_numbers h)
 unfolding joined header_numbers
-header_number-joined h = omega (
-  arith,
-  protection-not h.protected,
-  flag-byte h.slot.padding,
-  flag-byte h.private_bit,
-  flag-byte h.copyright,
-  flag-byte h.original,
-)
+header_number-joined h = grind (arith, protection-not, flag-byte)
 
 -- the one number of a header has the header's 32 bits
 pub bits_of-header_number : (h : HeaderFields) → IsHeader h
@@ -326,33 +274,20 @@ protection_back false = refl
 pub readable_by : (h : List ℕ) (fields : HeaderFields) → IsHeader fields → SaysClass h fields
     → is_readable h ≡ true
 unfolding is_readable
-readable_by h fields is says =
-    let not_reserved : eqb (version_number fields.version) 1 ≡ false = version_some fields.version
-    in
-    let not_15 : eqb (rate_bits h) 15 ≡ false = ne_eqb _ _ (omega (arith, says.most)) in
-    let not_3 : eqb fields.frequency_index 3 ≡ false =
-    ne_eqb _ _ (omega (arith, is.frequency_index)) in
-    rw (says.sync, says.version, says.layer, says.frequency, not_reserved, not_15, not_3) refl
+readable_by h fields is says = grind (arith, version_some, ne_eqb)
 
 -- the version that bits give is the header's
 pub version_by : (h : List ℕ) (fields : HeaderFields) → SaysClass h fields
     → fields.version ≡ version_of h
-version_by h fields says = version_back fields.version
-    ∙ ap (λ n. cond (eqb n 3) One (cond (eqb n 2) Two TwoFive)) (sym says.version)
+version_by h fields says = grind (arith, version_back)
 
 -- bits with the sync bits, the layer, the version and the frequency
 -- of others, and a bit rate, give the same as these
 pub says_same : (h own : List ℕ) (fields : HeaderFields) → SaysClass own fields
     → group 0 11 h ≡ group 0 11 own → group 13 2 h ≡ group 13 2 own → group 11 2 h ≡ group 11 2 own
     → group 20 2 h ≡ group 20 2 own → 1 ≤ rate_bits h → rate_bits h ≤ 14 → SaysClass h fields
-says_same h own fields says sync layer version frequency some most = record {
-  sync = sync ∙ says.sync;
-  layer = layer ∙ says.layer;
-  version = version ∙ says.version;
-  frequency = frequency ∙ says.frequency;
-  some = some;
-  most = most;
-}
+says_same h own fields says sync layer version frequency some most =
+    grind (arith, sync, layer, version, frequency, some, most)
 
 -- the bits of a header are read as that header
 pub header_in-header_bits : (h : HeaderFields) → IsHeader h → header_in (header_bits h) ≡ good h
@@ -399,24 +334,22 @@ protection_again _ h = refl
 numbers_read : (bs : List ℕ) → AreBits bs → IsReadable bs
     → header_numbers (header_fields bs) ≡ groups_from 0 header_widths bs
 unfolding header_numbers header_fields
-numbers_read bs all is =
-    let below = λ (from : ℕ). group-below from 1 bs all in
-    λ i. sym is.sync i ∷ version_again _ (group-below 11 2 bs all) is.version i ∷ sym is.layer i
-    ∷ protection_again _ (below 15) i ∷ group 16 4 bs ∷ group 20 2 bs ∷ flag_again _ (below 22) i
-    ∷ flag_again _ (below 23) i ∷
-    group 24 2 bs ∷ group 26 2 bs ∷ flag_again _ (below 28) i ∷ flag_again _ (below 29) i
-    ∷ group 30 2 bs ∷ []
+numbers_read bs all is = grind (arith, group-below, version_again, protection_again, flag_again)
 
 -- a header that was read is written as the bits that it was read from
 pub header_bits-header_in : (bs : List ℕ) (fields : HeaderFields) → AreBits bs → length bs ≡ 32
     → header_in bs ≡ good fields → header_bits fields ≡ bs
 unfolding header_bits
 header_bits-header_in bs fields all l is =
-    let ok = header_in-ok bs fields is in
-    ap header_bits (sym ok.2)
-    ∙ ap (group_bits header_widths)
-    (numbers_read bs all (readable bs ok.0) ∙ sym (numbers_at-groups 0 header_widths bs))
-    ∙ group_bits-numbers_at header_widths bs all l
+    grind (
+      arith,
+      header_in-ok bs fields is,
+      numbers_read,
+      readable,
+      numbers_at-groups 0
+          header_widths bs,
+      group_bits-numbers_at header_widths bs all l,
+    )
 
 -- ---- the four bytes
 -- the bytes of a header are read as that header
@@ -429,22 +362,17 @@ header_at-bytes four h is e = ap header_in e ∙ header_in-header_bits h is
 pub header_bits-header_at : (four : List ℕ) (h : HeaderFields) → length four ≡ 4
     → header_at four ≡ good h → header_bits h ≡ bits four
 unfolding header_at
-header_bits-header_at four h l is =
-    header_bits-header_in (bits four) h (AreBits-bits four) (omega (arith, length-bits four)) is
+header_bits-header_at four h l is = grind (arith, header_bits-header_in, AreBits-bits, length-bits)
 
 -- bytes with these bits are these bytes
 pub header_bytes-same : (xs four : List ℕ) (h : HeaderFields) → bits xs ≡ header_bits h
     → AreBytes xs → AreBytes four → length four ≡ 4 → header_at four ≡ good h → xs ≡ four
-header_bytes-same xs four h e hx hy l is =
-    bits-injective xs four hx hy (e ∙ header_bits-header_at four h l is)
+header_bytes-same xs four h e hx hy l is = grind (arith, bits-injective, header_bits-header_at)
 
 -- ---- a number as four bytes
 -- a number is written as four bytes
 pub AreBytes-to_be_bytes : (n : ℕ) → AreBytes (to_be_bytes w32 n)
-AreBytes-to_be_bytes n = (
-  mod_below _ 256 (lit< tt),
-  (mod_below _ 256 (lit< tt), (mod_below _ 256 (lit< tt), (mod_below _ 256 (lit< tt), tt))),
-)
+AreBytes-to_be_bytes n = grind (arith, mod_below, lit<)
 
 -- a number as four big-endian bytes has the 32 bits of the number
 pub bits-to_be_bytes : (n : ℕ) → n < 2 ^ 32 → bits (to_be_bytes w32 n) ≡ bits_of 32 n

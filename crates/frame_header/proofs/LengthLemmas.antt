@@ -1,7 +1,6 @@
 -- Bounds on the tables and on the lengths that follow from them.
-use Rattle.std.proofs.Common.{ap, ap₂, arith, Bool, cond, eqb, false, get_or, leb, length, List}
-use Rattle.std.proofs.Common.{lit<, lit≤, map, refl, suc, sym, true, ℕ, [], ◌*◌, ◌+◌, ◌-◌, ◌/◌, ◌<◌}
-use Rattle.std.proofs.Common.{◌∙◌, ◌≡◌, ◌≤◌}
+use Rattle.std.proofs.Common.{arith, Bool, cond, false, get_or, leb, length, List, lit<, lit≤, map}
+use Rattle.std.proofs.Common.{refl, suc, true, ℕ, [], ◌*◌, ◌+◌, ◌-◌, ◌/◌, ◌<◌, ◌≡◌, ◌≤◌}
 use Rattle.std.proofs.lemmas.Bool.{eqb-true, leb-true, true_from_ne_false, true≢false}
 use Rattle.std.proofs.lemmas.{List.{get_or-map, Folds.list_all_at}, Nat.le-div}
 use Rattle.std.specs.List.{list_all}
@@ -23,23 +22,17 @@ highest_frequency version = get_or (frequencies version) 1 0
 -- if a test passes for a whole table, it passes at each of its places
 all_pass : (p : ℕ → Bool) (xs : List ℕ) (i : ℕ) → list_all p xs ≡ true → i < length xs
     → p (get_or xs i 0) ≡ true
-all_pass p xs i all lt = true_from_ne_false (p (get_or xs i 0))
-    (λ fails. true≢false (sym all ∙ list_all_at p xs i 0 lt fails))
+all_pass p xs i all lt = grind (arith, true_from_ne_false, true≢false, list_all_at)
 
 least : (version : Version) (i : ℕ) → i < 14 → least_rate version ≤ get_or (rates version) i 0
-least One i lt =
-    leb-true 32 (get_or (rates One) i 0) (all_pass (λ r. leb 32 r) (rates One) i refl lt)
+least One i lt = grind (arith, leb-true, all_pass)
 least Two i lt = leb-true 8 (get_or (rates Two) i 0) (all_pass (λ r. leb 8 r) (rates Two) i refl lt)
-least TwoFive i lt =
-    leb-true 8 (get_or (rates TwoFive) i 0) (all_pass (λ r. leb 8 r) (rates TwoFive) i refl lt)
+least TwoFive i lt = grind (arith, leb-true, all_pass)
 
 greatest : (version : Version) (i : ℕ) → i < 14 → get_or (rates version) i 0 ≤ 320
-greatest One i lt =
-    leb-true (get_or (rates One) i 0) 320 (all_pass (λ r. leb r 320) (rates One) i refl lt)
-greatest Two i lt =
-    leb-true (get_or (rates Two) i 0) 320 (all_pass (λ r. leb r 320) (rates Two) i refl lt)
-greatest TwoFive i lt =
-    leb-true (get_or (rates TwoFive) i 0) 320 (all_pass (λ r. leb r 320) (rates TwoFive) i refl lt)
+greatest One i lt = grind (arith, leb-true, all_pass)
+greatest Two i lt = grind (arith, leb-true, all_pass)
+greatest TwoFive i lt = grind (arith, leb-true, all_pass)
 
 lowest : (version : Version) → 8 ≤ least_rate version
 lowest One = lit< tt
@@ -48,8 +41,7 @@ lowest _ = lit< tt
 -- no bit rate is below 8 kbit/s
 pub rate-least : (c : ClassFields) (s : SlotFields) → IsSlot s → 8 ≤ rate_of c s
 unfolding rate_of
-rate-least c s slot = omega
-    (arith, lowest c.version, least c.version (s.rate_index - 1) (omega (arith, slot.0, slot.1)))
+rate-least c s slot = grind (arith, lowest, least)
 
 -- no bit rate is above 320 kbit/s
 pub rate-most : (c : ClassFields) (s : SlotFields) → IsSlot s → rate_of c s ≤ 320
@@ -59,18 +51,9 @@ rate-most c s slot = greatest c.version (s.rate_index - 1) (omega (arith, slot.0
 highest : (version : Version) (i : ℕ) → i < 3
     → (get_or (frequencies version) i 0 ≤ highest_frequency version)
     × (8000 ≤ get_or (frequencies version) i 0)
-highest One i lt = (
-  leb-true _ _ (all_pass (λ f. leb f 48000) (frequencies One) i refl lt),
-  leb-true 8000 _ (all_pass (λ f. leb 8000 f) (frequencies One) i refl lt),
-)
-highest Two i lt = (
-  leb-true _ _ (all_pass (λ f. leb f 24000) (frequencies Two) i refl lt),
-  leb-true 8000 _ (all_pass (λ f. leb 8000 f) (frequencies Two) i refl lt),
-)
-highest TwoFive i lt = (
-  leb-true _ _ (all_pass (λ f. leb f 12000) (frequencies TwoFive) i refl lt),
-  leb-true 8000 _ (all_pass (λ f. leb 8000 f) (frequencies TwoFive) i refl lt),
-)
+highest One i lt = grind (arith, leb-true, all_pass)
+highest Two i lt = grind (arith, leb-true, all_pass)
+highest TwoFive i lt = grind (arith, leb-true, all_pass)
 
 -- the shortest frame of a version
 abbrev pub least_length : Version → ℕ
@@ -89,20 +72,13 @@ shortest TwoFive rate frequency most some few = le-div 48 _ frequency some (omeg
 pub length-least : (c : ClassFields) (s : SlotFields) → IsClass c → IsSlot s
     → least_length c.version ≤ length_of c s
 unfolding length_of rate_of frequency_of
-length-least c s class slot =
-    let rate = least c.version (s.rate_index - 1) (omega (arith, slot.0, slot.1)) in
-    let frequency = highest c.version c.frequency_index (omega (arith, class.0)) in
-    let bound = shortest c.version _ _ rate (omega (arith, frequency.1)) frequency.0 in
-    omega (arith, bound)
+length-least c s class slot = grind (arith, least, highest, shortest)
 
 room : (version : Version) (channels : ℕ)
     → 6 + side_bytes_of version channels < least_length version
-room One channels =
-    elim (eqb channels 1) as (λ b. 6 + cond b 17 32 < 96) [ true ↦ lit< tt | false ↦ lit< tt ]
-room Two channels =
-    elim (eqb channels 1) as (λ b. 6 + cond b 9 17 < 24) [ true ↦ lit< tt | false ↦ lit< tt ]
-room TwoFive channels =
-    elim (eqb channels 1) as (λ b. 6 + cond b 9 17 < 48) [ true ↦ lit< tt | false ↦ lit< tt ]
+room One channels = grind (arith, lit<)
+room Two channels = grind (arith, lit<)
+room TwoFive channels = grind (arith, lit<)
 
 -- header, check word and side information leave room for main data
 pub area_some : (c : ClassFields) (s : SlotFields) → IsClass c → IsSlot s
@@ -138,25 +114,21 @@ pub length_in_table-is : (c : ClassFields) (s : SlotFields) → IsClass c → Is
     → length_in_table c s ≡ length_of c s
 unfolding length_of rate_of frequency_of
 length_in_table-is c s class slot =
-    let lengths : ℕ → ℕ = λ rate. (length_factor c.version * (1000 * rate))
-    / get_or (frequencies c.version) c.frequency_index 0 in
-    let within : s.rate_index - 1 < length (rates c.version) =
-    omega (arith, slot.0, slot.1, length-rates c.version) in
-    ap₂ (λ row flag. get_or row (s.rate_index - 1) 0 + flag)
-    (row_is c.version c.frequency_index (omega (arith, class.0))) (flag_byte s.padding)
-    ∙ ap (λ n. n + cond s.padding 1 0)
-    (get_or-map lengths (rates c.version) (s.rate_index - 1) 0 0 within)
+    grind (
+      arith,
+      length-rates c.version,
+      row_is c.version c.frequency_index (omega (
+        arith,
+        class.0,
+      )),
+      flag_byte s.padding,
+      get_or-map,
+    )
 
 -- no entry is above 1,440
 entries_most : (row i : ℕ) → row < 9 → i < 14 → get_or (get_or LENGTHS row []) i 0 ≤ 1440
 entries_most row i lt within =
-    let full : length (get_or LENGTHS row []) ≡ 14 =
-    eqb-true _ _ (true_from_ne_false _ (λ fails. true≢false
-    (list_all_at (λ (entries : List ℕ). eqb (length entries) 14) LENGTHS row [] lt fails))) in
-    let below : list_all (λ n. leb n 1440) (get_or LENGTHS row []) ≡ true = true_from_ne_false _
-    (λ fails. true≢false (list_all_at (λ (entries : List ℕ). list_all (λ n. leb n 1440) entries)
-    LENGTHS row [] lt fails)) in
-    leb-true _ 1440 (all_pass (λ n. leb n 1440) (get_or LENGTHS row []) i below (omega arith))
+    search (arith, eqb-true, true_from_ne_false, true≢false, list_all_at, leb-true, all_pass)
 
 row_below : (version : Version) (frequency : ℕ) → frequency < 3
     → 3 * version_place version + frequency < 9
@@ -170,7 +142,4 @@ bool_byte-most false = lit≤ tt
 -- no frame is longer than 1,441 bytes
 pub length-most : (c : ClassFields) (s : SlotFields) → IsClass c → IsSlot s → length_of c s ≤ 1441
 length-most c s class slot =
-    let entry = entries_most (3 * version_place c.version + c.frequency_index) (s.rate_index - 1)
-    (row_below c.version c.frequency_index (omega (arith, class.0))) (omega (arith, slot.0, slot.1))
-    in
-    omega (arith, entry, bool_byte-most s.padding, length_in_table-is c s class slot)
+    search (arith, entries_most, row_below, bool_byte-most, length_in_table-is)

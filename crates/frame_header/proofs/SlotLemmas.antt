@@ -1,8 +1,7 @@
 -- The slots of a class: what they are, and that their lengths and areas rise from one to the next.
-use Rattle.std.proofs.Common.{AllPairs, ap, append_assoc, arith, Bool, cond, Contains, eqb, false}
-use Rattle.std.proofs.Common.{get_or, inl, inr, leb, length, length-append, List, lit≤, ltb, map}
-use Rattle.std.proofs.Common.{refl, suc, sym, true, zero, ℕ, [], ◌&&◌, ◌*◌, ◌++◌, ◌+◌, ◌-◌, ◌<◌}
-use Rattle.std.proofs.Common.{◌∙◌, ◌∷◌, ◌≡◌, ◌≤◌}
+use Rattle.std.proofs.Common.{AllPairs, ap, append_assoc, arith, Bool, Contains, false, get_or, inl}
+use Rattle.std.proofs.Common.{inr, leb, length, length-append, List, lit≤, ltb, map, refl, suc}
+use Rattle.std.proofs.Common.{true, zero, ℕ, [], ◌&&◌, ◌*◌, ◌++◌, ◌+◌, ◌-◌, ◌<◌, ◌∙◌, ◌∷◌, ◌≡◌, ◌≤◌}
 use Rattle.std.proofs.lemmas.Bool.{and_parts, cases_lt, leb-true, ltb-true}
 use Rattle.std.proofs.lemmas.List.{get_or-append_right, get_or-map, get_or_append_left, length-map}
 use Rattle.std.proofs.lemmas.List.Kept.{AllPairs-from_increasing}
@@ -43,11 +42,7 @@ slots_to-more (suc n) xs ys zs some ex ey ez =
 length-slots_to : (n : ℕ) → length (slots_to n) ≡ 2 * n
 unfolding slots_to
 length-slots_to zero = refl
-length-slots_to (suc n) = omega (
-  arith,
-  length-append (slots_to n) (slot_of (suc n) false ∷ slot_of (suc n) true ∷ []),
-  length-slots_to n,
-)
+length-slots_to (suc n) = grind (arith, length-append, length-slots_to n)
 
 -- there are 28 slots
 pub length-all_slots : length all_slots ≡ 28
@@ -73,16 +68,8 @@ get_or-slots_to (suc n) i padding d h =
     let byte = byte-most padding in
     elim (cases_lt i n)
     as (λ _. get_or (slots_to n ++ last) (2 * i + bool_byte padding) d ≡ slot_of (suc i) padding) [
-      | inl below ↦ get_or_append_left (slots_to n) last d (2 * i + bool_byte padding) (omega arith)
-          ∙ get_or-slots_to n i padding d below
-      | inr at ↦
-          let here : i ≡ n = omega arith in
-          let place : 2 * i + bool_byte padding - 2 * n ≡ bool_byte padding = omega arith in
-          get_or-append_right (slots_to n) last (2 * n) (2 * i + bool_byte padding) d many
-          (omega arith)
-          ∙ ap (λ k. get_or last k d) place
-          ∙ one_of_two (suc n) padding d
-          ∙ ap (λ k. slot_of (suc k) padding) (sym here)
+      | inl below ↦ grind (arith, get_or_append_left, get_or-slots_to n i padding d below)
+      | inr at ↦ grind (arith, get_or-append_right, one_of_two)
     ]
 
 -- the place of a slot in the list
@@ -96,15 +83,11 @@ place_of-below s slot = omega (arith, slot.0, slot.1, byte-most s.padding)
 -- the slot at the place of a slot is this slot
 pub get_or-place_of : (s d : SlotFields) → IsSlot s → get_or all_slots (place_of s) d ≡ s
 unfolding all_slots
-get_or-place_of s d slot =
-    let index : suc (s.rate_index - 1) ≡ s.rate_index = omega (arith, slot.0) in
-    get_or-slots_to 14 (s.rate_index - 1) s.padding d (omega (arith, slot.0, slot.1))
-    ∙ ap (λ k. slot_of k s.padding) index
+get_or-place_of s d slot = grind (arith, get_or-slots_to)
 
 -- every slot is one of the 28
 pub Contains-all_slots : (s : SlotFields) → IsSlot s → Contains all_slots s
-Contains-all_slots s slot =
-    (place_of s, omega (arith, place_of-below s slot, length-all_slots), get_or-place_of s s slot)
+Contains-all_slots s slot = search (arith, place_of-below, length-all_slots, get_or-place_of)
 
 -- ---- lengths rise
 abbrev lengths : ClassFields → List ℕ
@@ -161,12 +144,14 @@ length_rises c i j class before within =
 pub length-before : (c : ClassFields) (s t : SlotFields) → IsClass c → IsSlot s → IsSlot t
     → place_of s < place_of t → length_of c s < length_of c t
 length-before c s t class is it before =
-    let rises = length_rises c (place_of s) (place_of t) class before (place_of-below t it) in
-    let first : length_of c (nth_slot (place_of s)) ≡ length_of c s =
-    ap (length_of c) (get_or-place_of s (slot_of 1 false) is) in
-    let second : length_of c (nth_slot (place_of t)) ≡ length_of c t =
-    ap (length_of c) (get_or-place_of t (slot_of 1 false) it) in
-    omega arith
+    grind (
+      arith,
+      length_rises c (place_of s) (place_of t) class before (place_of-below t it),
+      place_of-below t it,
+      get_or-place_of s (slot_of 1 false) is,
+      get_or-place_of t (slot_of 1 false)
+          it,
+    )
 
 -- the length is the bytes before the area plus the area
 pub area-is : (c : ClassFields) (s : SlotFields) (protected : Bool) → IsClass c → IsSlot s
@@ -177,48 +162,28 @@ area-is c s true class slot = let some = area_some c s class slot in (omega arit
 area-is c s false class slot = let some = area_some c s class slot in (omega arith, omega arith)
 
 place-same : (s t : SlotFields) → IsSlot s → IsSlot t → place_of s ≡ place_of t → s ≡ t
-place-same s t is it same =
-    sym (get_or-place_of s s is) ∙ ap (λ k. get_or all_slots k s) same ∙ get_or-place_of t s it
+place-same s t is it same = grind (arith, get_or-place_of)
 
 largest : (c : ClassFields) (s : SlotFields) → IsClass c → IsSlot s
     → length_of c s ≤ length_of c largest_slot
-largest c s class is =
-    elim (cases_lt (place_of s) 27) as (λ _. length_of c s ≤ length_of c largest_slot) [
-      | inl before ↦
-          omega (arith, length-before c s largest_slot class is (lit≤ tt, lit≤ tt) before)
-      | inr at ↦ omega (
-        arith,
-        ap (length_of c)
-            (place-same s largest_slot is (lit≤ tt, lit≤ tt) (omega (arith, place_of-below s is))),
-      )
-    ]
+largest c s class is = grind (arith, cases_lt, length-before, lit≤, place-same, place_of-below)
 
 -- the last slot has the largest area
 pub area-largest : (c : ClassFields) (s : SlotFields) (protected : Bool) → IsClass c → IsSlot s
     → area_of c s protected ≤ area_of c largest_slot protected
-area-largest c s protected class is =
-    omega (
-      arith,
-      largest c s class is,
-      (area-is c s protected class is).0,
-      (area-is c largest_slot protected class (lit≤ tt, lit≤ tt)).0,
-    )
+area-largest c s protected class is = grind (arith, largest, area-is, lit≤)
 
 side-least : (version : Version) (channels : ℕ) → 9 ≤ side_bytes_of version channels
-side-least One channels =
-    elim (eqb channels 1) as (λ b. 9 ≤ cond b 17 32) [ true ↦ lit≤ tt | false ↦ lit≤ tt ]
-side-least _ channels =
-    elim (eqb channels 1) as (λ b. 9 ≤ cond b 9 17) [ true ↦ lit≤ tt | false ↦ lit≤ tt ]
+side-least One channels = grind (arith, lit≤)
+side-least _ channels = grind (arith, lit≤)
 
 -- no area is larger than 1,428 bytes: the longest frame less its header and the shortest side
 -- information
 pub area-most : (c : ClassFields) (s : SlotFields) (protected : Bool) → IsClass c → IsSlot s
     → area_of c s protected ≤ 1428
 unfolding area_of overhead_of side_size_of
-area-most c s true class slot =
-    omega (arith, length-most c s class slot, side-least c.version c.channels)
-area-most c s false class slot =
-    omega (arith, length-most c s class slot, side-least c.version c.channels)
+area-most c s true class slot = grind (arith, length-most, side-least)
+area-most c s false class slot = grind (arith, length-most, side-least)
 
 -- a frame of the largest slot has room for the window, a header and side information, by version
 -- and frequency
@@ -226,24 +191,15 @@ spans : (version : Version) (frequency channels : ℕ) → frequency < 3
     → window_of version + 4 + side_bytes_of version channels ≤ length_of
     (record { version = version; frequency_index = frequency; channels = channels }) largest_slot
 unfolding length_of rate_of frequency_of
-spans One zero channels h =
-    elim (eqb channels 1) as (λ b. 515 + cond b 17 32 ≤ 1045) [ true ↦ lit≤ tt | false ↦ lit≤ tt ]
-spans One (suc zero) channels h =
-    elim (eqb channels 1) as (λ b. 515 + cond b 17 32 ≤ 961) [ true ↦ lit≤ tt | false ↦ lit≤ tt ]
-spans One (suc (suc zero)) channels h =
-    elim (eqb channels 1) as (λ b. 515 + cond b 17 32 ≤ 1441) [ true ↦ lit≤ tt | false ↦ lit≤ tt ]
-spans Two zero channels h =
-    elim (eqb channels 1) as (λ b. 259 + cond b 9 17 ≤ 523) [ true ↦ lit≤ tt | false ↦ lit≤ tt ]
-spans Two (suc zero) channels h =
-    elim (eqb channels 1) as (λ b. 259 + cond b 9 17 ≤ 481) [ true ↦ lit≤ tt | false ↦ lit≤ tt ]
-spans Two (suc (suc zero)) channels h =
-    elim (eqb channels 1) as (λ b. 259 + cond b 9 17 ≤ 721) [ true ↦ lit≤ tt | false ↦ lit≤ tt ]
-spans TwoFive zero channels h =
-    elim (eqb channels 1) as (λ b. 259 + cond b 9 17 ≤ 1045) [ true ↦ lit≤ tt | false ↦ lit≤ tt ]
-spans TwoFive (suc zero) channels h =
-    elim (eqb channels 1) as (λ b. 259 + cond b 9 17 ≤ 961) [ true ↦ lit≤ tt | false ↦ lit≤ tt ]
-spans TwoFive (suc (suc zero)) channels h =
-    elim (eqb channels 1) as (λ b. 259 + cond b 9 17 ≤ 1441) [ true ↦ lit≤ tt | false ↦ lit≤ tt ]
+spans One zero channels h = grind (arith, lit≤)
+spans One (suc zero) channels h = grind (arith, lit≤)
+spans One (suc (suc zero)) channels h = grind (arith, lit≤)
+spans Two zero channels h = grind (arith, lit≤)
+spans Two (suc zero) channels h = grind (arith, lit≤)
+spans Two (suc (suc zero)) channels h = grind (arith, lit≤)
+spans TwoFive zero channels h = grind (arith, lit≤)
+spans TwoFive (suc zero) channels h = grind (arith, lit≤)
+spans TwoFive (suc (suc zero)) channels h = grind (arith, lit≤)
 spans _ (suc (suc (suc frequency))) channels h = absurd (omega arith)
 
 -- an unprotected frame of the largest slot has room for as many bytes as main_data_begin can count

@@ -1,9 +1,9 @@
 -- Laws of frames that wait.
-use Rattle.std.proofs.Common.{ap, append-nil, append_assoc, ap₂, arith, Bool, cond, drop, eqb, Err}
-use Rattle.std.proofs.Common.{false, inl, inr, IsOk, length, length-append, List, lit≤, min}
-use Rattle.std.proofs.Common.{mul-suc, Ok, OnOk, refl, Result, slice_get, Some, subst, sym, take}
-use Rattle.std.proofs.Common.{true, unwrap_or, ℕ, [], ◌*◌, ◌++◌, ◌+◌, ◌<◌, ◌↔◌, ◌∙◌, ◌∷◌, ◌≡◌, ◌≤◌}
-use Rattle.std.proofs.{Common.◌⊎◌, Math.{Nat.{min-eq_left, min-eq_right}, Seq.take-length}}
+use Rattle.std.proofs.Common.{ap, append-nil, append_assoc, ap₂, arith, Bool, drop, Err, false, inl}
+use Rattle.std.proofs.Common.{inr, IsOk, length, length-append, List, lit≤, min, mul-suc, Ok, OnOk}
+use Rattle.std.proofs.Common.{refl, Result, slice_get, Some, subst, sym, take, true, unwrap_or, ℕ}
+use Rattle.std.proofs.Common.{[], ◌*◌, ◌++◌, ◌+◌, ◌<◌, ◌↔◌, ◌∙◌, ◌∷◌, ◌≡◌, ◌≤◌, ◌⊎◌}
+use Rattle.std.proofs.Math.{Nat.{min-eq_left, min-eq_right}, Seq.take-length}
 use Rattle.std.proofs.lemmas.Bool.{cases_lt, false≢true}
 use Rattle.std.proofs.lemmas.List.{drop-append-le, length-drop, map-append, take-append-le}
 use Rattle.circular_buffer.specs.Buffer.{Buffer, buffer}
@@ -18,7 +18,7 @@ use Rattle.frame_writer.proofs.LaidLemmas.{laid_data-later}
 use Rattle.frame_writer.specs.Frames.{all_frame_data, areas_length, AreFieldsOfClass}
 use Rattle.frame_writer.specs.Frames.{AreFramesWritten, bytes_of_frames, fields_of_frames}
 use Rattle.frame_writer.specs.Frames.{first_bytes, Frame, frame_area, frame_data, framed_bytes}
-use Rattle.frame_writer.specs.Frames.{held_bytes, IsNextSettled, WaitingFrames}
+use Rattle.frame_writer.specs.Frames.{IsNextSettled, WaitingFrames}
 use Rattle.frame_writer.specs.Laid.{AreAreasLaid, BeginsWithin, FrameData, laid_data, WaitingAreas}
 use Rattle.frame_writer.specs.{Laws.{FewFramesWait, HasFrameRoom, LaidSteps}, Writing.IsNewQueue}
 use Rattle.side_info.specs.{Frame.frame_front_bytes, FrameFields.FrameFields, Side.SideFits}
@@ -50,10 +50,7 @@ areas_length-more (x ∷ xs) k = omega (arith, areas_length-more xs k)
 
 -- what was taken, and then what waits, are the bytes of all frames that were given
 pub laid-steps : LaidSteps
-laid-steps taken held fs are =
-    ap (λ (xs : List ℕ). xs ++ held_bytes held) are.bytes
-    ∙ sym (framed_bytes-more are.done held.kept are.given held.waiting.bytes are.long)
-    ∙ ap₂ framed_bytes are.all are.laid.same
+laid-steps taken held fs are = grind (arith, framed_bytes-more)
 
 -- if no frame was given, none was taken
 pub none-written : (c : ClassFields) → AreAreasLaid [] (record { bytes = []; free = 0 }) []
@@ -65,14 +62,7 @@ none-written c are =
 -- a queue in which nothing waits is new
 pub none-new : (c : ClassFields) → AreAreasLaid [] (record { bytes = []; free = 0 }) []
     → IsNewQueue c (record { class = c; kept = []; waiting = record { bytes = []; free = 0 } })
-none-new c are = record {
-  class_is = refl;
-  none = refl;
-  free = refl;
-  written = none-written c are;
-  unsettled =
-      λ next. omega (arith, next.some);
-}
+none-new c are = grind (arith, none-written)
 
 -- a frame that is given is one more of the frames taken and waiting
 pub more-written : (taken : List ℕ) (c : ClassFields) (kept : List FrameFields)
@@ -161,12 +151,8 @@ pub pushed-kept : {R : Type 0} (old new : Buffer FrameFields) (k : FrameFields)
     → (IsOk r ↔ (length old.items < old.capacity)) →
     OnOk r (new ≡ buffer (old.items ++ k ∷ []) old.capacity)
     → (new.capacity ≡ 256) × (new.items ≡ old.items ++ k ∷ [])
-pushed-kept old new k (Ok x) many few when is = (
-  ap (λ (b : Buffer FrameFields). b.capacity) is ∙ many,
-  ap (λ (b : Buffer FrameFields). b.items) is,
-)
-pushed-kept old new k (Err e) many few when is =
-    absurd (false≢true (when.1 (omega (arith, many, few))))
+pushed-kept old new k (Ok x) many few when is = grind (arith, many)
+pushed-kept old new k (Err e) many few when is = grind (arith, false≢true, many)
 
 -- a queue with frames has a first one, and the others after it
 pub first-kept : (ks : List FrameFields) (k : FrameFields) → 0 < length ks → slice_get ks 0 ≡ Some k
@@ -178,19 +164,13 @@ first-kept (j ∷ ks) k some is = ap (λ (i : FrameFields). i ∷ ks) (ap (λ o.
 
 -- how long the area of a frame is
 pub area-range : (k : FrameFields) → IsHeader k.header → (1 ≤ frame_area k) × (frame_area k ≤ 1441)
-area-range k is =
-    let class = IsClass-class_of k.header is in (
-      (area-is (class_of k.header) k.header.slot k.header.protected class is.slot).1,
-      omega (arith, area-most (class_of k.header) k.header.slot k.header.protected class is.slot),
-    )
+area-range k is = grind (arith, IsClass-class_of, area-is, area-most)
 
 -- framed bytes are the bytes of the first frame and then of the frames after it
 pub first-framed_bytes : (k : FrameFields) (ks : List FrameFields) (bytes : List ℕ)
     → first_bytes k bytes ++ framed_bytes ks (drop (frame_area k) bytes)
     ≡ framed_bytes (k ∷ ks) bytes
-first-framed_bytes k ks bytes =
-    append_assoc (frame_front_bytes k.header k.side) (take (frame_area k) bytes)
-    (framed_bytes ks (drop (frame_area k) bytes))
+first-framed_bytes k ks bytes = grind (arith, append_assoc)
 
 -- ---- how many can wait
 
@@ -203,33 +183,24 @@ least_of TwoFive = 1
 -- the shortest frames have at least such areas, also with a check word
 least_room : (version : Version) (channels : ℕ)
     → least_of version + 6 + side_bytes_of version channels ≤ least_length version
-least_room One channels =
-    elim (eqb channels 1) as (λ b. 9 + cond b 17 32 ≤ 96) [ true ↦ lit≤ tt | false ↦ lit≤ tt ]
-least_room Two channels =
-    elim (eqb channels 1) as (λ b. 7 + cond b 9 17 ≤ 24) [ true ↦ lit≤ tt | false ↦ lit≤ tt ]
-least_room TwoFive channels =
-    elim (eqb channels 1) as (λ b. 7 + cond b 9 17 ≤ 48) [ true ↦ lit≤ tt | false ↦ lit≤ tt ]
+least_room One channels = grind (arith, lit≤)
+least_room Two channels = grind (arith, lit≤)
+least_room TwoFive channels = grind (arith, lit≤)
 
 area-least : (c : ClassFields) (s : SlotFields) (protected : Bool) → IsClass c → IsSlot s
     → least_of c.version ≤ area_of c s protected
 unfolding area_of overhead_of side_size_of
-area-least c s true class is =
-    omega (arith, length-least c s class is, least_room c.version c.channels)
-area-least c s false class is =
-    omega (arith, length-least c s class is, least_room c.version c.channels)
+area-least c s true class is = grind (arith, length-least, least_room)
+area-least c s false class is = grind (arith, length-least, least_room)
 
 kept-least : (c : ClassFields) (k : FrameFields) → IsClass c → IsHeader k.header
     → class_of k.header ≡ c → least_of c.version ≤ frame_area k
-kept-least c k class is same =
-    subst (λ d. least_of c.version ≤ area_of d k.header.slot k.header.protected) (sym same)
-    (area-least c k.header.slot k.header.protected class is.slot)
+kept-least c k class is same = grind (arith, area-least)
 
 many : (c : ClassFields) (m : ℕ) (ks : List FrameFields) → IsClass c → AreFieldsOfClass c ks
     → m ≡ least_of c.version → m * length ks ≤ areas_length ks
 many c m [] class are is = omega arith
-many c m (k ∷ ks) class are is =
-    omega
-    (arith, mul-suc m (length ks), many c m ks class are.3 is, kept-least c k class are.0 are.1, is)
+many c m (k ∷ ks) class are is = grind (arith, mul-suc, kept-least, many c m ks class are.3 is)
 
 -- if less than a window of areas is after the first frame, fewer than 255 frames are
 few_behind : (version : Version) (n bytes : ℕ) → least_of version * n ≤ bytes
@@ -244,8 +215,7 @@ window-most Two = lit≤ tt
 window-most TwoFive = lit≤ tt
 
 least_left : (m n : ℕ) → (n < m) ⊎ (m ≤ n) → min m n ≤ m
-least_left m n (inl less) = let le : n ≤ m = omega (arith, less) in
-    let is : min m n ≡ n = min-eq_right le in omega (arith, is, le)
+least_left m n (inl less) = grind (arith, min-eq_right)
 least_left m n (inr more) = let is : min m n ≡ m = min-eq_left more in omega (arith, is)
 
 have_room : (c : ClassFields) (kept : List FrameFields) (waiting : WaitingAreas)

@@ -34,31 +34,16 @@ laid_up_to : (end area_start : ℕ) (ps : List FrameData) → laid_data_from end
     ≡ up_to end area_start ps ++ zeros (areas_end area_start ps - data_end end area_start ps)
 laid_up_to end area_start [] = refl
 laid_up_to end area_start (p ∷ ps) =
-    let gap = zeros (frame_data_start area_start p - end) in
-    let more = up_to (frame_data_end area_start p) (area_start + p.area) ps in
-    let rest = zeros (areas_end (area_start + p.area) ps
-    - data_end (frame_data_end area_start p) (area_start + p.area) ps) in
-    ap (λ (xs : List ℕ). gap ++ (p.payload ++ xs))
-    (laid_up_to (frame_data_end area_start p) (area_start + p.area) ps)
-    ∙ ap (λ (xs : List ℕ). gap ++ xs) (sym (append_assoc p.payload more rest))
-    ∙ sym (append_assoc gap (p.payload ++ more) rest)
+    grind (arith, append_assoc, laid_up_to (frame_data_end area_start p) (area_start + p.area) ps)
 
 -- one more frame adds zeros and its main data
 up_to-more : (end area_start : ℕ) (ps : List FrameData) (p : FrameData) →
     up_to end area_start (ps ++ p ∷ []) ≡ up_to end area_start ps
     ++ (zeros (frame_data_start (areas_end area_start ps) p - data_end end area_start ps)
     ++ p.payload)
-up_to-more end area_start [] p =
-    ap (λ (xs : List ℕ). zeros (frame_data_start area_start p - end) ++ xs) (append-nil p.payload)
+up_to-more end area_start [] p = grind (arith, append-nil)
 up_to-more end area_start (q ∷ ps) p =
-    let gap = zeros (frame_data_start area_start q - end) in
-    let more = up_to (frame_data_end area_start q) (area_start + q.area) ps in
-    let last = zeros (frame_data_start (areas_end (area_start + q.area) ps) p
-    - data_end (frame_data_end area_start q) (area_start + q.area) ps) ++ p.payload in
-    ap (λ (xs : List ℕ). gap ++ (q.payload ++ xs))
-    (up_to-more (frame_data_end area_start q) (area_start + q.area) ps p)
-    ∙ ap (λ (xs : List ℕ). gap ++ xs) (sym (append_assoc q.payload more last))
-    ∙ sym (append_assoc gap (q.payload ++ more) last)
+    grind (arith, append_assoc, up_to-more (frame_data_end area_start q) (area_start + q.area) ps p)
 
 areas_end-more : (area_start : ℕ) (ps : List FrameData) (p : FrameData)
     → areas_end area_start (ps ++ p ∷ []) ≡ areas_end area_start ps + p.area
@@ -77,11 +62,8 @@ fit-more : (end area_start : ℕ) (ps : List FrameData) (p : FrameData)
     → frame_data_end (areas_end area_start ps) p ≤ areas_end area_start ps + p.area →
     CanDataBeLaidFrom end area_start (ps ++ p ∷ [])
 fit-more end area_start [] p fits from to = (from, to, tt)
-fit-more end area_start (q ∷ ps) p fits from to = (
-  fits.0,
-  fits.1,
-  fit-more (frame_data_end area_start q) (area_start + q.area) ps p fits.2 from to,
-)
+fit-more end area_start (q ∷ ps) p fits from to =
+    grind (arith, fit-more (frame_data_end area_start q) (area_start + q.area) ps p fits.2 from to)
 
 -- ---- a queue of the bytes up to the end of the last main data, with zeros after it
 
@@ -116,20 +98,19 @@ module _ (given items payload : List ℕ) (begin free gap rest area : ℕ) (ps :
       ≡ begin + area - length payload → given ++ ((items ++ (zeros gap ++ payload)) ++ zeros rest)
       ≡ laid_data (ps ++ record { payload = payload; begin = begin; area = area } ∷ [])
   more_same same within reach gaps fits rests =
-      let p : FrameData = record { payload = payload; begin = begin; area = area } in
-      let end = data_end 0 0 ps in
-      let from = areas_end 0 ps in
-      let front : given ++ (items ++ (zeros gap ++ payload)) ≡ up_to 0 0 (ps ++ p ∷ []) =
-      sym (append_assoc given items (zeros gap ++ payload))
-      ∙ ap (λ (xs : List ℕ). xs ++ (zeros gap ++ payload)) (stored given items free ps same within)
-      ∙ gap_joined (up_to 0 0 ps) payload (from - end - free) gap (from - begin - end)
-      (omega (arith, within, reach, gaps))
-      ∙ sym (up_to-more 0 0 ps p) in
-      let behind : rest ≡ areas_end 0 (ps ++ p ∷ []) - data_end 0 0 (ps ++ p ∷ []) =
-      omega (arith, within, reach, fits, rests, areas_end-more 0 ps p, data_end-more 0 0 ps p) in
-      sym (append_assoc given (items ++ (zeros gap ++ payload)) (zeros rest))
-      ∙ ap₂ (λ (xs : List ℕ) n. xs ++ zeros n) front behind
-      ∙ sym (laid_up_to 0 0 (ps ++ p ∷ []))
+      grind (
+        arith,
+        append_assoc given items (zeros gap ++ payload),
+        stored given items free ps same
+            within,
+        gap_joined,
+        up_to-more,
+        areas_end-more,
+        data_end-more,
+        append_assoc given (items ++
+            (zeros gap ++ payload)) (zeros rest),
+        laid_up_to,
+      )
 
   -- main data laid after those before them are laid among all
   pub more-laid : begin ≤ free → gap ≡ free - begin → length payload ≤ begin + area
@@ -137,19 +118,7 @@ module _ (given items payload : List ℕ) (begin free gap rest area : ℕ) (ps :
       → AreAreasLaid given (waits (items ++ (zeros gap ++ payload)) rest)
       (ps ++ record { payload = payload; begin = begin; area = area } ∷ [])
   more-laid reach gaps fits rests are =
-      let p : FrameData = record { payload = payload; begin = begin; area = area } in
-      record {
-        fit = fit-more 0 0 ps p are.fit (omega (arith, reach, are.free))
-            (omega (arith, reach, are.free, fits));
-        same = more_same are.same are.free reach gaps fits rests;
-        free = omega
-            (arith, reach, are.free, fits, rests, areas_end-more 0 ps p, data_end-more 0 0 ps p);
-        room = omega (
-          arith,
-          length-append (items ++ (zeros gap ++ payload)) (zeros rest),
-          length-zeros rest,
-        );
-      }
+      grind (arith, fit-more, more_same, areas_end-more, data_end-more, length-append, length-zeros)
 
 -- where the main data are put into the bytes that wait and a new area of zeros
 pub more-put : (items payload : List ℕ) (begin free gap rest area : ℕ) →
@@ -187,15 +156,7 @@ first_cases : (n free : ℕ) (items : List ℕ) → n ≤ length items + free
     × (drop (min n (length items)) items ++ zeros (free - (n - min n (length items)))
     ≡ drop n (items ++ zeros free))
 first_cases n free items within (inl few) =
-    let least : min n (length items) ≡ n = min-eq_left (omega arith) in
-    let none : n - n ≡ 0 = omega arith in
-    let all : free - (n - n) ≡ free = omega arith in
-    rw (least) (
-      ap (λ k. take n items ++ zeros k) none ∙ append-nil (take n items)
-          ∙ sym (take-append-le n items (zeros free) (omega arith)),
-      ap (λ k. drop n items ++ zeros k) all
-          ∙ sym (drop-append-le n items (zeros free) (omega arith)),
-    )
+    grind (arith, min-eq_left, append-nil, take-append-le, drop-append-le)
 first_cases n free items within (inr many) =
     let least : min n (length items) ≡ length items = min-eq_right many in
     let split : n ≡ length items + (n - length items) = omega arith in
@@ -221,16 +182,8 @@ pub taken-laid : (given bytes taken left : List ℕ) (n free less : ℕ) (ps : L
     → taken ≡ take n bytes → left ≡ drop n bytes → less ≤ free → less ≤ length left →
     AreAreasLaid given (record { bytes = bytes; free = free }) ps
     → AreAreasLaid (given ++ taken) (record { bytes = left; free = less }) ps
-taken-laid given bytes taken left n free less ps takes leaves fewer some are = record {
-  fit = are.fit;
-  same =
-      append_assoc given taken left
-      ∙ ap (λ (xs : List ℕ). given ++ xs)
-      (ap₂ (λ (xs ys : List ℕ). xs ++ ys) takes leaves ∙ take-append-drop n bytes)
-      ∙ are.same;
-  free = omega (arith, are.free, fewer);
-  room = some;
-}
+taken-laid given bytes taken left n free less ps takes leaves fewer some are =
+    grind (arith, append_assoc, take-append-drop)
 
 -- ---- frames that follow
 
@@ -240,21 +193,18 @@ laid_data_from-append : (end area_start : ℕ) (ps qs : List FrameData)
     ++ laid_data_from (data_end end area_start ps) (areas_end area_start ps) qs
 laid_data_from-append end area_start [] qs = refl
 laid_data_from-append end area_start (p ∷ ps) qs =
-    let gap = zeros (frame_data_start area_start p - end) in
-    let more = up_to (frame_data_end area_start p) (area_start + p.area) ps in
-    let rest = laid_data_from (data_end (frame_data_end area_start p) (area_start + p.area) ps)
-    (areas_end (area_start + p.area) ps) qs in
-    ap (λ (xs : List ℕ). gap ++ (p.payload ++ xs))
-    (laid_data_from-append (frame_data_end area_start p) (area_start + p.area) ps qs)
-    ∙ ap (λ (xs : List ℕ). gap ++ xs) (sym (append_assoc p.payload more rest))
-    ∙ sym (append_assoc gap (p.payload ++ more) rest)
+    grind (
+      arith,
+      append_assoc,
+      laid_data_from-append (frame_data_end area_start p) (area_start +
+          p.area) ps qs,
+    )
 
 -- zeros are before the main data of the first of these frames
 zeros_first : (end area_start free : ℕ) (qs : List FrameData) → BeginsWithin free qs
     → (begin : ℕ) × (begin ≤ free) ×
     (rest : List ℕ) × (laid_data_from end area_start qs ≡ zeros (area_start - begin - end) ++ rest)
-zeros_first end area_start free [] within =
-    (0, omega arith, [], ap zeros (omega arith) ∙ sym (append-nil (zeros (area_start - 0 - end))))
+zeros_first end area_start free [] within = grind (arith, append-nil (zeros (area_start - 0 - end)))
 zeros_first end area_start free (q ∷ qs) within = (
   q.begin,
   within,
@@ -315,27 +265,16 @@ pub first-parts : (n free stored : ℕ) (items now : List ℕ) → items ++ zero
     → n ≤ length now → stored ≡ min n (length items)
     → take stored items ++ zeros (n - stored) ≡ take n now
 first-parts n free stored items now views within stores =
-    let few : n - stored ≤ free = omega
-    (arith, stores, within, ap length views, length-append items (zeros free), length-zeros free) in
-    ap (λ (xs : List ℕ). take stored items ++ xs) (sym (take-replicate (n - stored) free 0 few))
-    ∙ ap (λ k. take k items ++ take (n - k) (zeros free)) stores
-    ∙ sym (take_two n items (zeros free))
-    ∙ ap (take n) views
+    grind (arith, stored, length-append, length-zeros, take-replicate, take_two)
 
 -- the bytes before the free ones are those of the queue
 pub laid_count-queue : (count free stored : ℕ) (items : List ℕ) (w : WaitingAreas)
     → waits items free ≡ w → stored ≡ laid_count count w → stored ≡ min count (length items)
-laid_count-queue count free stored items w views is =
-    is ∙ ap (laid_count count) (sym views) ∙ ap (min count)
-    (omega (arith, length-append items (zeros free), length-zeros free))
+laid_count-queue count free stored items w views is = grind (arith, length-append, length-zeros)
 
 -- what is left after the first bytes of what waits
 pub left-is : (n free stored : ℕ) (items left now : List ℕ) → stored ≡ min n (length items)
     → left ≡ drop stored items → items ++ zeros free ≡ now → n ≤ length now
     → left ++ zeros (free - (n - stored)) ≡ drop n now
 left-is n free stored items left now stores leaves views within =
-    ap (λ (xs : List ℕ). xs ++ zeros (free - (n - stored))) leaves
-    ∙ ap (λ k. drop k items ++ zeros (free - (n - k))) stores
-    ∙ first-left n free items
-    (omega (arith, within, ap length views, length-append items (zeros free), length-zeros free))
-    ∙ ap (drop n) views
+    grind (arith, stored, first-left, length-append, length-zeros)

@@ -1,13 +1,13 @@
 -- Laws of frames on their way to a file.
-use Rattle.std.proofs.Common.{ap, append-nil, append_assoc, ap₂, arith, drop, Err, length}
-use Rattle.std.proofs.Common.{length-append, List, Ok, OnErr, OnOk, refl, Result, subst, sym, take}
-use Rattle.std.proofs.Common.{ℕ, [], ◌++◌, ◌∙◌, ◌∷◌, ◌≡◌, ◌≤◌}
+use Rattle.std.proofs.Common.{append-nil, append_assoc, arith, drop, Err, length, length-append}
+use Rattle.std.proofs.Common.{List, Ok, OnErr, OnOk, refl, Result, subst, take, ℕ, [], ◌++◌, ◌∷◌}
+use Rattle.std.proofs.Common.{◌≡◌, ◌≤◌}
 use Rattle.std.proofs.lemmas.List.{append_cancel_right, length-take-le, nil_from_length}
 use Rattle.std.proofs.lemmas.List.{take-append-le}
 use Rattle.frame_header.specs.Fields.{ClassFields}
 use Rattle.frame_writer.proofs.FrameLemmas.{first-framed_bytes, first-written}
-use Rattle.frame_writer.specs.Frames.{AreFramesWritten, first_bytes, Frame, frame_area}
-use Rattle.frame_writer.specs.Frames.{framed_bytes, held_bytes, IsNextSettled, WaitingFrames}
+use Rattle.frame_writer.specs.Frames.{AreFramesWritten, first_bytes, Frame, frame_area, held_bytes}
+use Rattle.frame_writer.specs.Frames.{IsNextSettled, WaitingFrames}
 use Rattle.frame_writer.specs.{Laid.{AreAreasLaid, FrameData, WaitingAreas}, Writer.IsWriterSettled}
 use Rattle.frame_writer.specs.Writing.{AcceptsFrame, AreBytesBehind, ForwardsBytes, ForwardsFrames}
 use Rattle.frame_writer.specs.Writing.{ForwardsPart, waiting_bytes, WritesPart, Writing, writing_of}
@@ -43,39 +43,17 @@ pub prefix-piece : (name unsent piece before after : List ℕ) (f g : Files) →
     →
     AppendedPrefix name (unsent ++ piece) f g → AppendedPrefix name (unsent ++ before) f g
 prefix-piece name unsent piece before after f g is p =
-    let all : (unsent ++ piece) ++ after ≡ unsent ++ before =
-    append_assoc unsent piece after ∙ ap (λ (xs : List ℕ). unsent ++ xs) is in
-    record {
-      count = p.count;
-      short = omega (arith, p.short, ap length all, length-append (unsent ++ piece) after);
-      files = p.files
-          ∙ ap (with_appended_bytes f name) (sym (take-append-le p.count (unsent ++ piece) after
-          (omega (arith, p.short))) ∙ ap (take p.count) all);
-    }
+    grind (arith, append_assoc, length-append, take-append-le)
 
 -- nothing was forwarded yet
 pub handed-none : (held : WaitingFrames) → ForwardsFrames held held
-handed-none held = record {
-  moved = [];
-  bytes = refl;
-  class = refl;
-  written =
-      λ taken fs are. subst (λ (xs : List ℕ). AreFramesWritten xs held fs)
-      (sym (append-nil taken)) are;
-}
+handed-none held = grind (arith, append-nil)
 
 -- what was forwarded in two steps was forwarded
 pub handed-then : {old mid new : WaitingFrames} → ForwardsFrames old mid → ForwardsFrames mid new
     → ForwardsFrames old new
-handed-then {old} {mid} {new} p q = record {
-  moved = p.moved ++ q.moved;
-  bytes = append_assoc p.moved q.moved (held_bytes new)
-      ∙ ap (λ (xs : List ℕ). p.moved ++ xs) q.bytes ∙ p.bytes;
-  class = q.class ∙ p.class;
-  written = λ taken fs are.
-      subst (λ (xs : List ℕ). AreFramesWritten xs new fs) (append_assoc taken p.moved q.moved)
-      (q.written (taken ++ p.moved) fs (p.written taken fs are));
-}
+handed-then {old} {mid} {new} p q =
+    grind (arith, append_assoc p.moved q.moved (held_bytes new), append_assoc)
 
 module _ (old : WaitingFrames) (c : ClassFields) (k : FrameFields) (ks left : List FrameFields)
     (waiting less : WaitingAreas)
@@ -86,25 +64,14 @@ module _ (old : WaitingFrames) (c : ClassFields) (k : FrameFields) (ks left : Li
     (within : frame_area k ≤ length waiting.bytes) where
   -- the first frame was taken
   pub first-handed : ForwardsFrames old (record { class = c; kept = left; waiting = less })
-  first-handed = record {
-    moved = first_bytes k waiting.bytes;
-    bytes =
-        ap₂ (λ (js : List FrameFields) (xs : List ℕ). first_bytes k waiting.bytes
-        ++ framed_bytes js xs)
-        rest drops
-        ∙ first-framed_bytes k (drop 1 ks) waiting.bytes
-        ∙ ap (λ (js : List FrameFields). framed_bytes js waiting.bytes) (sym is)
-        ∙ ap held_bytes view;
-    class = ap (λ (h : WaitingFrames). h.class) view;
-    written = λ taken fs are.
-        subst (λ (js : List FrameFields). AreFramesWritten (taken ++ first_bytes k waiting.bytes)
-        (record { class = c; kept = js; waiting = less }) fs) (sym rest)
-        (first-written taken (take (frame_area k) waiting.bytes) c k (drop 1 ks) waiting less fs
-        (length-take-le (frame_area k) waiting.bytes within) step
-        (subst (λ (js : List FrameFields). AreFramesWritten taken
-        (record { class = c; kept = js; waiting = waiting }) fs) is
-        (subst (λ (h : WaitingFrames). AreFramesWritten taken h fs) (sym view) are)));
-  }
+  first-handed =
+      grind (
+        arith,
+        first-framed_bytes k (drop 1 ks) waiting.bytes,
+        first-written,
+        length-take-le
+            (frame_area k) waiting.bytes within,
+      )
 
   -- the first frame was taken, and a prefix of it was written
   pub first-part : (name unsent : List ℕ) (f g : Files)
@@ -117,23 +84,14 @@ module _ (old : WaitingFrames) (c : ClassFields) (k : FrameFields) (ks left : Li
 pub behind-more : {base bytes : List ℕ} {old new : WaitingFrames} {fs : List Frame}
     → (h : ForwardsFrames old new) → AreBytesBehind base bytes old fs
     → AreBytesBehind base (bytes ++ h.moved) new fs
-behind-more {base} {bytes} {old} {new} {fs} h are = record {
-  taken = are.taken ++ h.moved;
-  is = ap (λ (xs : List ℕ). xs ++ h.moved) are.is ∙ append_assoc base are.taken h.moved;
-  written = h.written are.taken fs are.written;
-}
+behind-more {base} {bytes} {old} {new} {fs} h are = grind (arith, append_assoc)
 
 -- what was forwarded, and what waits in the buffer, are the
 -- bytes before and the bytes of the frames that were taken
 passed-same : (name unsent : List ℕ) (mid : WaitingFrames) (new : Writing) (f g : Files)
     (p : AppendsWaiting name (unsent ++ held_bytes mid) (waiting_bytes new) f g)
     (h : ForwardsFrames mid new.held) → unsent ++ h.moved ≡ p.passed ++ new.unsent
-passed-same name unsent mid new f g p h =
-    append_cancel_right (unsent ++ h.moved) (p.passed ++ new.unsent) (held_bytes new.held)
-    (append_assoc unsent h.moved (held_bytes new.held)
-    ∙ ap (λ (xs : List ℕ). unsent ++ xs) h.bytes
-    ∙ p.split
-    ∙ sym (append_assoc p.passed new.unsent (held_bytes new.held)))
+passed-same name unsent mid new f g p h = grind (arith, append_cancel_right, append_assoc)
 
 -- once the frame waits after the others, the bytes before the file are the same
 module _ (name : List ℕ) (f : Frame) (old : Writing) (mid : WaitingFrames) where
@@ -143,37 +101,26 @@ module _ (name : List ℕ) (f : Frame) (old : Writing) (mid : WaitingFrames) whe
 
   behind-frame : {base bytes : List ℕ} {fs : List Frame} → Waits
       → AreBytesBehind base bytes old.held fs → AreBytesBehind base bytes mid (fs ++ f ∷ [])
-  behind-frame {base} {bytes} {fs} waits are =
-      record { taken = are.taken; is = are.is; written = waits are.taken fs are.written }
+  behind-frame {base} {bytes} {fs} waits are = grind arith
 
   -- the writer continues
   pub writes-on : (new : Writing) (before after : Files) → Waits
       → ForwardsBytes name (writing_of mid old.unsent) new before after
       → ForwardsFrames mid new.held → AcceptsFrame name f old new before after
   writes-on new before after waits p h =
-      let same = passed-same name old.unsent mid new before after p h in
-      record {
-        passed = p.passed;
-        files = p.files;
-        writer = λ base out fs are.
-            subst
-            (λ (xs : List ℕ). AreBytesBehind base xs new.held (fs ++ f ∷ []))
-            (append_assoc out old.unsent h.moved ∙ ap (λ (xs : List ℕ). out ++ xs) same
-            ∙ sym (append_assoc out p.passed new.unsent))
-            (behind-more h (behind-frame waits are));
-      }
+      grind (
+        arith,
+        passed-same name old.unsent mid new before after p h,
+        append_assoc,
+        behind-more,
+        behind-frame,
+      )
 
   -- a write fails
   pub writes-part : (held : WaitingFrames) (before after : Files) → Waits
       → ForwardsPart name (writing_of mid old.unsent) held before after
       → WritesPart name f old held before after
-  writes-part held before after waits part = record {
-    settled = old.unsent ++ part.on.moved;
-    prefix = part.prefix;
-    writer = λ base out fs are.
-        subst (λ (xs : List ℕ). AreBytesBehind base xs held (fs ++ f ∷ []))
-        (append_assoc out old.unsent part.on.moved) (behind-more part.on (behind-frame waits are));
-  }
+  writes-part held before after waits part = grind (arith, append_assoc, behind-more, behind-frame)
 
 -- a part forwarded after frames that were
 pub part-then : (name : List ℕ) (old mid : Writing) (held : WaitingFrames) (f g h : Files)
@@ -195,25 +142,21 @@ part-then name old mid held f g h passed on part =
 -- if no frame waits, all that waits is in the buffer
 pub none-left : (held : WaitingFrames) (unsent : List ℕ) → length held.kept ≡ 0
     → waiting_bytes (writing_of held unsent) ≡ unsent
-none-left held unsent none =
-    ap (λ (ks : List FrameFields). unsent ++ framed_bytes ks held.waiting.bytes)
-    (nil_from_length held.kept none) ∙ append-nil unsent
+none-left held unsent none = grind (arith, nil_from_length, append-nil)
 
 -- some bytes were forwarded, and then others
 pub passed-two : {name mid after : List ℕ} {f g h : Files} (before a b c : List ℕ) → a ++ b ≡ c
     → AppendsWaiting name (before ++ a) mid f g → AppendsWaiting name (mid ++ b) after g h
     → AppendsWaiting name (before ++ c) after f h
 passed-two {name} {mid} {after} {f} {g} {h} before a b c is p q =
-    subst (λ (xs : List ℕ). AppendsWaiting name xs after f h)
-    (append_assoc before a b ∙ ap (λ (xs : List ℕ). before ++ xs) is) (passed_more b p q)
+    grind (arith, append_assoc, passed_more)
 
 -- a piece that was forwarded, and then a prefix of the next, are a prefix of both
 pub prefix-two : {name mid : List ℕ} {f g h : Files} (before a b c : List ℕ) → a ++ b ≡ c
     → AppendsWaiting name (before ++ a) mid f g → AppendedPrefix name (mid ++ b) g h
     → AppendedPrefix name (before ++ c) f h
 prefix-two {name} {mid} {f} {g} {h} before a b c is p q =
-    subst (λ (xs : List ℕ). AppendedPrefix name xs f h)
-    (append_assoc before a b ∙ ap (λ (xs : List ℕ). before ++ xs) is) (passed_more_prefix b p q)
+    grind (arith, append_assoc before a b, passed_more_prefix b p q)
 
 -- ---- what waits in the buffer is written too
 
@@ -222,12 +165,7 @@ module _ {name bytes : List ℕ} {f g h : Files} (new : Writing)
   -- the bytes that were forwarded into the buffer, and then all of it
   pub passed-sent : h ≡ with_appended_bytes g name new.unsent
       → AppendsWaiting name bytes (held_bytes new.held) f h
-  passed-sent all = record {
-    passed = p.passed ++ new.unsent;
-    split = p.split ∙ sym (append_assoc p.passed new.unsent (held_bytes new.held));
-    files = all ∙ ap (λ files. with_appended_bytes files name new.unsent) p.files
-        ∙ appended_twice f name p.passed new.unsent;
-  }
+  passed-sent all = grind (arith, append_assoc, appended_twice)
 
   -- a prefix of what waits in the buffer is a prefix of all that waits
   pub unsent-prefix : AppendedPrefix name new.unsent g h → AppendedPrefix name bytes f h
@@ -240,16 +178,7 @@ module _ {name : List ℕ} {fr : Frame} {old : Writing} {f g h : Files} (new : W
   -- a frame was given, and then the buffer was written
   pub writes-sent : h ≡ with_appended_bytes g name new.unsent
       → AcceptsFrame name fr old (writing_of new.held []) f h
-  writes-sent all = record {
-    passed = on.passed ++ new.unsent;
-    files = all ∙ ap (λ files. with_appended_bytes files name new.unsent) on.files
-        ∙ appended_twice f name on.passed new.unsent;
-    writer = λ base out fs are.
-        subst (λ (xs : List ℕ). AreBytesBehind base xs new.held (fs ++ fr ∷ []))
-        (append_assoc out on.passed new.unsent
-        ∙ sym (append-nil (out ++ (on.passed ++ new.unsent))))
-        (on.writer base out fs are);
-  }
+  writes-sent all = grind (arith, appended_twice, append_assoc, append-nil)
 
   -- if the buffer couldn't be written, a part of the frames was
   pub writes-unsent : AppendedPrefix name new.unsent g h → WritesPart name fr old new.held f h

@@ -1,34 +1,29 @@
 -- Exactly which steps a file accepts.
 use Rattle.std.proofs.Common.{All, ap, ap₂, arith, Bool, cond, Err, false, is_some, length, List}
-use Rattle.std.proofs.Common.{ltb, map, None, not, Ok, Option, pos, refl, Result, Some, subst, suc}
-use Rattle.std.proofs.Common.{sym, true, zero, ℕ, ℤ, [], ◌&&◌, ◌||◌, ◌∙◌, ◌∷◌, ◌≡◌, ◌≤◌}
+use Rattle.std.proofs.Common.{map, None, not, Ok, Option, pos, refl, Result, Some, subst, suc, sym}
+use Rattle.std.proofs.Common.{true, zero, ℕ, ℤ, [], ◌&&◌, ◌||◌, ◌∙◌, ◌∷◌, ◌≡◌, ◌≤◌}
 use Rattle.std.proofs.lemmas.Bool.{and_parts, both_ways, false_from_ne_true, le-ltb}
-use Rattle.std.specs.Prelude.{is_ok, IsTrue, slice_get, unsigned_abs, ◌-◌, ◌==◌}
+use Rattle.std.specs.Prelude.{is_ok, IsTrue, slice_get, ◌-◌}
 use Rattle.commands.proofs.RefusingLemmas.{first-cons, first-nil}
 use Rattle.commands.specs.Refusing.{first_refusal, or_else, refusal_or, then_made}
 use Rattle.commands.specs.{Sheet.sheet_read, SingleOutput.{made_file, most_frames, surveyed_result}}
 use Rattle.commands.specs.declared.fault.EditFault.{EditFault, TheVariants.Refused}
-use Rattle.commands.specs.declared.fault.Refusal.{Refusal}
-use Rattle.commands.specs.declared.fault.Refusal.TheVariants.{Joint, Mono, OutputTooLong}
-use Rattle.commands.specs.declared.fault.Refusal.TheVariants.{SheetTooLarge, TagTooLarge, UndoRange}
+use Rattle.commands.specs.declared.fault.Refusal.{Refusal, TheVariants.SheetTooLarge}
 use Rattle.cue_sheet.specs.Limits.{longest_sheet}
 use Rattle.fade_plan.proofs.WithinLemmas.{steps_of_one, steps_within, within-opposite}
-use Rattle.fade_plan.specs.Curves.{curve_of, curve_point, CurvePoint, line_not_rising}
-use Rattle.fade_plan.specs.Curves.{line_or_curve, steps_at, steps_back}
-use Rattle.fade_plan.specs.Sheets.{envelope_of, EnvelopePoint}
+use Rattle.fade_plan.specs.Curves.{curve_of, curve_point, CurvePoint, line_not_rising, steps_at}
+use Rattle.fade_plan.specs.{Curves.steps_back, Sheets.{envelope_of, EnvelopePoint}}
 use Rattle.frame_header.specs.{Fields.ClassFields, Tables.class_of}
 use Rattle.gain_edits.specs.Change.{change_making, change_result, changed_or_fault, Changing}
-use Rattle.gain_edits.specs.Channels.{are_both, channel_fault, is_joint, joint_fault, joint_refusal}
-use Rattle.gain_edits.specs.Channels.{single_channel_fault}
+use Rattle.gain_edits.specs.Channels.{channel_fault, joint_refusal, single_channel_fault}
 use Rattle.gain_edits.specs.ExactSteps.{fade_result, gain_result, is_range_refusal, IsMadeIfTaken}
 use Rattle.gain_edits.specs.ExactSteps.{leaves_range, StepsAreExact, strict_shift, takes_point}
-use Rattle.gain_edits.specs.Fade.{curve_change, curve_result, fade_change, input_sheet_change}
-use Rattle.gain_edits.specs.Fade.{points_curve, points_result, sheet_change}
+use Rattle.gain_edits.specs.Fade.{curve_change, fade_change, input_sheet_change, points_curve}
+use Rattle.gain_edits.specs.Fade.{sheet_change}
 use Rattle.gain_edits.specs.Gain.{gain_change, noted_change, noted_tag_change, plain_change}
 use Rattle.gain_edits.specs.GainRange.{out_of_range_refusal, range_fault, row_range_fault}
-use Rattle.gain_edits.specs.UndoItem.{next_undo, no_undo, noted_undo, number_fault, output_fault}
-use Rattle.gain_edits.specs.UndoItem.{output_length, size_fault, tag_result, tag_with_undo}
-use Rattle.gain_edits.specs.UndoItem.{undo_fault}
+use Rattle.gain_edits.specs.UndoItem.{no_undo, noted_undo, number_fault, output_fault, size_fault}
+use Rattle.gain_edits.specs.UndoItem.{tag_result, undo_fault}
 use Rattle.moved_gains.proofs.ExtremesLemmas.{joined_extremes-append}
 use Rattle.moved_gains.proofs.TakenStepLemmas.{stuck-cons, stuck-nil, take_steps}
 use Rattle.moved_gains.{proofs.TakenStepLemmas.takes_steps-joined_extremes, specs.Change.FileChange}
@@ -36,8 +31,7 @@ use Rattle.moved_gains.specs.Course.{constant_steps, equal_steps, number_at, ste
 use Rattle.moved_gains.specs.Edited.{row_out_of_range}
 use Rattle.moved_gains.specs.GainExtremes.{extremes_of, extremes_of_both, moving_gains, takes_steps}
 use Rattle.moved_gains.specs.StepLaws.{AreSidesFitting, is_some_out_of_range, separate_steps}
-use Rattle.moved_gains.specs.{StepLaws.TakeSteps, TagPlace.tag_offset}
-use Rattle.moved_gains.specs.TagReading.{file_tag, longest_tag}
+use Rattle.moved_gains.specs.{StepLaws.TakeSteps, TagPlace.tag_offset, TagReading.file_tag}
 use Rattle.moved_gains.specs.declared.{course.Course.TheVariants.Along, gain_extremes.Gains.Gains}
 use Rattle.moved_gains.specs.declared.gains.OutOfRange.{OutOfRange}
 use Rattle.moved_gains.specs.declared.tag_fault.FileTagFault.{FileTagFault}
@@ -49,12 +43,10 @@ use Rattle.requests.specs.declared.shift.Channels.{Channels, TheVariants.{Both, 
 use Rattle.requests.specs.declared.shift.{Shift.Shift, Steps.Steps}
 use Rattle.side_info.specs.Side.{SideFits}
 use Rattle.sync_survey.proofs.PlacedRowLemmas.{survey_fields-placed}
-use Rattle.sync_survey.proofs.SurveyedFileLemmas.{survey_of-parts}
-use Rattle.sync_survey.specs.{Faults.{longest_file, SurveyFields}, Row.Row}
-use Rattle.sync_survey.specs.Survey.{AreWellPlaced, survey_of}
-use Rattle.tag_blocks.specs.{Tags.{tag_bytes, TagFields}, UndoItems.undo_from}
-use Rattle.tag_blocks.specs.declared.undo.{Undo.Undo, UndoItem.UndoItem}
-use Rattle.tag_blocks.specs.declared.undo.UndoItem.TheVariants.{Bad, Found, Missing}
+use Rattle.sync_survey.{proofs.SurveyedFileLemmas.survey_of-parts, specs.Faults.SurveyFields}
+use Rattle.sync_survey.specs.{Row.Row, Survey.{AreWellPlaced, survey_of}}
+use Rattle.tag_blocks.specs.{Tags.TagFields, UndoItems.undo_from, declared.undo.Undo.Undo}
+use Rattle.tag_blocks.specs.declared.undo.UndoItem.{UndoItem, TheVariants.{Bad, Found, Missing}}
 
 -- ---- refusals for the range
 
@@ -94,13 +86,9 @@ range-nothing = refl
 -- a gain of the frames leaves the range exactly if the first one that does is found
 range-some : (steps : ℕ → Steps) (rows : List Row)
     → is_range (range_fault steps rows) ≡ is_some_out_of_range steps rows
-range-some steps [] =
-    ap is_range (first-nil (row_range_fault steps)) ∙ range-nothing ∙ sym (stuck-nil steps)
+range-some steps [] = grind (arith, first-nil, range-nothing, stuck-nil)
 range-some steps (row ∷ rows) =
-    ap is_range (first-cons (row_range_fault steps) row rows)
-    ∙ range-either row.offset (row_out_of_range (steps row.offset) row) (range_fault steps rows)
-    ∙ ap (λ b. is_some (row_out_of_range (steps row.offset) row) || b) (range-some steps rows)
-    ∙ sym (stuck-cons steps row rows)
+    grind (arith, first-cons, range-either, is_some, stuck-cons, range-some steps rows)
 
 range-free : (steps : ℕ → Steps) (rows : List Row) → is_range (range_fault steps rows) ≡ false
     → range_fault steps rows ≡ None
@@ -108,9 +96,7 @@ range-free steps [] free = first-nil (row_range_fault steps)
 range-free steps (row ∷ rows) free =
     let parts : (is_some (row_out_of_range (steps row.offset) row)
     || is_range (range_fault steps rows))
-    ≡ false =
-    sym (range-either row.offset (row_out_of_range (steps row.offset) row) (range_fault steps rows))
-    ∙ ap is_range (sym (first-cons (row_range_fault steps) row rows)) ∙ free in
+    ≡ false = grind (arith, range-either, first-cons) in
     first-cons (row_range_fault steps) row rows
     ∙ by_first (λ rest. range-free steps rows rest) (row_out_of_range (steps row.offset) row) parts
   where
@@ -162,12 +148,8 @@ made-refusal_or of file s steps change taken is made stuck =
     changed-as of file s is ∙ ap (changed_or_fault file s) made in
     let range : is_range o ≡ not taken = range-some steps s.frames ∙ stuck in
     record {
-      refused = ap leaves_range whole ∙ range-changed file s (refusal_or o change)
-          ∙ range-refusal_or o change ∙ range;
-      accepted = ap (λ (r : Result (List ℕ) EditFault). is_ok r) whole
-          ∙ ok-changed file s (refusal_or o change)
-          ∙ made-where o change (range-free steps s.frames)
-          ∙ ap not range ∙ twice taken;
+      refused = grind (arith, range-changed, range-refusal_or);
+      accepted = grind (arith, ok-changed, made-where, range-free);
     }
   where
     twice : (b : Bool) → not (not b) ≡ b
@@ -192,11 +174,7 @@ alone : (channels : Channels) (steps : ℤ) (file : List ℕ) (s : SurveyFields)
     → gain_change (strict_shift channels steps) false file s
     ≡ refusal_or (range_fault (constant_steps (steps_of (strict_shift channels steps))) s.frames)
     (record { steps = constant_steps (steps_of (strict_shift channels steps)); tag = None })
-alone channels steps file s may =
-    let shift = strict_shift channels steps in
-    plain-as shift file s
-    ∙ ap (λ o. refusal_or (or_else o (range_fault (constant_steps (steps_of shift)) s.frames))
-    (record { steps = constant_steps (steps_of shift); tag = None })) may
+alone channels steps file s may = grind (arith, plain-as)
 
 -- ---- refusals of other kinds
 
@@ -208,47 +186,30 @@ range-first refuse (a ∷ list) other = ap is_range (first-cons refuse a list)
 
 range-joint : (row : Row) → is_range (joint_refusal row) ≡ false
 unfolding is_range
-range-joint row = elim (is_joint row) as (λ b. is_range (cond b (Some (Joint row.offset)) None)
-    ≡ false) [ true ↦ refl | false ↦ refl ]
+range-joint row = grind arith
 
 range-apart : (s : SurveyFields) → is_range (single_channel_fault s) ≡ false
 unfolding is_range
-range-apart s =
-    elim (s.class.channels == 1)
-    as (λ b. is_range (cond b (Some Mono) (joint_fault s.frames)) ≡ false) [
-      | true ↦ refl
-      | false ↦ range-first joint_refusal s.frames range-joint
-    ]
+range-apart s = grind (arith, range-first, range-joint)
 
 range-channel : (shift : Shift) (s : SurveyFields) → is_range (channel_fault shift s) ≡ false
 unfolding is_range
-range-channel shift s =
-    elim (are_both shift.channels)
-    as (λ b. is_range (cond b None (single_channel_fault s)) ≡ false) [
-      | true ↦ refl
-      | false ↦ range-apart s
-    ]
+range-channel shift s = grind (arith, range-apart)
 
 range-number : (number : ℤ) → is_range (number_fault number) ≡ false
 unfolding is_range
-range-number number = elim (ltb 999 (unsigned_abs number)) as
-    (λ b. is_range (cond b (Some (UndoRange number)) None) ≡ false) [ true ↦ refl | false ↦ refl ]
+range-number number = grind arith
 
 range-undo : (undo : Undo) → is_range (undo_fault undo) ≡ false
-range-undo undo = range-none (number_fault undo.left) (number_fault undo.right)
-    (range-number undo.left) (range-number undo.right)
+range-undo undo = grind (arith, range-none, range-number)
 
 range-size : (bytes : List ℕ) → is_range (size_fault bytes) ≡ false
 unfolding is_range
-range-size bytes = elim (ltb longest_tag (length bytes))
-    as (λ b. is_range (cond b (Some (TagTooLarge (length bytes))) None)
-    ≡ false) [ true ↦ refl | false ↦ refl ]
+range-size bytes = grind arith
 
 range-output : (s : SurveyFields) (bytes : List ℕ) → is_range (output_fault s bytes) ≡ false
 unfolding is_range
-range-output s bytes = elim (ltb longest_file (output_length s bytes))
-    as (λ b. is_range (cond b (Some (OutputTooLong (output_length s bytes))) None)
-    ≡ false) [ true ↦ refl | false ↦ refl ]
+range-output s bytes = grind arith
 
 -- ---- with a note
 
@@ -257,23 +218,7 @@ noted-plain : (shift : Shift) (s : SurveyFields) (tag : TagFields) (undo : Undo)
     → leaves_range (noted_change shift s tag undo) ≡ true
     → leaves_range (plain_change shift s) ≡ true
 noted-plain shift s tag undo is =
-    let next = next_undo shift undo in
-    let bytes = tag_bytes (tag_with_undo next tag) in
-    let range = range_fault (constant_steps (steps_of shift)) s.frames in
-    let later =
-    or_else (undo_fault next) (or_else (size_fault bytes) (or_else (output_fault s bytes) range)) in
-    let change : FileChange =
-    record { steps = constant_steps (steps_of shift); tag = Some bytes } in
-    let first = range-or (channel_fault shift s) later (range-channel shift s)
-    (sym (range-refusal_or (or_else (channel_fault shift s) later) change) ∙ is) in
-    let second = range-or (undo_fault next)
-    (or_else (size_fault bytes) (or_else (output_fault s bytes) range)) (range-undo next) first.1 in
-    let third = range-or (size_fault bytes) (or_else (output_fault s bytes) range)
-    (range-size bytes) second.1 in
-    let last = range-or (output_fault s bytes) range (range-output s bytes) third.1 in
-    range-refusal_or (or_else (channel_fault shift s) range)
-    (record { steps = constant_steps (steps_of shift); tag = None })
-    ∙ ap (λ o. is_range (or_else o range)) first.0 ∙ last.1
+    grind (arith, range-or, range-channel, range-refusal_or, range-undo, range-size, range-output)
 
 undo-plain : (shift : Shift) (s : SurveyFields) (tag : TagFields) (item : UndoItem)
     → leaves_range (then_made (noted_undo (tag_offset s) item) (noted_change shift s tag)) ≡ true
@@ -378,11 +323,8 @@ curve-taken : (gains : Option Gains) (back : Bool) (points : List CurvePoint)
     → All (λ p. IsTrue (takes_point gains back p.steps)) points → (frame : ℕ)
     → takes_steps gains (steps_back back (steps_at points frame)) ≡ true
 curve-taken None back points all frame = refl
-curve-taken (Some g) true points all frame =
-    within-opposite g.least (255 - g.greatest) (steps_at points frame)
-    ∙ steps_within (255 - g.greatest) g.least points all frame
-curve-taken (Some g) false points all frame =
-    steps_within g.least (255 - g.greatest) points all frame
+curve-taken (Some g) true points all frame = grind (arith, within-opposite, steps_within)
+curve-taken (Some g) false points all frame = grind (arith, steps_within)
 
 all-mapped : {X Y : Type 0} (P : Y → Type 0) (f : X → Y) (xs : List X) → All (λ x. P (f x)) xs
     → All P (map f xs)
@@ -393,33 +335,20 @@ all-mapped P f (x ∷ xs) all (suc k) d less = all-mapped P f xs
 
 too-large : (sheet : List ℕ) (make : List ℕ → Result FileChange EditFault)
     → leaves_range (make sheet) ≡ false → leaves_range (then_made (sheet_read sheet) make) ≡ false
-too-large sheet make made =
-    elim (ltb longest_sheet (length sheet)) as (λ b. leaves_range
-    (then_made (cond b (Err (Refused (SheetTooLarge (length sheet)))) (Ok sheet)) make) ≡ false) [
-      | true ↦ refl
-      | false ↦ made
-    ]
+too-large sheet make made = grind arith
 
 fade-as : (sheet : List ℕ) (back : Bool) (s : SurveyFields) (points : List EnvelopePoint)
     → envelope_of sheet ≡ Ok points
     → sheet_change sheet back s ≡ then_made (points_curve s points) (curve_change back s)
 unfolding sheet_change
-fade-as sheet back s points e =
-    ap (λ r. then_made (then_made (points_result r) (points_curve s)) (curve_change back s)) e
+fade-as sheet back s points e = grind arith
 
 curve-range : (s : SurveyFields) (back : Bool) (points : List EnvelopePoint)
     → ((curve : List CurvePoint) → curve ≡ map (curve_point s.class (length s.frames)) points
     → leaves_range (curve_change back s curve) ≡ false)
     → leaves_range (then_made (points_curve s points) (curve_change back s)) ≡ false
 unfolding curve_of
-curve-range s back points free =
-    elim (line_not_rising s.class (length s.frames) points)
-    as (λ o. leaves_range (then_made (curve_result
-    (line_or_curve o (map (curve_point s.class (length s.frames)) points))) (curve_change back s))
-    ≡ false) [
-      | None ↦ free (map (curve_point s.class (length s.frames)) points) refl
-      | Some line ↦ refl
-    ]
+curve-range s back points free = grind arith
 
 fade-free : (file : List ℕ) (s : SurveyFields) → survey_of file most_frames ≡ Ok s
     → TakeSteps s.frames → (sheet : List ℕ) (back : Bool) (points : List EnvelopePoint)
@@ -464,10 +393,8 @@ fade-one file s is law sheet back point few read =
     let curve = curve_point s.class (length s.frames) point ∷ [] in
     let steps = steps_at_offset (Along curve back) s.frames in
     let same : (at : ℕ) → steps at ≡ equal_steps (steps_back back point.steps) =
-    λ at. ap (λ z. equal_steps (steps_back back z))
-    (steps_of_one (curve_point s.class (length s.frames) point) (number_at s.frames at)) in
-    let whole : steps ≡ constant_steps (equal_steps (steps_back back point.steps)) =
-    λ i at. same at i in
+    grind (arith, steps_of_one) in
+    let whole : steps ≡ constant_steps (equal_steps (steps_back back point.steps)) = grind arith in
     made-refusal_or (fade_change (Some sheet) back) file s steps
     (record { steps = steps; tag = None })
     (takes_point gains back point.steps) is

@@ -8,9 +8,9 @@ use Rattle.commands.proofs.NamedLemmas.{lost_name, missed_name, unread_name}
 use Rattle.commands.proofs.{RefusingLemmas.{refusal_or-all, then_all}, SheetLemmas.sheet-all}
 use Rattle.commands.proofs.WhyLemmas.{each_why, each_why_of}
 use Rattle.commands.specs.AfterCall.{HasInputNumbers, IsEditRefusal, IsNotBefore, why_of}
-use Rattle.commands.specs.{Refusing.{refusal_or, then_made}, Sheet.sheet_in}
-use Rattle.commands.specs.SingleOutput.{file_task, HasTaskNumbers, input_result, IsEarlyFault}
-use Rattle.commands.specs.SingleOutput.{IsInputFault, IsMaking, Making, most_frames, TaskRefuses}
+use Rattle.commands.specs.Refusing.{refusal_or, then_made}
+use Rattle.commands.specs.SingleOutput.{file_task, HasTaskNumbers, IsEarlyFault, IsInputFault}
+use Rattle.commands.specs.SingleOutput.{IsMaking, Making, most_frames, TaskRefuses}
 use Rattle.commands.specs.declared.fault.EditFault.{EditFault, TheVariants.{Input, Memory, Refused}}
 use Rattle.commands.specs.declared.fault.Refusal.{Refusal, TheVariants.Differ}
 use Rattle.fade_plan.specs.{Curves.{curve_of, CurvePoint}, Sheets.{envelope_of, EnvelopePoint}}
@@ -23,7 +23,7 @@ use Rattle.gain_edits.specs.Fade.{points_curve, points_in, points_result, sheet_
 use Rattle.gain_edits.specs.{Fade.steps_change, GainRange.range_fault}
 use Rattle.gain_edits.specs.Steps.{HasChangeNumbers, IsChangeFault}
 use Rattle.moved_gains.specs.Change.{change_in, file_with_change, FileChange}
-use Rattle.moved_gains.specs.{Course.steps_at_offset, declared.change.Change.Change as CodeChange}
+use Rattle.moved_gains.specs.{Course.steps_at_offset, declared.change.Change.Change}
 use Rattle.moved_gains.specs.declared.course.Course.TheVariants.{Along}
 use Rattle.outside.proofs.FilesLemmas.{there_holds}
 use Rattle.outside.specs.Files.{Contents, Files, Holds, IfTold, IsFileThere, Told, Untold}
@@ -55,8 +55,7 @@ pub curve_fault : (sheet : List ℕ) (back : Bool) (s : SurveyFields) (fault : E
     ⊎ (IsEditRefusal choice_refuses fault × (sheet_change sheet back s ≡ Err fault))
 unfolding sheet_change
 curve_fault sheet back s fault (inl memory) = inl memory
-curve_fault sheet back s fault (inr is) =
-    inr (is.0, ap (λ r. then_made r (curve_change back s)) is.1)
+curve_fault sheet back s fault (inr is) = grind arith
 
 -- with a curve, the fade is the change along it
 pub sheet_change-curve : (sheet : List ℕ) (back : Bool) (s : SurveyFields) (curve : List CurvePoint)
@@ -66,17 +65,15 @@ sheet_change-curve sheet back s curve is = ap (λ r. then_made r (curve_change b
 
 -- with a curve, the result of the fade is the result of the change along it
 pub along_answer : (sheet : List ℕ) (back : Bool) (s : SurveyFields) (curve : List CurvePoint)
-    → sheet_curve s sheet ≡ Ok curve → (r : Result CodeChange EditFault)
+    → sheet_curve s sheet ≡ Ok curve → (r : Result Change EditFault)
     → MatchResult r (λ change. steps_change (steps_at_offset (Along curve back) s.frames) s
     ≡ Ok (change_in change s)) (λ fault. IsEditRefusal choice_refuses fault
     × (steps_change (steps_at_offset (Along curve back) s.frames) s ≡ Err fault))
     → MatchResult r (λ change. sheet_change sheet back s ≡ Ok (change_in change s)) (λ fault.
     (fault ≡ Memory)
     ⊎ (IsEditRefusal choice_refuses fault × (sheet_change sheet back s ≡ Err fault)))
-along_answer sheet back s curve is (Ok change) made =
-    sheet_change-curve sheet back s curve is ∙ made
-along_answer sheet back s curve is (Err fault) refused =
-    inr (refused.0, sheet_change-curve sheet back s curve is ∙ refused.1)
+along_answer sheet back s curve is (Ok change) made = grind (arith, sheet_change-curve)
+along_answer sheet back s curve is (Err fault) refused = grind (arith, sheet_change-curve)
 
 -- ---- no fault comes before the sheet is read
 
@@ -113,10 +110,7 @@ in_before bytes back s =
 
 input_sheet_change-before : (sheet : Option (List ℕ)) (back : Bool) (s : SurveyFields)
     → IfErr (input_sheet_change sheet back s) (IsNotBefore (Input 1 Read))
-input_sheet_change-before sheet back s =
-    then_all (IsNotBefore (Input 1 Read)) (sheet_in sheet) (λ bytes. sheet_change bytes back s)
-    (sheet-all (IsNotBefore (Input 1 Read)) (omega arith) (λ size. tt) sheet)
-    (λ bytes. in_before bytes back s)
+input_sheet_change-before sheet back s = grind (arith, then_all, sheet-all, in_before)
 
 -- ---- the faults as faults of the command
 
@@ -131,8 +125,7 @@ input_numbers sheet back input _ h = absurd h
 -- the numbers of a fault of the change are in the range of the fade's inputs
 pub change_numbers : (sheet : List ℕ) (back : Bool) (input : List ℕ) (fault : EditFault)
     → HasChangeNumbers fault → HasTaskNumbers (fade_task sheet back input) fault
-change_numbers sheet back input (Input place fault) h =
-    (omega (arith, h.0), h.1, h.2, inr (inr h.3))
+change_numbers sheet back input (Input place fault) h = grind arith
 change_numbers sheet back input (Refused refusal) h = h
 change_numbers sheet back input Memory h = tt
 change_numbers sheet back input _ h = absurd h
@@ -159,36 +152,24 @@ module _ (sheet : List ℕ) (back : Bool) (input : List ℕ) where
     -- a fault of the input is one met before the output is created
     pub input_early : IsInputFault (making_in old.files) input old new fault
         → IsEarlyFault (fade_task sheet back input) old new fault
-    input_early h = each_why_of (why_of fault) h (input_is_early (making_in old.files)
-        (faded_stream None back) fade_refuses input old new fault h) (record {
-          rejected =
-              λ i e. record { defined = refuses_same old.files fault e.defined; stays = e.stays };
-          missing = λ i e. record {
-            defined = refuses_same old.files fault e.defined;
-            rose = missed_name (fade_task sheet back input).inputs 0 refl i;
-            files = e.files;
-          };
-          unread = λ i e. record {
-            before = before_same old.files (IsNotBefore fault) e.before;
-            rose = unread_name (fade_task sheet back input).inputs 0 refl i;
-            files = e.files;
-          };
-          shorter = λ i e. record {
-            ended = lost_name (fade_task sheet back input).inputs 0 refl i;
-            files = e.files;
-          };
-          unwritten = λ k i e. absurd e;
-          unsent = λ i e. absurd e;
-          no_memory = λ i e. e;
-        })
+    input_early h =
+        grind (
+          arith,
+          each_why_of,
+          input_is_early,
+          refuses_same,
+          missed_name,
+          before_same,
+          unread_name,
+          lost_name,
+        )
 
   -- the input was surveyed
   module _ (s : SurveyFields) where
     makes_by : (f : Contents) (bytes : List ℕ) → f input ≡ Some bytes
         → survey_of bytes most_frames ≡ Ok s → (fade_task sheet back input).makes f
         ≡ changed_or_fault bytes s (input_sheet_change (f sheet) back s)
-    makes_by f bytes held is = ap (input_result (change_making (fade_change (f sheet) back))) held
-        ∙ made-survey (change_making (fade_change (f sheet) back)) bytes s is
+    makes_by f bytes held is = grind (arith, made-survey)
 
     refuses_by : (files : Files) (fault : EditFault) → IsFileThere files input
         → ((bytes : List ℕ) → Holds files input bytes → survey_of bytes most_frames ≡ Ok s)
@@ -217,14 +198,12 @@ module _ (sheet : List ℕ) (back : Bool) (input : List ℕ) where
         → ((bytes : List ℕ) → Holds files sheet bytes → input_sheet_change (Some bytes) back s ≡ r)
         → IfTold files (λ f. input_sheet_change (f sheet) back s ≡ r)
     with_sheet (Untold touched) r there are = tt
-    with_sheet (Told f) r there are = let held = there_holds f sheet there in
-        ap (λ o. input_sheet_change o back s) held.1 ∙ are held.0 held.1
+    with_sheet (Told f) r there are = grind (arith, there_holds)
 
     without_sheet : (files : Files) (fault : EditFault) → IfTold files (λ f. f sheet ≡ None) → fault
         ≡ Input 1 Absent → IfTold files (λ f. input_sheet_change (f sheet) back s ≡ Err fault)
     without_sheet (Untold touched) fault missing is = tt
-    without_sheet (Told f) fault missing is =
-        ap (λ o. input_sheet_change o back s) missing ∙ ap (λ e. Err e) (sym is)
+    without_sheet (Told f) fault missing is = grind arith
 
     module _ (old new : Seen) (there : IsFileThere old.files input) (surveyed : (bytes : List ℕ)
         → Holds old.files input bytes → survey_of bytes most_frames ≡ Ok s) where

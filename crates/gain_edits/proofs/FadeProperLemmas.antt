@@ -9,15 +9,13 @@ use Rattle.commands.proofs.RefusingLemmas.{refusal_or-late, refusal_or-ok, then_
 use Rattle.commands.{proofs.SheetLemmas.sheet-late, specs.AfterCall.IsLateFault}
 use Rattle.commands.specs.{Refusing.then_made, Sheet.sheet_in}
 use Rattle.commands.specs.SingleOutput.{IsProperTask, most_frames}
-use Rattle.fade_plan.specs.{Curves.{curve_of, CurvePoint}, Sheets.{envelope_of, EnvelopePoint}}
+use Rattle.fade_plan.specs.{Curves.CurvePoint, Sheets.EnvelopePoint}
 use Rattle.fade_plan.specs.declared.envelope_fault.EnvelopeFault.{EnvelopeFault, TheVariants.Line}
 use Rattle.gain_edits.proofs.ProperLemmas.{changed-stream, changed_all, holds_moved, made_cases}
 use Rattle.gain_edits.{proofs.ProperLemmas.stream_of-survey, specs.Change.change_making}
-use Rattle.gain_edits.specs.Fade.{curve_change, curve_result, curve_stream, fade_change}
-use Rattle.gain_edits.specs.Fade.{fade_refuses, fade_task, faded_stream, input_sheet_change}
-use Rattle.gain_edits.specs.Fade.{moved_frames, points_curve, points_in, points_result}
-use Rattle.gain_edits.specs.Fade.{sheet_change, sheet_curve, surveyed_fade_stream}
-use Rattle.gain_edits.specs.GainRange.{range_fault}
+use Rattle.gain_edits.specs.Fade.{curve_change, curve_result, fade_change, fade_refuses, fade_task}
+use Rattle.gain_edits.specs.Fade.{faded_stream, input_sheet_change, moved_frames, points_result}
+use Rattle.gain_edits.specs.{Fade.{sheet_change, sheet_curve}, GainRange.range_fault}
 use Rattle.moved_gains.{proofs.CourseLemmas.survey_numbered, specs.Change.FileChange}
 use Rattle.moved_gains.specs.Course.{AreRowsNumbered, course_steps, steps_at_offset}
 use Rattle.moved_gains.specs.{Streams.{moved_stream_frame, moved_stream_of}, TagPlace.IsTagBytes}
@@ -25,8 +23,7 @@ use Rattle.moved_gains.specs.declared.course.Course.{Course, TheVariants.Along}
 use Rattle.requests.specs.declared.shift.Steps.{Steps}
 use Rattle.sync_survey.proofs.SurveyPartsLemmas.{survey_fields-allowed}
 use Rattle.sync_survey.proofs.SurveyedFileLemmas.{survey_of-parts}
-use Rattle.sync_survey.specs.Faults.{HoldsStream, stream_of, stream_of_survey, survey_fields}
-use Rattle.sync_survey.specs.Faults.{SurveyFields}
+use Rattle.sync_survey.specs.Faults.{HoldsStream, stream_of, stream_of_survey, SurveyFields}
 use Rattle.sync_survey.specs.MainData.{main_bytes, stream_frame, stream_frames, StreamFrame}
 use Rattle.sync_survey.specs.{Row.Row, Survey.survey_of, declared.places.Head.Head}
 use Rattle.sync_survey.specs.declared.survey_fault.SurveyFault.{SurveyFault}
@@ -45,18 +42,12 @@ curve-late (Err line) = refl
 in-late : (bytes : List ℕ) (back : Bool) (s : SurveyFields)
     → IfErr (sheet_change bytes back s) IsLateFault
 unfolding sheet_change
-in-late bytes back s =
-    then_late (sheet_curve s bytes) (curve_change back s)
-    (then_late (points_in bytes) (points_curve s) (points-late (envelope_of bytes))
-    (λ points. curve-late (curve_of s.class (length s.frames) points)))
-    (λ curve. refusal_or-late _ _)
+in-late bytes back s = grind (arith, then_late, points-late, curve-late, refusal_or-late)
 
 -- the refusals of a fade are late
 pub input_sheet_change-late : (sheet : Option (List ℕ)) (back : Bool) (s : SurveyFields)
     → IfErr (input_sheet_change sheet back s) IsLateFault
-input_sheet_change-late sheet back s =
-    then_late (sheet_in sheet) (λ bytes. sheet_change bytes back s)
-    (sheet-late sheet) (λ bytes. in-late bytes back s)
+input_sheet_change-late sheet back s = grind (arith, then_late, sheet-late, in-late)
 
 -- ---- the curve of what is made
 
@@ -82,8 +73,7 @@ faded-parts sheet back s change e =
       curve = two.0;
       is = ap (λ r. then_made r (sheet_curve s)) one.1 ∙ two.1;
       free = three.0;
-      made =
-          three.1;
+      made = grind arith;
     }
 
 -- ---- the stream by the numbers of the frames
@@ -124,33 +114,25 @@ module _ (sheet : Option (List ℕ)) (back : Bool) where
       made_cases (fade_change sheet back) file new s (input_sheet_change sheet back s) refl e in
       let parts = faded-parts sheet back s c.change c.made in
       let course = Along parts.curve back in
-      let none : IfSome c.change.tag IsTagBytes =
-      subst (λ (d : FileChange). IfSome d.tag IsTagBytes) parts.made tt in
+      let none : IfSome c.change.tag IsTagBytes = grind arith in
       let moved = changed-stream (fade_change sheet back) file new s c all is none in
       let full = survey_fields-allowed file most_frames (length file + 1) s (omega arith)
       (survey_of-parts file most_frames s is).1 in
-      let same : moved.before.0 ≡ s =
-      same_survey moved.before.0 s (survey_fields file (length file + 1)) moved.before.1 full in
-      let steps : c.change.steps ≡ steps_at_offset course s.frames =
-      ap (λ (d : FileChange). d.steps) (sym parts.made) in
+      let same : moved.before.0 ≡ s = grind (arith, same_survey) in
+      let steps : c.change.steps ≡ steps_at_offset course s.frames = grind arith in
       let numbers = survey_numbered file most_frames s (survey_of-parts file most_frames s is).1 in
       let stream : moved_stream_of c.change.steps file moved.before.0
       ≡ moved_frames (course_steps course) (stream_of file) =
-      ap₂ (λ (g : ℕ → Steps) (t : SurveyFields). moved_stream_of g file t) steps same
-      ∙ by_curve course file s numbers
-      ∙ ap (moved_frames (course_steps course)) (sym (stream_of-survey file s full)) in
+      grind (arith, by_curve, stream_of-survey) in
       let along : faded_stream sheet back file
-      ≡ moved_frames (course_steps course) (stream_of file) =
-      ap (surveyed_fade_stream sheet back (stream_of file)) is
-      ∙ ap (curve_stream back (stream_of file)) parts.is in
+      ≡ moved_frames (course_steps course) (stream_of file) = grind (arith, is) in
       subst (HoldsStream new) (stream ∙ sym along) (holds_moved c.change.steps file new moved)
 
   -- what a fade makes is proper
   pub fade_making : IsProperMaking (change_making (fade_change sheet back))
       (faded_stream sheet back)
   fade_making = record {
-    late = λ file s. changed_all IsLateFault file s (input_sheet_change sheet back s)
-        (input_sheet_change-late sheet back s);
+    late = grind (arith, changed_all, input_sheet_change-late);
     streams = fade_stream;
   }
 

@@ -2,21 +2,20 @@
 -- bytes except the junk, and its own stream.
 use Rattle.std.proofs.Common.{ap, append-nil, ap₂, arith, Bool, cond, drop, false, inl, inr, length}
 use Rattle.std.proofs.Common.{length-drop, List, map, neg_ℤ, None, Ok, Option, pos, refl, Some}
-use Rattle.std.proofs.Common.{subst, sym, take, true, ℕ, ℤ, ◌+ℤ◌, [], ◌++◌, ◌+◌, ◌-◌, ◌==◌, ◌∙◌}
-use Rattle.std.proofs.{Common.{◌∷◌, ◌≡◌, ◌≤◌}, Math.IntN.+ℤ_invr}
+use Rattle.std.proofs.Common.{subst, sym, take, true, ℕ, ℤ, ◌+ℤ◌, [], ◌++◌, ◌+◌, ◌-◌, ◌∙◌, ◌∷◌, ◌≡◌}
+use Rattle.std.proofs.{Common.◌≤◌, Math.IntN.+ℤ_invr}
 use Rattle.std.proofs.lemmas.List.{drop_at, length-take-le, take_all, take_at}
 use Rattle.std.specs.{List.enumerate_from, Prelude.{IfSome, ◌⊎◌}}
 use Rattle.bit_fields.specs.Bits.{AreBytes}
 use Rattle.commands.proofs.RefusingLemmas.{first-cons, first-nil, none_both, none_first}
-use Rattle.commands.{proofs.RefusingLemmas.refusal_or-ok, specs.Refusing.{or_else, refusal_or}}
-use Rattle.commands.specs.{SingleOutput.most_frames, declared.fault.Refusal.Refusal}
-use Rattle.commands.specs.declared.fault.Refusal.TheVariants.{Joint, Mono}
+use Rattle.commands.{proofs.RefusingLemmas.refusal_or-ok, specs.SingleOutput.most_frames}
+use Rattle.commands.specs.declared.fault.Refusal.TheVariants.{Joint}
 use Rattle.gain_edits.proofs.ProperLemmas.{changed_survey, constant_steps-stream}
 use Rattle.gain_edits.proofs.ProperLemmas.{file_with_change-ok, made_of, stream-file_with_change}
 use Rattle.gain_edits.proofs.ProperLemmas.{survey_fields-file_with_change}
 use Rattle.gain_edits.proofs.RangeAgainLemmas.{constant_steps-opposite, range_back, row_fits, still}
 use Rattle.gain_edits.{proofs.RefusalLemmas.not_there, specs.Change.change_result}
-use Rattle.gain_edits.specs.Channels.{are_both, channel_fault, is_joint, joint_fault, joint_refusal}
+use Rattle.gain_edits.specs.Channels.{channel_fault, is_joint, joint_fault, joint_refusal}
 use Rattle.gain_edits.specs.{Channels.single_channel_fault, Gain.gain_change, GainRange.range_fault}
 use Rattle.gain_edits.specs.GivenBack.{opposite_shift, OppositeGivesBack}
 use Rattle.moved_gains.proofs.EditedSurveyLemmas.{survey_fields-edited_file}
@@ -31,8 +30,7 @@ use Rattle.moved_gains.proofs.WholeFrameLemmas.{AreFramesOf, frame_of, frames_th
 use Rattle.moved_gains.proofs.WholeFrameLemmas.{row_shaped}
 use Rattle.moved_gains.proofs.WrittenTagLemmas.{parted_among, parted_front}
 use Rattle.moved_gains.specs.{Change.{file_with_change, FileChange}, Course.constant_steps}
-use Rattle.moved_gains.specs.{Edited.edited_file, Gains.moved_side}
-use Rattle.moved_gains.specs.Moving.{moved_row_bytes, row_end, row_length}
+use Rattle.moved_gains.specs.{Edited.edited_file, Moving.{moved_row_bytes, row_end, row_length}}
 use Rattle.moved_gains.specs.Streams.{edited_row, edited_survey, file_without_junk, junk_length}
 use Rattle.moved_gains.specs.{Streams.moved_stream_frame, TagLaws.own_tag_bytes}
 use Rattle.moved_gains.specs.TagPlace.{file_with_tag, IsTagBytes}
@@ -40,15 +38,14 @@ use Rattle.outside.{proofs.PassLemmas.between_split, specs.Pass.bytes_between}
 use Rattle.requests.specs.Shifts.{left_steps_of, right_steps_of, steps_of}
 use Rattle.requests.specs.declared.shift.Channels.{Channels, TheVariants.{Left, Right}}
 use Rattle.requests.specs.declared.shift.{Shift.Shift, Steps.Steps}
-use Rattle.side_info.specs.{Frame.frame_with_side, Side.no_side, declared.side.Side.Side}
+use Rattle.side_info.specs.{Side.no_side, declared.side.Side.Side}
 use Rattle.sync_survey.proofs.FoldersLemmas.{survey_of-short}
 use Rattle.sync_survey.proofs.SurveyPartsLemmas.{survey_fields-stream}
 use Rattle.sync_survey.proofs.SurveyedFileLemmas.{survey_of-parts}
 use Rattle.sync_survey.specs.Faults.{HoldsStream, longest_file, stream_of, stream_of_survey}
 use Rattle.sync_survey.specs.Faults.{survey_fields, SurveyFields}
-use Rattle.sync_survey.specs.MainData.{main_bytes, row_side, stream_frame, stream_frames}
-use Rattle.sync_survey.specs.{MainData.StreamFrame, Row.Row, Survey.survey_of}
-use Rattle.sync_survey.specs.declared.places.Head.{Head}
+use Rattle.sync_survey.specs.{MainData.{main_bytes, stream_frame, stream_frames}, Row.Row}
+use Rattle.sync_survey.specs.{Survey.survey_of, declared.places.Head.Head}
 
 -- ---- the bytes
 
@@ -62,16 +59,7 @@ join file at mid end low high =
 -- a frame moved by 0 steps stays the same
 still_row : (steps : Steps) → IsNoStep steps → (file : List ℕ) (row : Row) → IsFrameOf file row
     → moved_row_bytes steps file row ≡ frame_of file row
-still_row steps none file row here = by_lost row.lost
-  where
-    by_lost : (lost : Bool) → cond lost (frame_of file row)
-        (frame_with_side row.header (moved_side steps row.side) (frame_of file row))
-        ≡ frame_of file row
-    by_lost true = refl
-    by_lost false =
-        ap (λ (s : Side). frame_with_side row.header (moved_side steps s) (frame_of file row))
-        here.side
-        ∙ frame_none steps none row.header (frame_of file row) here.whole here.right
+still_row steps none file row here = grind (arith, frame_of, frame_none)
 
 still_to : (steps : Steps) → IsNoStep steps → (file : List ℕ) (at to : ℕ) (rows : List Row)
     → AreFramesOf file rows → EndBy at rows to
@@ -118,27 +106,14 @@ own_again steps file allowed s is = by_place (stands_somewhere steps file allowe
 -- ---- the stream
 
 counts_fit : (lost : Bool) (s : Side) → GainsFit s → GainsFit (cond lost no_side s)
-counts_fit true s fits =
-    record { first = omega arith; second = omega arith; third = omega arith; fourth = omega arith }
+counts_fit true s fits = grind arith
 counts_fit false s fits = fits
 
 still_frame : (steps : Steps) → IsNoStep steps → (file main : List ℕ) (o : Option Head)
     (rows : List Row) (i : ℕ) (row : Row) → IsFrameOf file row
     → moved_stream_frame steps (stream_frame main o rows i row) ≡ stream_frame main o rows i row
 still_frame steps none file main o rows i row here =
-    let shaped = counts_shaped row.lost row.side (row_shaped file row here) in
-    let fits = counts_fit row.lost row.side (row_fits file row here) in
-    let side : moved_side steps (record (row_side row) { main_data_begin = 0 })
-    ≡ record (row_side row) { main_data_begin = 0 } =
-    side_none steps none (record (row_side row) { main_data_begin = 0 }) (record {
-      scfsi = shaped.scfsi;
-      granules = shaped.granules;
-      first = shaped.first;
-      second = shaped.second;
-    })
-    (record { first = fits.first; second = fits.second; third = fits.third; fourth = fits.fourth })
-    in
-    λ j. record (stream_frame main o rows i row) { side = side j }
+    grind (arith, counts_shaped, row_shaped, here, counts_fit, row_fits, side_none)
 
 still_frames : (steps : Steps) → IsNoStep steps
     → (file main : List ℕ) (o : Option Head) (rows : List Row) (n : ℕ) (more : List Row)
@@ -147,8 +122,7 @@ still_frames : (steps : Steps) → IsNoStep steps
     ≡ map (λ (p : ℕ × Row). stream_frame main o rows p.0 p.1) (enumerate_from n more)
 still_frames steps none file main o rows n [] frames = refl
 still_frames steps none file main o rows n (row ∷ more) frames =
-    ap₂ (λ (f : StreamFrame) (fs : List StreamFrame). f ∷ fs) (still_frame steps none file main o
-    rows n row frames.0) (still_frames steps none file main o rows (n + 1) more frames.1)
+    grind (arith, still_frame, still_frames steps none file main o rows (n + 1) more frames.1)
 
 -- with 0 steps the stream of the edited file is the stream of the file
 pub stream_still : (steps : Steps) → IsNoStep steps → (file : List ℕ) (allowed : ℕ)
@@ -189,10 +163,7 @@ right_back _ steps = +ℤ_invr steps
 
 -- a shift and its opposite together are no step
 together : (shift : Shift) → AreTogether (steps_of shift) (steps_of (opposite_shift shift)) still
-together shift = record {
-  left = sym (left_back shift.channels shift.steps);
-  right = sym (right_back shift.channels shift.steps);
-}
+together shift = grind (arith, left_back, right_back)
 
 -- ---- the channels
 
@@ -213,24 +184,13 @@ joint_back steps gap (row ∷ rows) none =
 apart_back : (steps : ℕ → Steps) (s : SurveyFields) → single_channel_fault s ≡ None
     → single_channel_fault (edited_survey steps s) ≡ None
 unfolding edited_survey
-apart_back steps s none = by_channels (s.class.channels == 1) none
-  where
-    by_channels : (b : Bool) → cond b (Some Mono) (joint_fault s.frames) ≡ None
-        → cond b (Some Mono) (joint_fault (map (edited_row steps (junk_length s)) s.frames)) ≡ None
-    by_channels true e = absurd cc
-    by_channels false e = joint_back steps (junk_length s) s.frames e
+apart_back steps s none = grind (arith, joint_back)
 
 -- the modes and the class stay, so the opposite change may be made on one channel too
 channel_back : (shift : Shift) (s : SurveyFields) → channel_fault shift s ≡ None
     → channel_fault (opposite_shift shift) (edited_survey (constant_steps (steps_of shift)) s)
     ≡ None
-channel_back shift s none = by_choice (are_both shift.channels) none
-  where
-    by_choice : (b : Bool) → cond b None (single_channel_fault s) ≡ None
-        → cond b None (single_channel_fault (edited_survey (constant_steps (steps_of shift)) s))
-        ≡ None
-    by_choice true e = refl
-    by_choice false e = apart_back (constant_steps (steps_of shift)) s e
+channel_back shift s none = grind (arith, apart_back)
 
 -- ---- a change without a note
 
@@ -240,23 +200,13 @@ pub plain-parts : (shift : Shift) (file : List ℕ) (s : SurveyFields) (change :
     × (range_fault (constant_steps (steps_of shift)) s.frames ≡ None)
     × (record { steps = constant_steps (steps_of shift); tag = None } ≡ change)
 unfolding gain_change
-plain-parts shift file s change e =
-    let parts = refusal_or-ok (or_else (channel_fault shift s)
-    (range_fault (constant_steps (steps_of shift)) s.frames)) _ change e in
-    let nones =
-    none_first (channel_fault shift s)
-    (range_fault (constant_steps (steps_of shift)) s.frames) parts.0 in
-    (nones.0, nones.1, parts.1)
+plain-parts shift file s change e = grind (arith, refusal_or-ok, none_first)
 
 plain-ok : (shift : Shift) (file : List ℕ) (s : SurveyFields) → channel_fault shift s ≡ None
     → range_fault (constant_steps (steps_of shift)) s.frames ≡ None → gain_change shift false file s
     ≡ Ok (record { steps = constant_steps (steps_of shift); tag = None })
 unfolding gain_change
-plain-ok shift file s apart free =
-    ap (λ (o : Option Refusal). refusal_or o
-    (record { steps = constant_steps (steps_of shift); tag = None }))
-    (none_both (channel_fault shift s)
-    (range_fault (constant_steps (steps_of shift)) s.frames) apart free)
+plain-ok shift file s apart free = grind (arith, none_both)
 
 -- without a new tag the changed file is the edited file
 pub plain-file_with_change : (steps : ℕ → Steps) (file : List ℕ) (s : SurveyFields)

@@ -1,14 +1,13 @@
 -- What a command makes of a file: it is well-formed, its stream is the file's with each gain moved,
 -- and the command is as the one body requires.
-use Rattle.std.proofs.Common.{ap, arith, cond, Err, false, inl, inr, length, List, map, None, Ok}
-use Rattle.std.proofs.Common.{Option, refl, Result, Some, subst, sym, true, ℕ, [], ◌+◌, ◌==◌, ◌∙◌}
-use Rattle.std.{proofs.Common.{◌∷◌, ◌≡◌}, specs.{List.enumerate_from, Prelude.{IfErr, IfSome}}}
+use Rattle.std.proofs.Common.{ap, arith, Err, false, length, List, map, None, Ok, Option, refl}
+use Rattle.std.proofs.Common.{Result, Some, subst, sym, true, ℕ, [], ◌+◌, ◌∙◌, ◌∷◌, ◌≡◌}
+use Rattle.std.specs.{List.enumerate_from, Prelude.{IfErr, IfSome}}
 use Rattle.bit_fields.specs.Bits.{AreBytes}
 use Rattle.commands.proofs.InputLemmas.{file_makes, file_proper, IsProperMaking}
-use Rattle.commands.{proofs.RefusingLemmas.{refusal_or-ok, then_ok}, specs.AfterCall.IsLateFault}
-use Rattle.commands.specs.Refusing.{or_else, then_made}
+use Rattle.commands.{proofs.RefusingLemmas.{refusal_or-ok, then_ok}, specs.Refusing.or_else}
 use Rattle.commands.specs.SingleOutput.{IsMaking, IsProperTask, made_file, most_frames}
-use Rattle.commands.specs.{SingleOutput.surveyed_result, declared.fault.EditFault.EditFault}
+use Rattle.commands.specs.declared.fault.EditFault.{EditFault}
 use Rattle.gain_edits.proofs.RefusalLemmas.{change_late}
 use Rattle.gain_edits.specs.Change.{change_making, change_result, changed_or_fault, Changing}
 use Rattle.gain_edits.specs.Change.{moved_file_stream}
@@ -39,24 +38,15 @@ use Rattle.sync_survey.proofs.SurveyPartsLemmas.{survey_fields-allowed}
 use Rattle.sync_survey.proofs.SurveyedFileLemmas.{survey_of-parts}
 use Rattle.sync_survey.specs.Faults.{HoldsStream, stream_of, stream_of_survey, survey_fields}
 use Rattle.sync_survey.specs.Faults.{surveyed_stream, SurveyFields}
-use Rattle.sync_survey.specs.MainData.{main_bytes, stream_frame, stream_frames, StreamFrame}
-use Rattle.sync_survey.specs.{Row.Row, Survey.survey_of, declared.places.{Head.Head, Piece.Piece}}
+use Rattle.sync_survey.specs.{MainData.{main_bytes, stream_frame, stream_frames}, Row.Row}
+use Rattle.sync_survey.specs.{Survey.survey_of, declared.places.{Head.Head, Piece.Piece}}
 use Rattle.tag_blocks.proofs.TagsLemmas.{block_front-tag_bytes}
 use Rattle.tag_blocks.proofs.UndoItemsLemmas.{IsTag-with_undo, IsTag-without_undo}
 use Rattle.tag_blocks.specs.{Tags.{IsTag, tag_bytes, TagFields}, UndoItems.undo_from}
 use Rattle.tag_blocks.specs.declared.undo.Undo.{Undo}
 
 IsTag-empty : IsTag empty_tag
-IsTag-empty = record {
-  items = refl;
-  one = omega arith;
-  others = omega arith;
-  own = omega arith;
-  header_bits = refl;
-  footer_bits = refl;
-  header_number = refl;
-  footer_number = refl;
-}
+IsTag-empty = grind arith
 
 abbrev ok_tag : TagFields → Result TagFields FileTagFault
 ok_tag tag = Ok tag
@@ -94,17 +84,14 @@ made_cases of file new s (Ok change) made e = record { change = change; made = m
 pub made_of : (of : Changing) (file new : List ℕ) (s : SurveyFields)
     → survey_of file most_frames ≡ Ok s → change_result of file ≡ Ok new → IsMadeBy of file new s
 unfolding made_file
-made_of of file new s is e =
-    made_cases of file new s (of file s) refl
-    (ap (surveyed_result (change_making of) file) (sym is) ∙ e)
+made_of of file new s is e = grind (arith, made_cases, is)
 
 -- a change of a surveyed file makes the changed file
 pub file_with_change-ok : (of : Changing) (file : List ℕ) (s : SurveyFields) (change : FileChange)
     → survey_of file most_frames ≡ Ok s → of file s ≡ Ok change
     → change_result of file ≡ Ok (file_with_change change file s)
 unfolding made_file
-file_with_change-ok of file s change is made =
-    ap (surveyed_result (change_making of) file) is ∙ ap (changed_or_fault file s) made
+file_with_change-ok of file s change is made = grind (arith, is, made)
 
 -- ---- the stream
 
@@ -132,8 +119,7 @@ module _ (file : List ℕ) (allowed : ℕ) (s : SurveyFields) (all : AreBytes fi
       ≡ Ok (survey_with o (edited_survey steps s))
   tagged_is steps None tags = edited_file-survey steps
   tagged_is steps (Some tag) tags =
-      survey_fields-retagged_fields (edited_file steps file s) tag allowed
-      (edited_survey steps s) (edited_file-survey steps) (no_junk steps s) tags
+      grind (arith, survey_fields-retagged_fields, edited_file-survey, no_junk)
 
   -- the changed file has the survey of the file, changed
   pub survey_fields-file_with_change : (change : FileChange) → IfSome change.tag IsTagBytes
@@ -176,9 +162,8 @@ module _ (file : List ℕ) (allowed : ℕ) (s : SurveyFields) (all : AreBytes fi
 pub changed-stream : (of : Changing) (file new : List ℕ) (s : SurveyFields)
     (c : IsMadeBy of file new s) → AreBytes file → survey_of file most_frames ≡ Ok s
     → IfSome c.change.tag IsTagBytes → IsStreamMoved c.change.steps file new
-changed-stream of file new s c all is tags = subst (IsStreamMoved c.change.steps file) c.bytes
-    (file_with_change-moved file most_frames s all
-    (survey_of-parts file most_frames s is).1 c.change tags)
+changed-stream of file new s c all is tags =
+    grind (arith, file_with_change-moved, survey_of-parts, is)
 
 -- the stream of a file is the stream of its survey
 pub stream_of-survey : (file : List ℕ) (s : SurveyFields)
@@ -191,9 +176,7 @@ each_even : (steps : Steps) (main : List ℕ) (o : Option Head) (rows : List Row
     → map (λ (p : ℕ × Row). moved_stream_frame steps (stream_frame main o rows p.0 p.1)) more
     ≡ map (moved_stream_frame steps) (map (λ (p : ℕ × Row). stream_frame main o rows p.0 p.1) more)
 each_even steps main o rows [] = refl
-each_even steps main o rows (p ∷ more) =
-    ap (λ (l : List StreamFrame). moved_stream_frame steps (stream_frame main o rows p.0 p.1) ∷ l)
-    (each_even steps main o rows more)
+each_even steps main o rows (p ∷ more) = grind (arith, each_even steps main o rows more)
 
 -- the moved stream, if all frames have the same steps
 pub constant_steps-stream : (steps : Steps) (file : List ℕ) (s : SurveyFields)
@@ -206,20 +189,13 @@ constant_steps-stream steps file s =
 -- the new file holds the moved stream
 pub holds_moved : (steps : ℕ → Steps) (file new : List ℕ) (h : IsStreamMoved steps file new)
     → HoldsStream new (moved_stream_of steps file h.before.0)
-holds_moved steps file new h = record {
-  well_formed = h.after;
-  stream_is = stream_of-survey new h.after.0 h.after.1 ∙ h.stream;
-}
+holds_moved steps file new h = grind (arith, stream_is, stream_of-survey)
 
 -- a file whose stream is moved holds the moved stream
 pub moved_holds : (steps : Steps) (file new : List ℕ)
     → IsStreamMoved (constant_steps steps) file new
     → HoldsStream new (map (moved_stream_frame steps) (stream_of file))
-moved_holds steps file new h =
-    subst (HoldsStream new)
-    (constant_steps-stream steps file h.before.0 ∙ ap (map (moved_stream_frame steps))
-    (sym (stream_of-survey file h.before.0 h.before.1)))
-    (holds_moved (constant_steps steps) file new h)
+moved_holds steps file new h = grind (arith, constant_steps-stream, stream_of-survey, holds_moved)
 
 -- ---- changes that aren't refused
 
@@ -289,19 +265,14 @@ read-tag file s tag all is e = file_tag-is file most_frames s tag all
 
 -- the bytes of a tag, or none if it has no items, may replace a tag
 pub unless_empty-are : (tag : TagFields) → IsTag tag → IsTagBytes (bytes_unless_empty tag)
-unless_empty-are tag is = elim (length tag.items == 0) as (λ b. IsTagBytes (cond b []
-    (tag_bytes tag))) [ true ↦ inl refl | false ↦ inr (block_front-tag_bytes tag is) ]
+unless_empty-are tag is = grind (arith, block_front-tag_bytes, is)
 
 -- the new tag of a noted change
 pub noted-tag : (shift : Shift) (file : List ℕ) (s : SurveyFields) (change : FileChange)
     → AreBytes file → survey_of file most_frames ≡ Ok s → tagged_change shift file s ≡ Ok change
     → IfSome change.tag IsTagBytes
 noted-tag shift file s change all is e =
-    let parts = tagged-parts shift file s change e in
-    let next = next_undo shift parts.undo in
-    subst (λ (c : FileChange). IfSome c.tag IsTagBytes)
-    parts.is (inr (block_front-tag_bytes (tag_with_undo next parts.tag)
-    (IsTag-with_undo next parts.tag (read-tag file s parts.tag all is parts.read))))
+    grind (arith, tagged-parts, change, block_front-tag_bytes, IsTag-with_undo, read-tag, is)
 
 -- the new tag of an undo
 pub undone-tag : (file : List ℕ) (s : SurveyFields) (change : FileChange) → AreBytes file
@@ -323,17 +294,11 @@ change_is : (changes : Changes) (file : List ℕ) (s : SurveyFields) (change : F
     → IsChangeOf changes file change
 unfolding gain_change
 change_is (Move shift true) file s change all is e =
-    let parts = tagged-parts shift.now file s change e in
-    (ap (λ (c : FileChange). c.steps) (sym parts.is), noted-tag shift.now file s change all is e)
-change_is (Move shift false) file s change all is e =
-    let parts = refusal_or-ok (or_else (channel_fault shift.now s)
-    (range_fault (constant_steps (steps_of shift.now)) s.frames)) _ change e in
-    subst (IsChangeOf (Move shift false) file) parts.1 (refl, tt)
+    grind (arith, tagged-parts, change, noted-tag, is)
+change_is (Move shift false) file s change all is e = grind (arith, refusal_or-ok, change)
 change_is UndoAll file s change all is e =
     let parts = undone-parts file s change e in
-    let undo : file_undo file s ≡ Ok parts.undo =
-    ap (λ (r : Result TagFields EditFault). then_made r
-    (λ tag. found_undo (tag_offset s) (undo_from 32 tag.items))) parts.read ∙ parts.item in (
+    let undo : file_undo file s ≡ Ok parts.undo = grind arith in (
       ap (λ (c : FileChange). c.steps) (sym parts.is)
           ∙ ap constant_steps (sym (ap (surveyed_undo_steps file) is ∙ ap undo_result_steps undo)),
       undone-tag file s change all is e,
@@ -359,11 +324,7 @@ moved_stream changes file s new all is e =
 
 proper : (changes : Changes) → IsProperMaking (change_making (changing_of changes))
     (moved_file_stream (steps_of_changes changes))
-proper changes = record {
-  late = λ file s. changed_all IsLateFault file s (changing_of changes file s)
-      (change_late changes file s);
-  streams = moved_stream changes;
-}
+proper changes = grind (arith, changed_all, change_late, moved_stream changes)
 
 -- a change of the input makes the changed file
 pub edit_makes : (changes : Changes) (input : List ℕ) (s : SurveyFields) (change : FileChange)

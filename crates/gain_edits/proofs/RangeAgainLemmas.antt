@@ -1,10 +1,9 @@
 -- Two changes of gains, one after the other: if no gain leaves its range by either, none does by
 -- both together, nor when the first is taken back.
-use Rattle.std.proofs.Common.{ap, ap₂, arith, Bool, cond, false, List, map, None, not, Option, pos}
-use Rattle.std.proofs.Common.{refl, Some, subst, sym, true, ℕ, ℤ, ◌+ℤ◌, [], ◌&&◌, ◌<◌, ◌||◌, ◌∙◌}
-use Rattle.std.proofs.{Common.{◌∷◌, ◌≡◌}, Math.IntN.+ℤ_idr, lemmas.Bool.le-ltb}
+use Rattle.std.proofs.Common.{ap₂, arith, Bool, cond, false, List, map, None, Option, pos, refl}
+use Rattle.std.proofs.Common.{Some, sym, true, ℕ, ℤ, ◌+ℤ◌, [], ◌<◌, ◌||◌, ◌∙◌, ◌∷◌, ◌≡◌}
+use Rattle.std.proofs.lemmas.Bool.{le-ltb}
 use Rattle.commands.proofs.RefusingLemmas.{first-cons, first-nil, none_both, none_first}
-use Rattle.frame_header.specs.Tables.{class_of}
 use Rattle.gain_edits.specs.GainRange.{out_of_range_refusal, range_fault, row_range_fault}
 use Rattle.moved_gains.proofs.MovedAgainLemmas.{AreTogether, stood}
 use Rattle.moved_gains.proofs.MovedFrameLemmas.{gains_fit, whole_class}
@@ -13,8 +12,7 @@ use Rattle.moved_gains.proofs.MovedGainLemmas.{is_stuck, IsNoStep, moved_granule
 use Rattle.moved_gains.proofs.MovedGainLemmas.{wrapped-free}
 use Rattle.moved_gains.proofs.WholeFrameLemmas.{AreFramesOf, frame_of, IsFrameOf, row_shaped}
 use Rattle.moved_gains.specs.{Course.constant_steps, Edited.row_out_of_range}
-use Rattle.moved_gains.specs.Gains.{is_out_of_range, is_silent_granule, moved_granule, moved_side}
-use Rattle.moved_gains.specs.Gains.{moved_side_unless_lost, side_out_of_range}
+use Rattle.moved_gains.specs.Gains.{moved_side, moved_side_unless_lost, side_out_of_range}
 use Rattle.moved_gains.specs.declared.gains.OutOfRange.{OutOfRange}
 use Rattle.requests.specs.declared.shift.Steps.{Steps}
 use Rattle.side_info.proofs.FrameLemmas.{fits-side_in}
@@ -33,22 +31,7 @@ both-with : (one two all : Steps) → one.wrap ≡ false → two.wrap ≡ false 
     → AreTogether one two all → (m p a b : ℕ) (g h k l : Granule)
     → BothGoal one two all (side_with m p a b g h k l)
 both-with one two all strict_one strict_two strict_all sum m p a b g h k l first second =
-    let f = free-parts one m p a b g h k l strict_one first in
-    let w =
-    free-parts two m p a b (moved_granule one.left g) (moved_granule one.right h)
-    (moved_granule one.left k)
-    (moved_granule one.right l) strict_two
-    (sym (ap (side_out_of_range two) (moved_granule-with one m p a b g h k l)) ∙ second) in
-    let on_left = granule_next one.left two.left all.left sum.left in
-    let on_right = granule_next one.right two.right all.right sum.right in
-    free-whole all m p a b g h k l
-    (record {
-      first = sym (on_left g f.first) ∙ w.first;
-      second = sym (on_right h f.second) ∙ w.second;
-      third = sym (on_left k f.third) ∙ w.third;
-      fourth = sym (on_right l f.fourth) ∙ w.fourth;
-    })
-    strict_all
+    grind (arith, free-parts, moved_granule-with, granule_next, free-whole)
 
 -- if no gain is stuck by the one change and then by the other, none is by both together
 pub side_both : (one two all : Steps) (s : Side) → IsShaped s → all.wrap ≡ one.wrap || two.wrap
@@ -69,28 +52,14 @@ abbrev pub still : Steps
 still = record { left = pos 0; right = pos 0; wrap = false }
 
 still_granule : (z : ℤ) → z ≡ pos 0 → (g : Granule) → g.global_gain < 256 → is_stuck z g ≡ false
-still_granule z none g small =
-    let inside : is_out_of_range (pos g.global_gain +ℤ pos 0) ≡ false =
-    ap is_out_of_range (+ℤ_idr (pos g.global_gain))
-    ∙ le-ltb 255 g.global_gain (omega (arith, small)) in
-    ap (λ z. is_stuck z g) none ∙ (elim (is_silent_granule g) as (λ b.
-    (not b && is_out_of_range (pos g.global_gain +ℤ pos 0))
-    ≡ false) [ true ↦ refl | false ↦ inside ])
+still_granule z none g small = grind (arith, pos, le-ltb, is_stuck)
 
 abbrev StillGoal : Steps → Side → Type 0
 StillGoal steps s = GainsFit s → side_out_of_range steps s ≡ None
 
 still-with : (steps : Steps) → IsNoStep steps → steps.wrap ≡ false
     → (m p a b : ℕ) (g h k l : Granule) → StillGoal steps (side_with m p a b g h k l)
-still-with steps none strict m p a b g h k l fits =
-    free-whole steps m p a b g h k l
-    (record {
-      first = still_granule steps.left none.0 g fits.first;
-      second = still_granule steps.right none.1 h fits.second;
-      third = still_granule steps.left none.0 k fits.third;
-      fourth = still_granule steps.right none.1 l fits.fourth;
-    })
-    strict
+still-with steps none strict m p a b g h k l fits = grind (arith, free-whole, still_granule)
 
 -- by 0 steps no gain is stuck
 pub side_still : (steps : Steps) → IsNoStep steps → steps.wrap ≡ false → (s : Side) → IsShaped s
@@ -100,9 +69,7 @@ side_still steps none strict s shaped =
 
 -- the gains of a frame fit
 pub row_fits : (file : List ℕ) (row : Row) → IsFrameOf file row → GainsFit row.side
-row_fits file row here =
-    subst GainsFit (sym here.side) (gains_fit (class_of row.header) _ (fits-side_in row.header
-    (frame_of file row) (whole_class row.header (frame_of file row) here.whole)))
+row_fits file row here = grind (arith, gains_fit, fits-side_in, frame_of, whole_class)
 
 -- ---- all frames
 
@@ -114,18 +81,13 @@ stuck_none at None e = refl
 pub frame-none : (steps : ℕ → Steps) (row : Row) (rows : List Row)
     → range_fault steps (row ∷ rows) ≡ None
     → (row_out_of_range (steps row.offset) row ≡ None) × (range_fault steps rows ≡ None)
-frame-none steps row rows none =
-    let parts = none_first (row_range_fault steps row) (range_fault steps rows)
-    (sym (first-cons (row_range_fault steps) row rows) ∙ none) in
-    (stuck_none row.offset (row_out_of_range (steps row.offset) row) parts.0, parts.1)
+frame-none steps row rows none = grind (arith, none_first, first-cons, stuck_none)
 
 -- if no gain of the first frame is stuck and none of the others is, none of all is
 pub none-frame : (steps : ℕ → Steps) (row : Row) (rows : List Row)
     → row_out_of_range (steps row.offset) row
     ≡ None → range_fault steps rows ≡ None → range_fault steps (row ∷ rows) ≡ None
-none-frame steps row rows here rest = first-cons (row_range_fault steps) row rows ∙ none_both
-    (row_range_fault steps row) (range_fault steps rows)
-    (ap (out_of_range_refusal row.offset) here) rest
+none-frame steps row rows here rest = grind (arith, first-cons, none_both)
 
 -- what follows for a frame none of whose gains leaves the range also follows for a lost one, whose
 -- gains are never looked at
@@ -147,8 +109,7 @@ pub range_both : (one two all : Steps) → all.wrap ≡ one.wrap || two.wrap →
     → range_fault (constant_steps one) rows ≡ None
     → range_fault (constant_steps two) (map (stood to (constant_steps one)) rows)
     ≡ None → range_fault (constant_steps all) rows ≡ None
-range_both one two all wraps sum file to [] frames first second =
-    first-nil (row_range_fault (constant_steps all))
+range_both one two all wraps sum file to [] frames first second = grind (arith, first-nil)
 range_both one two all wraps sum file to (row ∷ rows) frames first second =
     let f = frame-none (constant_steps one) row rows first in
     let t =
@@ -185,8 +146,7 @@ pub range_back : (one two : ℕ → Steps) (file : List ℕ) (to : ℕ → ℕ) 
     → range_fault two (map (stood to one) rows) ≡ None
 range_back one two file to [] opposite frames free = first-nil (row_range_fault two)
 range_back one two file to (row ∷ rows) opposite frames free =
-    let or_none : (b : Bool) → b ≡ b || false =
-    λ b. elim b as (λ c. c ≡ c || false) [ true ↦ refl | false ↦ refl ] in
+    let or_none : (b : Bool) → b ≡ b || false = grind arith in
     let a = one row.offset in
     let b = two (to row.offset) in
     let f = frame-none one row rows free in

@@ -1,7 +1,7 @@
 -- Which refusals gain and undo return, why the tag can't be read, and what the code returns.
 use Rattle.std.proofs.Common.{ap, ap₂, arith, Bool, cond, Err, false, inl, inr, List, None, Ok}
-use Rattle.std.proofs.Common.{Option, refl, Result, Some, subst, sym, true, ℕ, [], ◌+◌, ◌==◌, ◌∙◌}
-use Rattle.std.proofs.{Common.{◌∷◌, ◌≡◌, ◌≤◌}, lemmas.{List.Sums.sum_by-cons, Result.IfErr-weaker}}
+use Rattle.std.proofs.Common.{Option, refl, Result, Some, subst, sym, true, ℕ, [], ◌+◌, ◌∙◌, ◌∷◌}
+use Rattle.std.proofs.{Common.{◌≡◌, ◌≤◌}, lemmas.{List.Sums.sum_by-cons, Result.IfErr-weaker}}
 use Rattle.std.specs.Prelude.{IfErr, IfSome, is_some, nat_lt, unsigned_abs, ◌⊎◌}
 use Rattle.commands.proofs.InputLemmas.{memory_is_input, refusal_numbers, refused_is_input}
 use Rattle.commands.proofs.RefusingLemmas.{of_err, refusal_or-late, then_all, then_late}
@@ -9,13 +9,11 @@ use Rattle.commands.specs.AfterCall.{HasInputNumbers, IsEditRefusal, IsLateFault
 use Rattle.commands.specs.Refusing.{first_refusal, or_else, refusal_or, then_made}
 use Rattle.commands.specs.SingleOutput.{IsInputFault, most_frames}
 use Rattle.commands.specs.declared.fault.EditFault.{EditFault, TheVariants.{Memory, Refused}}
-use Rattle.commands.specs.declared.fault.Refusal.{Refusal}
-use Rattle.commands.specs.declared.fault.Refusal.TheVariants.{GainRange, Joint, Mono, UndoRange}
+use Rattle.commands.specs.declared.fault.Refusal.{Refusal, TheVariants.{GainRange, UndoRange}}
 use Rattle.gain_edits.specs.Change.{change_making, changed_or_fault, IsChangeDecided}
 use Rattle.gain_edits.specs.Changes.{are_noted, changing_of, decided_change, IsDecision}
 use Rattle.gain_edits.specs.Changes.{refuses_of_changes}
-use Rattle.gain_edits.specs.Channels.{are_both, channel_fault, is_joint, joint_fault, joint_refusal}
-use Rattle.gain_edits.specs.Channels.{single_channel_fault}
+use Rattle.gain_edits.specs.Channels.{channel_fault, joint_fault, single_channel_fault}
 use Rattle.gain_edits.specs.Gain.{gain_change, gain_refuses, noted_change, noted_tag_change}
 use Rattle.gain_edits.specs.Gain.{plain_change}
 use Rattle.gain_edits.specs.GainRange.{out_of_range_refusal, range_fault, row_range_fault}
@@ -25,7 +23,7 @@ use Rattle.gain_edits.specs.UndoItem.{size_fault, tag_edit_fault, tag_result, ta
 use Rattle.gain_edits.specs.{UndoItem.undo_fault, declared.changes.Changes.Changes}
 use Rattle.gain_edits.specs.declared.changes.Changes.TheVariants.{Move, Undo as UndoAll}
 use Rattle.moved_gains.specs.{Change.FileChange, Course.constant_steps, Edited.row_out_of_range}
-use Rattle.moved_gains.specs.{TagPlace.tag_offset, TagReading.{file_tag, IsTagCause}}
+use Rattle.moved_gains.specs.TagReading.{file_tag, IsTagCause}
 use Rattle.moved_gains.specs.declared.change.Change.{Change as CodeChange}
 use Rattle.moved_gains.specs.declared.gains.OutOfRange.{OutOfRange}
 use Rattle.moved_gains.specs.declared.tag_fault.FileTagFault.{FileTagFault}
@@ -46,8 +44,7 @@ use Rattle.tag_blocks.specs.declared.undo.UndoItem.TheVariants.{Bad, Found}
 undo_cases : (b : Bool) (start next place : ℕ) (o : Option Undo) (later : UndoItem)
     → cond b (undo_at start o) later ≡ Bad place → start ≤ next → (later ≡ Bad place → place ≤ next)
     → place ≤ next
-undo_cases true start next place None later e low rest = let same : start ≡ place = cc in
-    omega (arith, same, low)
+undo_cases true start next place None later e low rest = grind arith
 undo_cases true start next place (Some undo) later e low rest = absurd cc
 undo_cases false start next place o later e low rest = rest e
 
@@ -96,8 +93,7 @@ first_may : {A : Type 0} (may : Refusal → Bool) (refuse : A → Option Refusal
     → ((a : A) → May may (refuse a)) → (list : List A) → May may (first_refusal refuse list)
 unfolding first_refusal
 first_may may refuse each [] = tt
-first_may may refuse each (a ∷ list) =
-    or_may may (refuse a) (first_refusal refuse list) (each a) (first_may may refuse each list)
+first_may may refuse each (a ∷ list) = grind (arith, or_may, first_may may refuse each list)
 
 -- if any gain out of range may be refused, the first one may
 pub range_may : (may : Refusal → Bool)
@@ -112,25 +108,19 @@ range_may may range steps rows =
     stuck_may row None = tt
 
 joint_may : (tags : Bool) (rows : List Row) → May (gain_refuses tags) (joint_fault rows)
-joint_may tags rows = first_may (gain_refuses tags) joint_refusal
-    (λ row. where_may (gain_refuses tags) (is_joint row) (Joint row.offset) refl) rows
+joint_may tags rows = grind (arith, first_may, where_may)
 
 apart_may : (tags : Bool) (s : SurveyFields) → May (gain_refuses tags) (single_channel_fault s)
-apart_may tags s = elim (s.class.channels == 1) as (λ b. May (gain_refuses tags)
-    (cond b (Some Mono) (joint_fault s.frames))) [ true ↦ refl | false ↦ joint_may tags s.frames ]
+apart_may tags s = grind (arith, joint_may tags s.frames)
 
 channel_may : (tags : Bool) (shift : Shift) (s : SurveyFields)
     → May (gain_refuses tags) (channel_fault shift s)
-channel_may tags shift s = elim (are_both shift.channels) as (λ b. May (gain_refuses tags)
-    (cond b None (single_channel_fault s))) [ true ↦ tt | false ↦ apart_may tags s ]
+channel_may tags shift s = grind (arith, apart_may tags s)
 
 -- a change without a note is refused only with its refusals
 pub plain_may : (tags : Bool) (shift : Shift) (s : SurveyFields)
     → IfErr (plain_change shift s) (IsEditRefusal (gain_refuses tags))
-plain_may tags shift s =
-    refusal_or-may (gain_refuses tags) _ _
-    (or_may (gain_refuses tags) (channel_fault shift s) _ (channel_may tags shift s)
-    (range_may (gain_refuses tags) (λ o g c n. refl) (constant_steps (steps_of shift)) s.frames))
+plain_may tags shift s = grind (arith, refusal_or-may, or_may, channel_may tags shift s, range_may)
 
 noted_may : (shift : Shift) (s : SurveyFields) (tag : TagFields) (undo : Undo)
     → IfErr (noted_change shift s tag undo) (IsEditRefusal (gain_refuses true))
@@ -151,8 +141,7 @@ noted_may shift s tag undo =
 
 undone_may : (s : SurveyFields) (tag : TagFields) (undo : Undo)
     → IfErr (undone_change s tag undo) (IsEditRefusal undo_refuses)
-undone_may s tag undo =
-    refusal_or-may undo_refuses _ _ (range_may undo_refuses (λ o g c n. refl) _ s.frames)
+undone_may s tag undo = grind (arith, refusal_or-may, range_may)
 
 noted_item_may : (at : ℕ) (item : UndoItem)
     → IfErr (noted_undo at item) (IsEditRefusal (gain_refuses true))
@@ -167,19 +156,12 @@ found_item_may at _ = refl
 -- a change with a note is refused only with its refusals
 pub noted_tag_change-may : (shift : Shift) (s : SurveyFields) (tag : TagFields)
     → IfErr (noted_tag_change shift s tag) (IsEditRefusal (gain_refuses true))
-noted_tag_change-may shift s tag =
-    then_all (IsEditRefusal (gain_refuses true))
-    (noted_undo (tag_offset s) (undo_from 32 tag.items))
-    (noted_change shift s tag) (noted_item_may (tag_offset s) (undo_from 32 tag.items))
-    (noted_may shift s tag)
+noted_tag_change-may shift s tag = grind (arith, then_all, noted_item_may, noted_may)
 
 -- an undo is refused only with its refusals
 pub undone_tag_change-may : (s : SurveyFields) (tag : TagFields)
     → IfErr (undone_tag_change s tag) (IsEditRefusal undo_refuses)
-undone_tag_change-may s tag =
-    then_all (IsEditRefusal undo_refuses) (found_undo (tag_offset s) (undo_from 32 tag.items))
-    (undone_change s tag) (found_item_may (tag_offset s) (undo_from 32 tag.items))
-    (undone_may s tag)
+undone_tag_change-may s tag = grind (arith, then_all, found_item_may, undone_may)
 
 -- ---- refusals come after memory was taken
 
@@ -200,15 +182,10 @@ pub change_late : (changes : Changes) (file : List ℕ) (s : SurveyFields)
     → IfErr (changing_of changes file s) IsLateFault
 unfolding gain_change undo_change
 change_late (Move shift true) file s =
-    then_late (tag_result (file_tag file s)) (noted_tag_change shift.now s)
-    (tag_late (file_tag file s))
-    (λ tag. IfErr-weaker (noted_tag_change shift.now s tag) _ _ (refusal_late (gain_refuses true))
-    (noted_tag_change-may shift.now s tag))
+    grind (arith, then_late, tag_late, IfErr-weaker, refusal_late, noted_tag_change-may)
 change_late (Move shift false) file s = refusal_or-late _ _
 change_late UndoAll file s =
-    then_late (tag_result (file_tag file s)) (undone_tag_change s) (tag_late (file_tag file s))
-    (λ tag. IfErr-weaker (undone_tag_change s tag) _ _ (refusal_late undo_refuses)
-    (undone_tag_change-may s tag))
+    grind (arith, then_late, tag_late, IfErr-weaker, refusal_late, undone_tag_change-may)
 
 -- ---- what the definition says
 
@@ -226,12 +203,9 @@ pub noted-is : (changes : Changes) (bytes : List ℕ) (s : SurveyFields)
     → changing_of changes bytes s
     ≡ then_made (tag_result r) (λ tag. decided_change changes s (Some tag))
 unfolding gain_change undo_change
-noted-is (Move shift true) bytes s r noted is =
-    ap (λ (r : Result TagFields FileTagFault). then_made (tag_result r)
-    (noted_tag_change shift.now s)) is
+noted-is (Move shift true) bytes s r noted is = grind arith
 noted-is (Move shift false) bytes s r noted is = absurd cc
-noted-is UndoAll bytes s r noted is =
-    ap (λ (r : Result TagFields FileTagFault). then_made (tag_result r) (undone_tag_change s)) is
+noted-is UndoAll bytes s r noted is = grind arith
 
 -- a change that is decided is refused only with its refusals
 pub decided-may : (changes : Changes) (s : SurveyFields) (o : Option TagFields) → are_noted changes
@@ -292,14 +266,7 @@ module _ (changes : Changes) (name : List ℕ) (old new : Seen) (s : SurveyField
       → ((bytes : List ℕ) → Holds old.files name bytes → changing_of changes bytes s ≡ made)
       → new ≡ old → OnlyReads old.counts new.counts → (r : Result CodeChange EditFault)
       → IsChangeDecided s made r → IsDecision changes name old new s r
-  answered made may whole stays reads (Ok change) is-made = record {
-    change = λ bytes holds. whole bytes holds ∙ is-made;
-    refused = tt;
-    numbers = tt;
-    done = λ i. (stays i).counts;
-    files = λ i. (stays i).files;
-    counts = reads;
-  }
+  answered made may whole stays reads (Ok change) is-made = grind arith
   answered made may whole stays reads (Err fault) answer = record {
     change = tt;
     refused = cause fault answer;

@@ -1,22 +1,20 @@
 -- What a file is after several noted changes of gains, and that undo takes them back.
-use Rattle.std.proofs.Common.{ap, arith, Bool, cond, drop, false, inl, inr, length, List, ltb, map}
-use Rattle.std.proofs.Common.{None, Ok, Option, pos, refl, Result, Some, subst, sym, take}
-use Rattle.std.proofs.Common.{take-append-drop, true, ℕ, ℤ, ◌+ℤ◌, [], ◌++◌, ◌+◌, ◌-◌, ◌==◌, ◌||◌}
-use Rattle.std.proofs.{Common.{◌∙◌, ◌∷◌, ◌≡◌, ◌≤◌}, Math.IntN.{+ℤ_assoc, +ℤ_comm, -ℤ-+ℤ_cancel}}
+use Rattle.std.proofs.Common.{ap, arith, Bool, cond, false, inl, inr, length, List, map, None, Ok}
+use Rattle.std.proofs.Common.{Option, pos, refl, Result, Some, subst, sym, take-append-drop, true}
+use Rattle.std.proofs.Common.{ℕ, ℤ, ◌+ℤ◌, [], ◌+◌, ◌-◌, ◌==◌, ◌||◌, ◌∙◌, ◌∷◌, ◌≡◌, ◌≤◌}
+use Rattle.std.proofs.Math.IntN.{+ℤ_assoc, +ℤ_comm, -ℤ-+ℤ_cancel}
 use Rattle.std.{proofs.lemmas.Bool.{le-ltb, ltb-false, ne_eqb}, specs.Prelude.{unsigned_abs, ◌-ℤ◌}}
 use Rattle.bit_fields.specs.Bits.{AreBytes}
 use Rattle.commands.proofs.RefusingLemmas.{none_first, refusal_or-ok, then_ok}
 use Rattle.commands.specs.{Refusing.{or_else, refusal_or, then_made}, SingleOutput.most_frames}
 use Rattle.commands.specs.declared.fault.{EditFault.EditFault, Refusal.Refusal}
-use Rattle.commands.specs.declared.fault.Refusal.TheVariants.{UndoRange}
 use Rattle.gain_edits.proofs.OppositeStepLemmas.{edited_file-still, own_again, still_holds}
 use Rattle.gain_edits.proofs.ProperLemmas.{file_tag-is, file_with_change-ok, made_of, same_tag}
 use Rattle.gain_edits.proofs.ProperLemmas.{unless_empty-are}
 use Rattle.gain_edits.proofs.RangeAgainLemmas.{constant_steps-opposite, range_back, range_both}
 use Rattle.gain_edits.proofs.{RangeAgainLemmas.still, RefusalLemmas.not_there}
 use Rattle.gain_edits.specs.{Change.change_result, Channels.channel_fault}
-use Rattle.gain_edits.specs.Gain.{gain_change, noted_change, noted_tag_change}
-use Rattle.gain_edits.specs.GainRange.{range_fault}
+use Rattle.gain_edits.specs.{Gain.{gain_change, noted_change}, GainRange.range_fault}
 use Rattle.gain_edits.specs.GivenBack.{gains_result, HasNoEmptyTag, IsGivenBack, tidied_file}
 use Rattle.gain_edits.specs.GivenBack.{UndoGivesBack}
 use Rattle.gain_edits.specs.Undo.{undo_change, undone_change, undone_tag_change}
@@ -37,7 +35,7 @@ use Rattle.moved_gains.specs.Edited.{edited_file}
 use Rattle.moved_gains.specs.Streams.{edited_survey, file_without_junk, junk_length}
 use Rattle.moved_gains.specs.TagLaws.{own_tag_bytes}
 use Rattle.moved_gains.specs.TagPlace.{file_with_tag, tag_block, tag_length, tag_offset}
-use Rattle.moved_gains.specs.TagReading.{empty_tag, file_tag, longest_tag, tag_of_block}
+use Rattle.moved_gains.specs.TagReading.{file_tag, longest_tag, tag_of_block}
 use Rattle.requests.specs.{Shifts.steps_of, declared.shift.{Shift.Shift, Steps.Steps}}
 use Rattle.sync_survey.proofs.{FoldersLemmas.survey_of-short, SurveyedFileLemmas.survey_of-parts}
 use Rattle.sync_survey.specs.Faults.{HoldsStream, longest_file, stream_of, survey_fields}
@@ -71,8 +69,7 @@ missing_cases : (b : Bool) (place : ℕ) (o : Option Undo) (later : UndoItem) (i
     → (later ≡ Missing → left ≡ items) → cond b items (item ∷ left) ≡ item ∷ items
 missing_cases true place None later item items left e rest = absurd cc
 missing_cases true place (Some undo) later item items left e rest = absurd cc
-missing_cases false place o later item items left e rest =
-    ap (λ (l : List TagItem). item ∷ l) (rest e)
+missing_cases false place o later item items left e rest = grind (arith, item)
 
 -- items without an undo item stay the same when it is removed
 without_none : (place : ℕ) (items : List TagItem) → undo_from place items ≡ Missing
@@ -86,14 +83,12 @@ without_none place (item ∷ items) e =
 -- a tag without an undo item stays the same when it is removed
 pub tag_without_undo-none : (tag : TagFields) → undo_from 32 tag.items ≡ Missing
     → tag_without_undo tag ≡ tag
-tag_without_undo-none tag e =
-    ap (λ (l : List TagItem). record tag { items = l }) (without_none 32 tag.items e)
+tag_without_undo-none tag e = grind (arith, without_none)
 
 -- an undo that was put in doesn't change what is left when it is removed
 pub tag_without_undo-with : (undo : Undo) (tag : TagFields)
     → tag_without_undo (tag_with_undo undo tag) ≡ tag_without_undo tag
-tag_without_undo-with undo tag =
-    ap (λ (l : List TagItem). record tag { items = l }) (without_undo-with_undo undo tag.items)
+tag_without_undo-with undo tag = grind (arith, without_undo-with_undo, undo)
 
 -- an undo that was put in is found
 pub found_with : (undo : Undo) (tag : TagFields) → UndoFitsText undo
@@ -105,14 +100,12 @@ found_with undo tag fits = undo_from-with_undo undo tag.items 32 (undo_of-undo_t
 -- a tag is read from the block of its bytes
 pub block_read : (at : ℕ) (tag : TagFields) → IsTag tag → length (tag_bytes tag) ≤ longest_tag
     → tag_of_block at (tag_bytes tag) ≡ Ok tag
-block_read at tag are small =
-    simp (le-ltb longest_tag (length (tag_bytes tag)) small, tag_of-tag_bytes tag are)
+block_read at tag are small = grind (arith, le-ltb, small, tag_of-tag_bytes, are)
 
 -- ---- changes that were accepted
 
 small_number : (number : ℤ) → number_fault number ≡ None → unsigned_abs number ≤ 999
-small_number number e = ltb-false 999 (unsigned_abs number)
-    (not_there (ltb 999 (unsigned_abs number)) (UndoRange number) e)
+small_number number e = grind (arith, ltb-false, not_there)
 
 fits_text : (undo : Undo) → undo_fault undo ≡ None → UndoFitsText undo
 fits_text undo e = let both = none_first (number_fault undo.left) (number_fault undo.right) e in
@@ -152,10 +145,8 @@ noted_parts shift s tag undo change e =
     (range_fault (constant_steps (steps_of shift)) s.frames) size.1 in
     record {
       fits = fits_text next number.0;
-      small = ltb-false longest_tag (length bytes)
-          (not_there (ltb longest_tag (length bytes)) _ size.0);
-      few = ltb-false longest_file (output_length s bytes)
-          (not_there (ltb longest_file (output_length s bytes)) _ output.0);
+      small = grind (arith, ltb-false, not_there);
+      few = grind (arith, ltb-false, not_there);
       free = output.1;
       is = all.1;
     }
@@ -166,10 +157,7 @@ pub gain_noted : (shift : Shift) (file : List ℕ) (s : SurveyFields) (tag : Tag
     → noted_undo (tag_offset s) (undo_from 32 tag.items) ≡ Ok undo
     → gain_change shift true file s ≡ Ok change → AreNoted shift s tag undo change
 unfolding gain_change
-gain_noted shift file s tag undo change read item e =
-    noted_parts shift s tag undo change
-    (sym (ap (λ (r : Result TagFields EditFault). then_made r (noted_tag_change shift s)) read
-    ∙ ap (λ (r : Result Undo EditFault). then_made r (noted_change shift s tag)) item) ∙ e)
+gain_noted shift file s tag undo change read item e = grind (arith, noted_parts, undo, item)
 
 -- ---- what is known of the changed file
 
@@ -254,9 +242,7 @@ module _ (file : List ℕ) (s : SurveyFields) (tag : TagFields) (are : AreBytes 
         let new_own = IsTag-with_undo next tag own in
         let there : last
         ≡ file_with_tag (tag_bytes new_tag) (edited_survey (constant_steps steps) s)
-        (edited_file (constant_steps steps) file s) =
-        sym made.bytes ∙ ap (λ (c : FileChange). file_with_change c file s) (sym noted.is)
-        ∙ file_with_change-with steps (tag_bytes new_tag) file s in
+        (edited_file (constant_steps steps) file s) = grind (arith, file_with_change-with, steps) in
         record {
           steps = steps;
           noted = new_tag;
@@ -294,14 +280,10 @@ module _ (file : List ℕ) (s : SurveyFields) (tag : TagFields) (are : AreBytes 
     n = new_survey (constant_steps g.steps) file most_frames s are is block front
 
     here_survey : survey_of here most_frames ≡ Ok n
-    here_survey = survey_of-short here most_frames (omega (arith, g.few, ap length g.is))
-        ∙ new_is (constant_steps g.steps) file most_frames s are is block front
+    here_survey = grind (arith, survey_of-short, new_is, are, is, front)
 
     here_read : tag_result (file_tag here n) ≡ Ok g.noted
-    here_read =
-        ap tag_result
-        ((has_block (constant_steps g.steps) file most_frames s are is block front).tag
-        ∙ block_read (tag_offset (edited_survey (constant_steps g.steps) s)) g.noted g.are g.small)
+    here_read = grind (arith, has_block, are, is, front, block_read)
 
     abbrev by : ℕ → ℕ
     by = to (constant_steps g.steps) file most_frames s are is block front
@@ -411,33 +393,22 @@ module _ (file : List ℕ) (s : SurveyFields) (tag : TagFields) (are : AreBytes 
       (edited_file (constant_steps still) file s)
       ≡ tidied_file tag s file
   unfolding tidied_file
-  undone-tidied_file =
-      ap (file_with_tag bytes (edited_survey (constant_steps still) s)) edited_file-is
+  undone-tidied_file = grind (arith, still, edited_file-is)
 
   -- the bytes of its tag, written again, are the bytes in the file
   own_cases : (read : file_tag file s ≡ Ok tag) (o : Option Piece) → tag_block s ≡ o
       → HasNoEmptyTag tag s → bytes ≡ own_tag_bytes file s
-  own_cases read None none has =
-      let nothing : empty_tag ≡ tag =
-      same_tag empty_tag tag (sym (file_tag-none file s none) ∙ read) in
-      let size : tag_length s ≡ 0 = (tag_none s none).1 in
-      ap bytes_unless_empty (sym nothing) ∙ sym (ap (λ k. take k (drop (tag_offset s) file)) size)
+  own_cases read None none has = grind (arith, same_tag, file_tag-none, tag_none)
   own_cases read (Some b) some (inl none) = let both : None ≡ Some b = sym none ∙ some in absurd cc
   own_cases read (Some b) some (inr items) =
-      let full : (length tag.items == 0) ≡ false =
-      ne_eqb (length tag.items) 0 (λ e. omega (arith, e, items)) in
+      let full : (length tag.items == 0) ≡ false = grind (arith, ne_eqb) in
       ap (λ (c : Bool). cond c [] (tag_bytes tag)) full
       ∙ ((own-tag file most_frames s is).tag tag b are some read).1
 
   tidied_file-kept : file_tag file s ≡ Ok tag → HasNoEmptyTag tag s
       → tidied_file tag s file ≡ file_without_junk s file
   tidied_file-kept read has =
-      sym undone-tidied_file
-      ∙ ap (λ (l : List ℕ). file_with_tag l (edited_survey (constant_steps still) s)
-      (edited_file (constant_steps still) file s))
-      (own_cases read (tag_block s) refl has)
-      ∙ own_again (constant_steps still) file most_frames s is
-      ∙ edited_file-is
+      grind (arith, undone-tidied_file, still, own_cases, own_again, is, edited_file-is)
 
   tidied_file-stream : IsTag tag → HoldsStream (tidied_file tag s file) (stream_of file)
   tidied_file-stream own =
@@ -449,19 +420,16 @@ module _ (file : List ℕ) (s : SurveyFields) (tag : TagFields) (are : AreBytes 
   given_back : IsTag tag → file_tag file s ≡ Ok tag → undo_from 32 tag.items ≡ Missing
       → (last : List ℕ) → IsGained file s tag last → IsGivenBack file last s tag
   given_back own read none last g =
-      let back : change_result undo_change last ≡ Ok (tidied_file tag s file) =
-      undone last g
-      ∙ ap Ok (ap (λ (t : TagFields). file_with_tag (bytes_unless_empty t)
-      (edited_survey (constant_steps still) s)
-      (edited_file (constant_steps still) file s)) (tag_without_undo-none tag none)
-      ∙ undone-tidied_file) in
-      record {
-        back = back;
-        kept = λ has. back ∙ ap Ok (tidied_file-kept read has);
-        same = λ has clean. back ∙ ap Ok (tidied_file-kept read has
-            ∙ ap (λ n. take s.junk file ++ drop n file) (sym clean) ∙ take-append-drop s.junk file);
-        stream = tidied_file-stream own;
-      }
+      grind (
+        arith,
+        undone,
+        still,
+        tag_without_undo-none,
+        undone-tidied_file,
+        tidied_file-kept,
+        take-append-drop,
+        tidied_file-stream,
+      )
 
 -- one undo takes back one or more changes
 pub gains_undone : UndoGivesBack

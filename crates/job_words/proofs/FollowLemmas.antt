@@ -1,7 +1,7 @@
 -- How many kinds there are, how far words follow them, and what they say.
-use Rattle.std.proofs.Common.{ap, append-nil, arith, cond, drop, get_or, is_some, length}
-use Rattle.std.proofs.Common.{length-append, List, map, min, None, Option, refl, replicate, Some}
-use Rattle.std.proofs.Common.{suc, sym, zero, ℕ, [], ◌++◌, ◌+◌, ◌-◌, ◌<◌, ◌∙◌, ◌∷◌, ◌≡◌, ◌≤◌}
+use Rattle.std.proofs.Common.{ap, append-nil, arith, drop, get_or, is_some, length, length-append}
+use Rattle.std.proofs.Common.{List, map, min, Option, refl, replicate, suc, zero, ℕ, [], ◌++◌, ◌+◌}
+use Rattle.std.proofs.Common.{◌-◌, ◌<◌, ◌∷◌, ◌≡◌, ◌≤◌}
 use Rattle.std.proofs.lemmas.List.{drop_all, drop_more, get_or-map, length-map, length-replicate}
 use Rattle.std.specs.List.{common_prefix_len}
 use Rattle.job_words.specs.Forms.{Form, form_kinds}
@@ -24,11 +24,7 @@ pub length-values_of : (kinds : List Kind) (words : List (List ℕ))
 length-values_of [] words = refl
 length-values_of (kind ∷ kinds) [] = refl
 length-values_of (kind ∷ kinds) (word ∷ words) =
-    elim (word_value kind word) as (λ o. length (said_first o (values_of kinds words))
-    ≡ cond (is_some o) (1 + common_prefix_len fits_kind kinds words) 0) [
-      | Some value ↦ omega (arith, length-values_of kinds words)
-      | None ↦ refl
-    ]
+    grind (arith, is_some, length-values_of kinds words)
 
 no_words : (kinds : List Kind) → values_of kinds [] ≡ []
 no_words [] = refl
@@ -48,11 +44,7 @@ module _ {K W : Type 0} (kind_of : K → Kind) (word_of : W → List ℕ) (kinds
   goes_on c d word o in_kinds in_words word-is is =
       let says : word_value (get_or (map kind_of kinds) i (kind_of c))
       (get_or (map word_of words) i [])
-      ≡ o = rw (
-        get_or-map kind_of kinds i c (kind_of c) in_kinds,
-        get_or-map word_of words i d [] in_words,
-        ← word-is,
-      ) is in
+      ≡ o = grind (arith, get_or-map) in
       rw (
         drop_more (map kind_of kinds) i (kind_of c) (rw length-map in_kinds),
         drop_more (map word_of words) i [] (rw length-map in_words),
@@ -61,8 +53,4 @@ module _ {K W : Type 0} (kind_of : K → Kind) (word_of : W → List ℕ) (kinds
 
   -- past the last word, all was read
   pub ends : length words ≤ i → so_far ≡ values_of (map kind_of kinds) (map word_of words)
-  ends end =
-      let none : values_of (drop i (map kind_of kinds)) (drop i (map word_of words)) ≡ [] =
-      rw (drop_all i (map word_of words) (rw length-map end))
-      (no_words (drop i (map kind_of kinds))) in
-      sym (append-nil so_far) ∙ ap (λ (rest : List Said). so_far ++ rest) (sym none) ∙ before
+  ends end = grind (arith, drop_all, length-map, no_words, append-nil)

@@ -1,16 +1,14 @@
 -- Searches, members, greatest numbers and agreeing lists.
-use Rattle.std.proofs.Common.{ap, arith, Bool, cond, drop, false, inl, inr, length, List, map, max}
-use Rattle.std.proofs.Common.{min, None, refl, replicate, Some, subst, suc, sym, take, true, zero}
-use Rattle.std.proofs.Common.{ℕ, [], ◌&&◌, ◌++◌, ◌+◌, ◌↔◌, ◌∙◌, ◌∷◌, ◌≡◌, ◌≤◌, ◌⊎◌}
-use Rattle.std.proofs.lemmas.{Bool.{and_parts, cases_lt}, Grind.common_steps}
-use Rattle.std.proofs.lemmas.List.{get_or-map, length-map}
+use Rattle.std.proofs.Common.{arith, Bool, cond, drop, false, inl, inr, length, List, map, max, min}
+use Rattle.std.proofs.Common.{None, refl, replicate, Some, suc, take, true, zero, ℕ, [], ◌++◌, ◌↔◌}
+use Rattle.std.proofs.{Common.{◌∙◌, ◌∷◌, ◌≡◌, ◌≤◌, ◌⊎◌}, lemmas.Bool.{and_parts, cases_lt}}
+use Rattle.std.proofs.lemmas.{Grind.common_steps, List.{get_or-map, length-map}}
 use Rattle.std.proofs.lemmas.List.Elements.{All-append, All-cons, All-contains, All-nil}
 use Rattle.std.proofs.lemmas.List.Elements.{Contains-append_left, Contains-append_right}
 use Rattle.std.proofs.lemmas.List.Folds.{find_at}
 use Rattle.std.proofs.lemmas.List.Sums.{fails_before_first, fold-append, passes_at_first}
 use Rattle.std.proofs.lemmas.Option.{get_or_from_slice_get, gets, slice_get_within}
-use Rattle.std.specs.Cmp.Lexicographic.{pointwise}
-use Rattle.std.specs.List.{All, AllZip, common_prefix_len, flat_map, position_or_len, slice_get}
+use Rattle.std.specs.{Cmp.Lexicographic.pointwise, List.{All, AllZip, common_prefix_len, flat_map}}
 use Rattle.std.specs.Prelude.{Contains, find, fold}
 
 -- ---- searches
@@ -19,19 +17,20 @@ use Rattle.std.specs.Prelude.{Contains, find, fold}
 pub found : {X : Type 0} (p : X → Bool) (xs : List X) (x : X) → find p xs ≡ Some x
     → Contains xs x × (p x ≡ true)
 found p xs x e =
-    let there : slice_get xs (position_or_len p xs) ≡ Some x = sym (find_at p xs) ∙ e in
-    let member : Contains xs x = (
-      position_or_len p xs,
-      slice_get_within xs (position_or_len p xs) x there,
-      get_or_from_slice_get xs (position_or_len p xs) x x there,
-    ) in
-    (member, grind (arith, common_steps, gets, find_at p xs, passes_at_first p xs))
+    grind (
+      arith,
+      find_at,
+      slice_get_within,
+      get_or_from_slice_get,
+      common_steps,
+      gets,
+      passes_at_first,
+    )
 
 -- a member doesn't pass where the search finds nothing
 pub none_is : {X : Type 0} (p : X → Bool) (xs : List X) (x : X) → find p xs ≡ None → Contains xs x
     → p x ≡ false
-none_is p xs x none member =
-    grind (arith, common_steps, gets, find_at p xs, fails_before_first p xs)
+none_is p xs x none member = grind (arith, common_steps, gets, find_at, fails_before_first)
 
 -- the search finds the one member that may pass, if it does
 pub only_one : {X : Type 0} (p : X → Bool) (xs : List X) (best : X) → Contains xs best
@@ -39,11 +38,7 @@ pub only_one : {X : Type 0} (p : X → Bool) (xs : List X) (best : X) → Contai
 only_one p xs best member only =
     elim (find p xs) as (λ o. find p xs ≡ o → o ≡ cond (p best) (Some best) None) [
       | None ↦ λ none. rw (none_is p xs best none member) refl
-      | Some x ↦ λ is.
-          let first = found p xs x is in
-          let same : x ≡ best =
-          All-contains (λ x. p x ≡ true → x ≡ best) xs x only first.0 first.1 in
-          rw (← same, first.1) refl
+      | Some x ↦ grind (arith, found, All-contains)
     ] refl
 
 -- ---- members
@@ -51,15 +46,13 @@ only_one p xs best member only =
 -- what is made of a member is among what is made of all
 pub contains_map : {X Y : Type 0} (f : X → Y) (xs : List X) (x : X) → Contains xs x
     → Contains (map f xs) (f x)
-contains_map f xs x member =
-    (member.0, rw length-map member.1, get_or-map f xs member.0 x (f x) member.1 ∙ ap f member.2)
+contains_map f xs x member = grind (arith, length-map, get_or-map)
 
 -- what is made of a member, as one of a list, is among all that is made
 pub contains_flat_map : {X Y : Type 0} (f : X → List Y) (xs : List X) (x : X) (y : Y)
     → Contains xs x → Contains (f x) y → Contains (flat_map f xs) y
 contains_flat_map f [] x y member inner = absurd (omega (arith, member.1))
-contains_flat_map f (z ∷ zs) x y (zero, within, at) inner =
-    Contains-append_left (f z) (flat_map f zs) y (subst (λ w. Contains (f w) y) (sym at) inner)
+contains_flat_map f (z ∷ zs) x y (zero, within, at) inner = grind (arith, Contains-append_left)
 contains_flat_map f (z ∷ zs) x y (suc k, within, at) inner = Contains-append_right (f z)
     (flat_map f zs) y (contains_flat_map f zs x y (k, omega (arith, within), at) inner)
 
@@ -78,10 +71,7 @@ module _ {X : Type 0} (f : X → ℕ) where
   pub bounds : (a : ℕ) (xs : List X)
       → (a ≤ fold max a (map f xs)) × All (λ x. f x ≤ fold max a (map f xs)) xs
   bounds a [] = (omega arith, All-nil _)
-  bounds a (x ∷ xs) = let rest = bounds (max a (f x)) xs in (
-    omega (arith, rest.0),
-    All-cons (λ y. f y ≤ fold max (max a (f x)) (map f xs)) x xs (omega (arith, rest.0)) rest.1,
-  )
+  bounds a (x ∷ xs) = grind (arith, All-cons, bounds (max a (f x)) xs)
 
   -- the greatest is the first number or the number of a member
   pub reached : (a : ℕ) (xs : List X)
@@ -89,23 +79,14 @@ module _ {X : Type 0} (f : X → ℕ) where
   reached a [] = inl refl
   reached a (x ∷ xs) =
       elim (reached (max a (f x)) xs) [
-        | inl same ↦ elim (cases_lt a (f x)) [
-          | inl lt ↦ inr (x, (0, omega arith, refl), omega (arith, same))
-          | inr le ↦ inl (omega (arith, same))
-        ]
+        | inl same ↦ grind (arith, cases_lt)
         | inr at ↦ inr (at.0, Contains-append_right (x ∷ []) xs at.0 at.1, at.2)
       ]
 
   -- if no other member's number is greater, a member's number is the greatest
   pub greatest_is : (xs : List X) (x : X) → Contains xs x → All (λ y. f y ≤ f x) xs
       → fold max 0 (map f xs) ≡ f x
-  greatest_is xs x member all =
-      let least : f x ≤ fold max 0 (map f xs) =
-      All-contains (λ y. f y ≤ fold max 0 (map f xs)) xs x (bounds 0 xs).1 member in
-      elim (reached 0 xs) [
-        | inl nought ↦ omega (arith, nought, least)
-        | inr at ↦ omega (arith, at.2, least, All-contains (λ y. f y ≤ f x) xs at.0 all at.1)
-      ]
+  greatest_is xs x member all = grind (arith, All-contains, bounds, reached)
 
 -- the greatest number of two joined lists is the greater of their greatest numbers
 pub greatest_append : (a : ℕ) (xs ys : List ℕ)
@@ -125,17 +106,7 @@ module _ {X Y : Type 0} (e : X → Y → Bool) where
   whole [] [] = ((λ all. (refl, refl)), (λ both. refl))
   whole [] (y ∷ ys) = ((λ all. absurd cc), (λ both. absurd (omega (arith, both.1))))
   whole (x ∷ xs) [] = ((λ all. absurd cc), (λ both. absurd (omega (arith, both.0))))
-  whole (x ∷ xs) (y ∷ ys) =
-      let rest = whole xs ys in
-      elim (e x y) as (λ b. ((b && pointwise e xs ys) ≡ true)
-      ↔ ((cond b (1 + common_prefix_len e xs ys) 0 ≡ suc (length xs))
-      × (cond b (1 + common_prefix_len e xs ys) 0 ≡ suc (length ys)))) [
-        | true ↦ (
-          (λ all. let both = rest.0 all in (omega (arith, both.0), omega (arith, both.1))),
-          (λ both. rest.1 (omega (arith, both.0), omega (arith, both.1))),
-        )
-        | false ↦ ((λ all. absurd cc), (λ both. absurd (omega (arith, both.0))))
-      ]
+  whole (x ∷ xs) (y ∷ ys) = grind (arith, whole xs ys)
 
   -- the first members agree as far as all do, up to their number
   pub common_prefix_len-take : (n : ℕ) (xs : List X) (ys : List Y)
@@ -143,12 +114,7 @@ module _ {X Y : Type 0} (e : X → Y → Bool) where
   common_prefix_len-take zero xs ys = omega arith
   common_prefix_len-take (suc n) [] ys = omega arith
   common_prefix_len-take (suc n) (x ∷ xs) [] = omega arith
-  common_prefix_len-take (suc n) (x ∷ xs) (y ∷ ys) =
-      elim (e x y) as (λ b. cond b (1 + common_prefix_len e (take n xs) (take n ys)) 0
-      ≡ min (suc n) (cond b (1 + common_prefix_len e xs ys) 0)) [
-        | true ↦ omega (arith, common_prefix_len-take n xs ys)
-        | false ↦ omega arith
-      ]
+  common_prefix_len-take (suc n) (x ∷ xs) (y ∷ ys) = grind (arith, common_prefix_len-take n xs ys)
 
   -- lists that agree everywhere agree pair by pair
   pub zipped : (xs : List X) (ys : List Y) → pointwise e xs ys ≡ true

@@ -1,8 +1,8 @@
 -- The order of a form's flags: of all orders, the words
 -- go furthest with the flags that they begin with.
-use Rattle.std.proofs.Common.{ap, append_assoc, arith, cond, drop, false, length, length-append}
-use Rattle.std.proofs.Common.{List, map, None, not, refl, Some, subst, suc, sym, true, zero, ℕ, []}
-use Rattle.std.proofs.{Common.{◌&&◌, ◌++◌, ◌+◌, ◌-◌, ◌∷◌, ◌≡◌, ◌≤◌}, lemmas.Bool.both_ways}
+use Rattle.std.proofs.Common.{append_assoc, arith, drop, false, length, length-append, List, map}
+use Rattle.std.proofs.Common.{None, not, refl, Some, subst, suc, sym, true, zero, ℕ, [], ◌++◌, ◌-◌}
+use Rattle.std.proofs.{Common.{◌∷◌, ◌≡◌, ◌≤◌}, lemmas.Bool.both_ways}
 use Rattle.std.proofs.lemmas.List.{length-drop, length-map}
 use Rattle.std.proofs.lemmas.List.Elements.{All-cons, All-contains, All-filter, All-map, All-nil}
 use Rattle.std.proofs.lemmas.{List.Elements.Contains-append_right, Slice.Eq.bytes_eq-Decides}
@@ -12,7 +12,7 @@ use Rattle.job_words.proofs.ListLemmas.{all_flat_map, contains_flat_map, contain
 use Rattle.job_words.proofs.ListLemmas.{none_is}
 use Rattle.job_words.specs.Flags.{begins_flag, first_word, flag_first, flag_kinds, flag_words}
 use Rattle.job_words.specs.Flags.{given_kinds, leading_flags_up_to, orders_up_to, without_flag}
-use Rattle.job_words.specs.{Kinds.{fits_kind, Fixed, Kind}, declared.flags.Flag.Flag}
+use Rattle.job_words.specs.{Kinds.{fits_kind, Kind}, declared.flags.Flag.Flag}
 use Rattle.job_words.specs.declared.flags.Flag.TheVariants.{Back, Least, Seamless, Tagless}
 use Rattle.job_words.specs.declared.flags.Flag.TheVariants.{Wrapping}
 
@@ -33,8 +33,7 @@ IsNoBetter Only best kinds words =
 -- kinds that the words follow nowhere are no better
 pub nowhere : (Only : Type 0) (best kinds : List Kind) (words : List (List ℕ))
     → IsNowhere kinds words → IsNoBetter Only best kinds words
-nowhere Only best kinds words none =
-    (omega (arith, none.0), λ all. absurd (both_ways (pointwise fits_kind kinds words) none.1 all))
+nowhere Only best kinds words none = grind (arith, both_ways)
 
 -- kinds that are no better are no better after the same first kinds
 pub after_same : (Only : Type 0) (front best kinds : List Kind) (words : List (List ℕ))
@@ -43,14 +42,7 @@ pub after_same : (Only : Type 0) (front best kinds : List Kind) (words : List (L
 after_same Only [] best kinds words h = h
 after_same Only (kind ∷ front) best kinds [] h = (omega arith, λ all. absurd cc)
 after_same Only (kind ∷ front) best kinds (word ∷ words) h =
-    let rest = after_same Only front best kinds words h in
-    elim (fits_kind kind word)
-    as (λ b. (cond b (1 + common_prefix_len fits_kind (front ++ kinds) words) 0
-    ≤ cond b (1 + common_prefix_len fits_kind (front ++ best) words) 0)
-    × ((b && pointwise fits_kind (front ++ kinds) words) ≡ true → Only)) [
-      | true ↦ (omega (arith, rest.0), rest.1)
-      | false ↦ (omega arith, λ all. absurd cc)
-    ]
+    grind (arith, after_same Only front best kinds words h)
 
 -- kinds that are equal to kinds that are no better are no better
 pub of_equal : (Only : Type 0) (best best' kinds kinds' : List Kind) (words : List (List ℕ)) → best'
@@ -133,14 +125,7 @@ module _ (behind : ℕ → List Kind) where
   kinds_by-cons : (flag : Flag) (given : List Flag) (words : List (List ℕ))
       → kinds_by (flag ∷ given) words
       ≡ flag_kinds flag ++ kinds_by given (drop (length (flag_kinds flag)) words)
-  kinds_by-cons flag given words =
-      let rest = given_kinds given in
-      let left : length words - length (flag_kinds flag ++ rest)
-      ≡ length (drop (length (flag_kinds flag)) words) - length rest =
-      omega
-      (arith, length-append (flag_kinds flag) rest, length-drop (length (flag_kinds flag)) words) in
-      rw left (append_assoc (flag_kinds flag) rest
-      (behind (length (drop (length (flag_kinds flag)) words) - length rest)))
+  kinds_by-cons flag given words = grind (arith, length-append, length-drop, append_assoc)
 
   -- the flag's first word can't be the first word after flags
   abbrev pub IsClear : Flag → Type 0
@@ -157,34 +142,21 @@ module _ (behind : ℕ → List Kind) where
   other_flag : (best : List Flag) (flag : Flag) (rest : List Flag) (word : List ℕ)
       (words : List (List ℕ)) → begins_flag word flag ≡ false
       → IsNoBetterOrder (word ∷ words) best (flag ∷ rest)
-  other_flag best flag rest word words other =
-      nowhere (flag ∷ rest ≡ best) (kinds_by best (word ∷ words))
-      (kinds_by (flag ∷ rest) (word ∷ words)) (word ∷ words)
-      (subst (λ kinds. IsNowhere kinds (word ∷ words))
-      (sym (kinds_by-cons flag rest (word ∷ words))) (not_begun flag _ word words other))
+  other_flag best flag rest word words other = grind (arith, nowhere, kinds_by-cons, not_begun)
 
   same_first : (words : List (List ℕ)) (flag : Flag) (best rest : List Flag)
       → IsNoBetterOrder (drop (length (flag_words flag)) words) best rest
       → IsNoBetterOrder words (flag ∷ best) (flag ∷ rest)
-  same_first words flag best rest h =
-      let count : length (flag_words flag) ≡ length (flag_kinds flag) =
-      sym (length-map (flag_words flag) Fixed) in
-      let inner = subst (λ n. IsNoBetterOrder (drop n words) best rest) count h in
-      of_equal (flag ∷ rest ≡ flag ∷ best) _ _ _ _ words (kinds_by-cons flag best words)
-      (kinds_by-cons flag rest words)
-      (after_same (flag ∷ rest ≡ flag ∷ best) (flag_kinds flag) _ _ words
-      (inner.0, λ all. ap (λ (given : List Flag). flag ∷ given) (inner.1 all)))
+  same_first words flag best rest h = grind (arith, length-map, of_equal, kinds_by-cons, after_same)
 
   -- no other order is better than the one in which the flags are given
   pub no_better : (n : ℕ) (flags : List Flag) (words : List (List ℕ)) → All IsClear flags
       → (given : List Flag) → IsOrder n flags given
       → IsNoBetterOrder words (leading_flags_up_to n flags words) given
-  no_better zero flags words clear given is =
-      subst (IsNoBetterOrder words []) (sym is) (itself words [])
+  no_better zero flags words clear given is = grind (arith, itself)
   no_better (suc n) flags [] clear [] is = itself [] []
   no_better (suc n) flags [] clear (flag ∷ rest) is =
-      nowhere (flag ∷ rest ≡ []) (kinds_by [] []) (kinds_by (flag ∷ rest) []) []
-      (subst (λ kinds. IsNowhere kinds []) (sym (kinds_by-cons flag rest [])) (no_words flag _))
+      grind (arith, nowhere, kinds_by-cons, no_words)
   no_better (suc n) flags (word ∷ words) clear [] is =
       elim (find (begins_flag word) flags) as (λ o. find (begins_flag word) flags ≡ o
       → IsNoBetterOrder (word ∷ words)

@@ -1,13 +1,12 @@
 -- The reading of words as relations: the shape that they have, and the place of the bad word.
-use Rattle.std.proofs.Common.{arith, Err, inl, inr, List, None, Ok, refl, Result, Some, take, ℕ, []}
-use Rattle.std.proofs.{Common.{◌+◌, ◌-◌, ◌≡◌, ◌≤◌}, lemmas.{Bool.both_ways, List.length-take}}
+use Rattle.std.proofs.Common.{arith, Err, inl, inr, List, None, Ok, refl, Result, Some, ℕ, [], ◌+◌}
+use Rattle.std.proofs.{Common.{◌-◌, ◌≡◌, ◌≤◌}, lemmas.{Bool.both_ways, List.length-take}}
 use Rattle.std.proofs.lemmas.List.{Elements.All-contains, Sums.common_prefix_len-le}
 use Rattle.std.specs.Prelude.{Contains, IfErr, IfOk}
 use Rattle.job_words.proofs.ListLemmas.{bounds, common_prefix_len-take, found, none_is, reached}
 use Rattle.job_words.proofs.{ListLemmas.whole, ReadingLemmas.listed_form}
 use Rattle.job_words.{proofs.SoundLemmas.shape_is_sound, specs.Code.{job_request, request_result}}
-use Rattle.job_words.specs.{Forms.{forms, help_form, Shape, shape_with, shapes}, Kinds.fits_kind}
-use Rattle.job_words.specs.Request.{Request}
+use Rattle.job_words.specs.{Forms.{forms, help_form, Shape, shape_with, shapes}, Request.Request}
 use Rattle.job_words.specs.Words.{fitting_count, have_kinds, IsBadWord, IsReadingOf, IsShapePrefix}
 use Rattle.job_words.specs.Words.{IsSoundRequest, job_of, longest_fit, shape_in, shape_kinds}
 use Rattle.job_words.specs.{Words.shape_reading, declared.jobs.Job.Job}
@@ -33,31 +32,10 @@ module _ (words : List (List ℕ)) where
 
   -- the words have as many first kinds of a shape as they follow it
   begins : (shape : Shape) → IsShapePrefix (fitting_count words shape) shape words
-  begins shape =
-      let kinds = shape_kinds words shape in
-      let n : ℕ = fitting_count words shape in
-      let le = common_prefix_len-le fits_kind kinds words in
-      let both = common_prefix_len-take fits_kind n kinds words in
-      record {
-        enough_words = le.1;
-        enough_kinds = le.0;
-        fit =
-            (whole fits_kind (take n kinds) (take n words)).1 (
-              omega (arith, both, length-take n kinds, le.0),
-              omega (arith, both, length-take n words, le.1),
-            );
-      }
+  begins shape = grind (arith, common_prefix_len-le, common_prefix_len-take, whole, length-take)
 
   begins-le : (shape : Shape) (n : ℕ) → IsShapePrefix n shape words → n ≤ fitting_count words shape
-  begins-le shape n b =
-      let both = (whole fits_kind (take n (shape_kinds words shape)) (take n words)).0 b.fit in
-      omega (
-        arith,
-        both.0,
-        common_prefix_len-take fits_kind n (shape_kinds words shape) words,
-        length-take n (shape_kinds words shape),
-        b.enough_kinds,
-      )
+  begins-le shape n b = grind (arith, whole, common_prefix_len-take, length-take)
 
   -- what holds of a reading of the words
   abbrev pub IsAnswer : Result Request ℕ → Type 0

@@ -1,6 +1,6 @@
 -- The forms in order: the shape that the words have of one, and how far they follow it.
 use Rattle.std.proofs.Common.{ap, append-nil, arith, Bool, cond, drop, Err, false, get_or, leb}
-use Rattle.std.proofs.Common.{length, length-append, List, map, max, min, None, Ok, refl, replicate}
+use Rattle.std.proofs.Common.{length, length-append, List, max, min, None, Ok, refl, replicate}
 use Rattle.std.proofs.Common.{Result, Some, subst, suc, sym, take, true, zero, ℕ, [], ◌&&◌, ◌++◌}
 use Rattle.std.proofs.Common.{◌+◌, ◌-◌, ◌<◌, ◌∙◌, ◌∷◌, ◌≡◌, ◌≤◌, ◌⊎◌}
 use Rattle.std.proofs.lemmas.Bool.{and_parts, false_from_ne_true, leb-true, not-true}
@@ -9,14 +9,14 @@ use Rattle.std.proofs.lemmas.List.{length-drop, map-append, take-append-drop, ta
 use Rattle.std.proofs.lemmas.List.{Elements.{All-contains, All-map, All-weaker}, Folds.find-append}
 use Rattle.std.proofs.lemmas.List.Sums.{AllPass-from_list_all, common_prefix_len-le}
 use Rattle.std.{proofs.lemmas.Slice.Eq.bytes_eq-Decides, specs.List.{All, common_prefix_len}}
-use Rattle.std.specs.{Option.option_or, Prelude.Contains}
+use Rattle.std.specs.Prelude.{Contains}
 use Rattle.job_words.proofs.FollowLemmas.{length-form_kinds, length-values_of}
 use Rattle.job_words.proofs.ListLemmas.{all_flat_map, contains_map, greatest_append, greatest_is}
 use Rattle.job_words.proofs.ListLemmas.{only_one, whole}
 use Rattle.job_words.proofs.OrderLemmas.{after_same, given_is_order, IsClear, IsNoBetter, IsNowhere}
 use Rattle.job_words.proofs.OrderLemmas.{IsOrder, kinds_by, no_better, nowhere, of_equal}
 use Rattle.job_words.proofs.OrderLemmas.{orders_are}
-use Rattle.job_words.specs.Flags.{first_word, given_kinds, leading_flags, orders}
+use Rattle.job_words.specs.Flags.{first_word, leading_flags, orders}
 use Rattle.job_words.specs.Forms.{Form, form_kinds, form_request, forms, front_kinds}
 use Rattle.job_words.specs.Forms.{has_clear_flags, IsReadable, last_kind, most_values, Shape}
 use Rattle.job_words.specs.Forms.{shape_request, shape_with, shapes, shapes_of}
@@ -48,10 +48,7 @@ clear_flags form clear = λ k d lt word begins n words.
 shape_kinds-cons : (form : Form) (given : List Flag) (word : List ℕ) (words : List (List ℕ))
     → shape_kinds (word ∷ words) (shape_with form given)
     ≡ Fixed form.command ∷ kinds_by (form_kinds form) given words
-shape_kinds-cons form given word words =
-    let left : length (word ∷ words) - length (Fixed form.command ∷ given_kinds given)
-    ≡ length words - length (given_kinds given) = omega arith in
-    rw left refl
+shape_kinds-cons form given word words = grind arith
 
 -- the words go no further with a shape than with the best, and have all kinds only with the best
 abbrev IsNoBetterShape : Form → List (List ℕ) → Shape → Type 0
@@ -61,17 +58,19 @@ IsNoBetterShape form words shape = IsNoBetter (shape ≡ best_of form words)
 no_better_with : (form : Form) → has_clear_flags form ≡ true
     → (words : List (List ℕ)) (given : List Flag) → IsOrder (length form.flags) form.flags given
     → IsNoBetterShape form words (shape_with form given)
-no_better_with form clear [] given is = nowhere (shape_with form given ≡ best_of form [])
-    (shape_kinds [] (best_of form [])) (shape_kinds [] (shape_with form given)) [] (refl, refl)
+no_better_with form clear [] given is = grind (arith, nowhere)
 no_better_with form clear (word ∷ words) given is =
-    let best = leading_flags form.flags words in
-    let Only : Type 0 = shape_with form given ≡ shape_with form best in
-    let h = no_better (form_kinds form) (length form.flags) form.flags words
-    (clear_flags form clear) given is in
-    of_equal Only _ _ _ _ (word ∷ words) (shape_kinds-cons form best word words)
-    (shape_kinds-cons form given word words)
-    (after_same Only (Fixed form.command ∷ []) (kinds_by (form_kinds form) best words) (kinds_by
-    (form_kinds form) given words) (word ∷ words) (h.0, λ all. ap (shape_with form) (h.1 all)))
+    grind (
+      arith,
+      no_better (form_kinds form) (length form.flags) form.flags words (clear_flags form
+          clear) given is,
+      clear_flags form clear,
+      of_equal,
+      shape_kinds-cons,
+      shape_kinds-cons form given
+          word words,
+      after_same,
+    )
 
 -- the words are read by the best shape
 table_reading-of : (form : Form) → has_clear_flags form ≡ true → (words : List (List ℕ)) (b : Bool)
@@ -89,9 +88,7 @@ table_reading-of form clear words b is =
     let listed : Contains (shapes_of form) best = contains_map (shape_with form) (orders form.flags)
     (leading_flags form.flags (drop 1 words)) (given_is_order n form.flags (drop 1 words)) in
     let shape-is : shape_in (shapes_of form) words
-    ≡ cond (have_kinds (shape_kinds words best) words) (Some best) None =
-    only_one (λ shape. have_kinds (shape_kinds words shape) words) (shapes_of form) best listed
-    (λ k d lt. (none_better k d lt).1) in
+    ≡ cond (have_kinds (shape_kinds words best) words) (Some best) None = grind (arith, only_one) in
     let far-is : longest_fit (shapes_of form) words ≡ fitting_count words best =
     greatest_is (fitting_count words) (shapes_of form) best listed
     (λ k d lt. (none_better k d lt).0) in
@@ -119,19 +116,7 @@ module _ (form : Form) (readable : IsReadable form) (words : List (List ℕ)) (g
 
   -- no more values are read than the form asks for
   pub few : length (drop front values) ≤ most_values form.asks
-  few =
-      let behind = form_kinds form (length words - front) in
-      let within : length (drop front values) ≤ length kinds - front = omega
-      (arith, length-drop front values, count-is, common_prefix_len-le fits_kind kinds words) in
-      omega (
-        arith,
-        within,
-        f.front-is,
-        ap length f.kinds-is,
-        length-append (front_kinds form.command given) behind,
-        length-form_kinds form (length words - front),
-        readable.words,
-      )
+  few = grind (arith, length-drop, count-is, common_prefix_len-le, length-append, length-form_kinds)
 
   -- words and kinds that all have values are accepted
   pub accepts : (asked : Request) → length words ≤ length values → length kinds ≤ length values
@@ -139,13 +124,10 @@ module _ (form : Form) (readable : IsReadable form) (words : List (List ℕ)) (g
       → Ok asked ≡ table_reading (shapes_of form) words
   accepts asked all_words all_kinds is =
       let short = common_prefix_len-le fits_kind kinds words in
-      let all : have_kinds kinds words ≡ true = (whole fits_kind kinds words).1
-      (omega (arith, count-is, short.0, all_kinds), omega (arith, count-is, short.1, all_words)) in
+      let all : have_kinds kinds words ≡ true = grind (arith, whole, count-is) in
       let front-are : front
-      ≡ length (front_kinds form.command (leading_flags form.flags (drop 1 words))) =
-      f.front-is ∙ ap (λ (given : List Flag). length (front_kinds form.command given)) f.given-is in
-      let asked-is : asked ≡ shape_request (best_of form words) words =
-      is ∙ rw (f.values-is, kinds-are, front-are, f.given-is) refl in
+      ≡ length (front_kinds form.command (leading_flags form.flags (drop 1 words))) = grind arith in
+      let asked-is : asked ≡ shape_request (best_of form words) words = grind (arith, kinds-are) in
       ap Ok asked-is ∙ sym (table_reading-of form readable.clear words true
       (subst (λ kinds. have_kinds kinds words ≡ true) kinds-are all))
 
@@ -153,9 +135,8 @@ module _ (form : Form) (readable : IsReadable form) (words : List (List ℕ)) (g
   pub refuses : (length values < length words) ⊎ (length values < length kinds)
       → Err (length values + 1) ≡ table_reading (shapes_of form) words
   refuses short =
-      let not_all : have_kinds kinds words ≡ false = false_from_ne_true (have_kinds kinds words)
-      (λ all. let both = (whole fits_kind kinds words).0 all in
-      omega (arith, both.0, both.1, count-is, short)) in
+      let not_all : have_kinds kinds words ≡ false =
+      grind (arith, false_from_ne_true, whole, count-is) in
       let longest : length values + 1 ≡ 1 + fitting_count words (best_of form words) =
       omega (arith, count-is, ap (λ kinds. common_prefix_len fits_kind kinds words) kinds-are) in
       ap Err longest ∙ sym (table_reading-of form readable.clear words false
@@ -171,24 +152,7 @@ first_of (Err place) (Err bad) = Err (max place bad)
 
 table_reading-append : (xs ys : List Shape) (words : List (List ℕ))
     → table_reading (xs ++ ys) words ≡ first_of (table_reading xs words) (table_reading ys words)
-table_reading-append xs ys words =
-    let shape-is : shape_in (xs ++ ys) words ≡ option_or (shape_in xs words) (shape_in ys words) =
-    find-append (λ shape. have_kinds (shape_kinds words shape) words) xs ys in
-    let far-is : longest_fit (xs ++ ys) words ≡ max (longest_fit xs words) (longest_fit ys words) =
-    rw (map-append (fitting_count words) xs ys)
-    (greatest_append 0 (map (fitting_count words) xs) (map (fitting_count words) ys)) in
-    let m = longest_fit xs words in
-    let n = longest_fit ys words in
-    ap (λ o. shape_reading o words (longest_fit (xs ++ ys) words)) shape-is
-    ∙ ap (shape_reading (option_or (shape_in xs words) (shape_in ys words)) words) far-is
-    ∙ elim (shape_in xs words)
-    as (λ o. shape_reading (option_or o (shape_in ys words)) words (max m n)
-    ≡ first_of (shape_reading o words m) (table_reading ys words)) [
-      | Some shape ↦ refl
-      | None ↦
-          elim (shape_in ys words) as (λ o. shape_reading o words (max m n) ≡ first_of (Err (1 + m))
-          (shape_reading o words n)) [ Some shape ↦ refl | None ↦ ap Err (omega arith) ]
-    ]
+table_reading-append xs ys words = grind (arith, find-append, map-append, greatest_append)
 
 -- the reading by the forms up to the one at i, where the forms before it don't take the words
 module _ (table : List Form) (words : List (List ℕ)) (i : ℕ) (d : Form) (place : ℕ)
@@ -232,20 +196,8 @@ is_readable form = leb (length form.flags) 4 && leb (length form.kinds) 5 && leb
     && leb (length form.kinds + form.more) (most_values form.asks) && has_clear_flags form
 
 readable_by : (form : Form) → is_readable form ≡ true → IsReadable form
-readable_by form all =
-    let clear = and_parts _ (has_clear_flags form) all in
-    let words = and_parts _ (leb (length form.kinds + form.more) (most_values form.asks)) clear.0 in
-    let more = and_parts _ (leb form.more 98) words.0 in
-    let both = and_parts (leb (length form.flags) 4) (leb (length form.kinds) 5) more.0 in
-    record {
-      flags = leb-true _ _ both.0;
-      kinds = leb-true _ _ both.1;
-      more = leb-true _ _ more.1;
-      words = leb-true _ _ words.1;
-      clear = clear.1;
-    }
+readable_by form all = grind (arith, and_parts, leb-true)
 
 -- each form can be read
 pub forms_are_readable : All IsReadable forms
-forms_are_readable = All-weaker (λ (form : Form). is_readable form ≡ true) IsReadable readable_by
-    forms (AllPass-from_list_all is_readable forms refl)
+forms_are_readable = search (arith, All-weaker, readable_by, AllPass-from_list_all)

@@ -1,24 +1,16 @@
 -- What is asked for is in range.
-use Rattle.std.proofs.Common.{append-nil, arith, cond, drop, false, get_or, leb, length, List, map}
-use Rattle.std.proofs.Common.{min, neg_ℤ, None, Option, pos, refl, Some, subst, suc, true, zero, ℕ}
-use Rattle.std.proofs.Common.{[], ◌&&◌, ◌++◌, ◌-◌, ◌==◌, ◌∷◌, ◌≡◌, ◌≤◌}
+use Rattle.std.proofs.Common.{append-nil, arith, drop, get_or, length, List, map, min, neg_ℤ, None}
+use Rattle.std.proofs.Common.{Option, pos, refl, Some, subst, suc, true, zero, ℕ, [], ◌++◌, ◌-◌}
+use Rattle.std.proofs.Common.{◌==◌, ◌∷◌, ◌≡◌, ◌≤◌}
 use Rattle.std.proofs.lemmas.{Bool.{and_parts, cond_both, eqb-false, leb-true}, Int.ints}
 use Rattle.std.proofs.lemmas.List.{drop_at, length-drop, length-map}
 use Rattle.std.proofs.lemmas.List.Elements.{All-contains, All-from_recursion, All-map}
-use Rattle.std.proofs.lemmas.Slice.Zip.{AllZip-long}
-use Rattle.std.specs.List.{after_first, All, AllZip, before_first, position_or_len}
-use Rattle.std.specs.Option.{option_or}
-use Rattle.std.specs.Prelude.{bytes_eq, codes, Contains, IfSome, if◌then◌else◌, is_some}
-use Rattle.std.specs.{Prelude.{option_and_then, option_map}, Str.all_ascii_digits}
-use Rattle.std.specs.Str.Parse.{digits_value}
+use Rattle.std.{proofs.lemmas.Slice.Zip.AllZip-long, specs.{List.{All, AllZip}, Option.option_or}}
+use Rattle.std.specs.Prelude.{Contains, IfSome, if◌then◌else◌, option_and_then, option_map}
 use Rattle.cue_sheet.specs.Digits.{number_in, size_in, steps_in}
-use Rattle.cue_sheet.specs.Places.{hundredths_in, is_dot, IsPlace, place_of, seconds_in, time_in}
-use Rattle.cue_sheet.specs.{Places.time_of, declared.place.Place.TheVariants.Frame}
-use Rattle.exact_span.specs.Places.{back_of, exact_place_of, IsExactPlace, millis_of, sample_of}
+use Rattle.cue_sheet.specs.Places.{IsPlace, place_of, time_in, time_of}
+use Rattle.exact_span.specs.Places.{exact_place_of, IsExactPlace}
 use Rattle.exact_span.specs.declared.exact_place.ExactPlace.{ExactPlace}
-use Rattle.exact_span.specs.declared.exact_place.ExactPlace.TheVariants.{Back, Millis}
-use Rattle.exact_span.specs.declared.exact_place.ExactPlace.TheVariants.{Place as OfPosition}
-use Rattle.exact_span.specs.declared.exact_place.ExactPlace.TheVariants.{Sample}
 use Rattle.job_words.proofs.FollowLemmas.{length-form_kinds}
 use Rattle.job_words.proofs.ListLemmas.{zip_drop, zip_replicate, zipped}
 use Rattle.job_words.specs.Forms.{best_form, channel_form, constant_form, cut_form, drill_form}
@@ -28,10 +20,9 @@ use Rattle.job_words.specs.Forms.{gain_form, help_form, info_form, join_form, li
 use Rattle.job_words.specs.Forms.{salvage_form, Shape, shape_request, sheet_form, short_help_form}
 use Rattle.job_words.specs.Forms.{split_form, undo_form, version_form}
 use Rattle.job_words.specs.Kinds.{Channel, Count, count_in, count_said, CountSaid, Exact}
-use Rattle.job_words.specs.Kinds.{exact_said, ExactSaid, fits_kind, Fixed, is_name, Kind, Name}
-use Rattle.job_words.specs.Kinds.{name_said, NameSaid, Place, place_said, PlaceSaid, Rate, Said}
-use Rattle.job_words.specs.Kinds.{said_at, said_first, Seed, seed_in, seed_said, SeedSaid, Steps}
-use Rattle.job_words.specs.Kinds.{steps_said, StepsSaid, values_of, word_value}
+use Rattle.job_words.specs.Kinds.{exact_said, fits_kind, Fixed, Kind, Name, name_said, Place}
+use Rattle.job_words.specs.Kinds.{place_said, PlaceSaid, Rate, Said, said_at, Seed, seed_said}
+use Rattle.job_words.specs.Kinds.{Steps, steps_said, StepsSaid, values_of, word_value}
 use Rattle.job_words.specs.Words.{have_kinds, IsCount, IsName, IsSeed, IsSoundRequest, IsStepCount}
 use Rattle.job_words.specs.{Words.shape_kinds, declared.flags.Flag.Flag}
 
@@ -51,32 +42,17 @@ number_within : (least most greatest : ℕ) (digits : List ℕ) (P : ℕ → Typ
     → ((number : ℕ) → number ≤ greatest → P number)
     → IfSome (number_in least most greatest digits) P
 unfolding number_in
-number_within least most greatest digits P each =
-    let spelled =
-    leb least (length digits) && leb (length digits) most && all_ascii_digits digits in
-    cond_both (spelled && leb (digits_value 10 digits) greatest)
-    (Some (digits_value 10 digits)) None (λ o. IfSome o P)
-    (λ all. each (digits_value 10 digits)
-    (leb-true _ _ (and_parts spelled (leb (digits_value 10 digits) greatest) all).1)) (λ other. tt)
+number_within least most greatest digits P each = grind (arith, cond_both, leb-true, and_parts)
 
 sized : (digits : List ℕ) → IfSome (size_in digits) IsStepCount
-sized digits = mapped pos IsStepCount (number_in 1 3 255 digits)
-    (number_within 1 3 255 digits (λ size. IsStepCount (pos size))
-    (λ size le. record { low = omega (arith, ints); high = omega (arith, ints) }))
+sized digits = grind (arith, mapped, pos, number_within, ints)
 
 sized_down : (digits : List ℕ) → IfSome (option_map neg_ℤ (size_in digits)) IsStepCount
-sized_down digits =
-    mapped neg_ℤ IsStepCount (size_in digits)
-    (mapped pos (λ size. IsStepCount (neg_ℤ size)) (number_in 1 3 255 digits)
-    (number_within 1 3 255 digits (λ size. IsStepCount (neg_ℤ (pos size)))
-    (λ size le. record { low = omega (arith, ints); high = omega (arith, ints) })))
+sized_down digits = grind (arith, mapped, neg_ℤ, pos, number_within, ints)
 
 steps_in_range : (word : List ℕ) → IfSome (steps_in word) IsStepCount
 steps_in_range [] = tt
-steps_in_range (first ∷ rest) =
-    cond_both (first == 43) _ _ (λ o. IfSome o IsStepCount) (λ plus. sized rest)
-    (λ other. cond_both (first == 45) _ _ (λ o. IfSome o IsStepCount) (λ minus. sized_down rest)
-    (λ neither. sized (first ∷ rest)))
+steps_in_range (first ∷ rest) = grind (arith, cond_both, sized, sized_down)
 
 timed : (minutes seconds hundredths : Option ℕ) → IfSome (option_and_then
     (λ m. option_and_then (λ s. option_map (time_in m s) hundredths) seconds) minutes) IsPlace
@@ -87,14 +63,7 @@ timed (Some m) (Some s) (Some h) = (omega arith, omega arith)
 
 place_in_range : (word : List ℕ) → IfSome (place_of word) IsPlace
 unfolding place_of time_of
-place_in_range word =
-    let rest = after_first is_dot word in
-    cond_both (bytes_eq word (codes "EOF")) _ _ (λ o. IfSome o IsPlace) (λ end. tt)
-    (λ other. cond_both (position_or_len is_dot word == length word) _ _ (λ o. IfSome o IsPlace)
-    (λ number. mapped Frame IsPlace (number_in 1 7 9999999 word)
-    (anything (number_in 1 7 9999999 word)))
-    (λ time. timed (number_in 1 4 9999 (before_first is_dot word)) (seconds_in rest)
-    (hundredths_in rest)))
+place_in_range word = grind (arith, cond_both, mapped, anything, timed)
 
 fine : (o : Option ℕ) → (f : ℕ → ExactPlace) → ((n : ℕ) → IsExactPlace (f n))
     → IfSome (option_map f o) IsExactPlace
@@ -108,18 +77,12 @@ either (Some place) rest first second = first
 
 exact_in_range : (word : List ℕ) → IfSome (exact_place_of word) IsExactPlace
 unfolding exact_place_of
-exact_in_range word =
-    either (option_map OfPosition (place_of word)) _
-    (mapped OfPosition IsExactPlace (place_of word) (place_in_range word))
-    (either (option_map Sample (sample_of word)) _ (fine (sample_of word) Sample (λ n. tt))
-    (either (option_map Millis (millis_of word)) (option_map Back (back_of word))
-    (fine (millis_of word) Millis (λ n. tt)) (fine (back_of word) Back (λ n. tt))))
+exact_in_range word = grind (arith, either, mapped, place_in_range, fine)
 
 count_in_range : (o : Option ℕ) → IfSome o (λ count. count ≤ 20000)
     → IfSome (option_and_then (λ count. if count == 0 then None else Some count) o) IsCount
 count_in_range None few = tt
-count_in_range (Some count) few = cond_both (count == 0) None (Some count) (λ o. IfSome o IsCount)
-    (λ none. tt) (λ some. record { some = omega (arith, eqb-false count 0 some); few = few })
+count_in_range (Some count) few = grind (arith, cond_both, eqb-false)
 
 -- ---- what words say
 
@@ -134,14 +97,11 @@ IsRight Count value = IsCount (count_said value)
 IsRight _ value = Unit {0}
 
 word_value-right : (kind : Kind) (word : List ℕ) → IfSome (word_value kind word) (IsRight kind)
-word_value-right Name word = cond_both (is_name word) (Some (NameSaid word)) None
-    (λ o. IfSome o (IsRight Name)) (λ is. is) (λ other. tt)
+word_value-right Name word = grind (arith, cond_both)
 word_value-right Steps word = mapped StepsSaid (IsRight Steps) (steps_in word) (steps_in_range word)
 word_value-right Place word = mapped PlaceSaid (IsRight Place) (place_of word) (place_in_range word)
-word_value-right Exact word =
-    mapped ExactSaid (IsRight Exact) (exact_place_of word) (exact_in_range word)
-word_value-right Seed word = mapped SeedSaid (IsRight Seed) (seed_in word)
-    (number_within 1 10 2147483647 word IsSeed (λ seed le. omega arith))
+word_value-right Exact word = grind (arith, mapped, exact_in_range)
+word_value-right Seed word = grind (arith, mapped, number_within)
 word_value-right Count word =
     mapped CountSaid (IsRight Count) (count_in word) (count_in_range (number_in 1 5 20000 word)
     (number_within 1 5 20000 word (λ count. count ≤ 20000) (λ count le. le)))
@@ -158,11 +118,7 @@ values_right [] [] fits = tt
 values_right [] (word ∷ words) fits = absurd fits
 values_right (kind ∷ kinds) [] fits = absurd fits
 values_right (kind ∷ kinds) (word ∷ words) fits =
-    elim (word_value kind word) as (λ o. is_some o ≡ true → IfSome o (IsRight kind)
-    → AllZip IsRight (kind ∷ kinds) (said_first o (values_of kinds words))) [
-      | Some value ↦ λ there right. (right, values_right kinds words fits.1)
-      | None ↦ λ none right. absurd cc
-    ] fits.0 (word_value-right kind word)
+    grind (arith, values_right kinds words fits.1, word_value-right kind word)
 
 -- the value at a place, counted from 0
 at_place : (kinds : List Kind) (values : List Said) → AllZip IsRight kinds values → (k : ℕ)
@@ -174,8 +130,7 @@ at_place (kind ∷ kinds) (value ∷ values) all zero = all.0
 at_place (kind ∷ kinds) (value ∷ values) all (suc k) = at_place kinds values all.1 k
 
 name_fits : (word : List ℕ) → Fits Name word → IsName word
-name_fits word = elim (is_name word) as (λ b. is_some (cond b (Some (NameSaid word)) None) ≡ true
-    → b ≡ true) [ true ↦ λ fits. refl | false ↦ λ fits. fits ]
+name_fits word = grind arith
 
 -- ---- each form
 
@@ -190,11 +145,7 @@ once : (form : Form) → form.more ≡ 0
     → ((given : List Flag) (values : List Said) (words : List (List ℕ))
     → ((k : ℕ) → IsRight (get_or form.kinds k (Fixed [])) (said_at values k))
     → IsSoundRequest (form_request form.asks given values words)) → AreSound form
-once form none sound count given values words right fits =
-    let no_more : min form.more (count - length form.kinds) ≡ 0 = omega (arith, none) in
-    let kinds-are : form_kinds form count ≡ form.kinds = rw no_more (append-nil form.kinds) in
-    sound given values words
-    (at_place form.kinds values (subst (λ kinds. AllZip IsRight kinds values) kinds-are right))
+once form none sound count given values words right fits = grind (arith, append-nil, at_place)
 
 split_is_sound : AreSound split_form
 split_is_sound count given values words right fits =
@@ -232,17 +183,16 @@ exact_split_is_sound count given values words right fits =
 
 join_is_sound : AreSound join_form
 join_is_sound count given values words right fits =
-    let kinds = form_kinds join_form count in
-    let many : length (drop 1 words) ≡ length kinds - 1 =
-    rw (length-drop, AllZip-long Fits kinds words fits) refl in
-    let each = zip_replicate Fits (suc (min 63 (count - 2))) Name (drop 1 words)
-    (zip_drop Fits 1 kinds words fits) in (
-      at_place kinds values right 0,
-      record {
-        some = omega (arith, many, length-form_kinds join_form count);
-        few = omega (arith, many, length-form_kinds join_form count);
-        names = λ k d lt. name_fits (get_or (drop 1 words) k d) (each k d lt);
-      },
+    grind (
+      arith,
+      length-drop,
+      AllZip-long,
+      zip_replicate,
+      zip_drop,
+      at_place,
+      length-form_kinds
+          join_form count,
+      name_fits,
     )
 
 also : {A B : Type 0} → A → B → A × B
@@ -283,8 +233,7 @@ shape_is_sound shape words member all =
     let behind = form_kinds shape.form count in
     let values = values_of (front ++ behind) words in
     let fits : AllZip Fits (front ++ behind) words = zipped fits_kind (front ++ behind) words all in
-    let rest-are : drop (length front) (front ++ behind) ≡ behind =
-    drop_at front behind (length front) refl in
+    let rest-are : drop (length front) (front ++ behind) ≡ behind = grind (arith, drop_at) in
     All-contains AreSound forms shape.form forms_are_sound member count
     shape.given (drop (length front) values) (drop (length front) words)
     (subst (λ kinds. AllZip IsRight kinds (drop (length front) values)) rest-are (zip_drop IsRight

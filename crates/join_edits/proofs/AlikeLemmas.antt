@@ -1,6 +1,6 @@
 -- Whether the shared frames are alike, where the inputs' contents are known.
-use Rattle.std.proofs.Common.{ap, arith, Bool, cond, false, length, List, None, Option, Some, sym}
-use Rattle.std.proofs.{Common.{ℕ, ◌&&◌, ◌+◌, ◌-◌, ◌∙◌, ◌∷◌, ◌≡◌, ◌≤◌}, lemmas.List.length-map}
+use Rattle.std.proofs.Common.{arith, Bool, cond, false, length, List, None, Option, Some, sym, ℕ}
+use Rattle.std.proofs.{Common.{◌-◌, ◌∙◌, ◌∷◌, ◌≡◌, ◌≤◌}, lemmas.List.length-map}
 use Rattle.exact_span.specs.declared.overlap.Overlap.{Overlap}
 use Rattle.frame_header.specs.Fields.{ClassFields}
 use Rattle.join_edits.proofs.DecideLemmas.{alike-few, alike-tested, sounds-next, sounds_from}
@@ -28,12 +28,7 @@ module _ (names : List (List ℕ)) (ss : List SurveyFields) (number : ℕ) (run 
     (overlap : Overlap) (finds : Finds run input overlap) (can : CanFollow input overlap) where
   within-brought : (brought : Brought) → IsBroughtInput input brought
       → overlap.frames ≤ length brought.frames
-  within-brought brought brings = omega (
-    arith,
-    can.within,
-    ap length brings.needs,
-    length-map brought.frames (λ (f : RunFrame). f.need),
-  )
+  within-brought brought brings = grind (arith, length-map)
 
   few-count : overlap.frames - overlap.first_alike ≤ 7
   few-count = omega (arith, can.few)
@@ -55,13 +50,7 @@ module _ (names : List (List ℕ)) (ss : List SurveyFields) (number : ℕ) (run 
       (λ f. sounds_from (all_run_frames f names ss) number overlap.first_alike last ≡ b)
       → IsSharedOverlap files names ss number run input (cond b (Some overlap) None)
   tested-alike (Untold touched) last b has test = tt
-  tested-alike (Told f) last b has test =
-      λ class frames places before brought is brings sounds there.
-      sym (alike-tested class
-      (all_run_frames f names ss) number frames places before brought overlap
-      is.same (within-brought brought brings) can.some sounds there
-      (finds class frames places before brought is brings) last
-      (has class frames places before is few-count) b test)
+  tested-alike (Told f) last b has test = grind (arith, alike-tested, within-brought, few-count)
 
 -- one more frame is compared
 module _ (names : List (List ℕ)) (ss : List SurveyFields) (number frame : ℕ) (p : FramePlace)
@@ -75,7 +64,4 @@ module _ (names : List (List ℕ)) (ss : List SurveyFields) (number frame : ℕ)
       → IfTold files (λ f. sounds_from (all_run_frames f names ss) number frame places ≡ all f)
       → IfTold files (λ f. all f ≡ false)
   ends-here (Untold touched) all b so same before = tt
-  ends-here (Told f) all b so same before =
-      let lists = all_run_frames f names ss in
-      sym before ∙ sounds-next lists number frame places p rest is
-      ∙ ap (λ (x : Bool). x && sounds_from lists number (frame + 1) rest) (sym same ∙ so)
+  ends-here (Told f) all b so same before = grind (arith, sounds-next, sounds_from)

@@ -1,11 +1,11 @@
 -- If no frame is left out, the frames of inputs from the first on are all frames.
-use Rattle.std.proofs.Common.{ap, ap₂, arith, length, List, refl, suc, unwrap_or, zero, ℕ, [], ◌∷◌}
-use Rattle.std.{proofs.Common.{◌≡◌, ◌≤◌}, specs.Prelude.replicate}
-use Rattle.join_edits.specs.{Inputs.{parts_in, survey_rows}, Join.whole_part}
+use Rattle.std.proofs.Common.{arith, length, List, refl, suc, unwrap_or, zero, ℕ, [], ◌∷◌, ◌≡◌, ◌≤◌}
+use Rattle.std.specs.Prelude.{replicate}
+use Rattle.join_edits.specs.Inputs.{parts_in, survey_rows}
 use Rattle.join_edits.specs.RestOfInputs.{AreCountsWithin, rest_parts, rest_rows}
-use Rattle.laying.{proofs.PlacesLemmas.range-whole, specs.Relaid.FilePart}
+use Rattle.laying.proofs.PlacesLemmas.{range-whole}
 use Rattle.outside.specs.Files.{Contents}
-use Rattle.sync_survey.specs.{Faults.SurveyFields, Row.Row}
+use Rattle.sync_survey.specs.Faults.{SurveyFields}
 
 -- with a 0 for each input, each input has at least this many frames
 pub within-whole : (n : ℕ) (ss : List SurveyFields) → length ss ≤ n
@@ -20,9 +20,7 @@ pub rows-whole : (n : ℕ) (ss : List SurveyFields) → length ss ≤ n
 unfolding rest_rows
 rows-whole n [] few = refl
 rows-whole zero (s ∷ ss) few = absurd (omega (arith, few))
-rows-whole (suc n) (s ∷ ss) few =
-    ap₂ (λ (rows : List Row) (more : List (List Row)). rows ∷ more) (range-whole s.frames)
-    (rows-whole n ss (omega (arith, few)))
+rows-whole (suc n) (s ∷ ss) few = grind (arith, range-whole, rows-whole n ss (omega (arith, few)))
 
 -- the parts from the first frame on are the parts of whole inputs
 pub parts-whole : (n : ℕ) (files : Contents) (names : List (List ℕ)) (ss : List SurveyFields)
@@ -32,5 +30,4 @@ parts-whole n files [] ss few = refl
 parts-whole n files (name ∷ names) [] few = refl
 parts-whole zero files (name ∷ names) (s ∷ ss) few = absurd (omega (arith, few))
 parts-whole (suc n) files (name ∷ names) (s ∷ ss) few =
-    ap (λ (parts : List FilePart). whole_part (unwrap_or (files name) []) s ∷ parts)
-    (parts-whole n files names ss (omega (arith, few)))
+    grind (arith, unwrap_or, parts-whole n files names ss (omega (arith, few)))

@@ -1,5 +1,5 @@
 -- Deciding the first input, and in the end all inputs.
-use Rattle.std.proofs.Common.{All, ap, append-nil, ap₂, arith, drop, get_or, IfSome, length}
+use Rattle.std.proofs.Common.{All, ap, append-nil, arith, drop, get_or, IfSome, length}
 use Rattle.std.proofs.Common.{length-append, List, map, refl, slice_get, slice_range, Some, subst}
 use Rattle.std.proofs.Common.{suc, sym, take, unwrap_or, zero, ℕ, [], ◌++◌, ◌<◌, ◌∙◌, ◌∷◌, ◌≡◌, ◌≤◌}
 use Rattle.std.proofs.lemmas.List.{drop-append-le, length-drop, length-map, length-take, take_all}
@@ -23,9 +23,8 @@ use Rattle.laying.{proofs.NeedsFitLemmas.part-fits, specs.Needs.{need_of, needs_
 use Rattle.outside.specs.Files.{Contents, Files, IfTold, Told, Untold}
 use Rattle.seam_plan.specs.Decisions.{frame_places, IsJoinableInput, IsJoint}
 use Rattle.seam_plan.specs.Frames.{Brought, needs_of, RunFrame}
-use Rattle.seam_plan.specs.Seams.{front_left_out_count, JointFrames, joints_from, joints_of}
-use Rattle.seam_plan.specs.{Seams.{run_with, seamless_join}, declared.input.Input.Input}
-use Rattle.seam_plan.specs.declared.run.Joint.{Joint as CodeJoint}
+use Rattle.seam_plan.specs.Seams.{front_left_out_count, joints_from, seamless_join}
+use Rattle.seam_plan.specs.declared.{input.Input.Input, run.Joint.Joint as CodeJoint}
 use Rattle.slot_plan.proofs.{FreeByteLemmas.{fits-drop, leaves-fit}, PartLemmas.class-drop}
 use Rattle.slot_plan.specs.{FreeBytes.FitsBehind, Parts.AreNeedsOfClass, declared.needs.Need.Need}
 use Rattle.sync_survey.specs.{Faults.SurveyFields, Survey.IsSurveyLaidOut}
@@ -56,8 +55,7 @@ pub can-begin-at : (files : Files) (names : List (List ℕ)) (ss : List SurveyFi
     → CanBeDecided files names ss bs → drop 0 ss ≡ s ∷ rest → CanBeginRun s
 can-begin-at files names [] bs can e = absurd cc
 can-begin-at files names (t ∷ ss) bs {s} {rest} can e =
-    let same : t ≡ s = cc in
-    subst CanBeginRun same (can-begin files names t ss bs can)
+    grind (arith, can-begin files names t ss bs can)
 
 -- ---- the first input
 
@@ -79,9 +77,7 @@ module _ (files : Files) (names : List (List ℕ)) (s : SurveyFields) (ss : List
       (all_run_frames f names (s ∷ ss)) first.frames (frame_places 0 0 (length first.frames)) first
       d.joints.items) → IsDecidingTo files names (s ∷ ss) (b ∷ bs) 1 d
   first-is first brings told =
-      let many : length first.frames ≡ length s.frames =
-      sym (length-map first.frames (λ (f : RunFrame). f.need)) ∙ ap length brings.needs
-      ∙ length-map s.frames need_of in
+      let many : length first.frames ≡ length s.frames = grind (arith, length-map) in
       let none = begun.joints in
       record {
         class = s.class;
@@ -95,18 +91,9 @@ module _ (files : Files) (names : List (List ℕ)) (s : SurveyFields) (ss : List
         at = places-at (s ∷ ss) 0 s 0 (length first.frames) refl (omega (arith, many));
         many = omega (arith, ap length none);
         within = (omega arith, tt);
-        moved =
-            subst (AreMovedNeeds d.needs.items) (sym (rows-one (left_out_counts d.joints.items)))
-            (subst (λ (l : List Need). AreMovedNeeds l (input_needs s)) (sym begun.needs)
-            (moved-same (input_needs s)));
+        moved = grind (arith, rows-one, moved-same);
         same = subst (AreNeedsOfClass s.class) (sym begun.needs) can-be.same;
-        begins = λ t found.
-            let same : s ≡ t = cc in
-            let all : take (length s.frames) d.needs.items ≡ input_needs s =
-            ap (take (length s.frames)) begun.needs ∙ take_all (length s.frames) (input_needs s)
-            (omega (arith, length-map s.frames need_of)) in
-            subst (λ (u : SurveyFields). take (length u.frames) d.needs.items ≡ input_needs u) same
-            all;
+        begins = grind (arith, take_all, length-map);
         told = told;
       }
 
@@ -214,22 +201,14 @@ module _ (files : Files) (names : List (List ℕ)) (s : SurveyFields) (ss : List
   same-class = let first = is.class_is in cc
 
   all-fit : FitsBehind (window_of is.class.version) (window_of is.class.version) d.needs.items
-  all-fit =
-      let window = window_of is.class.version in
-      subst (FitsBehind window window) (sym is.needs) (leaves-fit window window
-      d.run.left (needs_of is.frames) (omega arith) is.is_run.left.leaves).0
+  all-fit = grind (arith, leaves-fit)
 
   all-moved : AreMovedNeeds
       d.needs.items (needs_of_parts (rest_rows (s ∷ ss) (0 ∷ left_out_counts d.joints.items)))
-  all-moved =
-      subst (λ (l : List SurveyFields). AreMovedNeeds d.needs.items (needs_of_parts (rest_rows l
-      (0 ∷ left_out_counts d.joints.items))))
-      (take_all (length (s ∷ ss)) (s ∷ ss) (omega arith)) is.moved
+  all-moved = grind (arith, take_all)
 
   all-within : AreCountsWithin (s ∷ ss) (0 ∷ left_out_counts d.joints.items)
-  all-within =
-      subst (λ (l : List SurveyFields). AreCountsWithin l (0 ∷ left_out_counts d.joints.items))
-      (take_all (length (s ∷ ss)) (s ∷ ss) (omega arith)) is.within
+  all-within = grind (arith, take_all)
 
   -- the needs of the run are of the class
   pub front-same : AreNeedsOfClass s.class d.needs.items
@@ -237,8 +216,7 @@ module _ (files : Files) (names : List (List ℕ)) (s : SurveyFields) (ss : List
 
   -- the needs of the run fit after a whole window
   pub front-fits : FitsBehind (window_of s.class.version) (window_of s.class.version) d.needs.items
-  front-fits = subst (λ (c : ClassFields). FitsBehind (window_of c.version)
-      (window_of c.version) d.needs.items) same-class all-fit
+  front-fits = grind (arith, same-class, all-fit)
 
   -- the first needs of the run are the needs of the first input
   pub front-first : take (length s.frames) d.needs.items ≡ input_needs s
@@ -254,9 +232,7 @@ module _ (files : Files) (names : List (List ℕ)) (s : SurveyFields) (ss : List
       class_is = is.class_is;
       many = is.many;
       within = (omega (arith, known.behind), all-within.1);
-      behind = λ t found.
-          let same : s ≡ t = cc in
-          subst (λ (u : SurveyFields). front < length u.frames) same known.behind;
+      behind = grind arith;
       some = omega (
         arith,
         known.behind,
@@ -272,8 +248,7 @@ module _ (files : Files) (names : List (List ℕ)) (s : SurveyFields) (ss : List
         can.joined.frames,
       );
       same = class-drop is.class d.needs.items front is.same;
-      fits = fits-drop (window_of is.class.version)
-          (window_of is.class.version) front d.needs.items all-fit;
+      fits = grind (arith, fits-drop, all-fit);
       moved = subst (AreMovedNeeds (drop front d.needs.items))
           (rows-drop s ss front (left_out_counts d.joints.items) (omega (arith, known.behind)))
           (moved-drop front d.needs.items
@@ -287,30 +262,7 @@ module _ (files : Files) (names : List (List ℕ)) (s : SurveyFields) (ss : List
     unfolding seamless_join
     joined-of file [] lists begins told = absurd cc
     joined-of file (first ∷ others) lists begins told =
-        let here : first ≡ told.first = cc in
-        let rest : others ≡ told.others = cc in
-        let own : first ≡ brought_of file s b = cc in
-        let joints = joints_of is.class told.first told.others in
-        let same : joints_of is.class told.first told.others ≡ joints_of is.class first others =
-        ap₂ (λ (x : Brought) (l : List Brought). joints_of is.class x l) (sym here) (sym rest) in
-        let run : is.frames ≡ run_with first (joints_of is.class first others) =
-        told.run ∙ ap₂ run_with (sym here) same in
-        record {
-          front = known.is first
-              is.frames (subst (BringsNeeds s b) (sym own) (brings-told file s b)) is.needs
-              ∙ ap₂ (λ (c : ClassFields) (l : List RunFrame). front_left_out_count c first l)
-              (sym same-class) run;
-          joints = subst (λ (l : List JointFrames). AllZip IsJoint l d.joints.items) same
-              told.joints_are;
-          needs = is.needs ∙ ap needs_of run;
-        }
-
-broughts-first : (f : Contents) (name : List ℕ) (names : List (List ℕ)) (s : SurveyFields)
-    (ss : List SurveyFields) (b : Beginning) (bs : List Beginning)
-    → broughts_in f (name ∷ names) (s ∷ ss) (b ∷ bs) ≡ brought_of (unwrap_or (f name) []) s b
-    ∷ drop 1 (broughts_in f (name ∷ names) (s ∷ ss) (b ∷ bs))
-unfolding broughts_in
-broughts-first f name names s ss b bs = refl
+        grind (arith, first, brings-told, same-class)
 
 all-told : (f : Contents) (names : List (List ℕ)) (s : SurveyFields) (ss : List SurveyFields)
     (b : Beginning) (bs : List Beginning) (d : Deciding)
@@ -318,11 +270,12 @@ all-told : (f : Contents) (names : List (List ℕ)) (s : SurveyFields) (ss : Lis
     (is : IsDecidingTo (Told f) names (s ∷ ss) (b ∷ bs) (length (s ∷ ss)) d) (front : ℕ)
     → IsFront s b d.needs.items front → IsJoinedOf is.class (broughts_in f names (s ∷ ss) (b ∷ bs))
     (record { front = front; joints = d.joints; needs = d.needs })
+unfolding broughts_in
 all-told f [] s ss b bs d can is front known = absurd can.known
 all-told f (name ∷ names) s ss b bs d can is front known =
     let all = broughts_in f (name ∷ names) (s ∷ ss) (b ∷ bs) in
     joined-of (Told f) (name ∷ names) s ss b bs d can is front known (unwrap_or (f name) []) all
-    (all_run_frames f (name ∷ names) (s ∷ ss)) (broughts-first f name names s ss b bs)
+    (all_run_frames f (name ∷ names) (s ∷ ss)) refl
     (subst (λ (l : List Brought). IsDecidedTo is.class l
     (all_run_frames f (name ∷ names) (s ∷ ss)) is.frames is.places is.before d.joints.items)
     (take_all (length (s ∷ ss)) all (broughts-few f (name ∷ names) (s ∷ ss) (b ∷ bs))) is.told)
@@ -363,8 +316,7 @@ at-end files names d (t ∷ ss) [] can e there count all is = absurd cc
 at-end files names {s} {b} d (t ∷ ss) (c ∷ bs) can e there count all is =
     let surveys : t ≡ s = cc in
     let beginnings : c ≡ b = cc in
-    let now : IsDecidingTo files names (t ∷ ss) (c ∷ bs) (length (t ∷ ss)) d =
-    subst (λ n. IsDecidingTo files names (t ∷ ss) (c ∷ bs) n d) all is in
+    let now : IsDecidingTo files names (t ∷ ss) (c ∷ bs) (length (t ∷ ss)) d = grind (arith, is) in
     subst (λ (u : SurveyFields). AreAllDecided files names (t ∷ ss) (c ∷ bs) u b d) surveys
     (subst (λ (e : Beginning). AreAllDecided files names (t ∷ ss) (c ∷ bs) t e d) beginnings
     (record {
@@ -380,37 +332,27 @@ alike-at : (class : ClassFields) (ss : List SurveyFields) (n : ℕ) (s : SurveyF
     → AreInputsOfClass class ss → slice_get ss n ≡ Some s
     → (0 < length s.frames) × IsSurveyLaidOut s × (s.class ≡ class)
 alike-at class [] n s are found = absurd cc
-alike-at class (t ∷ ss) zero s are found =
-    let same : t ≡ s = cc in (
-      subst (λ (u : SurveyFields). 0 < length u.frames) same are.0,
-      subst IsSurveyLaidOut same are.1,
-      ap (λ (u : SurveyFields). u.class) (sym same) ∙ are.2,
-    )
+alike-at class (t ∷ ss) zero s are found = grind arith
 alike-at class (t ∷ ss) (suc n) s are found = alike-at class ss n s are.3 found
 
 fit-at : (ss : List SurveyFields) (n : ℕ) (s : SurveyFields) → FitAlone ss → slice_get ss n ≡ Some s
     → FitsAlone s
 fit-at [] n s are found = absurd cc
-fit-at (t ∷ ss) zero s are found =
-    let same : t ≡ s = cc in
-    subst FitsAlone same are.0
+fit-at (t ∷ ss) zero s are found = grind arith
 fit-at (t ∷ ss) (suc n) s are found = fit-at ss n s are.1 found
 
 frames-at : (ss : List SurveyFields) (n : ℕ) (s : SurveyFields) → slice_get ss n ≡ Some s
     → length s.frames ≤ frames_together ss
 unfolding frames_together
 frames-at [] n s found = absurd cc
-frames-at (t ∷ ss) zero s found =
-    let same : t ≡ s = cc in
-    omega (arith, ap (λ (u : SurveyFields). length u.frames) same)
+frames-at (t ∷ ss) zero s found = grind arith
 frames-at (t ∷ ss) (suc n) s found = omega (arith, frames-at ss n s found)
 
 -- an input has no more frames than a join may have
 pub input-few : (files : Files) (names : List (List ℕ)) (ss : List SurveyFields)
     (bs : List Beginning) (n : ℕ) (s : SurveyFields) → CanBeDecided files names ss bs
     → slice_get ss n ≡ Some s → length (input_needs s) ≤ most_frames
-input-few files names ss bs n s can found =
-    omega (arith, frames-at ss n s found, can.joined.frames, length-map s.frames need_of)
+input-few files names ss bs n s can found = grind (arith, frames-at, length-map)
 
 module _ (files : Files) (names : List (List ℕ)) (ss : List SurveyFields) (bs : List Beginning)
     (number : ℕ) (d : Deciding) (can : CanBeDecided files names ss bs)
@@ -423,10 +365,7 @@ module _ (files : Files) (names : List (List ℕ)) (ss : List SurveyFields) (bs 
   known = alike-at can.joined.class ss number s can.joined.alike found
 
   class-here : s.class ≡ is.class
-  class-here =
-      let same : Some can.joined.class ≡ Some is.class = sym can.joined.first ∙ is.class_is in
-      let classes : can.joined.class ≡ is.class = cc in
-      known.2 ∙ classes
+  class-here = grind (arith, can.joined.class, is.class, can.joined.first, is.class_is, known.2)
 
   run-class : s.class ≡ d.run.class
   run-class = class-here ∙ sym is.is_run.of_class
@@ -439,8 +378,7 @@ module _ (files : Files) (names : List (List ℕ)) (ss : List SurveyFields) (bs 
     some = omega (arith, known.0, long);
     few = omega (arith, long, frames-at ss number s found, can.joined.frames);
     same = subst (AreNeedsOfClass s.class) (sym needs) (needs-class s known.1);
-    fits = subst (FitsBehind (window_of s.class.version) 0) (sym needs)
-        (fit-at ss number s can.fit found);
+    fits = grind (arith, fit-at);
     counted = subst (λ n. IfSome input.played (AreCounted s.class n)) (sym long) counted;
   }
 
@@ -450,19 +388,7 @@ module _ (files : Files) (names : List (List ℕ)) (ss : List SurveyFields) (bs 
 
   -- the input is the next of the run
   pub is-next : IsNextInput ss number d.run input
-  is-next = record {
-    survey = s;
-    found = found;
-    needs = needs;
-    can = can-join;
-    sound = is.sound;
-    class = is.class;
-    frames = is.frames;
-    places = is.places;
-    before = is.before;
-    is_run = is.is_run;
-    at = is.at;
-  }
+  is-next = grind (arith, can-join)
 
   -- this is the input with this number, and it begins as that one does
   pub input-of : IsInputOf ss bs number is.class input

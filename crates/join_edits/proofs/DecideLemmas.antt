@@ -8,7 +8,7 @@ use Rattle.std.specs.{List.AllZip, Prelude.{nat_le, option_and_then}}
 use Rattle.exact_span.specs.declared.overlap.Overlap.{Overlap}
 use Rattle.frame_header.specs.Fields.{ClassFields, SlotFields}
 use Rattle.join_edits.specs.Deciding.{AreMovedNeeds, last_brought, left_out_counts}
-use Rattle.join_edits.specs.Sounds.{same_sounds, sound_at, sound_of_frame}
+use Rattle.join_edits.specs.Sounds.{same_sounds, sound_at}
 use Rattle.seam_plan.specs.Decisions.{alike_overlap, frame_place, IsJoint, joined_needs}
 use Rattle.seam_plan.specs.{Decisions.{last_places, overlap_if_alike}, Frames.{Brought, RunFrame}}
 use Rattle.seam_plan.specs.Seams.{are_frames_alike, compared_frames, ends_alike, joint_of}
@@ -29,8 +29,7 @@ module _ (class : ClassFields) where
       ≡ joints_from class run before others ++ joint_of class (run
       ++ frames-in (joints_from class run before others)) (last_brought before others) next ∷ []
   unfolding joints_from
-  joints-more run before [] next =
-      ap (λ (r : List RunFrame). joint_of class r before next ∷ []) (sym (append-nil run))
+  joints-more run before [] next = grind (arith, append-nil)
   joints-more run before (b ∷ others) next =
       let joint = joint_of class run before b in
       let later = joints_from class (run ++ joint.frames) b others in
@@ -48,9 +47,7 @@ module _ (class : ClassFields) where
   frames-more : (joints : List JointFrames) (joint : JointFrames)
       → frames-in (joints ++ joint ∷ []) ≡ frames-in joints ++ joint.frames
   frames-more [] joint = append-nil joint.frames
-  frames-more (j ∷ joints) joint =
-      ap (λ (l : List RunFrame). j.frames ++ l) (frames-more joints joint)
-      ∙ sym (append_assoc j.frames (frames-in joints) joint.frames)
+  frames-more (j ∷ joints) joint = grind (arith, append_assoc, frames-more joints joint)
 
   -- one more input adds its frames to the run
   pub run-next : (first : Brought) (others : List Brought) (next : Brought)
@@ -58,12 +55,7 @@ module _ (class : ClassFields) where
       ≡ run_with first (joints_of class first others)
       ++ (joint_of class (run_with first (joints_of class first others))
       (last_brought first others) next).frames
-  run-next first others next =
-      let joints = joints_of class first others in
-      let joint = joint_of class (run_with first joints) (last_brought first others) next in
-      ap (run_with first) (joints-next first others next)
-      ∙ ap (λ (l : List RunFrame). first.frames ++ l) (frames-more joints joint)
-      ∙ sym (append_assoc first.frames (frames-in joints) joint.frames)
+  run-next first others next = grind (arith, joints-next, frames-more, append_assoc)
 
 -- with one more input, that input is the last
 pub last-next : (first : Brought) (others : List Brought) (next : Brought)
@@ -144,18 +136,13 @@ pub drop-cons : {X : Type 0} (n : ℕ) (xs : List X) → n < length xs
     → (x : X) × (slice_get xs n ≡ Some x) × (drop n xs ≡ x ∷ drop (n + 1) xs)
 drop-cons n [] within = absurd (omega (arith, within))
 drop-cons zero (x ∷ xs) within = (x, refl, refl)
-drop-cons (suc n) (x ∷ xs) within =
-    let rest = drop-cons n xs (omega (arith, within)) in
-    let more : suc n + 1 ≡ suc (n + 1) = omega arith in
-    (rest.0, rest.1, rest.2 ∙ ap (λ k. rest.0 ∷ drop k (x ∷ xs)) (sym more))
+drop-cons (suc n) (x ∷ xs) within = grind (arith, drop-cons n xs (omega (arith, within)))
 
 -- the sound at a place is the sound of the frame there
 pub sound-here : (lists : List (List RunFrame)) (number frame : ℕ) (all : List RunFrame)
     (x : RunFrame) → slice_get lists number ≡ Some all → slice_get all frame ≡ Some x
     → sound_at lists (frame_place number frame) ≡ x.sound
-sound-here lists number frame all x has is =
-    ap (λ (o : Option (List RunFrame)). sound_of_frame
-    (option_and_then (λ (l : List RunFrame). slice_get l frame) o)) has ∙ ap sound_of_frame is
+sound-here lists number frame all x has is = grind arith
 
 -- the frames at these places sound like the input's frames exactly if they are alike
 sounds-alike : (lists : List (List RunFrame)) (number from : ℕ) (all : List RunFrame)
@@ -189,10 +176,7 @@ module _ (class : ClassFields) (lists : List (List RunFrame)) (number : ℕ) (fr
   count = overlap.frames - overlap.first_alike
 
   length-compared_frames : length (compared_frames overlap brought) ≡ count
-  length-compared_frames =
-      let behind = drop overlap.first_alike brought.frames in
-      length-take-le count behind
-      (omega (arith, within, length-drop overlap.first_alike brought.frames))
+  length-compared_frames = grind (arith, length-take-le, length-drop)
 
   decided : alike_overlap class frames before brought ≡ overlap_if_alike frames brought overlap
   decided = ap (option_and_then (overlap_if_alike frames brought)) (sym found)
@@ -225,40 +209,16 @@ module _ (class : ClassFields) (lists : List (List RunFrame)) (number : ℕ) (fr
 
   -- the last frames of the run are compared
   module _ (last : List FramePlace) (is : Some last ≡ last_places places count) where
-    enough : (nat_le count (length places) ≡ true) × (last ≡ drop (length places - count) places)
-    enough = at (nat_le count (length places)) refl is
-      where
-        at : (b : Bool) → nat_le count (length places) ≡ b
-            → Some last ≡ cond b (Some (drop (length places - count) places)) None
-            → (nat_le count (length places) ≡ true) × (last ≡ drop (length places - count) places)
-        at true test e = (test, cc)
-        at false test e = absurd cc
-
     last-sounds : map (sound_at lists) last
         ≡ map (λ (x : RunFrame). x.sound) (drop (length frames - count) frames)
-    last-sounds =
-        ap (map (sound_at lists)) enough.1
-        ∙ sym (drop-map (sound_at lists) (length places - count) places)
-        ∙ ap₂ (λ n (l : List (List ℕ)). drop (n - count) l) same sounds
-        ∙ drop-map (λ (x : RunFrame). x.sound) (length frames - count) frames
+    last-sounds = grind (arith, drop-map (sound_at lists) (length places - count) places, drop-map)
 
     last-length : length last ≡ count
-    last-length =
-        let most = leb-true count (length places) enough.0 in
-        omega (arith, ap length enough.1, length-drop (length places - count) places, most)
+    last-length = grind (arith, leb-true, length-drop)
 
     tested : ends_alike frames (compared_frames overlap brought)
         ≡ sounds_from lists number overlap.first_alike last
-    tested =
-        ap (λ m. nat_le m (length frames)
-        && are_frames_alike (drop (length frames - m) frames) (compared_frames overlap brought))
-        length-compared_frames
-        ∙ ap (λ (b : Bool). b && are_frames_alike (drop (length frames - count) frames)
-        (compared_frames overlap brought)) (ap (nat_le count) (sym same) ∙ enough.0)
-        ∙ ap (λ n. are_frames_alike (drop (length frames - count) frames)
-        (take n (drop overlap.first_alike brought.frames))) (sym last-length)
-        ∙ sym (sounds-alike lists number overlap.first_alike brought.frames last (drop
-        (length frames - count) frames) has (omega (arith, within, some, last-length)) last-sounds)
+    tested = grind (arith, length-compared_frames, last-length, sounds-alike, last-sounds)
 
     -- the overlap is alike exactly if these frames sound the same
     pub alike-tested : (b : Bool) → sounds_from lists number overlap.first_alike last ≡ b

@@ -5,8 +5,8 @@ use Rattle.std.proofs.Common.{sym, take, unwrap_or, zero, ℕ, [], ◌++◌, ◌
 use Rattle.std.proofs.lemmas.List.{drop-map, drop_all, length-drop, length-map, length-take}
 use Rattle.std.proofs.lemmas.List.{map-append, take-append-le, take_all}
 use Rattle.std.proofs.lemmas.List.Elements.{All-append, All-cons, All-nil}
-use Rattle.std.proofs.lemmas.List.FromFn.{length-enumerate_from}
-use Rattle.std.specs.{List.{AllZip, enumerate_from}, Prelude.zip}
+use Rattle.std.{proofs.lemmas.List.FromFn.length-enumerate_from, specs.List.enumerate_from}
+use Rattle.std.specs.Prelude.{zip}
 use Rattle.exact_span.specs.{PlayedPositions.counted_positions, declared.overlap.Overlap.Overlap}
 use Rattle.frame_header.specs.{Fields.ClassFields, Tables.window_of}
 use Rattle.join_edits.proofs.DecideLemmas.{class-moved, drop-cons, joints-next, last-next}
@@ -14,7 +14,7 @@ use Rattle.join_edits.proofs.DecideLemmas.{moved-append, moved-joined, outs-more
 use Rattle.join_edits.proofs.{DecideLemmas.{sound-here, zip-more}, FramePlaceLemmas.get-within}
 use Rattle.join_edits.specs.Deciding.{AreMovedNeeds, BringsNeeds, brought_of, broughts_in}
 use Rattle.join_edits.specs.Deciding.{input_needs, IsDecidedTo, IsDecidingTo, IsSharedOverlap}
-use Rattle.join_edits.specs.{Deciding.{last_brought, left_out_counts}, Join.whole_part}
+use Rattle.join_edits.specs.{Deciding.left_out_counts, Join.whole_part}
 use Rattle.join_edits.specs.RestOfInputs.{AreCountsWithin, rest_rows}
 use Rattle.join_edits.specs.Seamless.{run_frame, run_frames}
 use Rattle.join_edits.specs.Sounds.{all_run_frames, AreFramePlaces, IsFramePlace, sound_at}
@@ -23,12 +23,12 @@ use Rattle.laying.specs.Needs.{need_of, needs_of_parts}
 use Rattle.outside.specs.Files.{Contents, Files, IfTold, Told, Untold}
 use Rattle.seam_plan.proofs.{FollowLemmas.joining_frames-sounds, RunSoundLemmas.class-append}
 use Rattle.seam_plan.proofs.SeamLemmas.{joint-adds, joint-by, length-moved}
-use Rattle.seam_plan.specs.Decisions.{alike_overlap, frame_place, frame_places, IsBroughtInput}
-use Rattle.seam_plan.specs.Decisions.{IsJoint, IsRun, IsSoundRun, joined_needs, JoinsRun}
+use Rattle.seam_plan.specs.Decisions.{alike_overlap, frame_places, IsBroughtInput, IsJoint, IsRun}
+use Rattle.seam_plan.specs.Decisions.{IsSoundRun, joined_needs, JoinsRun}
 use Rattle.seam_plan.specs.Frames.{Brought, needs_of, RunFrame}
-use Rattle.seam_plan.specs.Seams.{joint_of, JointFrames, joints_of, left_out_count, run_with}
+use Rattle.seam_plan.specs.Seams.{joint_of, JointFrames, left_out_count}
 use Rattle.seam_plan.specs.declared.{input.Input.Input, run.FramePlace.FramePlace}
-use Rattle.seam_plan.specs.declared.run.Joint.{Joint as CodeJoint}
+use Rattle.seam_plan.specs.declared.run.Joint.{Joint, Joint as CodeJoint}
 use Rattle.slot_plan.{proofs.PartLemmas.class-drop, specs.Parts.AreNeedsOfClass}
 use Rattle.slot_plan.specs.declared.needs.Need.{Need}
 use Rattle.sync_survey.specs.Faults.{stream_of_survey, SurveyFields}
@@ -55,12 +55,7 @@ stream-length file s = length-map (enumerate_from 0 s.frames) _ ∙ length-enume
 -- all frames of the input, each with what it needs
 pub brought-needs : (file : List ℕ) (s : SurveyFields)
     → needs_of (run_frames (whole_part file s)) ≡ input_needs s
-brought-needs file s =
-    ap₂ (λ (rows : List Row) (stream : List StreamFrame).
-    needs_of (map (run_frame s.class) (zip rows stream)))
-    (range-all (length s.frames) s.frames refl)
-    (range-all (length s.frames) (stream_of_survey file s) (sym (stream-length file s)))
-    ∙ zip-needs s.class s.frames (stream_of_survey file s) (sym (stream-length file s))
+brought-needs file s = grind (arith, range-all, stream-length, zip-needs)
 
 -- what an input brings, given its file, has the needs that its survey has
 pub brings-told : (file : List ℕ) (s : SurveyFields) (b : Beginning)
@@ -126,27 +121,19 @@ rows-more [] [] s from long = append-nil (map need_of (slice_range s.frames from
 rows-more [] (n ∷ froms) s from long = absurd (omega (arith, long))
 rows-more (t ∷ ss) [] s from long = absurd (omega (arith, long))
 rows-more (t ∷ ss) (n ∷ froms) s from long =
-    let own = map need_of (slice_range t.frames n (length t.frames)) in
-    ap (λ (l : List Need). own ++ l) (rows-more ss froms s from (omega (arith, long)))
-    ∙ sym (append_assoc own (needs_of_parts (rest_rows ss froms))
-    (map need_of (slice_range s.frames from (length s.frames))))
+    grind (arith, slice_range, append_assoc, rows-more ss froms s from (omega (arith, long)))
 
 -- the needs of the rows from one on are the needs of all rows but those before it
 pub range-behind : (s : SurveyFields) (from : ℕ)
     → map need_of (slice_range s.frames from (length s.frames)) ≡ drop from (input_needs s)
-range-behind s from =
-    ap (map need_of) (take_all (length s.frames - from) (drop from s.frames)
-    (omega (arith, length-drop from s.frames)))
-    ∙ sym (drop-map need_of from s.frames)
+range-behind s from = grind (arith, take_all, length-drop, drop-map)
 
 -- the items up to a place and the one there are one item more
 pub take-more : {X : Type 0} (xs : List X) (n : ℕ) (x : X) → slice_get xs n ≡ Some x
     → take (n + 1) xs ≡ take n xs ++ x ∷ []
 take-more [] n x is = absurd cc
 take-more (y ∷ xs) zero x is = ap (λ z. z ∷ []) cc
-take-more (y ∷ xs) (suc n) x is =
-    let more : suc n + 1 ≡ suc (n + 1) = omega arith in
-    ap (λ k. take k (y ∷ xs)) more ∙ ap (λ l. y ∷ l) (take-more xs n x is)
+take-more (y ∷ xs) (suc n) x is = grind (arith, take-more xs n x is)
 
 -- `count` places from one on are places of frames, if the input has that many frames
 pub places-at : (ss : List SurveyFields) (number : ℕ) (s : SurveyFields) (from count : ℕ)
@@ -154,9 +141,7 @@ pub places-at : (ss : List SurveyFields) (number : ℕ) (s : SurveyFields) (from
     → AreFramePlaces ss (frame_places number from count)
 places-at ss number s from zero is within = All-nil (IsFramePlace ss)
 places-at ss number s from (suc count) is within =
-    All-cons (IsFramePlace ss) (frame_place number from) (frame_places number (from + 1) count)
-    (record { survey = s; input = is; frame = omega (arith, within) })
-    (places-at ss number s (from + 1) count is (omega (arith, within)))
+    grind (arith, All-cons, places-at ss number s (from + 1) count is (omega (arith, within)))
 
 -- the sounds of the frames of an input from one on
 pub places-sound : (lists : List (List RunFrame)) (number from count : ℕ) (all : List RunFrame)
@@ -183,13 +168,7 @@ unfolding broughts_in
 broughts-get f [] ss bs n name s b is found begun = absurd cc
 broughts-get f (m ∷ names) [] bs n name s b is found begun = absurd cc
 broughts-get f (m ∷ names) (t ∷ ss) [] n name s b is found begun = absurd cc
-broughts-get f (m ∷ names) (t ∷ ss) (c ∷ bs) zero name s b is found begun =
-    let names-same : m ≡ name = cc in
-    let surveys-same : t ≡ s = cc in
-    let begun-same : c ≡ b = cc in
-    ap₂ (λ (k : List ℕ) (u : SurveyFields). Some (brought_of (unwrap_or (f k) []) u c)) names-same
-    surveys-same
-    ∙ ap (λ (d : Beginning). Some (brought_of (unwrap_or (f name) []) s d)) begun-same
+broughts-get f (m ∷ names) (t ∷ ss) (c ∷ bs) zero name s b is found begun = grind (arith, unwrap_or)
 broughts-get f (m ∷ names) (t ∷ ss) (c ∷ bs) (suc n) name s b is found begun =
     broughts-get f names ss bs n name s b is found begun
 
@@ -201,17 +180,13 @@ pub frames-get : (f : Contents) (names : List (List ℕ)) (ss : List SurveyField
 unfolding all_run_frames
 frames-get f [] ss n name s is found = absurd cc
 frames-get f (m ∷ names) [] n name s is found = absurd cc
-frames-get f (m ∷ names) (t ∷ ss) zero name s is found =
-    let names-same : m ≡ name = cc in
-    let surveys-same : t ≡ s = cc in
-    ap₂ (λ (k : List ℕ) (u : SurveyFields). Some (run_frames (whole_part (unwrap_or (f k) []) u)))
-    names-same surveys-same
+frames-get f (m ∷ names) (t ∷ ss) zero name s is found = grind (arith, unwrap_or)
 frames-get f (m ∷ names) (t ∷ ss) (suc n) name s is found = frames-get f names ss n name s is found
 
 -- ---- the step
 
 -- what adding the input with this number did
-pub record IsAdded (number : ℕ) (input : Input) (alike : Option Overlap) (joint : CodeJoint)
+pub record IsAdded (number : ℕ) (input : Input) (alike : Option Overlap) (joint : Joint)
     (old new : Deciding) : Type 0 where
   pub joints : new.joints.items ≡ old.joints.items ++ joint ∷ []
   pub needs : new.needs.items
@@ -252,7 +227,7 @@ is-brought ss bs number class input of brought brings = record {
 }
 
 module _ (files : Files) (names : List (List ℕ)) (ss : List SurveyFields) (bs : List Beginning)
-    (number : ℕ) (input : Input) (alike : Option Overlap) (joint : CodeJoint)
+    (number : ℕ) (input : Input) (alike : Option Overlap) (joint : Joint)
     (old new : Deciding) (so_far : IsDecidingTo files names ss bs number old) (of : IsInputOf ss bs
     number so_far.class input) (added : IsAdded number input alike joint old new) where
   abbrev out : ℕ
@@ -263,33 +238,14 @@ module _ (files : Files) (names : List (List ℕ)) (ss : List SurveyFields) (bs 
 
   many-more : (more : List RunFrame) → needs_of more ≡ left
       → out + length more ≡ length of.survey.frames
-  many-more more adds =
-      let n : length input.needs.now ≡ length of.survey.frames =
-      ap length of.needs ∙ length-map of.survey.frames need_of in
-      omega (
-        arith,
-        sym (length-map more (λ (f : RunFrame). f.need)) ∙ ap length adds
-            ∙ length-moved joint.slot (drop out input.needs.now),
-        length-drop out input.needs.now,
-        n,
-        added.out,
-      )
+  many-more more adds = grind (arith, length-map, adds, length-moved, out, length-drop)
 
   outs-next : 0 ∷ left_out_counts new.joints.items
       ≡ (0 ∷ left_out_counts old.joints.items) ++ out ∷ []
-  outs-next =
-      ap (λ (l : List ℕ). 0 ∷ l)
-      (ap left_out_counts added.joints ∙ outs-more old.joints.items joint)
+  outs-next = grind (arith, outs-more)
 
   outs-long : length (0 ∷ left_out_counts old.joints.items) ≡ length (take number ss)
-  outs-long =
-      omega (
-        arith,
-        so_far.many,
-        length-map old.joints.items (λ (j : CodeJoint). left_out_count j.seam),
-        length-take number ss,
-        get-within ss number of.survey of.found,
-      )
+  outs-long = grind (arith, length-map, length-take, get-within)
 
   ss-next : take (number + 1) ss ≡ take number ss ++ of.survey ∷ []
   ss-next = take-more ss number of.survey of.found
@@ -312,21 +268,14 @@ module _ (files : Files) (names : List (List ℕ)) (ss : List SurveyFields) (bs 
     is_run = added.goes so_far.class so_far.frames more so_far.places so_far.before brought
         so_far.is_run (is-brought ss bs number so_far.class input of brought brings) adds;
     sound = added.sound;
-    needs =
-        added.needs ∙ ap₂ (λ (a b : List Need). a ++ b) so_far.needs (sym adds)
-        ∙ sym (map-append (λ (f : RunFrame). f.need) so_far.frames more);
+    needs = grind (arith, adds, map-append);
     at =
         All-append (IsFramePlace ss) so_far.places (frame_places number out (length more)) so_far.at
         (places-at ss number of.survey out
         (length more) of.found (omega (arith, many-more more adds)));
     many = omega
         (arith, ap length added.joints, length-append old.joints.items (joint ∷ []), so_far.many);
-    within = subst (AreCountsWithin (take (number + 1) ss)) (sym outs-next)
-        (subst (λ (l : List SurveyFields). AreCountsWithin l
-        ((0 ∷ left_out_counts old.joints.items) ++ out ∷ []))
-        (sym ss-next)
-        (within-more (take number ss)
-        (0 ∷ left_out_counts old.joints.items) of.survey out outs-long so_far.within out-within));
+    within = grind (arith, outs-next, out, ss-next, within-more, outs-long, out-within);
     moved =
         let behind =
         needs_of_parts (rest_rows (take number ss) (0 ∷ left_out_counts old.joints.items)) in
@@ -344,27 +293,14 @@ module _ (files : Files) (names : List (List ℕ)) (ss : List SurveyFields) (bs 
         (subst (AreMovedNeeds (old.needs.items ++ left)) (sym same)
         (moved-append old.needs.items behind left (drop out input.needs.now)
         so_far.moved (moved-joined joint.slot (drop out input.needs.now))));
-    same = subst (AreNeedsOfClass so_far.class) (sym added.needs)
-        (class-append so_far.class old.needs.items left so_far.same
-        (class-moved so_far.class joint.slot (drop out input.needs.now)
-        (class-drop so_far.class input.needs.now out of.same)));
-    begins = λ s is.
-        let first = so_far.begins s is in
-        let n : length s.frames ≤ length old.needs.items =
-        omega (
-          arith,
-          length-take (length s.frames) old.needs.items,
-          ap length first,
-          length-map s.frames need_of,
-        ) in
-        ap (take (length s.frames)) added.needs
-        ∙ take-append-le (length s.frames) old.needs.items left n ∙ first;
+    same = grind (arith, class-append, class-moved, out, class-drop);
+    begins = grind (arith, length-take, length-map, take-append-le);
     told = told;
   }
 
 -- what is decided about inputs whose contents are known
 module _ (f : Contents) (names : List (List ℕ)) (ss : List SurveyFields) (bs : List Beginning)
-    (number : ℕ) (input : Input) (alike : Option Overlap) (joint : CodeJoint)
+    (number : ℕ) (input : Input) (alike : Option Overlap) (joint : Joint)
     (old new : Deciding) (so_far : IsDecidingTo (Told f) names ss bs number old) (of : IsInputOf ss
     bs number so_far.class input) (added : IsAdded number input alike joint old new)
     (name : List ℕ) (named : slice_get names number ≡ Some name)
@@ -382,15 +318,13 @@ module _ (f : Contents) (names : List (List ℕ)) (ss : List SurveyFields) (bs :
   decided = joint_of so_far.class so_far.frames so_far.before next
 
   brings : IsBroughtInput input next
-  brings =
-      is-brought ss bs number so_far.class input of next (brings-told file of.survey of.beginning)
+  brings = grind (arith, is-brought, brings-told)
 
   has : slice_get lists number ≡ Some next.frames
   has = frames-get f names ss number name of.survey named of.found
 
   same : alike ≡ alike_overlap so_far.class so_far.frames so_far.before next
-  same = is so_far.class so_far.frames so_far.places so_far.before next so_far.is_run brings
-      so_far.told.sounds has
+  same = grind (arith, brings, has)
 
   joined : IsJoint decided joint
   joined = (added.joins so_far.class so_far.frames so_far.places so_far.before next
@@ -428,34 +362,19 @@ module _ (f : Contents) (names : List (List ℕ)) (ss : List SurveyFields) (bs :
       next
       new.joints.items
   told-next =
-      let told = so_far.told in
-      let first = told.first in
-      let others = told.others in
-      let here : joint_of so_far.class (run_with first (joints_of so_far.class first others))
-      (last_brought first others) next ≡ decided =
-      ap₂ (λ (r : List RunFrame) (b : Brought). joint_of so_far.class r b next) (sym told.run)
-      (sym told.last) in
-      record {
-        first = first;
-        others = others ++ next ∷ [];
-        are =
-            take-more (broughts_in f names ss bs) number next
-            (broughts-get f names ss bs number name of.survey of.beginning named of.found of.begun)
-            ∙ ap (λ (l : List Brought). l ++ next ∷ []) told.are;
-        last = sym (last-next first others next);
-        run =
-            ap₂ (λ (a : List RunFrame) (j : JointFrames). a ++ j.frames) told.run (sym here)
-            ∙ sym (run-next so_far.class first others next);
-        joints_are =
-            subst (AllZip IsJoint (joints_of so_far.class first (others ++ next ∷ [])))
-            (sym added.joints)
-            (subst (λ (l : List JointFrames). AllZip IsJoint l (old.joints.items ++ joint ∷ []))
-            (sym (joints-next so_far.class first others next
-            ∙ ap (λ (j : JointFrames). joints_of so_far.class first others ++ j ∷ []) here))
-            (zip-more (joints_of so_far.class first others) old.joints.items decided joint
-            told.joints_are joined));
-        sounds = all-sounds;
-      }
+      grind (
+        arith,
+        take-more (broughts_in f names ss bs) number next (broughts-get f names ss bs
+            number name of.survey of.beginning named of.found of.begun),
+        broughts-get f names ss bs number
+            name of.survey of.beginning named of.found of.begun,
+        last-next,
+        run-next,
+        joints-next,
+        zip-more,
+        joined,
+        all-sounds,
+      )
 
   -- where the contents of the files are known, one more input is decided
   pub told-step : IsDecidingTo (Told f) names ss bs (number + 1) new

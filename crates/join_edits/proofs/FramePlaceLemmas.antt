@@ -4,23 +4,21 @@ use Rattle.std.proofs.Common.{option_and_then, refl, slice_get, slice_range, Som
 use Rattle.std.proofs.Common.{take, true, zero, zip, ℕ, [], ◌&&◌, ◌+◌, ◌-◌, ◌<◌, ◌∙◌, ◌∷◌, ◌≡◌}
 use Rattle.std.{proofs.lemmas.List.length-map, specs.List.enumerate_from}
 use Rattle.std.specs.Prelude.{All, slice_index_or, unwrap_or}
-use Rattle.frame_header.specs.{Fields.{ClassFields, HeaderFields}, HeaderBits.header_bits}
-use Rattle.frame_header.specs.Tables.{class_of}
+use Rattle.frame_header.specs.{Fields.ClassFields, HeaderBits.header_bits, Tables.class_of}
 use Rattle.frame_writer.specs.Frames.{Frame}
 use Rattle.join_edits.{proofs.SoundLemmas.sounds-tested, specs.Join.whole_part}
 use Rattle.join_edits.specs.Reading.{AreHeld, IsHeld, IsMainDataOf}
 use Rattle.join_edits.specs.Seamless.{run_frame, run_frames, sound_of}
 use Rattle.join_edits.specs.Sounds.{all_run_frames, AreSurveysOfClass, compared_side, frame_row}
 use Rattle.join_edits.specs.Sounds.{IsFramePlace, named_payload, payload_at_place, row_at}
-use Rattle.join_edits.specs.Sounds.{row_payload, same_front, same_sounds, sound_at, sound_of_frame}
-use Rattle.join_edits.specs.Sounds.{without_slot}
+use Rattle.join_edits.specs.Sounds.{row_payload, same_front, same_sounds, sound_at, without_slot}
 use Rattle.laying.proofs.{RelayLemmas.found-at, SurveyFrameLemmas.{own-entry, own-stream}}
 use Rattle.laying.specs.{LaidFiles.{IsStreamEntry, stream_entry}, Relaid.survey_frame}
 use Rattle.laying.specs.Surveys.{AreWholeRows, CanBeRelaid, IsWholeRow}
 use Rattle.outside.proofs.FilesLemmas.{there_holds}
 use Rattle.outside.specs.Files.{Contents, Files, IfTold, Told, Untold}
 use Rattle.seam_plan.specs.{Frames.RunFrame, declared.run.FramePlace.FramePlace}
-use Rattle.side_info.specs.{Side.side_bits, declared.side.Side.Side}
+use Rattle.side_info.specs.Side.{side_bits}
 use Rattle.sync_survey.specs.Faults.{stream_of_survey, SurveyFields}
 use Rattle.sync_survey.specs.MainData.{main_bytes, row_side, stream_frame, stream_frames}
 use Rattle.sync_survey.specs.{MainData.StreamFrame, Row.Row}
@@ -38,10 +36,7 @@ zip-get : {X Y : Type 0} (xs : List X) (ys : List Y) (i : ℕ) (x : X) (y : Y)
     → slice_get xs i ≡ Some x → slice_get ys i ≡ Some y → slice_get (zip xs ys) i ≡ Some (x, y)
 zip-get [] ys i x y first second = absurd cc
 zip-get (v ∷ xs) [] i x y first second = absurd cc
-zip-get (v ∷ xs) (w ∷ ys) zero x y first second =
-    let one : v ≡ x = cc in
-    let other : w ≡ y = cc in
-    ap₂ (λ a b. Some (a, b)) one other
+zip-get (v ∷ xs) (w ∷ ys) zero x y first second = grind arith
 zip-get (v ∷ xs) (w ∷ ys) (suc i) x y first second = zip-get xs ys i x y first second
 
 take-get : {X : Type 0} (n : ℕ) (xs : List X) (i : ℕ) (x : X) → i < n → slice_get xs i ≡ Some x
@@ -73,10 +68,7 @@ get-some (y ∷ xs) (suc i) within = get-some xs i (omega (arith, within))
 -- there is one item at a place
 pub get-one : {X : Type 0} (xs : List X) (i : ℕ) (x y : X) → slice_get xs i ≡ Some x
     → slice_get xs i ≡ Some y → x ≡ y
-get-one xs i x y first second = one (sym first ∙ second)
-  where
-    one : Some x ≡ Some y → x ≡ y
-    one e = cc
+get-one xs i x y first second = grind arith
 
 -- the item at a place, or a given one if there is none
 pub get-index : {X : Type 0} (xs : List X) (i : ℕ) (x other : X) → slice_get xs i ≡ Some x
@@ -93,13 +85,8 @@ enumerated-get : {X : Type 0} (f : ℕ → Row → X) (n : ℕ) (rows : List Row
     → slice_get rows i ≡ Some r
     → slice_get (map (λ (p : ℕ × Row). f p.0 p.1) (enumerate_from n rows)) i ≡ Some (f (n + i) r)
 enumerated-get f n [] i r is = absurd cc
-enumerated-get f n (q ∷ rows) zero r is =
-    let same : q ≡ r = cc in
-    let at : n ≡ n + 0 = omega arith in
-    ap₂ (λ m x. Some (f m x)) at same
-enumerated-get f n (q ∷ rows) (suc i) r is =
-    let at : n + 1 + i ≡ n + suc i = omega arith in
-    enumerated-get f (n + 1) rows i r is ∙ ap (λ m. Some (f m r)) at
+enumerated-get f n (q ∷ rows) zero r is = grind arith
+enumerated-get f n (q ∷ rows) (suc i) r is = grind (arith, enumerated-get f (n + 1) rows i r is)
 
 -- ---- a frame of an input
 
@@ -135,8 +122,7 @@ module _ (file : List ℕ) (s : SurveyFields) (i : ℕ) (r : Row)
   module _ (has : CanBeRelaid file s) where
     -- the frame of this row is a frame of the class, with its main data
     pub entry-here : IsStreamEntry s.class (survey_frame file s i r)
-    entry-here = own-entry file s.head s.class s.frames has.head has.rows has.placed i r found
-        (whole-at file s.frames i r has.rows found)
+    entry-here = grind (arith, own-entry, found, whole-at)
 
     entry-in : stream_entry (survey_frame file s i r) ≡ in_stream
     entry-in = own-stream file s.head s.class s.frames has.head has.rows has.placed i r found
@@ -156,8 +142,7 @@ pub known-at : (files : Files) (names : List (List ℕ)) (ss : List SurveyFields
 known-at files [] [] i s known is = absurd cc
 known-at files [] (t ∷ ss) i s known is = absurd known
 known-at files (n ∷ names) [] i s known is = absurd cc
-known-at files (n ∷ names) (t ∷ ss) zero s known is =
-    let same : t ≡ s = cc in (n, refl, subst (IsHeld files n) same known.0)
+known-at files (n ∷ names) (t ∷ ss) zero s known is = grind arith
 known-at files (n ∷ names) (t ∷ ss) (suc i) s known is = known-at files names ss i s known.1 is
 
 -- the input with the name at a place can be read by its survey
@@ -165,23 +150,18 @@ pub held-at : (files : Files) (names : List (List ℕ)) (ss : List SurveyFields)
     (name : List ℕ) (s : SurveyFields) → AreHeld files names ss
     → slice_get names i ≡ Some name → slice_get ss i ≡ Some s → IsHeld files name s
 held-at files names ss i name s known named given =
-    let held = known-at files names ss i s known given in
-    subst (λ (n : List ℕ). IsHeld files n s) (get-one names i held.0 name held.1 named) held.2
+    grind (arith, known-at files names ss i s known given, get-one)
 
 -- the input at a frame's place is one of the inputs
 pub input-within : (files : Files) (names : List (List ℕ)) (ss : List SurveyFields)
     (place : FramePlace) → AreHeld files names ss → IsFramePlace ss place
     → place.input < length names
-input-within files names ss place known at =
-    get-within names place.input (known-at files names ss place.input at.survey known at.input).0
-    (known-at files names ss place.input at.survey known at.input).1
+input-within files names ss place known at = grind (arith, get-within, known-at)
 
 -- the frame at a place is one of the input's frames
 pub frame-within : (ss : List SurveyFields) (place : FramePlace) (s : SurveyFields)
     → IsFramePlace ss place → slice_get ss place.input ≡ Some s → place.frame < length s.frames
-frame-within ss place s at given =
-    subst (λ (x : SurveyFields). place.frame < length x.frames)
-    (get-one ss place.input at.survey s at.input given) at.frame
+frame-within ss place s at given = grind (arith, get-one)
 
 -- the main data of a frame are the main data at its place
 pub payload-told : (files : Files) (names : List (List ℕ)) (ss : List SurveyFields)
@@ -195,8 +175,7 @@ payload-told (Told f) names ss place name s bytes known at named given is =
     let told = there_holds f name (held-at (Told f) names ss place.input name s known named
     given).there in
     let row = get-some s.frames i (frame-within ss place s at given) in
-    let file : told.0 ≡ unwrap_or (f name) [] = ap (λ (o : Option (List ℕ)). unwrap_or o [])
-    (sym told.1) in
+    let file : told.0 ≡ unwrap_or (f name) [] = grind arith in
     is told.0 told.1 row.0 row.1
     ∙ ap (row_payload told.0 i s) (sym row.1)
     ∙ ap (λ (b : List ℕ). row_payload b i s (slice_get s.frames i)) file
@@ -209,10 +188,7 @@ lists-get : (f : Contents) (names : List (List ℕ)) (ss : List SurveyFields) (i
 unfolding all_run_frames
 lists-get f [] ss i name s named given = absurd cc
 lists-get f (n ∷ names) [] i name s named given = absurd cc
-lists-get f (n ∷ names) (t ∷ ss) zero name s named given =
-    let one : n ≡ name = cc in
-    let other : t ≡ s = cc in
-    ap₂ (λ a b. Some (run_frames (whole_part (unwrap_or (f a) []) b))) one other
+lists-get f (n ∷ names) (t ∷ ss) zero name s named given = grind arith
 lists-get f (n ∷ names) (t ∷ ss) (suc i) name s named given =
     lists-get f names ss i name s named given
 
@@ -251,19 +227,9 @@ frame-at f names ss place class known one at =
       found = ap (frame_row i) at.input ∙ row.1;
       header = refl;
       side = refl;
-      entry = subst (λ c. IsStreamEntry c (survey_frame file s i r)) same
-          (entry-here file s i r row.1 has);
-      sound =
-          ap (λ (o : Option (List RunFrame)). sound_of_frame
-          (option_and_then (λ (frames : List RunFrame). slice_get frames i) o))
-          (lists-get f names ss place.input name s held.1 at.input
-          ∙ ap (λ (b : List ℕ). Some (run_frames (whole_part b s))) is)
-          ∙ ap sound_of_frame (sound-in file s i r row.1 has)
-          ∙ ap (λ c. sound_of c (stream_entry (survey_frame file s i r))) same;
-      payload =
-          ap₂ (named_payload f i) held.1 at.input
-          ∙ ap (λ (b : List ℕ). row_payload b i s (slice_get s.frames i)) is
-          ∙ ap (row_payload file i s) row.1;
+      entry = grind (arith, entry-here);
+      sound = grind (arith, option_and_then, lists-get, sound-in);
+      payload = grind arith;
     }
 
 -- ---- two frames of inputs
@@ -276,34 +242,22 @@ module _ (f : Contents) (names : List (List ℕ)) (ss : List SurveyFields) (p q 
       (header_bits (without_slot other.frame.kept.header))
       && bytes_eq (side_bits class (compared_side one.frame.kept.side))
       (side_bits class (compared_side other.frame.kept.side))
-  fronts-are =
-      ap₂ (λ a b. a && b)
-      (ap₂ (λ (g h : HeaderFields). bytes_eq (header_bits (without_slot g))
-      (header_bits (without_slot h))) (sym one.header) (sym other.header))
-      (ap₂ (λ (s t : Side). bytes_eq (side_bits class (compared_side s))
-      (side_bits class (compared_side t)))
-      (sym one.side) (sym other.side))
+  fronts-are = grind (arith, bytes_eq)
 
   places-tested : same_front class one.row other.row && bytes_eq one.frame.payload
       other.frame.payload ≡ same_sounds (all_run_frames f names ss) p q
-  places-tested =
-      ap (λ b. b && bytes_eq one.frame.payload other.frame.payload) fronts-are
-      ∙ sounds-tested class one.frame other.frame one.entry other.entry
-      ∙ ap₂ bytes_eq (sym one.sound) (sym other.sound)
+  places-tested = grind (arith, bytes_eq, fronts-are, sounds-tested)
 
   -- if header or side information differ, the frames don't sound the same
   pub fronts-differ : same_front class one.row other.row ≡ false
       → false ≡ same_sounds (all_run_frames f names ss) p q
-  fronts-differ differ =
-      ap (λ b. b && bytes_eq one.frame.payload other.frame.payload) (sym differ) ∙ places-tested
+  fronts-differ differ = grind (arith, bytes_eq, places-tested)
 
   -- if both are the same, the frames sound the same exactly if their main data do
   pub payloads-tested : same_front class one.row other.row ≡ true
       → bytes_eq (payload_at_place f names ss p)
       (payload_at_place f names ss q) ≡ same_sounds (all_run_frames f names ss) p q
-  payloads-tested same =
-      ap₂ bytes_eq one.payload other.payload
-      ∙ ap (λ b. b && bytes_eq one.frame.payload other.frame.payload) (sym same) ∙ places-tested
+  payloads-tested same = grind (arith, bytes_eq, places-tested)
 
 -- ---- what depends on the folder's contents
 
@@ -314,11 +268,7 @@ module _ (names : List (List ℕ)) (ss : List SurveyFields) (p q : FramePlace) (
     (there : row_at ss q ≡ Some t) where
   rows-here : (f : Contents) (a : IsFrameAt f names ss p class) (b : IsFrameAt f names ss q class)
       → same_front class a.row b.row ≡ same_front class r t
-  rows-here f a b =
-      ap₂ (same_front class) (same-row (sym a.found ∙ here)) (same-row (sym b.found ∙ there))
-    where
-      same-row : {x y : Row} → Some x ≡ Some y → x ≡ y
-      same-row e = cc
+  rows-here f a b = grind arith
 
   -- if header or side information differ, the frames don't sound alike
   pub places-differ : (files : Files) → AreHeld files names ss → same_front class r t ≡ false
@@ -349,8 +299,7 @@ pub class-here : (files : Files) (names : List (List ℕ)) (ss : List SurveyFiel
 class-here files names ss place class r known one at found =
     let s = at.survey in
     let held = known-at files names ss place.input s known at.input in
-    let here : slice_get s.frames place.frame ≡ Some r = sym (ap (frame_row place.frame) at.input)
-    ∙ found in
+    let here : slice_get s.frames place.frame ≡ Some r = grind (arith, found) in
     (held.2.laid.placed place.frame r here).class_is ∙ all-get
     (λ (x : SurveyFields). x.class ≡ class) ss place.input s one at.input
 

@@ -1,8 +1,8 @@
 -- The surveys of the inputs, in order, and what is made of the inputs that have them.
-use Rattle.std.proofs.Common.{ap, arith, Bool, cond, drop, Err, false, length, List, None, Ok}
-use Rattle.std.proofs.Common.{Option, refl, Result, slice_index_or, Some, sym, take, true, ℕ, []}
-use Rattle.std.proofs.{Common.{◌++◌, ◌+◌, ◌-◌, ◌∙◌, ◌∷◌, ◌≡◌, ◌≤◌}, Math.Seq.take-add}
-use Rattle.std.{proofs.lemmas.List.get_or_at, specs.Prelude.{IfErr, unwrap_or}}
+use Rattle.std.proofs.Common.{ap, arith, drop, Err, length, List, None, Ok, Option, refl, Result}
+use Rattle.std.proofs.Common.{slice_index_or, Some, sym, take, true, ℕ, [], ◌++◌, ◌+◌, ◌-◌, ◌∙◌}
+use Rattle.std.proofs.{Common.{◌∷◌, ◌≡◌, ◌≤◌}, Math.Seq.take-add, lemmas.List.get_or_at}
+use Rattle.std.specs.Prelude.{IfErr, unwrap_or}
 use Rattle.commands.proofs.InputLemmas.{of_bytes_behind}
 use Rattle.commands.proofs.NamedLemmas.{lost_name, missed_name, unread_name}
 use Rattle.commands.proofs.{RefusingLemmas.then_all, WhyLemmas.each_why}
@@ -22,7 +22,7 @@ use Rattle.outside.proofs.FilesLemmas.{there_holds}
 use Rattle.outside.specs.{Files.{Contents, Files, IfTold, Told, Untold}, Seen.Seen}
 use Rattle.sync_survey.proofs.BytesFaultLemmas.{survey_fields-of_bytes}
 use Rattle.sync_survey.proofs.{FoldersLemmas.survey_of-short, SurveyedFileLemmas.survey_of-parts}
-use Rattle.sync_survey.specs.{Faults.{longest_file, survey_fields, SurveyFields}, Survey.survey_of}
+use Rattle.sync_survey.specs.Faults.{longest_file, survey_fields, SurveyFields}
 use Rattle.sync_survey.specs.declared.survey_fault.SurveyFault.{SurveyFault}
 use Rattle.sync_survey.specs.declared.survey_fault.SurveyFault.TheVariants.{Absent, Read, TooLong}
 
@@ -41,9 +41,7 @@ pub inputs-more : (first : Option ClassFields) (allowed : ℕ) (files : Files) (
     → HasClassOfFirst (class_after first ss) s.class
     → AreJoinInputs first allowed files (names ++ name ∷ []) (ss ++ s ∷ [])
 unfolding frames_together
-inputs-more first allowed files [] [] name s are is follows =
-    let all : allowed - 0 ≡ allowed = omega arith in
-    (rw all at is, follows, tt)
+inputs-more first allowed files [] [] name s are is follows = grind arith
 inputs-more first allowed files (n ∷ names) (t ∷ ss) name s are is follows =
     let left : allowed - (length t.frames + frames_together ss)
     ≡ (allowed - length t.frames) - frames_together ss = omega arith in (
@@ -84,11 +82,7 @@ alike-inputs : (class : ClassFields) (allowed : ℕ) (files : Files) (names : Li
 unfolding frames_together
 alike-inputs class allowed files [] [] are = (tt, refl, omega arith)
 alike-inputs class allowed files (name ∷ names) (s ∷ ss) are =
-    let rest = alike-inputs class (allowed - length s.frames) files names ss are.2 in (
-      (are.0.some, are.0.laid, are.1, rest.0),
-      omega (arith, rest.1),
-      omega (arith, are.0.few, rest.2),
-    )
+    grind (arith, alike-inputs class (allowed - length s.frames) files names ss are.2)
 alike-inputs class allowed files _ _ are = absurd are
 
 -- 1 to 64 inputs that were read can be joined
@@ -98,15 +92,7 @@ pub inputs-join : (files : Files) (names : List (List ℕ)) (ss : List SurveyFie
 unfolding frames_together
 inputs-join files [] ss are some few = absurd (omega (arith, some))
 inputs-join files (name ∷ names) [] are some few = absurd are
-inputs-join files (name ∷ names) (s ∷ ss) are some few =
-    let rest = alike-inputs s.class (most_frames - length s.frames) files names ss are.2 in
-    record {
-      class = s.class;
-      first = refl;
-      alike = (are.0.some, are.0.laid, refl, rest.0);
-      few = omega (arith, few, rest.1);
-      frames = omega (arith, are.0.few, rest.2);
-    }
+inputs-join files (name ∷ names) (s ∷ ss) are some few = grind (arith, alike-inputs)
 
 -- ---- inputs whose contents are known
 
@@ -119,8 +105,7 @@ follows-may (Some first) class follows = ap (λ c. same_class c first) follows �
 part-ok : (place : ℕ) (first : Option ClassFields) (allowed : ℕ) (f : Contents) (name : List ℕ)
     (s : SurveyFields) → IsJoinInput allowed (Told f) name s → HasClassOfFirst first s.class
     → join_part place first allowed (f name) ≡ Ok (whole_part (unwrap_or (f name) []) s)
-part-ok place first allowed f name s is follows = let held = there_holds f name is.there in
-    rw (held.1, is.exact held.0 held.1, follows-may first s.class follows) refl
+part-ok place first allowed f name s is follows = grind (arith, there_holds, follows-may)
 
 -- the parts of inputs that were surveyed are all there
 pub parts-all : (place : ℕ) (first : Option ClassFields) (allowed : ℕ) (f : Contents)
@@ -146,10 +131,7 @@ module _ (Q : Result (List FilePart) EditFault → Type 0)
       (join_parts_from (place + length before) (class_after first ss) (allowed - frames_together ss)
       f after) → Q (join_parts_from place first allowed f (before ++ after))
   unfolding join_parts_from frames_together
-  parts-behind place first allowed [] [] are q =
-      let here : place + 0 ≡ place = omega arith in
-      let all : allowed - 0 ≡ allowed = omega arith in
-      rw (here, all) at q
+  parts-behind place first allowed [] [] are q = grind arith
   parts-behind place first allowed (name ∷ before) (s ∷ ss) are q =
       let next : place + length (name ∷ before) ≡ place + 1 + length before = omega arith in
       let left : allowed - (length s.frames + frames_together ss)
@@ -167,11 +149,7 @@ module _ (P : EditFault → Type 0) where
       → ((fault : SurveyFault) → r ≡ Err fault → P (Input place fault)) → P (Refused (Differ place))
       → IfErr (surveyed_part place first file r) P
   by-all place first file (Err fault) faults differ = faults fault refl
-  by-all place first file (Ok s) faults differ = at (may_join first s.class)
-    where
-      at : (b : Bool) → IfErr (cond b (Ok (whole_part file s)) (Err (Refused (Differ place)))) P
-      at true = tt
-      at false = differ
+  by-all place first file (Ok s) faults differ = grind arith
 
   -- refusals of the inputs from one on
   module _ (from : ℕ) (faults : (at : ℕ) (fault : SurveyFault) → from ≤ at → P (Input at fault))
@@ -179,8 +157,7 @@ module _ (P : EditFault → Type 0) where
     part-all : (at : ℕ) (first : Option ClassFields) (allowed : ℕ) (o : Option (List ℕ)) → from ≤ at
         → IfErr (join_part at first allowed o) P
     part-all at first allowed None behind = faults at Absent behind
-    part-all at first allowed (Some file) behind = by-all at first file (survey_of file allowed)
-        (λ fault is. faults at fault behind) (differ at behind)
+    part-all at first allowed (Some file) behind = grind (arith, by-all)
 
     from-all : (at : ℕ) (first : Option ClassFields) (allowed : ℕ) (f : Contents)
         (names : List (List ℕ)) → from ≤ at → IfErr (join_parts_from at first allowed f names) P
@@ -222,11 +199,8 @@ pub found-input : (allowed : ℕ) (before after : List (List ℕ)) (ss : List Su
     → new ≡ old → NeedsMemory (first_input (before ++ after)) old new
 found-input allowed [] after ss old new are some stays = absurd (omega (arith, some))
 found-input allowed (name ∷ before) after [] old new are some stays = absurd are
-found-input allowed (name ∷ before) after (s ∷ ss) old new are some stays = record {
-  there = are.0.there;
-  few = λ bytes holds. (survey_of-parts bytes allowed s (are.0.exact bytes holds)).0;
-  stays = stays;
-}
+found-input allowed (name ∷ before) after (s ∷ ss) old new are some stays =
+    grind (arith, survey_of-parts)
 
 -- ---- a fault of an input after those before it
 
@@ -286,15 +260,8 @@ module _ (before : List (List ℕ)) (name : List ℕ) (after : List (List ℕ))
         rose = missed_name (before ++ name ∷ after) (length before) named m.1;
         files = m.1.files;
       };
-      unread = λ u. record {
-        before = rw u.is (unread-by old.files are);
-        rose = unread_name (before ++ name ∷ after) (length before) named u;
-        files = u.files;
-      };
-      shorter = λ l. record {
-        ended = lost_name (before ++ name ∷ after) (length before) named l;
-        files = l.files;
-      };
+      unread = grind (arith, unread-by, unread_name, named);
+      shorter = grind (arith, lost_name, named);
       unwritten = λ k w. absurd w;
       unsent = λ w. absurd w;
       no_memory = needs-first;

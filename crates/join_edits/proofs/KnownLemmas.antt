@@ -82,8 +82,7 @@ byte-zero byte few false is some = refl
 -- the bits of one byte more
 zeros-append : (xs ys : List ℕ) → list_all is_zero (bits (xs ++ ys))
     ≡ (list_all is_zero (bits xs) && list_all is_zero (bits ys))
-zeros-append xs ys =
-    ap (list_all is_zero) (bits-append xs ys) ∙ list_all-append is_zero (bits xs) (bits ys)
+zeros-append xs ys = grind (arith, bits-append, list_all-append)
 
 zero-bits : list_all is_zero (bits_of 8 0) ≡ true
 unfolding bits_of
@@ -92,10 +91,7 @@ zero-bits = refl
 -- one more byte is 0
 pub zeros-next : (xs : List ℕ) (byte : ℕ) → list_all is_zero (bits xs) ≡ true → byte ≡ 0
     → list_all is_zero (bits (xs ++ byte ∷ [])) ≡ true
-zeros-next xs byte so_far none =
-    zeros-append xs (byte ∷ [])
-    ∙ ap₂ (λ a b. a && b) so_far (ap (list_all is_zero) (bits-one byte)
-    ∙ ap (λ n. list_all is_zero (bits_of 8 n)) none ∙ zero-bits)
+zeros-next xs byte so_far none = grind (arith, zeros-append, bits-one, zero-bits)
 
 none-and : (b : Bool) → (b && false) ≡ false
 none-and true = refl

@@ -1,8 +1,7 @@
 -- The lines of the inputs, in order.
-use Rattle.std.proofs.Common.{ap, append_assoc, ap₂, arith, drop, length, List, refl, subst, sym, ℕ}
-use Rattle.std.proofs.Common.{[], ◌++◌, ◌+◌, ◌∙◌, ◌∷◌, ◌≡◌, ◌≤◌}
-use Rattle.std.{proofs.lemmas.List.{drop-drop, drop_all}, specs.List.zip}
-use Rattle.std.specs.Prelude.{codes, decimal}
+use Rattle.std.proofs.Common.{ap, append_assoc, ap₂, arith, drop, length, List, refl, subst, ℕ, []}
+use Rattle.std.proofs.{Common.{◌++◌, ◌+◌, ◌∙◌, ◌∷◌, ◌≡◌, ◌≤◌}, lemmas.List.{drop-drop, drop_all}}
+use Rattle.std.specs.{List.zip, Prelude.{codes, decimal}}
 use Rattle.join_edits.specs.Seamless.{seam_line, seam_text}
 use Rattle.outside.proofs.SentLemmas.{sent_more_on, sent_more_prefix}
 use Rattle.outside.specs.{BufferOutput.{SendsWaiting, SentPrefix}, Files.Sent}
@@ -19,18 +18,14 @@ abbrev pub left-from : List (List ℕ) → List Joint → ℕ → List Told
 left-from inputs joints i = zip (drop i (drop 1 inputs)) (drop i joints)
 
 after-first : (inputs : List (List ℕ)) (i : ℕ) → drop i (drop 1 inputs) ≡ drop (i + 1) inputs
-after-first inputs i =
-    let one : 1 + i ≡ i + 1 = omega arith in
-    drop-drop i 1 inputs ∙ ap (λ n. drop n inputs) one
+after-first inputs i = grind (arith, drop-drop i 1 inputs)
 
 -- what is left from a joint on is the joint with its name, and then the rest
 pub left-next : (inputs : List (List ℕ)) (joints : List Joint) (i : ℕ) (name : List ℕ) (j : Joint)
     → drop (i + 1) inputs ≡ name ∷ drop (i + 1 + 1) inputs
     → drop i joints ≡ j ∷ drop (i + 1) joints
     → left-from inputs joints i ≡ (name, j) ∷ left-from inputs joints (i + 1)
-left-next inputs joints i name j named joint =
-    let next = after-first inputs (i + 1) in
-    ap₂ zip (after-first inputs i ∙ named ∙ ap (λ (l : List (List ℕ)). name ∷ l) (sym next)) joint
+left-next inputs joints i name j named joint = grind (arith, after-first)
 
 zip-none : (names : List (List ℕ)) (joints : List Joint) → joints ≡ [] → zip names joints ≡ []
 zip-none [] joints none = refl
@@ -39,8 +34,7 @@ zip-none (name ∷ names) joints none = ap (zip (name ∷ names)) none
 -- nothing is left past the last joint
 pub left-none : (inputs : List (List ℕ)) (joints : List Joint) (i : ℕ) → length joints ≤ i
     → left-from inputs joints i ≡ []
-left-none inputs joints i past =
-    zip-none (drop i (drop 1 inputs)) (drop i joints) (drop_all i joints past)
+left-none inputs joints i past = grind (arith, zip-none, drop_all)
 
 -- ---- one line
 
@@ -48,9 +42,7 @@ left-none inputs joints i past =
 pub follows-line : (n : ℕ)
     → codes ": follows, " ++ (decimal n ++ (codes " frames left out\n" ++ []))
     ≡ codes ": " ++ (seam_text (Follows n) ++ codes "\n")
-follows-line n =
-    ap (λ (l : List ℕ). codes ": follows, " ++ l)
-    (sym (append_assoc (decimal n) (codes " frames left out") (codes "\n")))
+follows-line n = grind (arith, append_assoc)
 
 -- the name, and the rest of the line after it
 module _ (waits name piece rest line mid : List ℕ) (s t u : Sent) (named : piece ≡ name)
@@ -61,8 +53,7 @@ module _ (waits name piece rest line mid : List ℕ) (s t u : Sent) (named : pie
   -- if the name was passed on and then the rest, the whole line was
   pub line-on : (after : List ℕ) → SendsWaiting (waits ++ piece) mid s t
       → SendsWaiting (mid ++ line) after t u → SendsWaiting (waits ++ (name ++ rest)) after s u
-  line-on after first more =
-      subst (λ text. SendsWaiting text after s u) line-whole (sent_more_on line first more)
+  line-on after first more = grind (arith, line-whole, sent_more_on)
 
   -- if only a part of the rest was passed on, a part of the line was
   pub line-part : SendsWaiting (waits ++ piece) mid s t → SentPrefix (mid ++ line) t u

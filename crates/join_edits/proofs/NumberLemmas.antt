@@ -1,10 +1,8 @@
 -- What the Info frame keeps of the heads.
-use Rattle.std.proofs.Common.{ap, arith, get_or, length, List, None, Option, option_map, refl, Some}
-use Rattle.std.proofs.Common.{suc, sym, zero, ℕ, [], ◌+◌, ◌<◌, ◌∷◌, ◌≡◌}
-use Rattle.exact_span.specs.Extensions.{counts_of}
-use Rattle.exact_span.specs.PlayedPositions.{counted_played, counted_positions, played_of}
-use Rattle.exact_span.specs.PlayedPositions.{played_or_all, rest_of, samples_in}
-use Rattle.exact_span.specs.declared.{extensions.HeadCounts.HeadCounts, played.Played.Played}
+use Rattle.std.proofs.Common.{arith, get_or, length, List, None, Option, option_map, refl, Some}
+use Rattle.std.proofs.Common.{suc, zero, ℕ, [], ◌+◌, ◌<◌, ◌∷◌, ◌≡◌}
+use Rattle.exact_span.specs.PlayedPositions.{counted_positions, played_of, rest_of}
+use Rattle.exact_span.specs.declared.played.Played.{Played}
 use Rattle.frame_header.specs.Fields.{ClassFields}
 use Rattle.info_header.specs.declared.fields.Info.{Info}
 use Rattle.join_edits.specs.Numbers.{first_head, last_head}
@@ -15,24 +13,13 @@ pub rest-counted : (head : Option Info) (class : ClassFields) (frames : ℕ) (p 
     → Some p ≡ counted_positions head class frames
     → rest_of class frames (played_of head class frames) ≡ rest_of class frames p
 unfolding counted_positions played_of
-rest-counted head class frames p is = at (counts_of head) is
-  where
-    at : (o : Option HeadCounts) → Some p ≡ option_map (counted_played (samples_in class) frames) o
-        → rest_of class frames (played_or_all (samples_in class) frames o) ≡ rest_of class frames p
-    at None e = absurd cc
-    at (Some counts) e = let same : p ≡ counted_played (samples_in class) frames counts = cc in
-        ap (rest_of class frames) (sym same)
+rest-counted head class frames p is = grind (arith, option_map)
 
 -- if the head doesn't count, nothing is after the last played position
 pub rest-none : (head : Option Info) (class : ClassFields) (frames : ℕ) → None
     ≡ counted_positions head class frames → rest_of class frames (played_of head class frames) ≡ 0
 unfolding counted_positions played_of
-rest-none head class frames is = at (counts_of head) is
-  where
-    at : (o : Option HeadCounts) → None ≡ option_map (counted_played (samples_in class) frames) o
-        → rest_of class frames (played_or_all (samples_in class) frames o) ≡ 0
-    at None e = omega arith
-    at (Some counts) e = absurd cc
+rest-none head class frames is = grind (arith, option_map)
 
 -- ---- the first and the last head
 

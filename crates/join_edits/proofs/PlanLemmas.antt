@@ -1,6 +1,6 @@
 -- The plan of all frames of several surveys.
-use Rattle.std.proofs.Common.{All, ap, ap₂, arith, length, length-append, List, map, refl, subst}
-use Rattle.std.proofs.Common.{suc, sym, take, zero, ℕ, [], ◌+◌, ◌<◌, ◌∙◌, ◌∷◌, ◌≡◌, ◌≤◌}
+use Rattle.std.proofs.Common.{All, ap, arith, length, length-append, List, map, refl, suc, sym}
+use Rattle.std.proofs.Common.{take, zero, ℕ, [], ◌+◌, ◌<◌, ◌∷◌, ◌≡◌, ◌≤◌}
 use Rattle.std.proofs.lemmas.List.{length-map, take-map, Elements.{All-cons, All-nil}}
 use Rattle.std.specs.Prelude.{◌↔◌}
 use Rattle.commands.specs.SingleOutput.{most_frames}
@@ -23,8 +23,7 @@ needs-length : (ss : List SurveyFields)
     → length (needs_of_parts (survey_rows ss)) ≡ frames_together ss
 unfolding needs_of_parts frames_together
 needs-length [] = refl
-needs-length (s ∷ ss) = length-append (map need_of s.frames) (needs_of_parts (survey_rows ss))
-    ∙ ap₂ (λ m n. m + n) (length-map s.frames need_of) (needs-length ss)
+needs-length (s ∷ ss) = grind (arith, length-append, length-map, needs-length ss)
 
 places-length : (at : ℕ) (parts : List (List Row)) → length (part_places at parts) ≡ length parts
 unfolding part_places
@@ -41,13 +40,8 @@ taken (suc k) (s ∷ ss) = omega (arith, taken k ss)
 pub parts-few : {X : Type 0} (f : X → SurveyFields) (k : ℕ) (xs : List X)
     → CanInputsBeJoined (map f xs)
     → length (needs_of_parts (survey_rows (map f (take k xs)))) ≤ most_frames
-parts-few f k xs can = omega (
-  arith,
-  needs-length (map f (take k xs)),
-  ap frames_together (sym (take-map f k xs)),
-  taken k (map f xs),
-  can.frames,
-)
+parts-few f k xs can =
+    grind (arith, needs-length (map f (take k xs)), take-map f k xs, taken k (map f xs))
 
 -- inputs that can be joined are at least one
 pub can-some : (ss : List SurveyFields) → CanInputsBeJoined ss → 0 < length ss
@@ -57,8 +51,7 @@ can-some (s ∷ ss) can = omega arith
 -- all inputs are of the first one's class
 pub alike-first : (s : SurveyFields) (ss : List SurveyFields) → CanInputsBeJoined (s ∷ ss)
     → AreInputsOfClass s.class (s ∷ ss)
-alike-first s ss can = let first = can.first in let same : can.class ≡ s.class = cc in
-    subst (λ (c : ClassFields). AreInputsOfClass c (s ∷ ss)) same can.alike
+alike-first s ss can = grind arith
 
 -- ---- the plan
 
@@ -110,13 +103,7 @@ module _ (ss : List SurveyFields) (can : CanInputsBeJoined ss) where
       → IsPlan (window_in asked.needs) own_choice (needs_in_parts asked.needs asked.places) placed
       → IsPlanOf ss placed
   unfolding least_plan_of
-  plan-is placed is =
-      let ours : IsPlan window own_choice parts placed =
-      rw can.first (asked-plans can.class own_choice (survey_rows ss) placed all-fit is) in
-      record {
-        plan = (one-plan placed).0 ours;
-        fits = plans-fit window own_choice (survey_rows ss) placed ours;
-      }
+  plan-is placed is = grind (arith, asked-plans, all-fit, one-plan placed, plans-fit)
 
   -- the parts have no more frames than are allowed
   pub needs-few : length asked.needs ≤ most_frames
@@ -124,23 +111,9 @@ module _ (ss : List SurveyFields) (can : CanInputsBeJoined ss) where
 
   -- there are at most 64 parts
   pub places-few : length asked.places ≤ 64
-  places-few = omega (
-    arith,
-    places-length 0 (survey_rows ss),
-    length-map ss (λ (s : SurveyFields). s.frames),
-    can.few,
-  )
+  places-few = grind (arith, places-length, length-map)
 
   -- the plan has at most one place more than frames for each part
   pub plan-few : length (least_plan_of ss) ≤ most_output_frames
   unfolding least_plan_of
-  plan-few = omega (
-    arith,
-    plan-length window own_choice parts,
-    ap length (needs-flat (survey_rows ss)),
-    length-map (survey_rows ss) (map need_of),
-    length-map ss (λ (s : SurveyFields). s.frames),
-    needs-length ss,
-    can.few,
-    can.frames,
-  )
+  plan-few = grind (arith, plan-length, needs-flat, length-map, needs-length)

@@ -1,13 +1,13 @@
 -- Areas of an input that are read, and the main data of a frame, which are cut out of the areas up
 -- to its own.
-use Rattle.std.proofs.Common.{ap, ap₂, arith, false, length, List, None, refl, slice_get, Some}
-use Rattle.std.proofs.Common.{subst, sym, ℕ, [], ◌*◌, ◌+◌, ◌-◌, ◌/◌, ◌∙◌, ◌≡◌, ◌≤◌}
+use Rattle.std.proofs.Common.{ap, arith, false, length, List, None, refl, slice_get, Some, subst}
+use Rattle.std.proofs.Common.{sym, ℕ, [], ◌*◌, ◌+◌, ◌-◌, ◌∙◌, ◌≡◌, ◌≤◌}
 use Rattle.bit_fields.specs.Bits.{AreBytes}
 use Rattle.frame_header.specs.Fields.{HeaderFields}
 use Rattle.join_edits.{proofs.FramePlaceLemmas.get-one, specs.Reading.{IsMainDataOf, ReadsArea}}
 use Rattle.laying.proofs.ReadLemmas.{bits-least, bytes-are, cut-is, data-within, IsWithin}
 use Rattle.laying.proofs.ReadLemmas.{last-next, main-first, place-first, place-next, window-holds}
-use Rattle.laying.specs.{Passing.{IsWindowOverFrames, IsWindowOverLast}, Relaid.payload_of}
+use Rattle.laying.specs.Passing.{IsWindowOverFrames, IsWindowOverLast}
 use Rattle.outside.specs.Files.{Files, Holds}
 use Rattle.reservoir.specs.Window.{AreBitsPacked, IsWindowOver, main_bits}
 use Rattle.side_info.specs.Side.{payload_bits, payload_bytes}
@@ -55,8 +55,7 @@ area-next before after input files now s first i r offset h found stay at header
     last-next before after read.area input files s first i r found over
     (record {
       long = read.long ∙ ap own_area header;
-      is = λ file holds. read.is file (subst (λ f. Holds f input file) (sym stay) holds)
-          ∙ ap₂ (area_bytes file) at header;
+      is = grind arith;
     })
     read.over
 
@@ -81,8 +80,7 @@ module _ (window input : List ℕ) (files : Files) (s : SurveyFields) (i : ℕ) 
   within = data-within s.head s.class s.frames i r (laid.placed i r found) kept
 
   least : count ≤ 8 * payload_bytes r.side
-  least = subst (λ n. count ≤ 8 * n) (ap (λ n. (n + 7) / 8) count_is ∙ sym (bytes-are r.side))
-      (bits-least count)
+  least = grind (arith, bytes-are, bits-least)
 
   -- a window over the areas up to the frame's own holds its main data
   pub holds-data : HoldsData window input files s i area begin count
@@ -100,8 +98,5 @@ module _ (window input : List ℕ) (files : Files) (s : SurveyFields) (i : ℕ) 
           few,
         );
     ends = omega (arith, within.ends, area_is, begin_is, least);
-    is = λ bytes cut octets file holds q is.
-        subst (λ (x : Row). bytes ≡ payload_of file s i x) (get-one s.frames i r q found is)
-        (cut-is file over.main bytes s i r area begin count found kept within over.long
-        (over.is file holds) area_is begin_is count_is least octets (cut over.main over.held));
+    is = grind (arith, get-one, cut-is, within, least);
   }

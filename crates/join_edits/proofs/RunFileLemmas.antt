@@ -4,30 +4,27 @@ use Rattle.std.proofs.Common.{ap, arith, Bool, cond, drop, Err, false, length, l
 use Rattle.std.proofs.Common.{length-drop, List, None, Ok, Option, refl, Result, Some, subst, sym}
 use Rattle.std.proofs.Common.{take, true, ℕ, [], ◌++◌, ◌+◌, ◌-◌, ◌∙◌, ◌∷◌, ◌≡◌, ◌≤◌}
 use Rattle.std.proofs.lemmas.List.{length-map, length-take-le, FromFn.length-range_with_len}
-use Rattle.std.specs.{List.{list_all, range_with_len}, Prelude.{flat_map, replicate, slice_get}}
+use Rattle.std.specs.Prelude.{flat_map, replicate, slice_get}
 use Rattle.commands.proofs.{MadeLemmas.some-frames, RefusingLemmas.then_ok}
 use Rattle.commands.specs.{Refusing.then_made, SingleOutput.most_frames}
 use Rattle.commands.specs.declared.fault.EditFault.{EditFault}
 use Rattle.cut_edits.proofs.{PieceLemmas.head_long, SealedLemmas.for-whole}
 use Rattle.cut_edits.specs.Exact.{quality_of}
 use Rattle.exact_span.proofs.{ExtensionLemmas.extension-length, SealLemmas.sealed-whole}
-use Rattle.exact_span.specs.Extensions.{extension_of}
 use Rattle.frame_header.specs.Fields.{ClassFields}
 use Rattle.frame_writer.specs.Frames.{Frame}
 use Rattle.info_header.specs.declared.fields.Info.{Info}
 use Rattle.join_edits.proofs.PartLemmas.{part-is}
 use Rattle.join_edits.proofs.RunPartLemmas.{AreWholeFiles, front-within, IsWholeFile, run-laid}
 use Rattle.join_edits.specs.Join.{join_part, join_parts, join_parts_from}
-use Rattle.join_edits.specs.Seamless.{delay_of_run, join_of_parts, part_head, part_says_gain}
-use Rattle.join_edits.specs.Seamless.{replay_gain, run_extension, run_parts, run_plan}
-use Rattle.join_edits.specs.Seamless.{seamless_file, seamless_frames, seamless_info}
-use Rattle.join_edits.specs.Seamless.{seamless_padding, seamless_row_file, seamless_stream}
+use Rattle.join_edits.specs.Seamless.{delay_of_run, join_of_parts, part_head, run_extension}
+use Rattle.join_edits.specs.Seamless.{run_parts, run_plan, seamless_file, seamless_frames}
+use Rattle.join_edits.specs.Seamless.{seamless_info, seamless_row_file, seamless_stream}
 use Rattle.laying.proofs.{HoldLemmas.blocks-kept, LaidFileLemmas.{laid-frames-stay, laid-stream}}
 use Rattle.laying.proofs.{LaidLemmas.first-there, SurveyFrameLemmas.survey-had}
 use Rattle.laying.specs.{LaidFiles.{HasInfoSizes, IsLaidFile, laid_file}, LaidLaws.LosesNoFrame}
 use Rattle.laying.specs.Laws.{AreFramesOfStream}
-use Rattle.laying.specs.Relaid.{FilePart, part_stream, stream_with_lead_ins}
-use Rattle.laying.specs.Written.{front_blocks, table_entry}
+use Rattle.laying.specs.{Relaid.{FilePart, part_stream, stream_with_lead_ins}, Written.front_blocks}
 use Rattle.outside.specs.Files.{Contents}
 use Rattle.sync_survey.specs.{Faults.HoldsStream, MainData.StreamFrame, Row.Row}
 
@@ -36,15 +33,7 @@ use Rattle.sync_survey.specs.{Faults.HoldsStream, MainData.StreamFrame, Row.Row}
 -- an extension without peak and gains has as many bytes
 without-gain : (extension : List ℕ) → length extension ≡ 36
     → length (take 11 extension ++ (replicate 8 0 ++ drop 19 extension)) ≡ 36
-without-gain extension long =
-    omega (
-      arith,
-      length-append (take 11 extension) (replicate 8 0 ++ drop 19 extension),
-      length-append (replicate 8 0) (drop 19 extension),
-      length-take-le 11 extension (omega (arith, long)),
-      length-drop 19 extension,
-      long,
-    )
+without-gain extension long = grind (arith, length-append, length-take-le, length-drop)
 
 extension-by : (b : Bool) (extension : List ℕ) → length extension ≡ 36
     → length (cond b extension (take 11 extension ++ (replicate 8 0 ++ drop 19 extension))) ≡ 36
@@ -59,18 +48,10 @@ module _ (first : FilePart) (parts : List FilePart) where
   frames = seamless_frames first parts
 
   run-long : (delay : ℕ) → length (run_extension delay first parts) ≡ 36
-  run-long delay =
-      let extension = extension_of (part_head first) delay (seamless_padding first parts) in
-      let long = extension-length (part_head first) delay (seamless_padding first parts)
-      (head_long first.file first.survey.head) in
-      extension-by (list_all (part_says_gain (replay_gain extension)) parts) extension long
+  run-long delay = grind (arith, first, extension-length, head_long, extension-by)
 
   info-sizes : (row : Row) (delay : Option ℕ) → HasInfoSizes (seamless_info delay row first parts)
-  info-sizes row None = record {
-    table = length-map (range_with_len 0 100) (table_entry class frames)
-        ∙ length-range_with_len 0 100;
-    extension = refl;
-  }
+  info-sizes row None = grind (arith, length-map, length-range_with_len)
   info-sizes row (Some delay) =
       let extension = run_extension delay first parts in
       let whole =
@@ -164,9 +145,7 @@ later-whole : (files : Contents) (c : ClassFields) (place allowed : ℕ) (names 
     (parts : List FilePart) → join_parts_from place (Some c) allowed files names ≡ Ok parts
     → AreWholeFiles c parts
 unfolding join_parts_from
-later-whole files c place allowed [] parts e =
-    let none : [] ≡ parts = cc in
-    subst (AreWholeFiles c) none tt
+later-whole files c place allowed [] parts e = grind arith
 later-whole files c place allowed (name ∷ names) parts e =
     let one = then_ok (join_part place (Some c) allowed (files name)) _ parts e in
     let part : FilePart = one.0 in
@@ -212,14 +191,10 @@ pub files-hold : (files : Contents) (names : List (List ℕ)) (parts : List File
     → 1 ≤ length names → join_parts files names ≡ Ok parts
     → HoldsStream (seamless_file parts) (seamless_stream parts)
 files-hold files names parts some e =
-    let is = parts-whole files names parts some e in
-    subst (λ (l : List FilePart). HoldsStream (seamless_file l) (seamless_stream l)) is.is
-    (seamless-holds is.first is.more is.whole is.all)
+    grind (arith, parts-whole files names parts some e, seamless-holds)
 
 -- the file made from them loses no frame
 pub files-lose-none : (files : Contents) (names : List (List ℕ)) (parts : List FilePart)
     → 1 ≤ length names → join_parts files names ≡ Ok parts → LosesNoFrame (seamless_file parts)
 files-lose-none files names parts some e =
-    let is = parts-whole files names parts some e in
-    subst (λ (l : List FilePart). LosesNoFrame (seamless_file l)) is.is
-    (seamless-loses-none is.first is.more is.whole is.all)
+    grind (arith, parts-whole files names parts some e, seamless-loses-none)

@@ -1,17 +1,17 @@
 -- The run of inputs without seams: the frames of their parts, where the first frame of an input may
 -- be in another slot, have a plan as one part, and can be laid in its slots.
-use Rattle.std.proofs.Common.{ap, append-nil, ap₂, arith, Bool, cond, drop, false, flat_map, inl}
-use Rattle.std.proofs.Common.{inr, length, length-append, length-drop, List, map, None, refl}
-use Rattle.std.proofs.Common.{slice_range, subst, sym, take, true, ℕ, [], ◌++◌, ◌+◌, ◌-◌, ◌<◌, ◌∙◌}
-use Rattle.std.proofs.{Common.{◌∷◌, ◌≡◌, ◌≤◌, ◌⊎◌}, lemmas.Bool.{ltb-false, ltb-true}}
+use Rattle.std.proofs.Common.{ap, append-nil, arith, Bool, cond, drop, false, flat_map, inl, inr}
+use Rattle.std.proofs.Common.{length, length-append, length-drop, List, map, None, refl}
+use Rattle.std.proofs.Common.{slice_range, subst, sym, true, ℕ, [], ◌++◌, ◌+◌, ◌-◌, ◌<◌, ◌∙◌, ◌∷◌}
+use Rattle.std.proofs.{Common.{◌≡◌, ◌≤◌, ◌⊎◌}, lemmas.Bool.{ltb-false, ltb-true}}
 use Rattle.std.proofs.lemmas.List.{drop-map, length-map, map-append, take_all}
 use Rattle.std.{proofs.lemmas.List.Elements.{All-cons, All-nil}, specs.List.All}
 use Rattle.std.specs.Prelude.{Contains, nat_lt, zip}
 use Rattle.cut_edits.proofs.HeadLemmas.{survey_without_head-had, survey_without_head-length}
 use Rattle.cut_edits.{proofs.HeadLemmas.survey_without_head-placed, specs.Exact.survey_without_head}
 use Rattle.frame_header.proofs.HeaderLemmas.{IsClass-class_of}
-use Rattle.frame_header.specs.Fields.{ClassFields, HeaderFields, IsHeader, IsSlot}
-use Rattle.frame_header.specs.{Slots.all_slots, Tables.{area_of, class_of, window_of}}
+use Rattle.frame_header.specs.{Fields.{ClassFields, IsHeader, IsSlot}, Slots.all_slots}
+use Rattle.frame_header.specs.Tables.{area_of, class_of, window_of}
 use Rattle.frame_writer.specs.Frames.{Frame, frame_area}
 use Rattle.join_edits.specs.Seamless.{join_of_parts, later_parts, part_brought, part_from}
 use Rattle.join_edits.specs.Seamless.{part_without_head, run_frame, run_parts, run_plan}
@@ -39,9 +39,8 @@ use Rattle.slot_plan.specs.{FreeBytes.FitsBehind, Laws.ChoosesInOrder}
 use Rattle.slot_plan.specs.{Parts.{AreNeedsOfClass, ArePartsFeasible}, Plans.IsPlan}
 use Rattle.slot_plan.specs.declared.needs.{Need.Need, Placed.Placed}
 use Rattle.sync_survey.proofs.{ApartLemmas.placed-apart, EmptiedLemmas.placed-emptied}
-use Rattle.sync_survey.proofs.SurveyPartsLemmas.{stream-length}
-use Rattle.sync_survey.specs.{Faults.{stream_of_survey, SurveyFields}, HeadApart.rows_set_apart}
-use Rattle.sync_survey.specs.{MainData.StreamFrame, Row.Row}
+use Rattle.sync_survey.{proofs.SurveyPartsLemmas.stream-length, specs.Faults.SurveyFields}
+use Rattle.sync_survey.specs.{HeadApart.rows_set_apart, MainData.StreamFrame, Row.Row}
 
 -- ---- frames in the slots of a plan that was made for them in other slots
 
@@ -62,10 +61,8 @@ piece-by : (b : Bool) (p : Placed) (need : Need) (f : Frame) → IsNeedOf need f
     × ((one b p f).kept.side.main_data_begin ≡ p.begin)
     × (frame_area (one b p f).kept
     ≡ area_of (class_of need.header) p.slot (cond b false need.header.protected))
-piece-by true p need f is =
-    (refl, refl, ap (λ (c : ClassFields). area_of c p.slot false) (sym is.class))
-piece-by false p need f is =
-    (sym is.bytes, refl, ap₂ (λ c word. area_of c p.slot word) (sym is.class) (sym is.protected))
+piece-by true p need f is = grind arith
+piece-by false p need f is = grind arith
 
 next-given : (b : Bool) (need : Need) (needs : List Need) (f : Frame) (fs : List Frame)
     → AreGiven (need ∷ needs) (f ∷ fs) → AreGiven (rest_behind b need needs) (rest_behind b f fs)
@@ -100,9 +97,7 @@ laid-from c (need ∷ needs) (f ∷ fs) (p ∷ placed) reach end before are give
     λ frames stream. AreLaidFrom c ended (before + area) frames stream in
     let stream : List StreamFrame = rest_behind p.lead_in (stream_entry f) (map stream_entry fs) in
     let there : Laid (relaid_frames left placed) (stream_with_lead_ins placed stream) =
-    subst (λ (l : List StreamFrame). Laid (relaid_frames left placed)
-    (stream_with_lead_ins placed l))
-    (next-map stream_entry p.lead_in f fs) behind in
+    grind (arith, next-map) in
     let is = one-entry c p f slots.0 (omega (arith, fits.0, near)) are.0 p.lead_in in
     let all : List StreamFrame = stream_with_lead_ins (p ∷ placed) (map stream_entry (f ∷ fs)) in
     subst (λ (l : List Frame). AreLaidFrom c end before l all)
@@ -146,15 +141,7 @@ slot-by need moved is known = at is.slot
     at (inr other) = slot_among moved.header.slot other
 
 header-by : (need moved : Need) → IsMoved need moved → IsHeader need.header → IsHeader moved.header
-header-by need moved is known =
-    subst (λ (n : Need). IsHeader n.header) (sym is.is)
-    (record {
-      slot = slot-by need moved is known;
-      frequency_index = known.frequency_index;
-      mode = known.mode;
-      mode_extension = known.mode_extension;
-      emphasis = known.emphasis;
-    })
+header-by need moved is known = grind (arith, slot-by need moved is known, known)
 
 own-order : (need : Need) → IsHeader need.header → ChoosesInOrder own_choice need
 own-order need known = record {
@@ -175,11 +162,8 @@ moved-known c (n ∷ own) (m ∷ needs) [] moved are entries = absurd are
 moved-known c (n ∷ own) (m ∷ needs) (f ∷ fs) moved are entries =
     let more = moved-known c own needs fs moved.1 are.2 entries.1 in
     let known = header-by n m moved.0 (subst IsHeader (sym are.0) entries.0.header) in
-    let class : class_of m.header ≡ class_of f.kept.header =
-    ap (λ (x : Need). class_of x.header) moved.0.is ∙ ap class_of are.0 in
-    let word : m.header.protected ≡ f.kept.header.protected =
-    ap (λ (x : Need). x.header.protected) moved.0.is
-    ∙ ap (λ (h : HeaderFields). h.protected) are.0 in
+    let class : class_of m.header ≡ class_of f.kept.header = grind arith in
+    let word : m.header.protected ≡ f.kept.header.protected = grind arith in
     let bytes : m.bytes ≡ length f.payload = ap (λ (x : Need). x.bytes) moved.0.is ∙ are.1 in
     record {
       given = (record { class = class; protected = word; bytes = bytes }, more.given);
@@ -213,8 +197,7 @@ zip-needs class (r ∷ rows) (f ∷ stream) same =
 
 range-behind : {X : Type 0} (xs : List X) (from to : ℕ) → to ≡ length xs
     → slice_range xs from to ≡ drop from xs
-range-behind xs from to is =
-    take_all (to - from) (drop from xs) (omega (arith, is, length-drop from xs))
+range-behind xs from to is = grind (arith, take_all, to, from, length-drop)
 
 module _ (c : ClassFields) (p : FilePart) (is : IsWholeFile c p) where
   abbrev own : SurveyFields
@@ -229,30 +212,22 @@ module _ (c : ClassFields) (p : FilePart) (is : IsWholeFile c p) where
 
   range-is : {X : Type 0} (xs : List X) → length xs ≡ length own.frames
       → slice_range xs p.from p.to ≡ xs
-  range-is xs same =
-      ap₂ (λ from to. slice_range xs from to) is.from (end ∙ sym same) ∙ range-whole xs
+  range-is xs same = grind (arith, slice_range, end, same, range-whole)
 
   rows-are : part_rows (part_without_head p) ≡ own.frames
   rows-are = range-is own.frames refl
 
   stream-same : length (part_stream (part_without_head p))
       ≡ length (part_rows (part_without_head p))
-  stream-same =
-      let many = stream-length p.file own in
-      ap length (range-is (stream_of_survey p.file own) many) ∙ many ∙ sym (ap length rows-are)
+  stream-same = grind (arith, stream-length, range-is, rows-are)
 
   -- the needs that the run is given for the input
   pub needs-are : needs_of (part_brought p).frames ≡ map need_of own.frames
-  needs-are =
-      zip-needs p.survey.class (part_rows (part_without_head p))
-      (part_stream (part_without_head p)) stream-same
-      ∙ ap (map need_of) rows-are
+  needs-are = grind (arith, zip-needs, stream-same, rows-are)
 
   -- it brings as many frames as its survey has
   pub brought-many : length (part_brought p).frames ≡ length p.survey.frames
-  brought-many =
-      sym (length-map (part_brought p).frames (λ (f : RunFrame). f.need)) ∙ ap length needs-are
-      ∙ length-map own.frames need_of ∙ survey_without_head-length p.survey
+  brought-many = grind (arith, length-map, needs-are, survey_without_head-length)
 
   -- its frames fit after 0 free bytes
   pub brought-alone : FitsAlone c (part_brought p)
@@ -284,20 +259,13 @@ with-frames (p ∷ parts) = cond (nat_lt p.from p.to) (p ∷ with-frames parts) 
 
 range-none : {X : Type 0} (xs : List X) (from to : ℕ) → nat_lt from to ≡ false
     → slice_range xs from to ≡ []
-range-none xs from to e =
-    let none : to - from ≡ 0 = omega (arith, ltb-false from to e) in
-    ap (λ n. take n (drop from xs)) none
+range-none xs from to e = grind (arith, to, from, ltb-false)
 
 flat-kept : {X : Type 0} (f : FilePart → List X)
     → ((p : FilePart) → nat_lt p.from p.to ≡ false → f p ≡ []) → (parts : List FilePart)
     → flat_map f (with-frames parts) ≡ flat_map f parts
 flat-kept f none [] = refl
-flat-kept f none (p ∷ parts) = at (nat_lt p.from p.to) refl (flat-kept f none parts)
-  where
-    at : (b : Bool) → nat_lt p.from p.to ≡ b → flat_map f (with-frames parts) ≡ flat_map f parts
-        → flat_map f (cond b (p ∷ with-frames parts) (with-frames parts)) ≡ f p ++ flat_map f parts
-    at true e later = ap (λ l. f p ++ l) later
-    at false e later = later ∙ ap (λ l. l ++ flat_map f parts) (sym (none p e))
+flat-kept f none (p ∷ parts) = grind (arith, flat_map, flat-kept f none parts)
 
 -- each part that has a frame is a part of the class
 abbrev AreIf : ClassFields → List FilePart → Type 0
@@ -307,12 +275,7 @@ AreIf c (p ∷ parts) = (p.from < p.to → IsPart c p) × AreIf c parts
 kept-are : (c : ClassFields) (parts : List FilePart) → AreIf c parts
     → AreParts c (with-frames parts)
 kept-are c [] are = tt
-kept-are c (p ∷ parts) are = at (nat_lt p.from p.to) refl (kept-are c parts are.1)
-  where
-    at : (b : Bool) → nat_lt p.from p.to ≡ b → AreParts c (with-frames parts)
-        → AreParts c (cond b (p ∷ with-frames parts) (with-frames parts))
-    at true e later = (are.0 (ltb-true p.from p.to e), later)
-    at false e later = later
+kept-are c (p ∷ parts) are = grind (arith, ltb-true, kept-are c parts are.1)
 
 flat-needs : (parts : List FilePart)
     → flat_map (λ (part : List Need). part) (map part_needs parts) ≡ flat_map part_needs parts
@@ -333,9 +296,7 @@ laid-parts c parts are =
     let needs = flat-kept part_needs (λ p e. ap (map need_of) (range-none _ p.from p.to e)) parts in
     let stream = flat-kept part_stream (λ p e. range-none _ p.from p.to e) parts in
     record {
-      needs = subst (λ (l : List Frame). AreNeedsOf (flat_map part_needs parts) l) frames
-          (subst (λ (l : List Need). AreNeedsOf l (flat_map part_frames kept))
-          (flat-needs kept ∙ needs) (parts-needs c kept is));
+      needs = grind (arith, flat_map, flat-needs, needs, parts-needs);
       entries = subst (AreStreamEntries c) frames (parts-entries c kept is);
       stream = ap (map stream_entry) (sym frames) ∙ parts-stream c kept is ∙ stream;
     }
@@ -367,9 +328,7 @@ joints-moved c (j ∷ joints) (p ∷ parts) are add =
     let own = part_needs (part_from out p) in
     let later = flat_map part_needs (later_parts joints parts) in
     let later_frames = added joints in
-    let here : AreMoved own (needs_of j.frames) =
-    subst (λ (l : List Need). AreMoved l (needs_of j.frames)) (sym (own-needs c p are.0 out))
-    add.0.moved in
+    let here : AreMoved own (needs_of j.frames) = grind (arith, own-needs c p are.0 out) in
     subst (AreMoved (own ++ later))
     (sym (map-append (λ (f : RunFrame). f.need) j.frames later_frames))
     (moved-append own later (needs_of j.frames) (needs_of later_frames) here
@@ -396,11 +355,7 @@ module _ (first : FilePart) (parts : List FilePart) (is : IsWholeFile first.surv
 
   -- what becomes of the inputs
   pub run-joined : IsJoined class (part_brought first) (map part_brought parts) joined
-  run-joined =
-      let some : 0 < length (part_brought first).frames =
-      omega (arith, is.some, brought-many class first is) in
-      inputs-joined class (part_brought first) (map part_brought parts) some
-      (brought-alone class first is) (all-alone class parts are)
+  run-joined = grind (arith, brought-many, class, inputs-joined, brought-alone, all-alone)
 
   -- at least one frame of the first input is written
   pub front-within : joined.front < length first.survey.frames
@@ -422,9 +377,7 @@ module _ (first : FilePart) (parts : List FilePart) (is : IsWholeFile first.surv
       let needs : needs_of run ≡ needs_of front ++ needs_of others =
       ap needs_of run-joined.run ∙ map-append (λ (f : RunFrame). f.need) front others in
       let own = part_needs (part_from joined.front first) in
-      let begins : AreMoved own (needs_of front) =
-      subst (λ (l : List Need). AreMoved l (needs_of front))
-      (sym (own-needs class first is joined.front)) (moved-same (needs_of front)) in
+      let begins : AreMoved own (needs_of front) = grind (arith, own-needs, class, moved-same) in
       let later = flat_map part_needs (later_parts joined.joints parts) in
       subst (AreMoved (flat_map part_needs all)) (sym needs)
       (moved-append own later (needs_of front) (needs_of others) begins
@@ -492,6 +445,5 @@ module _ (first : FilePart) (parts : List FilePart) (is : IsWholeFile first.surv
         some = some-from window 0 (needs_of run) fs plan known.given fits.fits some-frames;
         entries = laid.entries;
         fit = laid.fit;
-        stream_is =
-            laid.stream_is ∙ ap (stream_with_lead_ins (run_plan first parts)) laid-all.stream;
+        stream_is = grind (arith, laid.stream_is, laid-all.stream);
       }

@@ -1,16 +1,14 @@
 -- The plan of a run, which is one part.
-use Rattle.std.proofs.Common.{All, ap, append-nil, ap₂, arith, Bool, cond, false, length, List, min}
-use Rattle.std.proofs.Common.{refl, subst, sym, true, ℕ, [], ◌+◌, ◌-◌, ◌<◌, ◌∙◌, ◌∷◌, ◌≡◌}
+use Rattle.std.proofs.Common.{All, ap, append-nil, arith, Bool, cond, false, length, List, refl}
+use Rattle.std.proofs.Common.{subst, true, ℕ, [], ◌<◌, ◌∷◌, ◌≡◌}
 use Rattle.std.proofs.lemmas.List.Elements.{All-cons, All-nil}
-use Rattle.frame_header.specs.Fields.{ClassFields, HeaderFields, IsClass}
-use Rattle.frame_header.specs.Tables.{area_of, class_of, window_of}
+use Rattle.frame_header.specs.{Fields.{ClassFields, IsClass}, Tables.{area_of, class_of, window_of}}
 use Rattle.join_edits.specs.{Deciding.AreMovedNeeds, RunReady.plan_of_run_needs}
 use Rattle.laying.proofs.{FitLemmas.parts-fit, PartsLemmas.one_class, PlacesLemmas.range-whole}
 use Rattle.laying.specs.Fits.{FitsFromReach, placed_area, placed_bytes, reach_behind}
 use Rattle.laying.specs.{NeedsFit.own_choice, Relaid.rest_behind}
 use Rattle.slot_plan.specs.FreeBytes.{FitBehindWindow, FitsBehind}
 use Rattle.slot_plan.specs.Laws.{ChoosesInOrder, IsPlanAnswer, PartsChooseInOrder}
-use Rattle.slot_plan.specs.LeastPlan.{least_plan}
 use Rattle.slot_plan.specs.Parts.{AreNeedsOfClass, ArePartsFeasible, CanBePlanned, needs_in_parts}
 use Rattle.slot_plan.specs.{Parts.window_in, Plans.IsPlan, declared.needs.Need.Need}
 use Rattle.slot_plan.specs.declared.needs.Placed.{Placed}
@@ -25,31 +23,21 @@ class-at-first class n needs same = same.0
 window-is : (class : ClassFields) (needs : List Need) → 0 < length needs
     → AreNeedsOfClass class needs → window_in needs ≡ window_of class.version
 window-is class [] some same = absurd (omega (arith, some))
-window-is class (n ∷ needs) some same =
-    ap (λ (c : ClassFields). window_of c.version) (class-at-first class n needs same)
+window-is class (n ∷ needs) some same = grind (arith, class-at-first)
 
 needs-choose : (class : ClassFields) (needs : List Need) → IsClass class
     → AreNeedsOfClass class needs → All (ChoosesInOrder own_choice) needs
 unfolding AreNeedsOfClass
 needs-choose class [] known same = All-nil (ChoosesInOrder own_choice)
 needs-choose class (n ∷ needs) known same =
-    All-cons (ChoosesInOrder own_choice) n needs
-    (record {
-      class = subst IsClass (sym same.0) known;
-      ascending = λ i j d before lt. absurd (omega (arith, before, lt));
-      own = (0, omega arith, refl);
-    })
-    (needs-choose class needs known same.1)
+    grind (arith, All-cons, needs-choose class needs known same.1)
 
 -- if needs of one class fit after a whole window, they fit after the window of this class
 pub fits-in : (class : ClassFields) (needs : List Need) → 0 < length needs
     → AreNeedsOfClass class needs → FitBehindWindow needs
     → FitsBehind (window_of class.version) (window_of class.version) needs
 fits-in class [] some same fit = absurd (omega (arith, some))
-fits-in class (n ∷ needs) some same fit =
-    let is = sym (class-at-first fit.class n needs fit.same) ∙ class-at-first class n needs same in
-    subst (λ (k : ClassFields). FitsBehind (window_of k.version) (window_of k.version) (n ∷ needs))
-    is fit.fits
+fits-in class (n ∷ needs) some same fit = grind (arith, class-at-first)
 
 module _ (class : ClassFields) (needs : List Need) (known : IsClass class)
     (same : AreNeedsOfClass class needs) (some : 0 < length needs)
@@ -67,30 +55,15 @@ module _ (class : ClassFields) (needs : List Need) (known : IsClass class)
 
   -- a run that fits can be planned as one part
   pub can-plan : CanBePlanned needs (0 ∷ [])
-  can-plan = record {
-    class = one_class class needs same;
-    some = omega arith;
-    first = refl;
-    ascending = λ i j d before lt. absurd (omega (arith, before, lt));
-    within = All-cons (λ place. place < length needs) 0 [] some
-        (All-nil (λ place. place < length needs));
-    feasible = subst (λ w. ArePartsFeasible w (needs_in_parts needs (0 ∷ [])))
-        (sym (window-is class needs some same))
-        (subst (ArePartsFeasible window) (sym parts-one) feasible);
-  }
+  can-plan = grind (arith, one_class, All-cons, All-nil, feasible, window-is, parts-one)
 
   in-order : PartsChooseInOrder own_choice (needs_in_parts needs (0 ∷ []))
-  in-order =
-      subst (PartsChooseInOrder own_choice) (sym parts-one)
-      (All-cons (λ part. All (ChoosesInOrder own_choice) part) needs [] (needs-choose class needs
-      known same) (All-nil (λ part. All (ChoosesInOrder own_choice) part)))
+  in-order = grind (arith, parts-one, All-cons, needs-choose, All-nil)
 
   -- what the planner returns is the plan
   pub plan-is : (placed : List Placed) → IsPlanAnswer own_choice needs (0 ∷ []) placed
       → placed ≡ plan_of_run_needs window needs
-  plan-is placed is =
-      is.least in-order ∙ ap₂ (λ w (parts : List (List Need)). least_plan w own_choice parts)
-      (window-is class needs some same) parts-one
+  plan-is placed is = grind (arith, in-order, window-is, parts-one)
 
   -- what the planner returns can be written frame by frame
   pub plan-fits : (placed : List Placed) → IsPlanAnswer own_choice needs (0 ∷ []) placed
@@ -114,16 +87,14 @@ bytes-same false n m is = is.0
 area-by : (b : Bool) (p : Placed) (n m : Need) → InSlot n m
     → area_of (class_of n.header) p.slot (cond b false n.header.protected)
     ≡ area_of (class_of m.header) p.slot (cond b false m.header.protected)
-area-by b p n m is =
-    ap (λ (h : HeaderFields). area_of (class_of h) p.slot (cond b false h.protected)) is.1
+area-by b p n m is = grind arith
 
 area-same : (p : Placed) (n m : Need) → InSlot n m → placed_area p n ≡ placed_area p m
 area-same p n m is = area-by p.lead_in p n m is
 
 reach-same : (window : ℕ) (p : Placed) (n m : Need) → InSlot n m
     → reach_behind window p n ≡ reach_behind window p m
-reach-same window p n m is =
-    ap₂ (λ a b. min window (p.begin + a - b)) (area-same p n m is) (bytes-same p.lead_in n m is)
+reach-same window p n m is = grind (arith, area-same, bytes-same)
 
 behind-same : (b : Bool) (n m : Need) (needs others : List Need) → InSlot n m
     → AreMovedNeeds needs others → AreMovedNeeds (rest_behind b n needs) (rest_behind b m others)

@@ -1,9 +1,9 @@
 -- What a seamless join leaves, given its steps.
-use Rattle.std.proofs.Common.{ap, append-nil, ap₂, arith, drop, Err, inl, inr, length, List, map}
-use Rattle.std.proofs.Common.{None, Ok, Option, refl, Result, Some, subst, sym, unwrap_or, ℕ, []}
-use Rattle.std.proofs.{Common.{◌++◌, ◌+◌, ◌-◌, ◌<◌, ◌∙◌, ◌∷◌, ◌≡◌, ◌≤◌}, lemmas.List.length-map}
+use Rattle.std.proofs.Common.{ap, append-nil, ap₂, arith, drop, Err, length, List, map, None, Ok}
+use Rattle.std.proofs.Common.{Option, refl, Result, Some, subst, sym, unwrap_or, ℕ, [], ◌++◌, ◌+◌}
+use Rattle.std.proofs.{Common.{◌-◌, ◌<◌, ◌∙◌, ◌∷◌, ◌≡◌, ◌≤◌}, lemmas.List.length-map}
 use Rattle.std.{proofs.lemmas.Slice.Zip.AllZip-long, specs.List.{AllZip, concat}}
-use Rattle.std.specs.Prelude.{flat_map, IfErr, IfSome, true}
+use Rattle.std.specs.Prelude.{flat_map, IfErr}
 use Rattle.commands.proofs.MakeLemmas.{all_left, clash_left, early_left, one_done, one_streams}
 use Rattle.commands.proofs.TellingLemmas.{telling_command-done, telling_command-left}
 use Rattle.commands.proofs.TellingLemmas.{telling_command-streams, telling_command-text}
@@ -29,9 +29,9 @@ use Rattle.join_edits.specs.Deciding.{broughts_in, CanBeDecided, FitAlone, FitsA
 use Rattle.join_edits.specs.Deciding.{left_out_of}
 use Rattle.join_edits.specs.Inputs.{AreInputsOfClass, AreJoinInputs, CanInputsBeJoined}
 use Rattle.join_edits.specs.Inputs.{class_of_first, frames_together, HasJoinNumbers, parts_in}
-use Rattle.join_edits.specs.{Join.{join_parts, join_refuses, joined_file}, Laying.IsSource}
-use Rattle.join_edits.specs.{Lines.joint_lines, Reading.{AreHeld, IsHeld, IsInputReadFault}}
-use Rattle.join_edits.specs.RestOfInputs.{CanJoinBeWritten, FitsWork, join_bytes, rest_parts}
+use Rattle.join_edits.specs.{Join.{join_parts, joined_file}, Laying.IsSource, Lines.joint_lines}
+use Rattle.join_edits.specs.Reading.{AreHeld, IsHeld, IsInputReadFault}
+use Rattle.join_edits.specs.RestOfInputs.{CanJoinBeWritten, join_bytes, rest_parts}
 use Rattle.join_edits.specs.Seamless.{seamless_command, seamless_file, seamless_stream_or_none}
 use Rattle.join_edits.specs.Seamless.{seamless_task, seamless_text, seamless_text_or_none}
 use Rattle.join_edits.specs.SeamlessReady.{IsRunMade, IsSeamlessReady}
@@ -56,8 +56,7 @@ all-apart : (P : List ℕ → SurveyFields → Type 0)
     → (names : List (List ℕ)) (ss : List SurveyFields) → AllZip P names ss
     → AllZip P names (map survey_without_head ss)
 all-apart P stays [] [] are = tt
-all-apart P stays (name ∷ names) (s ∷ ss) are =
-    (stays name s are.0, all-apart P stays names ss are.1)
+all-apart P stays (name ∷ names) (s ∷ ss) are = grind (arith, all-apart P stays names ss are.1)
 all-apart P stays _ _ are = absurd are
 
 apart-exact : (files : Files) (name : List ℕ) (s : SurveyFields) → IsSurveyLaidOut s
@@ -68,20 +67,11 @@ apart-exact files name s laid exact file holds =
 
 survey_without_head-held : (files : Files) (name : List ℕ) (s : SurveyFields) → IsHeld files name s
     → IsHeld files name (survey_without_head s)
-survey_without_head-held files name s is = record {
-  there = is.there;
-  exact = apart-exact files name s is.laid is.exact;
-  laid = apart-laid s is.laid;
-}
+survey_without_head-held files name s is = grind (arith, apart-exact, apart-laid)
 
 apart-source : (output : List ℕ) (files : Files) (name : List ℕ) (s : SurveyFields)
     → IsSource output files name s → IsSource output files name (survey_without_head s)
-apart-source output files name s is = record {
-  apart = is.apart;
-  there = is.there;
-  exact = apart-exact files name s is.laid is.exact;
-  laid = apart-laid s is.laid;
-}
+apart-source output files name s is = grind (arith, apart-exact, apart-laid)
 
 -- the inputs are there, with their surveys as they were found
 pub inputs-known : (first : Option ClassFields) (allowed : ℕ) (files : Files)
@@ -101,12 +91,8 @@ inputs-known first allowed files _ _ are = absurd are
 survey_without_head-alike : (class : ClassFields) (ss : List SurveyFields)
     → AreInputsOfClass class ss → AreInputsOfClass class (map survey_without_head ss)
 survey_without_head-alike class [] are = tt
-survey_without_head-alike class (s ∷ ss) are = (
-  omega (arith, are.0, survey_without_head-length s),
-  apart-laid s are.1,
-  are.2,
-  survey_without_head-alike class ss are.3,
-)
+survey_without_head-alike class (s ∷ ss) are =
+    grind (arith, survey_without_head-length, apart-laid, survey_without_head-alike class ss are.3)
 
 survey_without_head-frames : (ss : List SurveyFields)
     → frames_together (map survey_without_head ss) ≡ frames_together ss
@@ -191,9 +177,7 @@ made-written output files names ss bs made free are can is =
       sources = all-apart (λ name s. IsSource output files name s × (s.class ≡ class))
           (λ name s is. (apart-source output files name s is.0, is.1)) names ss
           (sources-inputs class output 0 None most_frames files names ss free can.alike are);
-      fits = subst (λ (o : Option ClassFields). IfSome o
-          (λ c. FitsWork c (map survey_without_head ss) (left_out_of made.decided) made.work)) first
-          is.run.fits;
+      fits = grind arith;
     }
 
 -- all inputs are of one class
@@ -204,8 +188,7 @@ all-of class (s ∷ ss) are = (are.2, all-of class ss are.3)
 -- there are as many surveys as inputs
 names-many : (files : Files) (names : List (List ℕ)) (ss : List SurveyFields)
     → AreJoinInputs None most_frames files names ss → length ss ≡ length names
-names-many files names ss are =
-    AllZip-long (IsHeld files) names ss (inputs-known None most_frames files names ss are)
+names-many files names ss are = grind (arith, AllZip-long, inputs-known)
 
 module _ (f : Contents) (name : List ℕ) (names : List (List ℕ)) (s : SurveyFields)
     (ss : List SurveyFields) (b : Beginning) (bs : List Beginning) (made : MadeRun)
@@ -225,16 +208,14 @@ module _ (f : Contents) (name : List ℕ) (names : List (List ℕ)) (s : SurveyF
   decided : IsJoinedOf
       s.class (broughts_in f (name ∷ names) (map survey_without_head (s ∷ ss)) (b ∷ bs))
       made.decided
-  decided = subst (λ (c : ClassFields). IsJoinedOf c (broughts_in f (name ∷ names)
-      (map survey_without_head (s ∷ ss)) (b ∷ bs)) made.decided) class-same is.decided.told
+  decided = grind (arith, class-same)
 
   -- the bytes that are written are the file
   pub made-file : (bytes : List ℕ) → f name ≡ Some bytes → join_bytes (Told f) (name ∷ names)
       (map survey_without_head (s ∷ ss)) (left_out_of made.decided)
       made.work bytes ≡ seamless_file (parts_in f (name ∷ names) (s ∷ ss))
   made-file bytes held =
-      let file : unwrap_or (f name) [] ≡ bytes =
-      ap (λ (o : Option (List ℕ)). unwrap_or o []) held in
+      let file : unwrap_or (f name) [] ≡ bytes = grind (arith, unwrap_or) in
       let many : length ss ≤ length names =
       omega (arith, names-many (Told f) (name ∷ names) (s ∷ ss) are) in
       let within : made.decided.front < length s.frames =
@@ -250,16 +231,14 @@ module _ (f : Contents) (name : List ℕ) (names : List (List ℕ)) (s : SurveyF
   -- the lines that are sent are the text
   pub made-text : joint_lines names made.decided.joints.items
       ≡ seamless_text (name ∷ names) (parts_in f (name ∷ names) (s ∷ ss))
-  made-text = text-same f name names s ss b bs made.decided (entries made.work.plan) heads of
-      decided is.run.plan
+  made-text = grind (arith, text-same, heads, of, decided)
 
 -- ---- what was prepared
 
 -- there is one joint fewer than inputs
 pub joints-many : (names : List (List ℕ)) (files : Files) (ready : Ready)
     → IsSeamlessReady names files ready → length ready.made.decided.joints.items + 1 ≡ length names
-joints-many names files ready is = is.made.decided.run.many ∙ length-map is.ss survey_without_head
-    ∙ names-many files names is.ss is.inputs
+joints-many names files ready is = grind (arith, length-map, names-many)
 
 -- what was prepared can be written
 pub ready-writable : (output : List ℕ) (names : List (List ℕ)) (files : Files) (ready : Ready)
@@ -316,9 +295,7 @@ module _ (names : List (List ℕ)) (some : 1 ≤ length names) where
       let parts = parts_in f names is.ss in
       let all = parts-all 0 None most_frames f names is.ss is.inputs in
       let making = (ready-making (Told f) ready is).makes bytes held in
-      let made : made_of (Told f) ready bytes ≡ seamless_file parts = ok-same (sym making.1
-      ∙ ap (λ (r : Result (List FilePart) EditFault). then_made r (λ ps. Ok (seamless_file ps)))
-      all)
+      let made : made_of (Told f) ready bytes ≡ seamless_file parts = grind arith
       in (
         sound None most_frames f names is.ss is.inputs,
         subst (λ (l : List ℕ). HoldsStream l ((seamless_task names).stream f)) (sym made)
@@ -401,9 +378,7 @@ pub left-clash : (output : List ℕ) (names : List (List ℕ)) (place : ℕ) (no
     → clash_in (seamless_task names) output ≡ Some place
     → IsCommandFault (seamless_command output names) now now (EqualNames place)
 left-clash output names place now clash =
-    telling_command-left (λ f. seamless_text_or_none names (join_parts f names))
-    (one_command (seamless_task names) output)
-    now now (EqualNames place) (clash_left (seamless_task names) output place now clash)
+    grind (arith, telling_command-left, clash_left (seamless_task names) output place now clash)
 
 module _ (output : List ℕ) (names : List (List ℕ))
     (free : clash_in (seamless_task names) output ≡ None) where
@@ -464,10 +439,8 @@ module _ (output : List ℕ) (names : List (List ℕ))
 pub seamless-numbers : (output : List ℕ) (names : List (List ℕ)) (count : ℕ) (fault : EditFault)
     → count ≡ length names → HasJoinNumbers count fault
     → HasNumbers (seamless_command output names) fault
-seamless-numbers output names count (Input place fault) all is =
-    (omega (arith, all, is.0), is.1, is.2, inr (inl (omega (arith, all, is.0))))
-seamless-numbers output names count (Refused refusal) all is =
-    subst (λ n. join_refuses n refusal ≡ true) all is
+seamless-numbers output names count (Input place fault) all is = grind arith
+seamless-numbers output names count (Refused refusal) all is = grind arith
 seamless-numbers output names count (Write place) all is = omega (arith, is)
 seamless-numbers output names count Memory all is = tt
 seamless-numbers output names count _ all is = absurd is

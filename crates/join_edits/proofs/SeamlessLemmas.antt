@@ -1,17 +1,15 @@
 -- A seamless join of inputs whose contents are known makes its file and its text.
-use Rattle.std.proofs.Common.{ap, append-nil, append_assoc, ap₂, arith, Bool, bytes_eq, cond, drop}
-use Rattle.std.proofs.Common.{false, flat_map, if◌then◌else◌, is_some, length, length-append, List}
-use Rattle.std.proofs.Common.{map, min, None, Option, option_and_then, option_map, refl, replicate}
-use Rattle.std.proofs.Common.{slice_get, slice_range, Some, subst, suc, sym, take, true, unwrap_or}
-use Rattle.std.proofs.Common.{zero, ℕ, [], ◌&&◌, ◌*◌, ◌++◌, ◌+◌, ◌-◌, ◌<◌, ◌∙◌, ◌∷◌, ◌≡◌, ◌≤◌}
+use Rattle.std.proofs.Common.{ap, append-nil, append_assoc, ap₂, arith, Bool, bytes_eq, cond, false}
+use Rattle.std.proofs.Common.{flat_map, if◌then◌else◌, is_some, length, length-append, List, map}
+use Rattle.std.proofs.Common.{None, Option, option_and_then, option_map, refl, slice_get}
+use Rattle.std.proofs.Common.{slice_range, Some, suc, sym, true, unwrap_or, zero, ℕ, [], ◌*◌, ◌++◌}
+use Rattle.std.proofs.Common.{◌+◌, ◌-◌, ◌<◌, ◌∙◌, ◌∷◌, ◌≡◌, ◌≤◌}
 use Rattle.std.proofs.lemmas.List.{drop-map, length-drop, length-map, length-take}
 use Rattle.std.specs.List.{AllZip, concat, enumerate_from, list_all}
-use Rattle.cut_edits.proofs.HeadLemmas.{survey_without_head-length}
-use Rattle.cut_edits.specs.Exact.{quality_of, survey_without_head}
-use Rattle.exact_span.specs.Extensions.{counts_of, extension_of}
-use Rattle.exact_span.specs.PlayedPositions.{counted_played, counted_positions, decoder_delay}
-use Rattle.exact_span.specs.{PlayedPositions.samples_in, TagWord.sealed_info}
-use Rattle.exact_span.specs.declared.{extensions.HeadCounts.HeadCounts, played.Played.Played}
+use Rattle.cut_edits.{proofs.HeadLemmas.survey_without_head-length, specs.Exact.survey_without_head}
+use Rattle.exact_span.specs.Extensions.{counts_of}
+use Rattle.exact_span.specs.PlayedPositions.{counted_positions, decoder_delay, samples_in}
+use Rattle.exact_span.specs.declared.played.Played.{Played}
 use Rattle.frame_header.specs.{Fields.{ClassFields, HeaderFields}, Tables.window_of}
 use Rattle.frame_writer.specs.Frames.{bytes_of_frames, Frame}
 use Rattle.info_header.specs.{InfoFrame.info_frame, declared.fields.Info.Info}
@@ -19,30 +17,28 @@ use Rattle.join_edits.specs.Deciding.{brought_of, broughts_in, IsJoined, IsJoine
 use Rattle.join_edits.specs.{Deciding.{left_out_counts, left_out_of, run_needs}, Inputs.parts_in}
 use Rattle.join_edits.specs.{Join.whole_part, Lines.joint_lines}
 use Rattle.join_edits.specs.Numbers.{all_say, counted_delay, delay_after, ends_padding, first_head}
-use Rattle.join_edits.specs.Numbers.{gains_kept, head_says_gain, info_kept, kept_with_delay}
-use Rattle.join_edits.specs.Numbers.{last_head, run_kept, short_delay}
+use Rattle.join_edits.specs.Numbers.{info_kept, kept_with_delay, last_head, run_kept, short_delay}
 use Rattle.join_edits.specs.RestOfInputs.{rest_part, rest_parts, rest_rows}
 use Rattle.join_edits.specs.RunReady.{IsRunInfo, last_length, moved_of, plan_of_run_needs}
-use Rattle.join_edits.specs.Seamless.{begins_blank, delay_of_run, gain_of, join_of_parts}
-use Rattle.join_edits.specs.Seamless.{later_parts, part_brought, part_from, part_head}
-use Rattle.join_edits.specs.Seamless.{part_says_gain, part_without_head, replay_gain, run_extension}
-use Rattle.join_edits.specs.Seamless.{run_frames, run_lead_ins, run_parts, run_plan, seam_line}
-use Rattle.join_edits.specs.Seamless.{seam_lines, seamless_file, seamless_frames, seamless_info}
+use Rattle.join_edits.specs.Seamless.{begins_blank, delay_of_run, join_of_parts, later_parts}
+use Rattle.join_edits.specs.Seamless.{part_brought, part_from, part_says_gain, part_without_head}
+use Rattle.join_edits.specs.Seamless.{run_lead_ins, run_parts, run_plan, seam_line, seam_lines}
+use Rattle.join_edits.specs.Seamless.{seamless_file, seamless_frames, seamless_info}
 use Rattle.join_edits.specs.Seamless.{seamless_padding, seamless_row_file, seamless_text}
 use Rattle.join_edits.specs.declared.{beginnings.Beginning.Beginning, decided.Decided.Decided}
 use Rattle.join_edits.specs.declared.numbers.{Ends.Ends, Moved.Moved}
 use Rattle.laying.proofs.{HoldLemmas.all-length, LaidLemmas.first-there}
 use Rattle.laying.specs.{Fits.{FitsFromReach, reach_behind}, KeptFields.fields_of_head}
-use Rattle.laying.specs.{LaidFiles.laid_file, Needs.{need_of, needs_of_parts}, NeedsFit.own_choice}
+use Rattle.laying.specs.{LaidFiles.laid_file, Needs.{need_of, needs_of_parts}}
 use Rattle.laying.specs.Relaid.{all_frames, FilePart, frame_with_place, lead_in_with_place}
 use Rattle.laying.specs.Relaid.{part_frames, relaid_frames, rest_behind}
-use Rattle.laying.specs.Written.{front_blocks, info_for, slot_in}
+use Rattle.laying.specs.Written.{front_blocks, slot_in}
 use Rattle.outside.specs.Files.{Contents}
-use Rattle.seam_plan.specs.{Decisions.IsJoint, Frames.{Brought, needs_of, RunFrame}}
-use Rattle.seam_plan.specs.Seams.{JointFrames, left_out_count, run_of, run_with, SeamlessJoin}
+use Rattle.seam_plan.specs.{Decisions.IsJoint, Frames.needs_of}
+use Rattle.seam_plan.specs.Seams.{JointFrames, left_out_count, run_of, SeamlessJoin}
 use Rattle.seam_plan.specs.declared.{run.Joint.Joint as CodeJoint, seam.Seam.Seam}
 use Rattle.side_info.specs.Side.{no_side}
-use Rattle.slot_plan.specs.{LeastPlan.least_plan, declared.needs.{Need.Need, Placed.Placed}}
+use Rattle.slot_plan.specs.declared.needs.{Need.Need, Placed.Placed}
 use Rattle.sync_survey.specs.Faults.{SurveyFields}
 use Rattle.sync_survey.specs.HeadApart.{apart_row, apart_rows, emptied_row, rows_set_apart}
 use Rattle.sync_survey.specs.{Row.Row, declared.places.Head.Head}
@@ -51,19 +47,13 @@ use Rattle.sync_survey.specs.{Row.Row, declared.places.Head.Head}
 
 survey_without_head-part : (file : List ℕ) (s : SurveyFields)
     → part_without_head (whole_part file s) ≡ whole_part file (survey_without_head s)
-survey_without_head-part file s =
-    ap (λ n. record { file = file; survey = survey_without_head s; from = 0; to = n })
-    (sym (survey_without_head-length s))
+survey_without_head-part file s = grind (arith, survey_without_head-length)
 
 brought-same : (file : List ℕ) (s : SurveyFields) (b : Beginning)
     → b.head ≡ fields_of_head file s.head → b.blank ≡ begins_blank s.frames
     → brought_of file (survey_without_head s) b ≡ part_brought (whole_part file s)
 brought-same file s b head blank =
-    ap₂ (λ (frames : List RunFrame) (played : Option Played).
-    record { frames = frames; blank = b.blank; played = played })
-    (sym (ap run_frames (survey_without_head-part file s)))
-    (ap₂ (λ (h : Option Info) n. counted_positions h s.class n) head (survey_without_head-length s))
-    ∙ ap (λ blank. record (part_brought (whole_part file s)) { blank = blank }) blank
+    grind (arith, survey_without_head-part, survey_without_head-length)
 
 -- how the inputs begin, where the contents of the files are known
 abbrev pub AreHeads : Contents → List (List ℕ) → List SurveyFields → List Beginning → Type 0
@@ -80,17 +70,14 @@ pub broughts-same : (f : Contents) (names : List (List ℕ)) (ss : List SurveyFi
 unfolding broughts_in parts_in
 broughts-same f [] [] [] are = refl
 broughts-same f (name ∷ names) (s ∷ ss) (b ∷ bs) are =
-    ap₂ (λ (x : Brought) (l : List Brought). x ∷ l)
-    (brought-same (unwrap_or (f name) []) s b are.0.0 are.0.1) (broughts-same f names ss bs are.1)
+    grind (arith, brought-same, unwrap_or, broughts-same f names ss bs are.1)
 broughts-same f _ _ _ are = absurd are
 
 -- ---- the frames that are written
 
 part-same : (from : ℕ) (file : List ℕ) (s : SurveyFields)
     → part_from from (whole_part file s) ≡ rest_part from file (survey_without_head s)
-part-same from file s =
-    ap (λ n. record { file = file; survey = survey_without_head s; from = from; to = n })
-    (sym (survey_without_head-length s))
+part-same from file s = grind (arith, survey_without_head-length)
 
 parts-same : (f : Contents) (names : List (List ℕ)) (ss : List SurveyFields)
     (joints : List JointFrames)
@@ -142,10 +129,7 @@ relaid_frames-slots window reach (n ∷ needs) (f ∷ fs) (p ∷ placed) same fi
 -- there are as many frames as the plan was made for
 range-long : {X Y : Type 0} (xs : List X) (ys : List Y) (from to : ℕ) → length xs ≡ length ys
     → length (slice_range xs from to) ≡ length (slice_range ys from to)
-range-long xs ys from to same =
-    length-take (to - from) (drop from xs) ∙ ap (min (to - from))
-    (length-drop from xs ∙ ap (λ n. n - from) same ∙ sym (length-drop from ys))
-    ∙ sym (length-take (to - from) (drop from ys))
+range-long xs ys from to same = grind (arith, length-take, length-drop)
 
 -- the parts have as many frames as their rows have needs
 pub behind-long : (f : Contents) (names : List (List ℕ)) (ss : List SurveyFields) (froms : List ℕ)
@@ -208,12 +192,7 @@ survey_without_head-header s i r is = set-header s.head s.frames i r is
 counts-same : (head : Option Info) (class : ClassFields) (frames : ℕ)
     → is_some (counted_positions head class frames) ≡ is_some (counts_of head)
 unfolding counted_positions
-counts-same head class frames = at (counts_of head)
-  where
-    at : (o : Option HeadCounts)
-        → is_some (option_map (counted_played (samples_in class) frames) o) ≡ is_some o
-    at None = refl
-    at (Some counts) = refl
+counts-same head class frames = grind (arith, is_some, option_map)
 
 all-say-same : (gain : List ℕ) (f : Contents) (names : List (List ℕ)) (ss : List SurveyFields)
     (bs : List Beginning) → AreHeads f names ss bs
@@ -221,10 +200,7 @@ all-say-same : (gain : List ℕ) (f : Contents) (names : List (List ℕ)) (ss : 
 unfolding parts_in
 all-say-same gain f [] [] [] are = refl
 all-say-same gain f (name ∷ names) (s ∷ ss) (b ∷ bs) are =
-    let head : Option Info = fields_of_head (unwrap_or (f name) []) s.head in
-    ap₂ (λ x y. (x && bytes_eq (gain_of head) gain) && y)
-    (counts-same head s.class (length s.frames)) (all-say-same gain f names ss bs are.1)
-    ∙ ap (λ (h : Option Info). head_says_gain gain h && all_say gain bs) (sym are.0.0)
+    grind (arith, unwrap_or, bytes_eq, counts-same, all-say-same gain f names ss bs are.1)
 all-say-same gain f _ _ _ are = absurd are
 
 -- the padding is the padding of the last input
@@ -239,11 +215,7 @@ padding-same : (class : ClassFields) (f : Contents) (name : List ℕ) (names : L
     ≡ ends_padding class (last_head (b ∷ bs))
     (last_length (survey_without_head s) (map survey_without_head ss))
 unfolding parts_in
-padding-same class f name [] s [] b [] of are =
-    ap (λ (k : ClassFields). ends_padding k (fields_of_head (unwrap_or (f name) []) s.head)
-    (length s.frames)) of.0
-    ∙ ap₂ (λ (h : Option Info) n. ends_padding class h n) (sym are.0.0)
-    (sym (survey_without_head-length s))
+padding-same class f name [] s [] b [] of are = grind (arith, unwrap_or, survey_without_head-length)
 padding-same class f name (other ∷ names) s (t ∷ ss) b (c ∷ bs) of are =
     padding-same class f other names t ss c bs of.1 are.1
 padding-same class f name _ s _ b _ of are = absurd are.1
@@ -270,18 +242,13 @@ module _ (f : Contents) (name : List ℕ) (names : List (List ℕ)) (s : SurveyF
 
   is : IsJoined (part_brought first) joined d
   unfolding broughts_in parts_in
-  is = subst (λ (l : List Brought). IsJoinedOf s.class l d)
-      (broughts-same f (name ∷ names) (s ∷ ss) (b ∷ bs) heads) decided
+  is = grind (arith, broughts-same f (name ∷ names) (s ∷ ss) (b ∷ bs) heads)
 
   needs-same : run_needs d ≡ needs_of (run_of (part_brought first) joined)
-  needs-same =
-      ap₂ (λ n (l : List Need). drop n l) is.front is.needs
-      ∙ drop-map (λ (x : RunFrame). x.need)
-      joined.front (run_with (part_brought first) joined.joints)
+  needs-same = grind (arith, drop-map, is.front, is.needs, joined.front, joined.joints)
 
   plan-same : placed ≡ run_plan first parts
-  plan-same = plan ∙ ap (λ (l : List Need). least_plan (window_of s.class.version) own_choice
-      (l ∷ [])) needs-same
+  plan-same = grind (arith, needs-same)
 
   parts-are : run_parts first parts
       ≡ rest_parts f (name ∷ names) (map survey_without_head (s ∷ ss)) (left_out_of d)
@@ -296,9 +263,7 @@ module _ (f : Contents) (name : List ℕ) (names : List (List ℕ)) (s : SurveyF
   pub frames-same : relaid_frames
       (flat_map part_frames (rest_parts f (name ∷ names) (map survey_without_head (s ∷ ss))
       (left_out_of d))) placed ≡ seamless_frames first parts
-  frames-same =
-      ap₂ (λ (l : List FilePart) (p : List Placed). relaid_frames (flat_map part_frames l) p)
-      (sym parts-are) plan-same
+  frames-same = grind (arith, flat_map, parts-are, plan-same)
 
   -- ---- the Info frame
 
@@ -314,10 +279,7 @@ module _ (f : Contents) (name : List ℕ) (names : List (List ℕ)) (s : SurveyF
   }
 
   leads-same : moved.lead_ins ≡ run_lead_ins first parts
-  leads-same =
-      ap₂ (λ (p : List Placed) (l : List Need). length p - length l) plan-same needs-same
-      ∙ ap (λ n. length (run_plan first parts) - n)
-      (length-map (run_of (part_brought first) joined) (λ (x : RunFrame). x.need))
+  leads-same = grind (arith, plan-same, needs-same, length-map)
 
   delay-same : counted_delay ends.class (first_head (b ∷ bs)) ends.first moved
       ≡ delay_of_run first parts
@@ -331,27 +293,13 @@ module _ (f : Contents) (name : List ℕ) (names : List (List ℕ)) (s : SurveyF
   kept-same : (row : Row) (delay : Option ℕ) → info_kept (option_map (kept_with_delay (b ∷ bs) ends)
       delay) row.header s.class (seamless_frames first parts) ≡ seamless_info delay row first parts
   kept-same row None = refl
-  kept-same row (Some delay) =
-      let extension = extension_of (part_head first) delay (seamless_padding first parts) in
-      let same : extension_of b.head delay (ends_padding s.class (last_head (b ∷ bs)) ends.last)
-      ≡ extension =
-      ap₂ (λ (h : Option Info) n. extension_of h delay n)
-      heads.0.0 (sym (padding-same s.class f name names s ss b bs of heads)) in
-      let kept : gains_kept extension bs ≡ run_extension delay first parts =
-      ap (λ t. cond t extension (take 11 extension ++ (replicate 8 0 ++ drop 19 extension)))
-      (sym (all-say-same (replay_gain extension) f names ss bs heads.1)) in
-      ap₂ (λ (q : Option ℕ) (e : List ℕ).
-      sealed_info row.header (info_for s.class (seamless_frames first parts) q e))
-      (ap quality_of heads.0.0) (ap (λ e. gains_kept e bs) same ∙ kept)
+  kept-same row (Some delay) = grind (arith, padding-same, all-say-same)
 
   -- the fields of the Info frame are the fields that the join says
   pub info-same : (row : Row)
       → info_kept (run_kept (b ∷ bs) ends moved) row.header s.class (seamless_frames first parts)
       ≡ seamless_info (delay_of_run first parts) row first parts
-  info-same row =
-      ap (λ o. info_kept (option_map (kept_with_delay (b ∷ bs) ends) o)
-      row.header s.class (seamless_frames first parts)) delay-same
-      ∙ kept-same row (delay_of_run first parts)
+  info-same row = grind (arith, option_map, delay-same, kept-same)
 
   -- ---- the file
 

@@ -19,42 +19,34 @@ use Rattle.side_info.proofs.FrontLemmas.{slot_put}
 use Rattle.side_info.proofs.SideLemmas.{bits_least, each_side, IsShaped, length-side_bits}
 use Rattle.side_info.proofs.SideLemmas.{side_at-side_bits, side_with}
 use Rattle.side_info.specs.{Granule.{GranuleFits, no_granule}, Parts.class_with}
-use Rattle.side_info.specs.Side.{granule_in, granules_in, has_granule, payload_bits, payload_bytes}
-use Rattle.side_info.specs.{Side.{side_at, side_bits, SideFits}, declared.granule.Granule.Granule}
+use Rattle.side_info.specs.Side.{granule_in, granules_in, payload_bits, payload_bytes, side_at}
+use Rattle.side_info.specs.{Side.{side_bits, SideFits}, declared.granule.Granule.Granule}
 use Rattle.side_info.specs.declared.side.Side.{Side}
-use Rattle.sync_survey.specs.MainData.{granule_lengths, no_slot, split_bits}
+use Rattle.sync_survey.specs.MainData.{granule_lengths, split_bits}
 
 -- ---- tests
 
 -- two tests of bytes are the same if each equality follows from the other
 pub same-tests : (a b c d : List ℕ) → (a ≡ b → c ≡ d) → (c ≡ d → a ≡ b)
     → bytes_eq a b ≡ bytes_eq c d
-same-tests a b c d to from =
-    same_from_decides (bytes_eq a b) (bytes_eq c d) (bytes_eq-Decides a b) (
-      λ test. from ((bytes_eq-Decides c d).0 test),
-      λ same. (bytes_eq-Decides c d).1 (to same),
-    )
+same-tests a b c d to from = grind (arith, same_from_decides, bytes_eq, bytes_eq-Decides)
 
 -- bytes are the same exactly if their bits are
 pub bits-tested : (a b xs ys : List ℕ) → bits a ≡ xs → bits b ≡ ys → AreBytes a → AreBytes b
     → bytes_eq a b ≡ bytes_eq xs ys
-bits-tested a b xs ys first second octets others =
-    same-tests a b xs ys (λ same. sym first ∙ ap bits same ∙ second)
-    (λ same. bits-injective a b octets others (first ∙ same ∙ sym second))
+bits-tested a b xs ys first second octets others = grind (arith, same-tests, bits-injective)
 
 -- two lists are the same if their parts are
 module _ {X : Type 0} where
   -- the first parts are the same, if they have the same length
   pub front-same : (us vs xs ys : List X) → length us ≡ length vs → us ++ xs ≡ vs ++ ys → us ≡ vs
   front-same us vs xs ys long is =
-      sym (take_at us xs (length us) refl) ∙ ap (take (length us)) is ∙ take_at vs ys (length us)
-      (sym long)
+      grind (arith, take_at us xs (length us) refl, take_at vs ys (length us) (sym long))
 
   -- the second parts are the same, if the first have the same length
   pub back-same : (us vs xs ys : List X) → length us ≡ length vs → us ++ xs ≡ vs ++ ys → xs ≡ ys
   back-same us vs xs ys long is =
-      sym (drop_at us xs (length us) refl) ∙ ap (drop (length us)) is ∙ drop_at vs ys (length us)
-      (sym long)
+      grind (arith, drop_at us xs (length us) refl, drop_at vs ys (length us) (sym long))
 
 -- ---- headers
 
@@ -83,11 +75,7 @@ pub header-alike : (g h : HeaderFields) (a b : List ℕ) (r : Bool)
     → AreBytes a → AreBytes b → r ≡ bytes_eq a b
     → r ≡ bytes_eq (header_bits (without_slot g)) (header_bits (without_slot h))
 header-alike g h a b r first second octets others is =
-    is
-    ∙ same-tests a b (header_bits (without_slot g)) (header_bits (without_slot h))
-    (λ same. slot-same g h h.slot no_slot (sym first ∙ ap bits same ∙ second))
-    (λ same. bits-injective a b octets others
-    (first ∙ slot-same g h no_slot h.slot same ∙ sym second))
+    grind (arith, same-tests, slot-same, bits-injective)
 
 -- ---- side information without gains
 
@@ -107,37 +95,15 @@ compared_side-granule s granule channel =
 fits-bare : (c : ClassFields) (b : Bool) (g : Granule)
     → MatchBool b (GranuleFits c.version g) (g ≡ no_granule)
     → MatchBool b (GranuleFits c.version (without_gain g)) (without_gain g ≡ no_granule)
-fits-bare c true g fits = record {
-  part2_3_length = fits.part2_3_length;
-  big_values = fits.big_values;
-  global_gain = omega arith;
-  scalefac_compress = fits.scalefac_compress;
-  detail = fits.detail;
-  preflag = fits.preflag;
-}
+fits-bare c true g fits = grind arith
 fits-bare c false g none = ap without_gain none
 
 -- side information without gains and main_data_begin fits, too
 pub compared_side-fits : (c : ClassFields) (s : Side) → SideFits c s → SideFits c (compared_side s)
-compared_side-fits c s fits = record {
-  main_data_begin = omega (arith, fits.main_data_begin);
-  private_bits = fits.private_bits;
-  scfsi = fits.scfsi;
-  granules = λ granule channel.
-      subst (λ (g : Granule). MatchBool (has_granule c granule channel) (GranuleFits c.version g)
-      (g ≡ no_granule))
-      (sym (compared_side-granule s granule channel)) (fits-bare c (has_granule c granule channel)
-      (granule_in s granule channel) (fits.granules granule channel));
-}
+compared_side-fits c s fits = grind (arith, compared_side-granule, fits-bare)
 
 pairs-shaped : (s : Side) → HasPairs s → IsShaped s
-pairs-shaped s pairs =
-    record {
-      scfsi = pairs.scfsi;
-      granules = pairs.granules;
-      first = pairs.first;
-      second = pairs.second;
-    }
+pairs-shaped s pairs = grind arith
 
 compared_side-shaped : (s : Side) → HasPairs s → IsShaped (compared_side s)
 compared_side-shaped s pairs = record {
@@ -204,13 +170,7 @@ module _ (f m p a b : ℕ) (g h k l : Granule) where
 lengths-as-two : (f channels : ℕ) (s : Side) → LengthsAre (class_with Two f channels) s
     → LengthsAre (class_with TwoFive f channels) s
 unfolding granules_in
-lengths-as-two f channels s two fits =
-    two (record {
-      main_data_begin = fits.main_data_begin;
-      private_bits = fits.private_bits;
-      scfsi = fits.scfsi;
-      granules = fits.granules;
-    })
+lengths-as-two f channels s two fits = grind arith
 
 lengths-are : (c : ClassFields) → IsClass c → (s : Side) → IsShaped s → LengthsAre c s
 lengths-are =
@@ -221,9 +181,7 @@ lengths-are =
 concat-parts : (ns bs : List ℕ) → concat (split_bits ns bs) ≡ take (sum ns) bs
 unfolding split_bits
 concat-parts [] bs = refl
-concat-parts (n ∷ ns) bs =
-    ap (λ (l : List ℕ). take n bs ++ l) (concat-parts ns (drop n bs)) ∙ sym (take-add n (sum ns) bs)
-    ∙ ap (λ k. take k bs) (sym (sum-cons n ns))
+concat-parts (n ∷ ns) bs = grind (arith, take-add, sum-cons, concat-parts ns (drop n bs))
 
 -- ---- two frames
 
@@ -239,22 +197,19 @@ module _ (c : ClassFields) (f : Frame) (is : IsStreamEntry c f) where
 
   data-many : length data_bits ≡ payload_bits side
   data-many =
-      let split = take-append-drop (payload_bits side) (bits f.payload) in
-      omega (
+      grind (
         arith,
-        ap length split,
+        take-append-drop (payload_bits side) (bits f.payload),
         length-append data_bits
             (drop (payload_bits side) (bits f.payload)),
-        ap length is.filled,
         length-bits f.payload,
-        is.size,
-        length-zeros (8 * payload_bytes side - payload_bits side),
+        length-zeros (8 *
+            payload_bytes side - payload_bits side),
         bits_least side,
       )
 
   all-bits : bits f.payload ≡ data_bits ++ zeros (8 * payload_bytes side - payload_bits side)
-  all-bits = sym (take-append-drop (payload_bits side) (bits f.payload))
-      ∙ ap (λ (l : List ℕ). data_bits ++ l) is.filled
+  all-bits = grind (arith, take-append-drop)
 
   parts-are : concat (stream_entry f).payload ≡ data_bits
   parts-are =
@@ -267,8 +222,7 @@ module _ (c : ClassFields) (f : Frame) (is : IsStreamEntry c f) where
   -- main_data_begin, and the main data
   pub sound-is : sound_of c (stream_entry f) ≡ header_bits
       (without_slot f.kept.header) ++ (side_bits c (compared_side side) ++ data_bits)
-  sound-is = ap (λ (l : List ℕ). header_bits (without_slot f.kept.header) ++ (side_bits c
-      (compared_side side) ++ l)) parts-are
+  sound-is = grind (arith, parts-are)
 
 module _ (c : ClassFields) (f g : Frame) (first : IsStreamEntry c f)
     (second : IsStreamEntry c g) where
@@ -282,16 +236,11 @@ module _ (c : ClassFields) (f g : Frame) (first : IsStreamEntry c f)
 
   side-long : length (side_bits c (compared_side f.kept.side))
       ≡ length (side_bits c (compared_side g.kept.side))
-  side-long =
-      length-side_bits c (known c f first) (compared_side f.kept.side)
-      (compared_side-shaped f.kept.side first.pairs)
-      ∙ sym (length-side_bits c (known c f first) (compared_side g.kept.side)
-      (compared_side-shaped g.kept.side second.pairs))
+  side-long = grind (arith, length-side_bits, known, compared_side-shaped)
 
   header-long : length (header_bits (without_slot f.kept.header)) ≡ length
       (header_bits (without_slot g.kept.header))
-  header-long = length-header_bits (without_slot f.kept.header) ∙ sym
-      (length-header_bits (without_slot g.kept.header))
+  header-long = grind (arith, length-header_bits)
 
   -- if the compared side information is the same, the main data have the same length
   sides-many : side_bits c (compared_side f.kept.side) ≡ side_bits c (compared_side g.kept.side)
@@ -346,11 +295,7 @@ module _ (c : ClassFields) (f g : Frame) (first : IsStreamEntry c f)
   sounds-made : header_bits (without_slot f.kept.header) ≡ header_bits (without_slot g.kept.header)
       → side_bits c (compared_side f.kept.side) ≡ side_bits c (compared_side g.kept.side)
       → f.payload ≡ g.payload → Sounds
-  sounds-made headers sides payloads =
-      let datas : data_bits c f first ≡ data_bits c g second =
-      ap₂ (λ n (l : List ℕ). take n (bits l)) (sides-many sides) payloads in
-      sound-is c f first ∙ ap₂ (λ (a b : List ℕ). a ++ b) headers
-      (ap₂ (λ (a b : List ℕ). a ++ b) sides datas) ∙ sym (sound-is c g second)
+  sounds-made headers sides payloads = grind (arith, sides-many, sound-is)
 
   -- the frames sound alike exactly if header, side information and main data are the same
   pub sounds-tested : (same_header && same_side) && bytes_eq f.payload g.payload

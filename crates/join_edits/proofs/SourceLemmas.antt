@@ -1,10 +1,9 @@
 -- The inputs as sources of frames, and what is written from them.
-use Rattle.std.proofs.Common.{ap, append-nil, append_assoc, ap₂, arith, inl, inr, is_some, length}
-use Rattle.std.proofs.Common.{List, map, None, Ok, Option, refl, Result, Some, subst, sym, true, ℕ}
-use Rattle.std.proofs.{Common.{[], ◌++◌, ◌+◌, ◌-◌, ◌∙◌, ◌∷◌, ◌≡◌, ◌≢◌, ◌≤◌}, lemmas.List.length-map}
+use Rattle.std.proofs.Common.{ap, append-nil, append_assoc, ap₂, arith, is_some, length, List, map}
+use Rattle.std.proofs.Common.{None, Ok, Option, refl, Result, Some, subst, sym, ℕ, [], ◌++◌, ◌+◌}
+use Rattle.std.proofs.{Common.{◌-◌, ◌∙◌, ◌∷◌, ◌≡◌, ◌≢◌, ◌≤◌}, lemmas.List.length-map}
 use Rattle.std.proofs.lemmas.List.{Elements.{All-cons, All-nil}, FromFn.length-range_with_len}
-use Rattle.std.specs.{List.{concat, range_with_len}, Prelude.{flat_map, slice_get, unwrap_or}}
-use Rattle.bit_fields.specs.Bits.{AreBytes}
+use Rattle.std.specs.{List.concat, Prelude.{flat_map, slice_get, unwrap_or}}
 use Rattle.commands.{proofs.MakeLemmas.{no_clash, other_name}, specs.AfterCall.HasNumbers}
 use Rattle.commands.specs.Command.{AreSoundFiles, clash_from}
 use Rattle.commands.specs.SingleOutput.{first_input, IsMaking, most_frames}
@@ -17,23 +16,22 @@ use Rattle.join_edits.proofs.{InputLemmas.parts-all, PlanLemmas.{alike-first, th
 use Rattle.join_edits.specs.Inputs.{AreInputsOfClass, AreJoinInputs, CanInputsBeJoined}
 use Rattle.join_edits.specs.Inputs.{class_of_first, HasJoinNumbers, parts_in, survey_rows}
 use Rattle.join_edits.specs.Inputs.{told_contents, told_parts}
-use Rattle.join_edits.specs.Join.{join_command, join_refuses, join_task, joined_file, joined_frames}
-use Rattle.join_edits.specs.Join.{joined_plan, joined_row_file, joined_stream, whole_part}
+use Rattle.join_edits.specs.Join.{join_command, join_task, joined_file, joined_frames, joined_plan}
+use Rattle.join_edits.specs.Join.{joined_row_file, joined_stream, whole_part}
 use Rattle.join_edits.specs.Laying.{AreSources, IsJoinedInfo, IsJoinReady, IsSource, least_plan_of}
-use Rattle.join_edits.specs.RestOfInputs.{AreCountsWithin, CanJoinBeWritten, join_bytes, rest_part}
-use Rattle.join_edits.specs.RestOfInputs.{rest_parts, rest_rows, told_rest_parts}
+use Rattle.join_edits.specs.RestOfInputs.{AreCountsWithin, CanJoinBeWritten, join_bytes, rest_parts}
+use Rattle.join_edits.specs.RestOfInputs.{rest_rows, told_rest_parts}
 use Rattle.join_edits.specs.declared.planned.JoinWork.{JoinWork}
 use Rattle.laying.proofs.{FittingFrameLemmas.{files-hold, slots-planned}, HoldLemmas.blocks-kept}
 use Rattle.laying.proofs.{LaidLemmas.first-there, PlacesLemmas.range-whole}
 use Rattle.laying.{proofs.SurveyFrameLemmas.survey-had, specs.LaidFiles.{HasInfoSizes, laid_file}}
 use Rattle.laying.specs.{Needs.need_of, NeedsFit.own_choice}
 use Rattle.laying.specs.Relaid.{AreParts, AreSlots, FilePart, part_frames, part_needs}
-use Rattle.laying.specs.Relaid.{relaid_frames}
-use Rattle.laying.specs.Written.{front_blocks, plain_info, slot_in, table_entry}
+use Rattle.laying.specs.{Relaid.relaid_frames, Written.{front_blocks, plain_info, slot_in}}
 use Rattle.outside.proofs.FilesLemmas.{there_holds}
 use Rattle.outside.specs.Files.{Contents, Files, Holds, IfTold, OnlyTouches, Told, Untold}
-use Rattle.slot_plan.{proofs.AreaLemmas.only_one, specs.LeastPlan.least_plan}
-use Rattle.slot_plan.specs.{Plans.{entries, IsPlan}, declared.needs.{Need.Need, Placed.Placed}}
+use Rattle.slot_plan.{proofs.AreaLemmas.only_one, specs.Plans.{entries, IsPlan}}
+use Rattle.slot_plan.specs.declared.needs.Placed.{Placed}
 use Rattle.sync_survey.proofs.SurveyedFileLemmas.{survey_of-sound}
 use Rattle.sync_survey.specs.{Faults.{HoldsStream, SurveyFields}, Row.Row}
 
@@ -89,15 +87,7 @@ source-beside output (Told f) (Told g) name s only source =
       },
       same,
     )
-source-beside output (Untold before) (Untold after) name s only source = (
-  record {
-    apart = source.apart;
-    there = tt;
-    exact = λ file holds. absurd holds;
-    laid = source.laid;
-  },
-  refl,
-)
+source-beside output (Untold before) (Untold after) name s only source = grind arith
 source-beside output _ _ name s only source = absurd only
 
 module _ (class : ClassFields) (output : List ℕ) (old new : Files) where
@@ -120,9 +110,7 @@ module _ (class : ClassFields) (output : List ℕ) (old new : Files) where
   told-beside [] [] froms only are = refl
   told-beside (name ∷ names) (s ∷ ss) [] only are = refl
   told-beside (name ∷ names) (s ∷ ss) (from ∷ froms) only are =
-      ap₂ (λ (o : Option (List ℕ)) (ps : List FilePart). rest_part from (unwrap_or o []) s ∷ ps)
-      (source-beside output old new name s only are.0.0).1
-      (told-beside names ss froms only are.1)
+      grind (arith, source-beside, told-beside names ss froms only are.1)
   told-beside _ _ _ only are = absurd are
 
 -- where the contents of the files are known, a source holds its bytes
@@ -130,8 +118,7 @@ pub source-holds : {output : List ℕ} (files : Files) (key told name : List ℕ
     → Holds files key told → IsSource output files name s
     → Holds files name (unwrap_or (told_contents files name) [])
 source-holds (Untold touched) key told name s holds source = absurd holds
-source-holds (Told f) key told name s holds source = let held = there_holds f name source.there in
-    held.1 ∙ ap (λ (o : Option (List ℕ)). Some (unwrap_or o [])) (sym held.1)
+source-holds (Told f) key told name s holds source = grind (arith, there_holds)
 
 -- ---- the inputs as parts
 
@@ -158,9 +145,7 @@ module _ (class : ClassFields) (output : List ℕ) (f : Contents) where
       → map part_needs (parts_in f names ss) ≡ map (map need_of) (survey_rows ss)
   unfolding parts_in
   parts-rows [] [] are = refl
-  parts-rows (name ∷ names) (s ∷ ss) are =
-      ap₂ (λ (l : List Row) (ps : List (List Need)). map need_of l ∷ ps) (range-whole s.frames)
-      (parts-rows names ss are.1)
+  parts-rows (name ∷ names) (s ∷ ss) are = grind (arith, range-whole, parts-rows names ss are.1)
   parts-rows _ _ are = absurd are
 
 -- ---- the file
@@ -182,8 +167,7 @@ module _ (output : List ℕ) (f : Contents) (name : List ℕ) (names : List (Lis
 
   told-plan : joined_plan s.class parts ≡ least_plan_of (s ∷ ss)
   unfolding least_plan_of
-  told-plan = ap (least_plan (window_of s.class.version) own_choice)
-      (parts-rows s.class output f (name ∷ names) (s ∷ ss) are)
+  told-plan = grind (arith, parts-rows s.class output f (name ∷ names) (s ∷ ss) are)
 
   is-plan : IsPlan (window_of s.class.version) own_choice (map part_needs parts)
       (joined_plan s.class parts)
@@ -199,11 +183,7 @@ module _ (output : List ℕ) (f : Contents) (name : List ℕ) (names : List (Lis
       slots-planned s.class own_choice parts (joined_plan s.class parts) are-parts own_slots is-plan
 
   sizes : HasInfoSizes (plain_info s.class (joined_frames s.class parts))
-  sizes = record {
-    table = length-map (range_with_len 0 100) (table_entry s.class (joined_frames s.class parts))
-        ∙ length-range_with_len 0 100;
-    extension = refl;
-  }
+  sizes = grind (arith, length-map, length-range_with_len)
 
   found : (first : Row) × (slice_get s.frames 0 ≡ Some first)
   found = first-there s.frames 0 alike.0
@@ -250,18 +230,7 @@ pub ready-written : (output : List ℕ) (files : Files) (names : List (List ℕ)
     → IsJoinReady ss work → AreCountsWithin ss froms → rest_rows ss froms ≡ survey_rows ss
     → CanJoinBeWritten output files names ss froms work
 ready-written output files names ss froms work apart are ready within same =
-    let can = ready.joined in
-    record {
-      class = can.class;
-      first = can.first;
-      sources = sources-inputs can.class output 0 None most_frames files names ss apart can.alike
-          are;
-      fits = record {
-        within = within;
-        fits = rw same (rw can.first at ready.plan.fits);
-        fresh = rw can.first at ready.fresh;
-      };
-    }
+    grind (arith, sources-inputs)
 
 -- the bytes that are written are the joined file
 pub whole-is : (output : List ℕ) (files : Files) (names : List (List ℕ)) (ss : List SurveyFields)
@@ -270,8 +239,7 @@ pub whole-is : (output : List ℕ) (files : Files) (names : List (List ℕ)) (ss
     → IsJoinReady ss work → told_rest_parts files names ss froms ≡ told_parts files names ss
     → (file : List ℕ) → Holds files (first_input names) file
     → join_bytes files names ss froms work file ≡ joined_file (told_parts files names ss)
-whole-is output files [] ss froms work some apart are ready none file holds =
-    absurd (omega (arith, some))
+whole-is output files [] ss froms work some apart are ready none file holds = grind arith
 whole-is output files (name ∷ names) [] froms work some apart are ready none file holds = absurd are
 whole-is output (Untold touched) (name ∷ names) (s ∷ ss) froms work some apart are ready none file
     holds = absurd holds
@@ -298,17 +266,7 @@ pub inputs-making : (files : Files) (names : List (List ℕ)) (ss : List SurveyF
     → IsMaking (join_task names) (λ _. joined_file (told_parts files names ss)) files
 inputs-making files [] ss some are = absurd (omega (arith, some))
 inputs-making files (name ∷ names) [] some are = absurd are
-inputs-making files (name ∷ names) (s ∷ ss) some are =
-    record { there = are.0.there; makes = at files are }
-  where
-    at : (fs : Files) → AreJoinInputs None most_frames fs (name ∷ names) (s ∷ ss)
-        → IfTold fs (λ f. (bytes : List ℕ) → f name ≡ Some bytes → AreBytes bytes × ((join_task
-        (name ∷ names)).makes f ≡ Ok (joined_file (told_parts fs (name ∷ names) (s ∷ ss)))))
-    at (Untold touched) are = tt
-    at (Told f) are = λ bytes held. (
-      are.0.octets bytes held,
-      rw (parts-all 0 None most_frames f (name ∷ names) (s ∷ ss) are) refl,
-    )
+inputs-making files (name ∷ names) (s ∷ ss) some are = grind (arith, parts-all)
 
 -- the bytes that are written are what is made of the inputs
 pub written-making : (output : List ℕ) (files : Files) (names : List (List ℕ))
@@ -359,10 +317,8 @@ inputs-hold output (Told f) _ _ apart can are = absurd are
 -- the numbers of a fault are numbers that the command may return
 pub join-numbers : (output : List ℕ) (names : List (List ℕ)) (count : ℕ) (fault : EditFault) → count
     ≡ length names → HasJoinNumbers count fault → HasNumbers (join_command output names) fault
-join-numbers output names count (Input place fault) all is =
-    (omega (arith, all, is.0), is.1, is.2, inr (inl (omega (arith, all, is.0))))
-join-numbers output names count (Refused refusal) all is =
-    subst (λ n. join_refuses n refusal ≡ true) all is
+join-numbers output names count (Input place fault) all is = grind arith
+join-numbers output names count (Refused refusal) all is = grind arith
 join-numbers output names count (Write place) all is = omega (arith, is)
 join-numbers output names count Memory all is = tt
 join-numbers output names count _ all is = absurd is

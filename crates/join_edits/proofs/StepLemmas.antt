@@ -1,5 +1,5 @@
 -- Giving the inputs to the writer, one more at a time.
-use Rattle.std.proofs.Common.{ap, append_assoc, arith, drop, get_or, length, List, map, refl}
+use Rattle.std.proofs.Common.{append_assoc, arith, drop, get_or, length, List, map, refl}
 use Rattle.std.proofs.Common.{slice_index_or, subst, sym, ℕ, [], ◌++◌, ◌+◌, ◌-◌, ◌<◌, ◌∙◌, ◌∷◌, ◌≡◌}
 use Rattle.std.proofs.{Common.{◌≢◌, ◌≤◌}, lemmas.List.{drop-map, get_or-drop}}
 use Rattle.std.specs.Prelude.{flat_map, slice_range, unwrap_or}
@@ -35,8 +35,7 @@ use Rattle.sync_survey.specs.Faults.{survey_view, SurveyFields}
 -- to
 pub map-next : {X Y : Type 0} (f : X → Y) (xs : List X) (i : ℕ) (x : X) → i < length xs
     → x ≡ get_or xs i x → drop i (map f xs) ≡ f x ∷ drop (i + 1) (map f xs)
-map-next f xs i x within is = drop-map f i xs ∙ ap (map f) (item-next xs i x within is)
-    ∙ ap (λ l. f x ∷ l) (sym (drop-map f (i + 1) xs))
+map-next f xs i x within is = grind (arith, drop-map, item-next, within)
 
 -- an input is ready to be read beside the output
 pub source-ready : (relay : Relay) (files : Files) (fed : Fed)
@@ -44,19 +43,7 @@ pub source-ready : (relay : Relay) (files : Files) (fed : Fed)
     → IsFileThere files relay.pass.output.now
     → relay.pass.length ≡ (survey_view relay.survey.now).length
     → IsFedFrom fed files relay.pass.input.now → IsRelayReady relay files fed
-source-ready relay files fed source target long fed_from = record {
-  pass = record {
-    apart = source.apart;
-    source = source.there;
-    target = target;
-    length_is = λ file holds. (source.exact file holds).long ∙ sym long;
-    few = omega (arith, long, source.laid.few);
-    fed_from = fed_from;
-  };
-  length_is = long;
-  exact = source.exact;
-  laid = source.laid;
-}
+source-ready relay files fed source target long fed_from = grind (arith, target)
 
 -- ---- the frames of inputs
 
@@ -106,13 +93,7 @@ own-split : (f : Contents) (name : List ℕ) (s : SurveyFields) (from : ℕ) (na
     ++ relaid_frames (flat_map part_frames (rest_parts f names ss froms))
     (drop (places_for (length s.frames - from) placed) placed)
 unfolding rest_parts
-own-split f name s from names ss froms placed =
-    let file = unwrap_or (f name) [] in
-    let own = frames_behind from s placed file in
-    let rest = flat_map part_frames (rest_parts f names ss froms) in
-    relaid_frames-append (slice_range (all_frames file s) from (length s.frames)) rest placed
-    ∙ ap (λ n. own ++ relaid_frames rest (drop (places_for n placed) placed))
-    (from-length file from s)
+own-split f name s from names ss froms placed = grind (arith, relaid_frames-append, from-length)
 
 told-none : (f : Contents) (ss : List SurveyFields) (froms : List ℕ) (placed : List Placed)
     → relaid_frames (flat_map part_frames (rest_parts f [] ss froms)) placed ≡ []
@@ -132,14 +113,7 @@ fits-input : (class : ClassFields) (reach : ℕ) (s : SurveyFields) (from : ℕ)
     (needs_of_parts (rest_rows ss froms)) (drop (places_for (length s.frames - from) placed) placed)
 unfolding needs_of_parts rest_rows
 fits-input class reach s from ss froms placed same fits =
-    let window = window_of class.version in
-    let own = needs_from s from (length s.frames) in
-    let rest = needs_of_parts (rest_rows ss froms) in
-    rw same
-    (subst (λ n. FitsFromReach window reach own (own_places n placed)
-    × FitsFromReach window (last_reach window reach own placed) rest
-    (drop (places_for n placed) placed))
-    (needs-length from s) (fits-append window reach own rest placed fits))
+    grind (arith, needs-length, fits-append, fits)
 
 -- ---- input by input
 
@@ -216,8 +190,7 @@ module _ {class : ClassFields} {key output : List ℕ} {whole : List ℕ → Lis
   pub next-source : IsSource output files name s
   next-source =
       let sofar = here.lays.lays in
-      let touches : OnlyTouches (output ∷ []) first files =
-      rw sofar.files (appended_touches first output sofar.passed) in
+      let touches : OnlyTouches (output ∷ []) first files = grind (arith, appended_touches) in
       let names = name ∷ later in
       (sources-beside class output first files names (s ∷ behind) touches here.sources).0.0
 
@@ -252,21 +225,12 @@ module _ {class : ClassFields} {key output : List ℕ} {whole : List ℕ → Lis
 
   split : (file : List ℕ) → Holds first key file
       → (here.lays.made file ++ own file) ++ rest file ≡ whole file
-  split file holds =
-      append_assoc (here.lays.made file) (own file) (rest file)
-      ∙ ap (λ (l : List Frame). here.lays.made file ++ l)
-      (sym (own-split (told_contents first) name s from later behind others left))
-      ∙ sym (here.lays.left file holds)
+  split file holds = grind (arith, append_assoc, own-split)
 
   module _ (apart : key ≢ output) (after : Files) where
     -- where the contents of the files are known, the content of this input is
     told : (file : List ℕ) → Holds files key file → Holds files name bytes
-    told file holds =
-        let sofar = here.lays.lays in
-        let source = here.sources.0.0 in
-        let begun = input_held first files key output sofar.passed file apart sofar.files holds in
-        input_holds first files name output sofar.passed bytes source.apart sofar.files
-        (source-holds first key file name s begun source)
+    told file holds = grind (arith, input_held, input_holds, source-holds)
 
     -- when it was laid in its places, one more input was laid
     pub next-laid : (new : Writing) (more : List Placed) → drop count left ≡ more
@@ -338,6 +302,5 @@ pub cause-named : (names : List (List ℕ)) (place : ℕ) (name output : List �
     → HasPassCause (route (slice_index_or names place []) output size) files before after fault
 cause-named names place name output rest size files before after fault is cause =
     let here : place ≡ place + 0 = omega arith in
-    let named : slice_index_or names place [] ≡ name = ap (λ n. slice_index_or names n []) here
-    ∙ sym (get_or-drop place names 0 []) ∙ ap (λ (l : List (List ℕ)). slice_index_or l 0 []) is in
+    let named : slice_index_or names place [] ≡ name = grind (arith, here, get_or-drop) in
     subst (λ n. HasPassCause (route n output size) files before after fault) (sym named) cause

@@ -5,7 +5,7 @@ use Rattle.std.{proofs.lemmas.List.{length-take-le, map-append}, specs.List.cons
 use Rattle.laying.specs.{LaidFiles.{AreBlocks, block_bytes, IsBlock}, LaidLaws.SurveyedBlocks}
 use Rattle.sync_survey.proofs.{ItemBytesLemmas.block_front-bytes, ItemsLemmas.stands-at}
 use Rattle.sync_survey.proofs.RunsLemmas.{item_run-ends, whole_item_at-is}
-use Rattle.sync_survey.{proofs.SurveyPartsLemmas.survey_fields-parts, specs.Faults.SurveyFields}
+use Rattle.sync_survey.proofs.SurveyPartsLemmas.{survey_fields-parts}
 use Rattle.sync_survey.specs.Items.{item_at, size_of}
 use Rattle.sync_survey.specs.Runs.{AreEndToEnd, block_of_item, blocks_of, item_run, PlacedItem}
 use Rattle.sync_survey.specs.{Walk.{all_blocks, stream_run}, declared.items.Item.Item}
@@ -64,7 +64,4 @@ all-blocks file start =
 
 -- the blocks of a surveyed file are blocks
 pub surveyed-blocks : SurveyedBlocks
-surveyed-blocks file allowed s e =
-    let parts = survey_fields-parts file allowed s e in
-    subst (λ (t : SurveyFields). AreBlocks (map (block_bytes file) t.blocks))
-    parts.2 (all-blocks file parts.0)
+surveyed-blocks file allowed s e = grind (arith, survey_fields-parts, all-blocks)

@@ -1,7 +1,7 @@
 -- Blocks copied in order.
-use Rattle.std.proofs.Common.{ap, append-nil, arith, Bool, cond, drop, false, filter, length, List}
-use Rattle.std.proofs.Common.{map, not, refl, slice_index_or, subst, suc, sym, true, zero, ℕ, []}
-use Rattle.std.{proofs.Common.{◌++◌, ◌+◌, ◌<◌, ◌∙◌, ◌∷◌, ◌≡◌, ◌≤◌}, specs.List.concat}
+use Rattle.std.proofs.Common.{append-nil, arith, Bool, cond, drop, false, length, List, map, not}
+use Rattle.std.proofs.Common.{refl, slice_index_or, suc, true, zero, ℕ, [], ◌++◌, ◌+◌, ◌<◌, ◌∷◌}
+use Rattle.std.{proofs.Common.{◌≡◌, ◌≤◌}, specs.List.concat}
 use Rattle.laying.specs.{Copying.{chosen_bytes, is_chosen_block}, LaidFiles.block_bytes}
 use Rattle.laying.specs.Written.{goes_in_front}
 use Rattle.sync_survey.specs.{Faults.SurveyFields, Survey.BlocksAreLaid}
@@ -13,26 +13,21 @@ use mathlib.Core.Bool.{beq}
 chosen-by : (b : Bool) (file : List ℕ) (p : Piece) (ps : List Piece)
     → concat (map (block_bytes file) (cond b (p ∷ ps) ps))
     ≡ concat (map (block_bytes file) (cond b (p ∷ []) [])) ++ concat (map (block_bytes file) ps)
-chosen-by true file p ps = ap (λ (l : List ℕ). l ++ concat (map (block_bytes file) ps))
-    (sym (append-nil (block_bytes file p)))
+chosen-by true file p ps = grind (arith, append-nil)
 chosen-by false file p ps = refl
 
 -- the bytes of chosen blocks are the bytes of the first, then of the others
 pub chosen-next : (in_front : Bool) (s : SurveyFields) (p : Piece) (ps : List Piece) (file : List ℕ)
     → chosen_bytes in_front s (p ∷ ps) file
     ≡ chosen_bytes in_front s (p ∷ []) file ++ chosen_bytes in_front s ps file
-chosen-next in_front s p ps file =
-    chosen-by (is_chosen_block in_front s p) file p (filter (is_chosen_block in_front s) ps)
+chosen-next in_front s p ps file = grind (arith, chosen-by)
 
 -- the blocks from a place on are the one there and those after it
 pub block-at : (ps : List Piece) (i : ℕ) (none : Piece) → i < length ps
     → drop i ps ≡ slice_index_or ps i none ∷ drop (i + 1) ps
 block-at [] i none within = absurd (omega (arith, within))
 block-at (p ∷ ps) zero none within = refl
-block-at (p ∷ ps) (suc i) none within =
-    let more : suc i + 1 ≡ suc (i + 1) = omega arith in
-    block-at ps i none (omega (arith, within))
-    ∙ ap (λ n. slice_index_or ps i none ∷ drop n (p ∷ ps)) (sym more)
+block-at (p ∷ ps) (suc i) none within = grind (arith, block-at ps i none (omega (arith, within)))
 
 none-by : (b : Bool) (file : List ℕ) (p : Piece) → b ≡ false
     → concat (map (block_bytes file) (cond b (p ∷ []) [])) ≡ []
@@ -55,8 +50,7 @@ not-chosen false s p other = by-false (goes_in_front s p) other
 -- a block that isn't chosen adds nothing
 pub chosen-none : (in_front : Bool) (s : SurveyFields) (p : Piece) (file : List ℕ)
     → beq (goes_in_front s p) in_front ≡ false → chosen_bytes in_front s (p ∷ []) file ≡ []
-chosen-none in_front s p file other =
-    none-by (is_chosen_block in_front s p) file p (not-chosen in_front s p other)
+chosen-none in_front s p file other = grind (arith, none-by, not-chosen)
 
 -- consecutive blocks end no earlier than they begin
 pub block-behind : (from to : ℕ) (ps : List Piece) → BlocksAreLaid from ps to → from ≤ to
@@ -69,9 +63,6 @@ pub block-within : (from to : ℕ) (ps : List Piece) (i : ℕ) (p : Piece) (more
     → drop i ps ≡ p ∷ more → BlocksAreLaid from ps to → p.offset + p.block.length ≤ to
 block-within from to [] zero p more is laid = absurd cc
 block-within from to [] (suc i) p more is laid = absurd cc
-block-within from to (q ∷ ps) zero p more is laid =
-    let same : q ≡ p = cc in
-    subst (λ (x : Piece). x.offset + x.block.length ≤ to) same
-    (block-behind (q.offset + q.block.length) to ps laid.1)
+block-within from to (q ∷ ps) zero p more is laid = grind (arith, block-behind)
 block-within from to (q ∷ ps) (suc i) p more is laid =
     block-within (q.offset + q.block.length) to ps i p more is laid.1

@@ -4,7 +4,7 @@ use Rattle.std.proofs.Common.{take, ℕ, [], ◌++◌, ◌∙◌, ◌≡◌}
 use Rattle.std.proofs.lemmas.List.{length-take-le, take-append-le}
 use Rattle.frame_header.specs.Fields.{ClassFields}
 use Rattle.frame_writer.proofs.FrameLemmas.{laid-steps, later-frames}
-use Rattle.frame_writer.specs.Frames.{bytes_of_frames, Frame, held_bytes, WaitingFrames}
+use Rattle.frame_writer.specs.Frames.{bytes_of_frames, Frame, WaitingFrames}
 use Rattle.frame_writer.specs.Writing.{IsNewQueue, IsWriterOf, waiting_bytes, Writing, writing_of}
 use Rattle.laying.specs.Passing.{LaysFrames, LaysPart}
 use Rattle.outside.proofs.BufferOutputLemmas.{passed_then, passed_then_prefix}
@@ -16,8 +16,7 @@ use Rattle.outside.specs.declared.pass.PassFault.{PassFault}
 -- with a new queue, no frame was passed after what waits
 pub new-behind : {class : ClassFields} (held : WaitingFrames) (waiting : List ℕ)
     → IsNewQueue class held → IsWriterOf waiting [] (writing_of held waiting) []
-new-behind held waiting new =
-    record { taken = []; is = sym (append-nil waiting); written = new.written }
+new-behind held waiting new = grind (arith, append-nil)
 
 -- what was appended and what waits are what waited before and the bytes of the frames
 lays-passed : (input output : List ℕ) (made : List ℕ → List Frame) (base : List ℕ)
@@ -28,12 +27,7 @@ lays-passed input output made base old new before now none lays =
     let are = lays.writer base [] [] none in
     record {
       passed = lays.passed;
-      split =
-          ap (λ (xs : List ℕ). base ++ xs)
-          (sym (laid-steps are.taken new.held lays.frames are.written))
-          ∙ sym (append_assoc base are.taken (held_bytes new.held))
-          ∙ ap (λ (xs : List ℕ). xs ++ held_bytes new.held) (sym are.is)
-          ∙ append_assoc lays.passed new.unsent (held_bytes new.held);
+      split = grind (arith, laid-steps, append_assoc);
       files = lays.files;
     }
 
@@ -68,8 +62,7 @@ module _ (pass : Pass) (made : List ℕ → List Frame) (base : List ℕ) (old :
       → WritesPrefix pass (λ file. bytes_of_frames (made file)) base before after fault
   part-prefix reach after part =
       let bytes = take part.prefix.count part.settled in
-      let long : length bytes ≡ part.prefix.count =
-      length-take-le part.prefix.count part.settled part.prefix.within in
+      let long : length bytes ≡ part.prefix.count = grind (arith, length-take-le) in
       let are = part.writer base [] [] none in
       let later : (file : List ℕ) → Holds before pass.input.now file
       → (more : List ℕ) × (base ++ bytes_of_frames (made file) ≡ part.settled ++ more) =
@@ -89,12 +82,6 @@ module _ (pass : Pass) (made : List ℕ → List Frame) (base : List ℕ) (old :
             sym (ap (λ n. take n (base ++ bytes_of_frames (made file))) long
             ∙ ap (take part.prefix.count) more.1
             ∙ take-append-le part.prefix.count part.settled more.0 part.prefix.within);
-        short = λ failed file holds. let more = later file holds in omega (
-          arith,
-          long,
-          part.prefix.short failed,
-          ap length more.1,
-          length-append part.settled more.0,
-        );
+        short = grind (arith, length-append);
         files = part.prefix.files;
       }

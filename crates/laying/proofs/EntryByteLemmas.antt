@@ -1,6 +1,6 @@
 -- One frame: its bytes are an item, and its side information and its check word are read back.
-use Rattle.std.proofs.Common.{ap, append_assoc, ap₂, arith, cond, Err, leb, length, length-append}
-use Rattle.std.proofs.{Common.{List, Ok, sym, take, true, ℕ, ◌++◌, ◌∙◌, ◌≡◌}, lemmas.Bool.le-leb}
+use Rattle.std.proofs.Common.{ap, append_assoc, arith, cond, Err, leb, length, length-append, List}
+use Rattle.std.proofs.{Common.{Ok, take, true, ℕ, ◌++◌, ◌∙◌, ◌≡◌}, lemmas.Bool.le-leb}
 use Rattle.std.proofs.lemmas.List.{drop_at, take_at}
 use Rattle.bit_fields.{proofs.BitsLemmas.{bits-bytes, length-bytes}, specs.Bits.bytes}
 use Rattle.frame_header.proofs.HeaderLemmas.{AreBits-header_bits, header_at-bytes, IsClass-class_of}
@@ -16,17 +16,11 @@ use Rattle.side_info.{proofs.SideLemmas.{IsShaped, length-side_bits}, specs.Chec
 use Rattle.side_info.specs.Frame.{crc_part, frame_front_bytes, frame_with_side, side_in, stored_crc}
 use Rattle.side_info.specs.{Side.{side_bits, SideFits}, declared.side.Side.Side}
 use Rattle.sync_survey.proofs.ItemBytesLemmas.{frame-least, frame_item, IsItem}
-use Rattle.sync_survey.specs.Items.{header_front}
-use Rattle.sync_survey.specs.declared.items.Item.TheVariants.{Frame as FrameItem}
+use Rattle.sync_survey.specs.{Items.header_front, declared.items.Item.TheVariants.Frame}
 
 -- side information with pairs has lists as long as the arrays
 pub shaped : (s : Side) → HasPairs s → IsShaped s
-shaped s pairs = record {
-  scfsi = pairs.scfsi;
-  granules = pairs.granules;
-  first = pairs.first;
-  second = pairs.second;
-}
+shaped s pairs = grind arith
 
 -- ---- a header
 
@@ -70,45 +64,30 @@ length-front h s is pairs =
 front-four : (h : HeaderFields) (s : Side) (rest : List ℕ)
     → take 4 (frame_front_bytes h s ++ rest) ≡ bytes (header_bits h)
 unfolding frame_front_bytes
-front-four h s rest =
-    let side = bytes (side_bits (class_of h) s) in
-    ap (take 4) (append_assoc (bytes (header_bits h)) (crc_part h s ++ side) rest)
-    ∙ take_at (bytes (header_bits h)) ((crc_part h s ++ side) ++ rest) 4 (length-header h)
+front-four h s rest = search (arith, append_assoc, take_at, length-header)
 
 front_header : (h : HeaderFields) (s : Side) (rest : List ℕ) → IsHeader h
     → header_front (frame_front_bytes h s ++ rest) ≡ Ok h
 unfolding frame_front_bytes
-front_header h s rest is =
-    let side = bytes (side_bits (class_of h) s) in
-    ap header_front (append_assoc (bytes (header_bits h)) (crc_part h s ++ side) rest)
-    ∙ header_front-is h ((crc_part h s ++ side) ++ rest) is
+front_header h s rest is = grind (arith, append_assoc, header_front-is)
 
 module _ (h : HeaderFields) (s : Side) (rest : List ℕ) (is : IsHeader h) (pairs : IsShaped s) where
   -- putting the side information into the frame again changes nothing
   put_again : frame_with_side h s (frame_front_bytes h s ++ rest) ≡ frame_front_bytes h s ++ rest
   unfolding frame_with_side frame_front_bytes
-  put_again =
-      let head = bytes (header_bits h) in
-      let side = bytes (side_bits (class_of h) s) in
-      let over = overhead_of (class_of h) h.protected in
-      ap₂ (λ (xs ys : List ℕ). xs ++ (crc_part h s ++ (side ++ ys))) (front-four h s rest)
-      (drop_at (frame_front_bytes h s) rest over (length-front h s is pairs))
-      ∙ ap (λ (xs : List ℕ). head ++ xs) (sym (append_assoc (crc_part h s) side rest))
-      ∙ sym (append_assoc head (crc_part h s ++ side) rest)
+  put_again = grind (arith, front-four, drop_at, length-front, append_assoc)
 
   room : HasRoom h (frame_front_bytes h s ++ rest)
   room = omega (arith, length-front h s is pairs, length-append (frame_front_bytes h s) rest)
 
   -- the side information is read back
   pub front-side : SideFits (class_of h) s → side_in h (frame_front_bytes h s ++ rest) ≡ s
-  front-side fits = ap (side_in h) (sym put_again) ∙ side_in-frame_with_side h s
-      (frame_front_bytes h s ++ rest) (IsClass-class_of h is) pairs fits room
+  front-side fits = grind (arith, put_again, side_in-frame_with_side, IsClass-class_of, room)
 
   -- the check word of the frame is right
   pub front-word : h.protected ≡ true
       → stored_crc (frame_front_bytes h s ++ rest) ≡ check_word_of h s
-  front-word protected = ap stored_crc (sym put_again)
-      ∙ stored_crc-frame_with_side h s (frame_front_bytes h s ++ rest) protected room
+  front-word protected = grind (arith, put_again, stored_crc-frame_with_side, room)
 
 -- ---- the frame
 
@@ -116,15 +95,8 @@ module _ (h : HeaderFields) (s : Side) (area : List ℕ) (is : IsHeader h) (pair
     (many : length area ≡ area_of (class_of h) h.slot h.protected) where
   -- with its area the frame is as long as its header says
   pub length-entry : length (frame_front_bytes h s ++ area) ≡ length_of (class_of h) h.slot
-  length-entry = omega (
-    arith,
-    many,
-    length-append (frame_front_bytes h s) area,
-    length-front h s is pairs,
-    (area-is (class_of h) h.slot h.protected (IsClass-class_of h is) is.slot).0,
-  )
+  length-entry = grind (arith, length-append, length-front, area-is, IsClass-class_of)
 
   -- the frame's bytes are an item
-  pub entry_item : IsItem (FrameItem h) (frame_front_bytes h s ++ area)
-  entry_item = frame_item h (frame_front_bytes h s ++ area) (front_header h s area is) length-entry
-      (omega (arith, length-entry, frame-least h is))
+  pub entry_item : IsItem (Frame h) (frame_front_bytes h s ++ area)
+  entry_item = grind (arith, frame_item, front_header, length-entry, frame-least)

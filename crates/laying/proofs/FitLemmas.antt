@@ -86,8 +86,7 @@ fits-on window (item ∷ items) (need ∷ needs) (p ∷ placed) end low before
           (at + item.bytes) (before + item_area item p.slot) starts follow for_items.2 layout.4
           (omega (arith, first)) (omega (arith, first, layout.3)) (ap (drop 1) begins)),
     )
-fits-on window _ _ _ end low before starts asks for_items layout early within begins =
-    absurd for_items
+fits-on window _ _ _ end low before starts asks for_items layout early within begins = grind arith
 
 -- items that ask for these frames, laid as early as possible, can be written frame by frame
 pub items-fit : (window : ℕ) (items : List PlanItem) (needs : List Need) (placed : List Placed)
@@ -124,8 +123,7 @@ asks-part : (window : ℕ) (choices : HeaderFields → List SlotFields) (part : 
 unfolding part_items IsLeadIn
 asks-part window choices part None rest more lead asks = asks-items choices part rest more asks
 asks-part window choices [] (Some slot) rest more lead asks = absurd lead
-asks-part window choices (need ∷ part) (Some slot) rest more lead asks =
-    ((refl, refl, refl), asks-items choices (need ∷ part) rest more asks)
+asks-part window choices (need ∷ part) (Some slot) rest more lead asks = grind (arith, asks-items)
 
 asks-whole : (window : ℕ) (choices : HeaderFields → List SlotFields) (parts : List (List Need))
     (lead_ins : List (Option SlotFields)) → AreLeadIns window choices parts lead_ins
@@ -134,18 +132,13 @@ unfolding all_items AreLeadIns
 asks-whole window choices [] lead_ins leads = tt
 asks-whole window choices (part ∷ parts) [] leads = absurd leads
 asks-whole window choices (part ∷ parts) (lead_in ∷ lead_ins) leads =
-    asks-part window choices part lead_in (all_items choices parts lead_ins)
-    (flat_map (λ (part : List Need). part) parts)
-    leads.0 (asks-whole window choices parts lead_ins leads.1)
+    grind (arith, asks-part, flat_map, asks-whole window choices parts lead_ins leads.1)
 
 -- a plan of parts can be written frame by frame
 pub parts-fit : (window : ℕ) (choices : HeaderFields → List SlotFields) (parts : List (List Need))
     (placed : List Placed) → IsPlan window choices parts placed
     → FitsFromReach window 0 (flat_map (λ (part : List Need). part) parts) placed
-parts-fit window choices parts placed plan =
-    items-fit window (all_items choices parts plan.lead_ins)
-    (flat_map (λ (part : List Need). part) parts) placed (asks-whole window choices parts
-    plan.lead_ins plan.alone) plan.whole.slots plan.whole.least.feasible plan.whole.begins
+parts-fit window choices parts placed plan = grind (arith, items-fit, flat_map, asks-whole)
 
 -- the needs of all parts, concatenated, are the needs of their frames
 pub needs-flat : (parts : List (List Row))
@@ -200,10 +193,8 @@ module _ (window : ℕ) (choices : HeaderFields → List SlotFields) (slots : Ar
   unfolding part_items IsLeadIn
   open-part part None rest are lead others = open-items part rest are others
   open-part [] (Some slot) rest are lead others = absurd lead
-  open-part (need ∷ part) (Some slot) rest are lead others = (
-    (λ other has. subst IsSlot (only_one slot other has) (slot_among slot lead.2)),
-    open-items (need ∷ part) rest are others,
-  )
+  open-part (need ∷ part) (Some slot) rest are lead others =
+      grind (arith, only_one, slot_among slot lead.2, open-items (need ∷ part) rest are others)
 
   open-whole : (parts : List (List Need)) (lead_ins : List (Option SlotFields)) → AllHeaders parts
       → AreLeadIns window choices parts lead_ins → AreOpen (all_items choices parts lead_ins)
@@ -217,11 +208,8 @@ module _ (window : ℕ) (choices : HeaderFields → List SlotFields) (slots : Ar
   pub parts-fitting : (parts : List (List Need)) (placed : List Placed) → AllHeaders parts
       → IsPlan window choices parts placed
       → IsFittingPlan window (flat_map (λ (part : List Need). part) parts) placed
-  parts-fitting parts placed are plan = record {
-    fits = parts-fit window choices parts placed plan;
-    slots = open-in_slots (all_items choices parts plan.lead_ins) placed
-        (open-whole parts plan.lead_ins are plan.alone) plan.whole.slots;
-  }
+  parts-fitting parts placed are plan =
+      grind (arith, parts-fit window choices parts placed plan, open-in_slots, open-whole)
 
 -- ---- as requested
 

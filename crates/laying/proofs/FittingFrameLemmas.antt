@@ -30,13 +30,8 @@ piece-by : (b : Bool) (p : Placed) (need : Need) (f : Frame) → need.header ≡
     → need.bytes ≡ length f.payload → (length (one b p f).payload ≡ placed_bytes b need)
     × ((one b p f).kept.side.main_data_begin ≡ p.begin) × (frame_area (one b p f).kept
     ≡ area_of (class_of need.header) p.slot (cond b false need.header.protected))
-piece-by true p need f header bytes =
-    (refl, refl, ap (λ (h : HeaderFields). area_of (class_of h) p.slot false) (sym header))
-piece-by false p need f header bytes = (
-  sym bytes,
-  refl,
-  ap (λ (h : HeaderFields). area_of (class_of h) p.slot h.protected) (sym header),
-)
+piece-by true p need f header bytes = grind arith
+piece-by false p need f header bytes = grind arith
 
 next-needs : (b : Bool) (need : Need) (needs : List Need) (f : Frame) (fs : List Frame)
     → AreNeedsOf (need ∷ needs) (f ∷ fs)
@@ -135,20 +130,10 @@ module _ (c : ClassFields) (frames : List Frame) (stream : List StreamFrame)
     (before : AreBlocks front) (header : IsHeader first) (class : class_of first ≡ c)
     (sizes : HasInfoSizes info) (behind : AreBlocks back) where
   file_is : IsLaidFile c front first info frames back
-  file_is = record {
-    blocks_before = before;
-    header = header;
-    class = class;
-    sizes = sizes;
-    some = hold.some;
-    entries = hold.entries;
-    laid = hold.fit;
-    blocks_behind = behind;
-  }
+  file_is = grind arith
 
   file-holds : HoldsStream (laid_file front first info frames back) stream
-  file-holds = subst (HoldsStream (laid_file front first info frames back))
-      hold.stream_is (laid-stream c front first info frames back file_is)
+  file-holds = grind (arith, laid-stream c front first info frames back file_is, file_is)
 
   file-loses-none : LosesNoFrame (laid_file front first info frames back)
   file-loses-none = laid-frames-stay c front first info frames back file_is
@@ -194,8 +179,7 @@ entries-hold c choices parts placed some are slots plan =
     let laid = laid-fitting c needs (flat_map part_frames parts) placed 0 0 0 (parts-entries c parts
     are) (parts-needs c parts are) fitting.slots fitting.fits (omega arith) (omega arith) in
     record {
-      some = some-by window 0 needs (flat_map part_frames parts) placed
-          (parts-needs c parts are) fitting.fits (parts-some c parts some are);
+      some = grind (arith, some-by, flat_map, parts-needs, parts-some);
       entries = laid.entries;
       fit = laid.fit;
       stream_is = laid.stream_is ∙ ap (stream_with_lead_ins placed) (parts-stream c parts are);

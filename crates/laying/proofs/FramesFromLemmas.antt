@@ -1,18 +1,18 @@
 -- The frames of an input from number `from` on, in the first places of a plan.
-use Rattle.std.proofs.Common.{ap, append-nil, ap₂, arith, drop, length, List, refl, slice_range}
-use Rattle.std.proofs.Common.{subst, sym, take, ℕ, [], ◌++◌, ◌-◌, ◌∙◌, ◌≡◌, ◌≤◌}
+use Rattle.std.proofs.Common.{ap, append-nil, arith, length, List, slice_range, subst, sym, take, ℕ}
+use Rattle.std.proofs.Common.{◌++◌, ◌-◌, ◌∙◌, ◌≡◌, ◌≤◌}
 use Rattle.std.proofs.lemmas.List.{length-drop, length-map, length-take-le}
 use Rattle.frame_header.specs.Tables.{window_of}
 use Rattle.frame_writer.specs.{Frames.{all_frame_data, Frame}, Laid.BeginsWithin, Writing.Writing}
 use Rattle.laying.proofs.{HoldLemmas.{all-length, needs-range}, PassLemmas.{begins_more, lays_as}}
 use Rattle.laying.proofs.PlacesLemmas.{last-own, relaid_frames-own}
 use Rattle.laying.proofs.RelayLemmas.{begins-left, part_more}
-use Rattle.laying.specs.{Fits.{FitsFromReach, last_reach}, Needs.need_of}
+use Rattle.laying.specs.Fits.{FitsFromReach, last_reach}
 use Rattle.laying.specs.Passing.{LaysFrames, LaysPart, needs_from}
 use Rattle.laying.specs.{Places.{own_places, places_for}, Relaid.{all_frames, relaid_frames}}
 use Rattle.laying.specs.Surveys.{CanBeRelaid}
 use Rattle.outside.specs.{Files.Files, declared.pass.PassFault.PassFault}
-use Rattle.slot_plan.specs.declared.needs.{Need.Need, Placed.Placed}
+use Rattle.slot_plan.specs.declared.needs.Placed.{Placed}
 use Rattle.sync_survey.specs.Faults.{SurveyFields}
 
 -- the frames from number `from` on in these places (`planned_frames`, from the survey)
@@ -29,21 +29,17 @@ reached reach from s placed =
 
 range-rest : {X : Type 0} (xs : List X) (from to : ℕ) → to ≡ length xs
     → length (slice_range xs from to) ≡ to - from
-range-rest xs from to all =
-    length-take-le (to - from) (drop from xs) (omega (arith, all, length-drop from xs))
+range-rest xs from to all = grind (arith, length-take-le, length-drop)
 
 -- from number `from` on, a file has all frames of its survey except those before it
 pub from-length : (file : List ℕ) (from : ℕ) (s : SurveyFields)
     → length (slice_range (all_frames file s) from (length s.frames)) ≡ length s.frames - from
-from-length file from s =
-    range-rest (all_frames file s) from (length s.frames) (sym (all-length file s))
+from-length file from s = grind (arith, range-rest, all-length)
 
 -- there are as many needs
 pub needs-length : (from : ℕ) (s : SurveyFields)
     → length (needs_from s from (length s.frames)) ≡ length s.frames - from
-needs-length from s =
-    length-map (slice_range s.frames from (length s.frames)) need_of
-    ∙ range-rest s.frames from (length s.frames) refl
+needs-length from s = grind (arith, length-map, slice_range, range-rest)
 
 -- ---- the places that frames take
 
@@ -58,11 +54,7 @@ frames-own file from s placed =
 reach-own : (reach from : ℕ) (s : SurveyFields) (placed : List Placed)
     → reached reach from s (own_places (length s.frames - from) placed)
     ≡ reached reach from s placed
-reach-own reach from s placed =
-    let needs = needs_from s from (length s.frames) in
-    let window = window_of s.class.version in
-    ap (λ n. last_reach window reach needs (own_places n placed)) (sym (needs-length from s))
-    ∙ last-own window reach needs placed
+reach-own reach from s placed = grind (arith, needs-length from s, last-own)
 
 -- if the file's content is known, the frames begin within reach
 pub from-begins : (file : List ℕ) (from : ℕ) (s : SurveyFields) (placed : List Placed)
@@ -98,49 +90,31 @@ module _ (s : SurveyFields) (placed : List Placed) (from n k : ℕ) (all : n ≡
       → FitsFromReach window reach (needs_from s from (length s.frames))
       (own_places (length s.frames - from) placed)
       → FitsFromReach window reach (needs_from s from n) (take k placed)
-  fits-from window reach fits =
-      subst (λ (l : List Need). FitsFromReach window reach l (take k placed)) (sym needs-are)
-      (subst (FitsFromReach window reach (needs_from s from (length s.frames))) (sym taken) fits)
+  fits-from window reach fits = grind (arith, needs-are, taken)
 
   abbrev made : List ℕ → List Frame
   made file = relaid_frames (slice_range (all_frames file s) from n) (take k placed)
 
   made-is : (file : List ℕ) → made file ≡ planned from s placed file
-  made-is file =
-      ap₂ (λ m (l : List Placed). relaid_frames (slice_range (all_frames file s) from m) l) all
-      taken
-      ∙ frames-own file from s placed
+  made-is file = grind (arith, slice_range, taken, frames-own)
 
   abbrev last : ℕ → ℕ
   last reach = last_reach (window_of s.class.version) reach (needs_from s from n) (take k placed)
 
   -- main data may begin as far before the next area
   pub reach-is : (reach : ℕ) → last reach ≡ reached reach from s placed
-  reach-is reach =
-      ap₂ (λ (l : List Need) (ps : List Placed).
-      last_reach (window_of s.class.version) reach l ps) needs-are taken
-      ∙ reach-own reach from s placed
+  reach-is reach = grind (arith, needs-are, taken, reach-own)
 
   module _ (input output : List ℕ) (old : Writing) (first before after : Files)
       (same : before ≡ first) where
     -- laying these frames is laying those of the input from there on
     pub lays-from : (new : Writing) → LaysFrames input output made old new before after
         → LaysFrames input output (planned from s placed) old new first after
-    lays-from new lays =
-        subst (λ f. LaysFrames input output (planned from s placed) old new f after) same
-        (lays_as input output made (planned from s placed) old new before after
-        (λ file holds. made-is file) lays)
+    lays-from new lays = grind (arith, lays_as, made-is)
 
     -- laying a part of these is laying a part of those
     pub part-from : (reach : ℕ) {fault : PassFault}
         → LaysPart input output made (last reach) old before after fault
         → LaysPart input output (planned from s placed) (reached reach from s placed)
         old first after fault
-    part-from reach {fault} part =
-        subst (λ f. LaysPart input output (planned from s placed) (reached reach from s placed)
-        old f after fault) same
-        (part_more input output made (λ file. []) (planned from s placed) (last reach)
-        (reached reach from s placed) old before after
-        (λ file holds more begins.
-        subst (λ m. BeginsWithin m (all_frame_data more)) (sym (reach-is reach)) begins)
-        (λ file holds. append-nil (made file) ∙ made-is file) part)
+    part-from reach {fault} part = grind (arith, part_more, reach-is, append-nil, made-is)

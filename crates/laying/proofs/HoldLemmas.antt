@@ -1,8 +1,7 @@
 -- The frames of parts, what a plan is given for them, and the blocks of a file.
-use Rattle.std.proofs.Common.{ap, ap₂, arith, Bool, cond, drop, false, filter, flat_map, length}
-use Rattle.std.proofs.Common.{length-append, length-drop, List, map, not, refl, slice_range, subst}
-use Rattle.std.proofs.Common.{suc, sym, take, true, zero, ℕ, [], ◌++◌, ◌+◌, ◌-◌, ◌<◌, ◌∙◌, ◌∷◌, ◌≡◌}
-use Rattle.std.proofs.Common.{◌≤◌}
+use Rattle.std.proofs.Common.{ap₂, arith, Bool, cond, drop, false, filter, flat_map, length}
+use Rattle.std.proofs.Common.{length-append, length-drop, List, map, refl, slice_range, subst, suc}
+use Rattle.std.proofs.Common.{sym, take, true, zero, ℕ, [], ◌++◌, ◌+◌, ◌-◌, ◌<◌, ◌∙◌, ◌∷◌, ◌≡◌, ◌≤◌}
 use Rattle.std.proofs.lemmas.List.{drop-map, length-map, length-take, map-append, take-map}
 use Rattle.std.{proofs.lemmas.List.FromFn.length-enumerate_from, specs.List.enumerate_from}
 use Rattle.frame_header.specs.Fields.{ClassFields, IsHeader}
@@ -13,7 +12,6 @@ use Rattle.laying.specs.LaidFiles.{AreBlocks, AreStreamEntries, block_bytes, IsB
 use Rattle.laying.specs.{Laws.BlocksAreKept, Needs.need_of}
 use Rattle.laying.specs.Relaid.{all_frames, AreParts, FilePart, IsPart, part_frames, part_needs}
 use Rattle.laying.specs.{Relaid.{part_stream, survey_frame}, Surveys.CanBeRelaid}
-use Rattle.laying.specs.Written.{goes_in_front}
 use Rattle.side_info.specs.{Side.{no_side, payload_bytes}, declared.side.Side.Side}
 use Rattle.slot_plan.specs.declared.needs.Need.{Need}
 use Rattle.sync_survey.{proofs.EmptiedLemmas.no_bytes, specs.Faults.SurveyFields}
@@ -48,8 +46,7 @@ needs-drop (suc n) _ _ are = absurd are
 
 range-map : {X Y : Type 0} (f : X → Y) (from to : ℕ) (xs : List X)
     → map f (slice_range xs from to) ≡ slice_range (map f xs) from to
-range-map f from to xs =
-    sym (ap (take (to - from)) (drop-map f from xs) ∙ take-map f (to - from) (drop from xs))
+range-map f from to xs = grind (arith, drop-map, take-map)
 
 -- ---- what a plan is given for the frames of a file
 
@@ -76,11 +73,7 @@ needs-all c file s are = needs-each c file s 0 s.frames are
 -- the frames of a part are frames that can be laid
 pub part-entries : (c : ClassFields) (p : FilePart) → IsPart c p
     → AreStreamEntries c (part_frames p)
-part-entries c p is =
-    let are = frames-of p.file p.survey is.has in
-    entries-take c (p.to - p.from) (drop p.from (all_frames p.file p.survey))
-    (entries-drop c p.from (all_frames p.file p.survey)
-    (subst (λ d. AreStreamEntries d (all_frames p.file p.survey)) is.class are.entries))
+part-entries c p is = grind (arith, frames-of, entries-take, entries-drop)
 
 -- the needs of a range of frames are the needs of their rows
 pub needs-range : (file : List ℕ) (s : SurveyFields) (from to : ℕ) → CanBeRelaid file s → AreNeedsOf
@@ -101,10 +94,7 @@ part-needs c p is = needs-range p.file p.survey p.from p.to is.has
 -- the stream of a part's frames is the stream of the part
 pub part-stream : (c : ClassFields) (p : FilePart) → IsPart c p
     → map stream_entry (part_frames p) ≡ part_stream p
-part-stream c p is =
-    let are = frames-of p.file p.survey is.has in
-    range-map stream_entry p.from p.to (all_frames p.file p.survey)
-    ∙ ap (λ (l : List StreamFrame). slice_range l p.from p.to) are.stream_is
+part-stream c p is = grind (arith, frames-of, range-map, slice_range)
 
 -- ---- all parts
 
@@ -162,20 +152,11 @@ parts-stream c (p ∷ parts) are =
 -- a survey has as many frames as rows
 pub all-length : (file : List ℕ) (s : SurveyFields) → length (all_frames file s) ≡ length s.frames
 unfolding all_frames
-all-length file s =
-    length-map (enumerate_from 0 s.frames) (λ (p : ℕ × Row). survey_frame file s p.0 p.1)
-    ∙ length-enumerate_from 0 s.frames
+all-length file s = grind (arith, length-map, length-enumerate_from)
 
 -- a part has at least one frame
 pub part-some : (c : ClassFields) (p : FilePart) → IsPart c p → 0 < length (part_frames p)
-part-some c p is = omega (
-  arith,
-  is.some,
-  is.within,
-  all-length p.file p.survey,
-  length-drop p.from (all_frames p.file p.survey),
-  length-take (p.to - p.from) (drop p.from (all_frames p.file p.survey)),
-)
+part-some c p is = grind (arith, all-length, length-drop, length-take)
 
 -- parts have at least one frame, if there is a part
 pub parts-some : (c : ClassFields) (parts : List FilePart) → 1 ≤ length parts → AreParts c parts
@@ -195,12 +176,8 @@ kept_cons false file p ps is are = are
 kept-blocks : (keep : Piece → Bool) (file : List ℕ) (ps : List Piece)
     → AreBlocks (map (block_bytes file) ps) → AreBlocks (map (block_bytes file) (filter keep ps))
 kept-blocks keep file [] are = tt
-kept-blocks keep file (p ∷ ps) are =
-    kept_cons (keep p) file p (filter keep ps) are.0 (kept-blocks keep file ps are.1)
+kept-blocks keep file (p ∷ ps) are = grind (arith, kept_cons, kept-blocks keep file ps are.1)
 
 -- the blocks of a file that go before the frames, and all others, are blocks by their bytes
 pub blocks-kept : BlocksAreKept
-blocks-kept file s has = (
-  kept-blocks (goes_in_front s) file s.blocks has.blocks,
-  kept-blocks (λ p. not (goes_in_front s p)) file s.blocks has.blocks,
-)
+blocks-kept file s has = grind (arith, kept-blocks)

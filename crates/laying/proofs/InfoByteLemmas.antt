@@ -2,9 +2,9 @@
 -- its side information, and the length of its area is known.
 use Rattle.std.proofs.Common.{ap, append_assoc, arith, Bool, codes, cond, drop, false, get_or}
 use Rattle.std.proofs.Common.{IfSome, length, length-append, List, None, Option, refl, replicate}
-use Rattle.std.proofs.Common.{Some, suc, sym, take, true, ℕ, [], ◌++◌, ◌+◌, ◌-◌, ◌<◌, ◌||◌, ◌∙◌}
-use Rattle.std.proofs.{Common.{◌∷◌, ◌≡◌}, lemmas.List.{drop-drop, drop_at, length-replicate}}
-use Rattle.std.specs.{Int.bytes_high_first, Str.bytes_eq}
+use Rattle.std.proofs.Common.{Some, suc, sym, true, ℕ, [], ◌++◌, ◌+◌, ◌-◌, ◌<◌, ◌∙◌, ◌∷◌, ◌≡◌}
+use Rattle.std.proofs.lemmas.List.{drop-drop, drop_at, length-replicate}
+use Rattle.std.specs.Int.{bytes_high_first}
 use Rattle.bit_fields.specs.Bits.{bytes}
 use Rattle.frame_header.proofs.HeaderLemmas.{IsClass-class_of}
 use Rattle.frame_header.proofs.SlotLemmas.{area-is, IsSlot-nth_slot, length-all_slots}
@@ -14,7 +14,7 @@ use Rattle.frame_header.specs.Slots.{all_slots, slot_of}
 use Rattle.frame_header.specs.Tables.{area_of, class_of, length_of, overhead_of, side_size_of}
 use Rattle.info_header.proofs.FrameLemmas.{info_slot-room}
 use Rattle.info_header.specs.HeadText.{has_text, head_text_of, low_place}
-use Rattle.info_header.specs.Info.{info_bytes, number_or_zero, table_or_zeros, vbr_text}
+use Rattle.info_header.specs.Info.{info_bytes, table_or_zeros, vbr_text}
 use Rattle.info_header.specs.InfoFrame.{first_with_room, info_frame, info_header_of, info_slot_of}
 use Rattle.info_header.specs.declared.fields.Info.{Info}
 use Rattle.laying.proofs.EntryByteLemmas.{header_front-is, length-header}
@@ -40,29 +40,7 @@ length-number n = refl
 -- the fields of an Info frame have 156 bytes
 pub length-info : (info : Info) → HasInfoSizes info → length (info_bytes info) ≡ 156
 unfolding info_bytes
-length-info info sizes =
-    let quality = bytes_high_first 4 (number_or_zero info.quality) in
-    let table = table_or_zeros info.table in
-    let all_bytes = bytes_high_first 4 (number_or_zero info.bytes) in
-    let frames = bytes_high_first 4 (number_or_zero info.frames) in
-    omega (
-      arith,
-      sizes.extension,
-      length-text info.vbr,
-      length-table info.table sizes.table,
-      length-append (vbr_text info.vbr) (bytes_high_first 4 15
-          ++ (frames ++ (all_bytes ++ (table ++ (quality ++ info.extension))))),
-      length-append (bytes_high_first 4 15)
-          (frames ++ (all_bytes ++ (table ++ (quality ++ info.extension)))),
-      length-append frames (all_bytes ++ (table ++ (quality ++ info.extension))),
-      length-append all_bytes (table ++ (quality ++ info.extension)),
-      length-append table (quality ++ info.extension),
-      length-append quality info.extension,
-      length-number 15,
-      length-number (number_or_zero info.frames),
-      length-number (number_or_zero info.bytes),
-      length-number (number_or_zero info.quality),
-    )
+length-info info sizes = grind (arith, length-text, length-table, length-append, length-number)
 
 -- ---- its slot
 
@@ -89,10 +67,8 @@ info_slot-is c = slot_in c (slot_of 1 false) all_slots
 text_found : (at : ℕ) (vbr : Bool) (frame behind : List ℕ) → drop at frame ≡ vbr_text vbr ++ behind
     → has_text at frame ≡ true
 unfolding has_text
-text_found at true frame behind is =
-    ap (λ l. bytes_eq (take 4 l) (codes "Xing") || bytes_eq (take 4 l) (codes "Info")) is
-text_found at false frame behind is =
-    ap (λ l. bytes_eq (take 4 l) (codes "Xing") || bytes_eq (take 4 l) (codes "Info")) is
+text_found at true frame behind is = grind (arith, codes)
+text_found at false frame behind is = grind (arith, codes)
 
 head_text-low : (h : HeaderFields) (frame : List ℕ) → has_text (low_place h) frame ≡ true
     → head_text_of h frame ≡ Some (low_place h)
@@ -120,13 +96,7 @@ module _ (first : HeaderFields) (info : Info) (header : IsHeader first)
 
   -- its header is one of the standard
   pub info_header : IsHeader h
-  info_header = record {
-    slot = info_slot-is c;
-    frequency_index = header.frequency_index;
-    mode = header.mode;
-    mode_extension = header.mode_extension;
-    emphasis = header.emphasis;
-  }
+  info_header = grind (arith, info_slot-is)
 
   class : IsClass c
   class = IsClass-class_of first header
@@ -140,15 +110,7 @@ module _ (first : HeaderFields) (info : Info) (header : IsHeader first)
   over = refl
 
   long_fields : length fields ≡ area_of c (info_slot_of c) false
-  long_fields =
-      let zeros = area_of c (info_slot_of c) false - 156 in
-      omega (
-        arith,
-        info_slot-room c class,
-        length-info info sizes,
-        length-append (info_bytes info) (replicate zeros 0),
-        length-replicate {A = ℕ} zeros 0,
-      )
+  long_fields = grind (arith, info_slot-room, class, length-info, length-append, length-replicate)
 
   -- it is as long as its header says
   pub length-info_frame : length (info_frame first info) ≡ length_of (class_of h) h.slot
@@ -198,5 +160,4 @@ module _ (first : HeaderFields) (info : Info) (header : IsHeader first)
   -- its area is as long as its slot says
   pub length-info_area : length (drop (overhead_of c false) (info_frame first info))
       ≡ area_of c (info_slot_of c) false
-  length-info_area =
-      ap (λ n. length (drop n (info_frame first info))) over ∙ ap length behind_side ∙ long_fields
+  length-info_area = grind (arith, over, behind_side, long_fields)

@@ -1,11 +1,10 @@
 -- The fields of an Info frame by the slots of the frames after it.
-use Rattle.std.proofs.Common.{ap, ap₂, arith, Bool, length, List, map, not, Option, refl}
-use Rattle.std.proofs.Common.{slice_index, Some, sym, take, ℕ, [], ◌&&◌, ◌*◌, ◌+◌, ◌/◌, ◌<◌, ◌==◌}
-use Rattle.std.proofs.{Common.{◌∙◌, ◌∷◌, ◌≡◌}, lemmas.Grind.same_number_lists}
-use Rattle.std.proofs.lemmas.List.{length-map, take-map}
+use Rattle.std.proofs.Common.{ap, arith, length, List, map, Option, refl, slice_index, Some, sym}
+use Rattle.std.proofs.Common.{take, ℕ, [], ◌&&◌, ◌*◌, ◌+◌, ◌/◌, ◌<◌, ◌==◌, ◌∙◌, ◌∷◌, ◌≡◌}
+use Rattle.std.proofs.lemmas.{Grind.same_number_lists, List.{length-map, take-map}}
 use Rattle.std.proofs.lemmas.List.FromFn.{get_or-map-range_with_len, length-map-range_with_len}
 use Rattle.std.{proofs.lemmas.List.Sums.sum_by-cons, specs.List.{list_all, range_with_len}}
-use Rattle.frame_header.specs.{Fields.{ClassFields, SlotFields}, Tables.{length_of, rate_of}}
+use Rattle.frame_header.specs.{Fields.{ClassFields, SlotFields}, Tables.rate_of}
 use Rattle.frame_writer.specs.Frames.{Frame}
 use Rattle.info_header.specs.FileInfo.{all_bytes, frames_length, has_one_rate, info_length}
 use Rattle.info_header.specs.{FileInfo.IsInfoOver, Info.seek_table_entry, declared.fields.Info.Info}
@@ -19,12 +18,7 @@ same s = s
 module _ {X : Type 0} (c : ClassFields) (f : X → SlotFields) where
   bytes-map : (xs : List X) → frames_length c f xs ≡ frames_length c same (map f xs)
   bytes-map [] = refl
-  bytes-map (x ∷ xs) = omega (
-    arith,
-    bytes-map xs,
-    sum_by-cons (λ (y : X). length_of c (f y)) x xs,
-    sum_by-cons (λ (s : SlotFields). length_of c s) (f x) (map f xs),
-  )
+  bytes-map (x ∷ xs) = omega (arith, bytes-map xs, sum_by-cons)
 
   rates-map : (rate : ℕ) (xs : List X)
       → list_all (λ x. rate_of c (f x) == rate) xs ≡ list_all (λ s. rate_of c s == rate) (map f xs)
@@ -50,8 +44,7 @@ module _ {X Y : Type 0} (c : ClassFields) (f : X → SlotFields) (g : Y → Slot
       ∙ sym (bytes-map c g (take n ys))
 
   same-all : all_bytes c f xs ≡ all_bytes c g ys
-  same-all = ap (λ n. info_length c + n)
-      (bytes-map c f xs ∙ ap (frames_length c same) slots ∙ sym (bytes-map c g ys))
+  same-all = grind (arith, bytes-map)
 
 -- ---- the fields
 
@@ -60,12 +53,7 @@ module _ {X : Type 0} (c : ClassFields) (slot_of : X → SlotFields) (placed : L
   entry-is : (i : ℕ) → seek_table_entry
       (info_length c + frames_length c slot_of (take (i * length placed / 100) placed))
       (all_bytes c slot_of placed) ≡ table_entry c frames i
-  entry-is i =
-      ap₂ (λ m n. seek_table_entry (info_length c + m) n)
-      (ap (λ k. frames_length c slot_of (take (i * k / 100) placed))
-      (sym (same-length c slot_in slot_of frames placed slots))
-      ∙ sym (same-bytes c slot_in slot_of frames placed slots (i * length frames / 100)))
-      (sym (same-all c slot_in slot_of frames placed slots))
+  entry-is i = grind (arith, same-length, same-bytes, same-all)
 
   table-is : (table : List ℕ) → length table ≡ 100
       → ((i : ℕ) → i < 100 → slice_index table i ≡ seek_table_entry (info_length c
@@ -91,28 +79,12 @@ module _ {X : Type 0} (c : ClassFields) (slot_of : X → SlotFields) (placed : L
         extension = extension;
       } ≡ info_for c frames quality extension
   fields-are info quality extension is sized =
-      let vbr : info.vbr ≡ not (has_one_rate c slot_in frames) =
-      is.vbr ∙ ap not (sym (same-rate c slot_in slot_of frames placed slots)) in
-      let count : info.frames ≡ Some (length frames) =
-      is.count ∙ ap Some (sym (same-length c slot_in slot_of frames placed slots)) in
-      let bytes : info.bytes ≡ Some (all_bytes c slot_in frames) =
-      is.bytes ∙ ap Some (sym (same-all c slot_in slot_of frames placed slots)) in
-      let table : info.table ≡ Some (map (table_entry c frames) (range_with_len 0 100)) =
-      is.has_table ∙ ap Some (table-is is.table (sized is.table is.has_table) is.entries) in
-      ap₂ (λ (v : Bool) (n : Option ℕ). record {
-        vbr = v;
-        frames = n;
-        bytes = info.bytes;
-        table = info.table;
-        quality = quality;
-        extension =
-            extension;
-      }) vbr count
-      ∙ ap₂ (λ (n : Option ℕ) (t : Option (List ℕ)). record {
-        vbr = not (has_one_rate c slot_in frames);
-        frames = Some (length frames);
-        bytes = n;
-        table = t;
-        quality = quality;
-        extension = extension;
-      }) bytes table
+      grind (
+        arith,
+        same-rate c slot_in slot_of frames placed slots,
+        same-length c slot_in slot_of
+            frames placed slots,
+        same-all c slot_in slot_of frames placed slots,
+        table-is is.table (sized
+            is.table is.has_table) is.entries,
+      )

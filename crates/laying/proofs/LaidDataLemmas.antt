@@ -14,15 +14,12 @@ pub length-laid : (end area_start : ℕ) (ps : List FrameData) → end ≤ area_
     → end + length (laid_data_from end area_start ps) ≡ areas_end area_start ps
 length-laid end area_start [] within fits = omega (arith, within, length-zeros (area_start - end))
 length-laid end area_start (p ∷ ps) within fits =
-    let gap = frame_data_start area_start p - end in
-    let more = laid_data_from (frame_data_end area_start p) (area_start + p.area) ps in
-    omega (
+    grind (
       arith,
-      fits.0,
-      length-zeros gap,
-      length-append (zeros gap) (p.payload ++ more),
-      length-append p.payload more,
-      length-laid (frame_data_end area_start p) (area_start + p.area) ps fits.1 fits.2,
+      length-zeros,
+      length-append,
+      length-laid (frame_data_end area_start p) (area_start
+          + p.area) ps fits.1 fits.2,
     )
 
 -- ---- the main data of one frame
@@ -57,8 +54,7 @@ pub data_end-next : (end area_start : ℕ) (ps : List FrameData) (i : ℕ) (p : 
     → slice_get ps i ≡ Some p → data_end end area_start (take (suc i) ps)
     ≡ frame_data_end (areas_end area_start (take i ps)) p
 data_end-next end area_start [] i p is = absurd cc
-data_end-next end area_start (q ∷ ps) zero p is = let same : q ≡ p = cc in
-    ap (frame_data_end area_start) same
+data_end-next end area_start (q ∷ ps) zero p is = grind arith
 data_end-next end area_start (q ∷ ps) (suc i) p is =
     data_end-next (frame_data_end area_start q) (area_start + q.area) ps i p is
 

@@ -28,10 +28,9 @@ use Rattle.sync_survey.proofs.SurveyPartsLemmas.{survey_fields-allowed, survey_f
 use Rattle.sync_survey.proofs.SurveyPartsLemmas.{survey_fields-told, told_from}
 use Rattle.sync_survey.specs.Faults.{all_faults, HoldsStream, stream_of_survey, survey_fields}
 use Rattle.sync_survey.specs.Faults.{SurveyFields}
-use Rattle.sync_survey.specs.MainData.{granule_lengths, head_bytes, main_bytes, marked_rows}
-use Rattle.sync_survey.specs.MainData.{payload_at, place, rows_of, split_bits, start_of_data}
-use Rattle.sync_survey.specs.{MainData.{stream_frame, stream_frames, StreamFrame}, Row.Row}
-use Rattle.sync_survey.specs.{Walk.head_of, declared.places.{Head.Head, Start.Start}}
+use Rattle.sync_survey.specs.MainData.{head_bytes, main_bytes, payload_at, place, rows_of}
+use Rattle.sync_survey.specs.MainData.{start_of_data, stream_frame, stream_frames, StreamFrame}
+use Rattle.sync_survey.specs.{Row.Row, Walk.head_of, declared.places.{Head.Head, Start.Start}}
 
 -- ---- the main data of one frame
 
@@ -42,10 +41,7 @@ pub payload_there : (main before area_data payload rest : List ℕ) (start at : 
     → payload_at main start s ≡ take (payload_bits s) (bits payload)
 payload_there main before area_data payload rest start at s is place there long =
     let bytes : drop start main ≡ payload ++ rest =
-    ap₂ (λ n (l : List ℕ). drop n l) place is
-    ∙ sym (drop-drop at (length before) (before ++ area_data))
-    ∙ ap (drop at) (drop_at before area_data (length before) refl)
-    ∙ there in
+    grind (arith, drop-drop, drop_at before area_data (length before) refl) in
     ap (take (payload_bits s)) (drop-bits start main ∙ ap bits bytes ∙ bits-append payload rest)
     ∙ take-append-le (payload_bits s) (bits payload) (bits rest)
     (omega (arith, bits_least s, length-bits payload, long))
@@ -56,8 +52,7 @@ payload_there main before area_data payload rest start at s is place there long 
 pub entry_get : (c : ClassFields) (fs : List Frame) (i : ℕ) (f : Frame) → AreStreamEntries c fs
     → slice_get fs i ≡ Some f → IsStreamEntry c f
 entry_get c [] i f entries is = absurd cc
-entry_get c (g ∷ fs) zero f entries is = let same : g ≡ f = cc in
-    subst (IsStreamEntry c) same entries.0
+entry_get c (g ∷ fs) zero f entries is = grind arith
 entry_get c (g ∷ fs) (suc i) f entries is = entry_get c fs i f entries.1 is
 
 -- the row of a frame that begins at an offset
@@ -81,14 +76,9 @@ frames_by main head rows n at (f ∷ fs) has there =
     let later = rows_from (at + frame_length f) fs in
     let here = onward-first rows n (row_at at f) later there in
     let area_data : payload_at main (start_of_data (place head rows n) (row_at at f)) f.kept.side
-    ≡ take (payload_bits f.kept.side) (bits f.payload) =
-    subst (λ m. HasPayload main head rows m f) none (has 0 f refl) at here in
+    ≡ take (payload_bits f.kept.side) (bits f.payload) = grind arith in
     let own : stream_frame main head rows n (row_at at f) ≡ stream_entry f =
-    ap (λ (payload : List ℕ). record {
-      header = (stream_entry f).header;
-      side = (stream_entry f).side;
-      payload = split_bits (granule_lengths f.kept.header f.kept.side) payload;
-    }) area_data in
+    grind arith in
     ap₂ (λ (x : StreamFrame) (xs : List StreamFrame). x ∷ xs) own
     (frames_by main head rows (n + 1) (at + frame_length f) fs
     (λ i g is. subst (λ m. HasPayload main head rows m g) (omega arith) (has (suc i) g is))
@@ -100,10 +90,7 @@ pub entries_by : (main : List ℕ) (head : Option Head) (at : ℕ) (fs : List Fr
     → stream_frames main head (rows_from at fs) ≡ map stream_entry fs
 unfolding stream_frames
 entries_by main head at fs has =
-    frames_by main head (rows_from at fs) 0 at fs
-    (λ i f is. subst (λ m. HasPayload main head (rows_from at fs) m f) (sym (zero-add i))
-    (has i f is))
-    (onward-all (rows_from at fs))
+    grind (arith, frames_by main head (rows_from at fs) 0, zero-add, onward-all (rows_from at fs))
 
 -- ---- the file
 
@@ -132,8 +119,7 @@ module _ (c : ClassFields) (front : List (List ℕ)) (first : HeaderFields) (inf
   stand = frames-stand c front first info frames back is
 
   rows-are : rows_of file (frames_from file begin) ≡ rows
-  rows-are = ap (rows_of file) (frames-are c front first info frames back is)
-      ∙ rows-there c file at frames area_data is.entries stand
+  rows-are = grind (arith, frames-are, rows-there, stand)
 
   no_faults : (allowed : ℕ) → length frames ≤ allowed → all_faults file (head_of file begin.first)
       (class_of begin.first.header) allowed (rows_of file (frames_from file begin)) ≡ []
@@ -145,31 +131,14 @@ module _ (c : ClassFields) (front : List (List ℕ)) (first : HeaderFields) (inf
       (laid-sound file c head at frames area_data is.entries stand is.laid allowed few)
 
   read : (allowed : ℕ) → length frames ≤ allowed → IsRead file allowed begin
-  read allowed few = record {
-    start_is = start-is c front first info frames back is;
-    frames = no_faults allowed few;
-    end =
-        no-end_fault c front first info frames back is;
-  }
+  read allowed few = grind (arith, start-is, no_faults, no-end_fault)
 
   marked-are : (told_from file begin).frames ≡ rows
-  marked-are = ap₂ marked_rows (head-is c front first info frames back is) rows-are
-      ∙ marked_rows-none file c head at frames area_data is.entries stand is.laid
+  marked-are = grind (arith, head-is, rows-are, marked_rows-none, stand)
 
   told : told_from file begin ≡ laid_fields front first info frames back
   unfolding laid_fields
-  told =
-      let own_head = head-is c front first info frames back is in
-      let blocks = blocks-are c front first info frames back is in
-      λ i. record {
-        frames = marked-are i;
-        blocks = blocks i;
-        head = own_head i;
-        junk = length (concat front);
-        first = length (concat front);
-        class = class_of first;
-        length = length file;
-      }
+  told = grind (arith, head-is, blocks-are, marked-are)
 
   -- its survey finds what was put into it
   pub survey-is : (allowed : ℕ) → length frames ≤ allowed
@@ -180,8 +149,7 @@ module _ (c : ClassFields) (front : List (List ℕ)) (first : HeaderFields) (inf
 
   main-is : main_bytes file head rows ≡ head_bytes file head ++ area_data
   unfolding main_bytes
-  main-is = ap (λ (l : List ℕ). head_bytes file head ++ l)
-      (areas-there c file at frames area_data is.entries stand)
+  main-is = grind (arith, areas-there, stand)
 
   payloads : (i : ℕ) (f : Frame) → slice_get frames i ≡ Some f
       → HasPayload (main_bytes file head rows) head rows i f
@@ -245,5 +213,4 @@ laid-stream = holds
 
 -- the survey of a laid file finds what was put into it
 pub laid-survey : LaidSurvey
-laid-survey c front first info frames back allowed is few =
-    survey-is c front first info frames back is allowed few
+laid-survey c front first info frames back allowed is few = grind (arith, survey-is)

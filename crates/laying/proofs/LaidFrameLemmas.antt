@@ -5,8 +5,7 @@ use Rattle.std.proofs.Common.{length-append, length-drop, List, map, not, refl, 
 use Rattle.std.proofs.Common.{subst, suc, sum_by, sym, take, take-append-drop, true, zero, ℕ, []}
 use Rattle.std.proofs.{Common.{◌&&◌, ◌++◌, ◌+◌, ◌==◌, ◌∙◌, ◌∷◌, ◌≡◌, ◌≤◌}, lemmas.Bool.eq-eqb}
 use Rattle.std.proofs.lemmas.List.{drop-drop, drop_at, length-take-le, take_at, Sums.sum_by-cons}
-use Rattle.frame_header.specs.Fields.{ClassFields, same_class, version_number}
-use Rattle.frame_header.specs.Tables.{class_of, overhead_of}
+use Rattle.frame_header.specs.{Fields.{ClassFields, same_class}, Tables.{class_of, overhead_of}}
 use Rattle.frame_writer.specs.Frames.{all_frame_data, areas_length, fields_of_frames, Frame}
 use Rattle.frame_writer.specs.{Frames.{frame_area, framed_bytes}, Laid.areas_end}
 use Rattle.laying.proofs.EntryByteLemmas.{entry_item, front-side, front-word, length-entry}
@@ -72,8 +71,7 @@ pub blocks-behind : (c : ClassFields) (at : ℕ) (fs : List Frame) (bytes : List
     → areas_length (fields_of_frames fs)
     ≡ length bytes → blocks_of (placed at (frame_items fs ++ block_items blocks are))
     ≡ blocks_from (at + length (framed_bytes (fields_of_frames fs) bytes)) blocks
-blocks-behind c at [] bytes blocks are entries many =
-    blocks-placed at blocks are ∙ ap (λ n. blocks_from n blocks) (omega arith)
+blocks-behind c at [] bytes blocks are entries many = grind (arith, blocks-placed)
 blocks-behind c at (f ∷ fs) bytes blocks are entries many =
     let k = f.kept in
     let n = frame_area k in
@@ -122,8 +120,7 @@ framed_bytes-stand c file at (f ∷ fs) bytes behind entries many is =
     let more = framed_bytes (fields_of_frames fs) (drop n bytes) in
     let rest = more ++ behind in
     let stands : drop at file ≡ front ++ (area ++ rest) =
-    is ∙ append_assoc front (area ++ more) behind
-    ∙ ap (λ (l : List ℕ). front ++ l) (append_assoc area more behind) in
+    grind (arith, append_assoc) in
     let long = length-entry k.header k.side area entries.0.header (shaped k.side entries.0.pairs)
     (length-take-le n bytes (omega (arith, many))) in
     let next : drop (at + frame_length f) file ≡ rest =
@@ -146,8 +143,7 @@ rows-there c file at (f ∷ fs) bytes entries stand =
     let k = f.kept in
     let n = frame_area k in
     let side : side_in k.header (drop at file) ≡ k.side =
-    ap (side_in k.header) stand.1 ∙ front-side k.header k.side (take n bytes ++ stand.0)
-    entries.0.header (shaped k.side entries.0.pairs) (own_fits c f entries.0) in
+    grind (arith, front-side, shaped, own_fits) in
     ap₂ (λ (s : Side) (rows : List Row).
     record { offset = at; header = k.header; side = s; lost = false } ∷ rows) side
     (rows-there c file (at + frame_length f) fs (drop n bytes) entries.1 stand.3)
@@ -162,10 +158,7 @@ areas-there c file at (f ∷ fs) bytes entries stand =
     let n = frame_area k in
     let over = overhead_of (class_of k.header) k.header.protected in
     let area : area_bytes file at k.header ≡ take n bytes =
-    ap (λ (l : List ℕ). take n (drop over l)) stand.1
-    ∙ ap (take n) (drop_at (frame_front_bytes k.header k.side) (take n bytes ++ stand.0) over
-    (length-front k.header k.side entries.0.header (shaped k.side entries.0.pairs)))
-    ∙ take_at (take n bytes) stand.0 n (length-take-le n bytes stand.2) in
+    grind (arith, drop_at, length-front, shaped, take_at, length-take-le) in
     ap₂ (λ (xs ys : List ℕ). xs ++ ys) area
     (areas-there c file (at + frame_length f) fs (drop n bytes) entries.1 stand.3)
     ∙ take-append-drop n bytes
@@ -195,10 +188,8 @@ row-get c file at (f ∷ fs) bytes zero r entries stand is =
     let k = f.kept in
     let own : Row = record { offset = at; header = k.header; side = k.side; lost = false } in
     let same : own ≡ r = cc in
-    let right : k.header.protected ≡ true
-    → stored_crc (drop at file) ≡ check_word_of k.header k.side =
-    λ protected. ap stored_crc stand.1 ∙ front-word k.header k.side (take (frame_area k) bytes
-    ++ stand.0) entries.0.header (shaped k.side entries.0.pairs) protected in (
+    let right : k.header.protected ≡ true → stored_crc (drop at file)
+    ≡ check_word_of k.header k.side = grind (arith, front-word, shaped) in (
       f,
       refl,
       subst (IsRowOf file c f) same (record {
@@ -206,8 +197,7 @@ row-get c file at (f ∷ fs) bytes zero r entries stand is =
         side = refl;
         kept = refl;
         entry = entries.0;
-        word = word_by
-            k.header.protected (stored_crc (drop at file)) (check_word_of k.header k.side) right;
+        word = grind (arith, word_by);
       }),
     )
 row-get c file at (f ∷ fs) bytes (suc i) r entries stand is =
@@ -246,8 +236,4 @@ rows-length at (f ∷ fs) = ap suc (rows-length (at + frame_length f) fs)
 -- a class equals itself
 pub same-class : (c : ClassFields) → same_class c c ≡ true
 unfolding same_class
-same-class c = rw (
-  eq-eqb (version_number c.version) (version_number c.version) refl,
-  eq-eqb c.frequency_index c.frequency_index refl,
-  eq-eqb c.channels c.channels refl,
-) refl
+same-class c = grind (arith, eq-eqb)

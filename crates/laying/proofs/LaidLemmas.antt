@@ -3,8 +3,7 @@
 use Rattle.std.proofs.Common.{append_assoc, arith, length, List, map, Option, refl, slice_get}
 use Rattle.std.proofs.Common.{slice_range, Some, subst, suc, sym, zero, ℕ, [], ◌++◌, ◌+◌, ◌<◌, ◌∙◌}
 use Rattle.std.proofs.{Common.{◌∷◌, ◌≡◌, ◌≤◌}, lemmas.List.length-map}
-use Rattle.std.proofs.lemmas.List.FromFn.{length-range_with_len}
-use Rattle.std.specs.List.{concat, range_with_len}
+use Rattle.std.{proofs.lemmas.List.FromFn.length-range_with_len, specs.List.concat}
 use Rattle.frame_header.specs.{Fields.IsHeader, Tables.{class_of, window_of}}
 use Rattle.frame_writer.specs.Frames.{bytes_of_frames}
 use Rattle.laying.proofs.FittingFrameLemmas.{fitting-files-hold, fitting-loses-none, fitting-slots}
@@ -14,9 +13,8 @@ use Rattle.laying.specs.Laid.{file_laid, file_with_first, frames_laid, info_laid
 use Rattle.laying.specs.Laid.{IsWritableSelection, LaidPart, needs_laid, selected_front}
 use Rattle.laying.specs.Laid.{selected_part, source_part, stream_laid}
 use Rattle.laying.specs.{LaidFiles.{HasInfoSizes, laid_file}, LaidLaws.LosesNoFrame}
-use Rattle.laying.specs.{Laws.{ChosenFramesStay, EachLaidFile}, Needs.need_of, Relaid.IsPart}
-use Rattle.laying.specs.Surveys.{CanBeRelaid}
-use Rattle.laying.specs.Written.{back_blocks, front_blocks, slot_in, table_entry}
+use Rattle.laying.specs.{Laws.{ChosenFramesStay, EachLaidFile}, Relaid.IsPart, Surveys.CanBeRelaid}
+use Rattle.laying.specs.Written.{back_blocks, front_blocks, slot_in}
 use Rattle.laying.specs.declared.selected.Selected.{Selected}
 use Rattle.slot_plan.specs.{Parts.AreNeedsOfClass, declared.needs.Placed.Placed}
 use Rattle.sync_survey.specs.{Faults.{HoldsStream, SurveyFields}, Row.Row}
@@ -57,11 +55,7 @@ module _ (laid : LaidPart) (file : List ℕ) (s : SurveyFields) (is : CanBeRelai
 
   -- the fields of their Info frame have the right sizes
   pub sizes : length laid.extension ≡ 36 → HasInfoSizes (info_laid laid file s)
-  sizes extension = record {
-    table = length-map (range_with_len 0 100) (table_entry s.class (frames_laid laid file s))
-        ∙ length-range_with_len 0 100;
-    extension = extension;
-  }
+  sizes extension = grind (arith, length-map, length-range_with_len)
 
   module _ (first : Row) (found : slice_get s.frames laid.from ≡ Some first) where
     rows_are : slice_range s.frames laid.from laid.to
@@ -74,15 +68,11 @@ module _ (laid : LaidPart) (file : List ℕ) (s : SurveyFields) (is : CanBeRelai
 
     first-class : class_of first.header ≡ s.class
     unfolding AreNeedsOfClass
-    first-class = (subst (λ (l : List Row). AreNeedsOfClass s.class (map need_of l)) rows_are
-        (part-fits s laid.from laid.to is.placed).0).0
+    first-class = grind (arith, rows_are, part-fits)
 
     first-file : (P : List ℕ → Type 0) → EachLaidFile s.class (frames_laid laid file s) P
         → length laid.extension ≡ 36 → P (file_with_first (Some first) laid file s)
-    first-file P each extension =
-        let kept = blocks-kept file s is in
-        each (front_blocks file s) first.header (info_laid laid file s)
-        (back_blocks file s) kept.0 first-header first-class (sizes extension) kept.1
+    first-file P each extension = grind (arith, blocks-kept, first-header, first-class, sizes)
 
   of_each : (P : List ℕ → Type 0) → EachLaidFile s.class (frames_laid laid file s) P
       → length laid.extension ≡ 36 → P (file_laid laid file s)
@@ -104,5 +94,4 @@ module _ (laid : LaidPart) (file : List ℕ) (s : SurveyFields) (is : CanBeRelai
 
 -- no chosen frame is lost
 pub chosen-frames-stay : ChosenFramesStay
-chosen-frames-stay laid file s is some within extension fitting =
-    laid-loses-none laid file s is some within fitting extension
+chosen-frames-stay laid file s is some within extension fitting = grind (arith, laid-loses-none)

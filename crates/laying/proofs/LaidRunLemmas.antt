@@ -1,13 +1,12 @@
 -- The runs of a laid file, where its stream starts, and its head.
-use Rattle.std.proofs.Common.{ap, append-nil, ap₂, arith, drop, length, length-append, List, None}
-use Rattle.std.proofs.Common.{Ok, Option, option_map, refl, Some, sym, take, true, ℕ, [], ◌++◌, ◌+◌}
+use Rattle.std.proofs.Common.{ap, append-nil, arith, drop, length, length-append, List, None, Ok}
+use Rattle.std.proofs.Common.{Option, option_map, refl, Some, sym, take, true, ℕ, [], ◌++◌, ◌+◌}
 use Rattle.std.proofs.{Common.{◌<◌, ◌∙◌, ◌∷◌, ◌≡◌, ◌≤◌}, lemmas.Bool.le-leb}
 use Rattle.std.{proofs.lemmas.List.{drop-drop, drop_all, drop_at, take_at}, specs.List.concat}
 use Rattle.frame_header.specs.{Fields.{ClassFields, HeaderFields}, Tables.{class_of, overhead_of}}
 use Rattle.frame_writer.specs.Frames.{all_frame_data, areas_length, bytes_of_frames}
 use Rattle.frame_writer.specs.{Frames.{fields_of_frames, Frame}, Laid.laid_data}
-use Rattle.info_header.specs.{HeadText.head_text_of, InfoFrame.{info_frame, info_header_of}}
-use Rattle.info_header.specs.declared.fields.Info.{Info}
+use Rattle.info_header.specs.{InfoFrame.{info_frame, info_header_of}, declared.fields.Info.Info}
 use Rattle.laying.proofs.InfoByteLemmas.{info_header, info_item, info_text, length-info_area}
 use Rattle.laying.proofs.{InfoByteLemmas.length-info_frame, LaidDataLemmas.length-laid}
 use Rattle.laying.proofs.LaidFrameLemmas.{areas-all, blocks-behind, frame_items, framed_bytes-stand}
@@ -20,13 +19,13 @@ use Rattle.sync_survey.proofs.{RunsLemmas.whole_item_at-past, SameHeadLemmas.are
 use Rattle.sync_survey.proofs.{StartLemmas.start_is, SurveyLemmas.overhead-within}
 use Rattle.sync_survey.proofs.SurveyPartsLemmas.{frames_from}
 use Rattle.sync_survey.specs.{Items.{item_at, item_fits, size_of}, MainData.{head_area, head_bytes}}
-use Rattle.sync_survey.specs.Runs.{blocks_of, frames_of, item_if_whole, item_run, ItemRun}
-use Rattle.sync_survey.specs.{Runs.whole_item_at, Start.{front_end_of, start_of}}
+use Rattle.sync_survey.specs.Runs.{item_if_whole, item_run, ItemRun, whole_item_at}
+use Rattle.sync_survey.specs.Start.{front_end_of, start_of}
 use Rattle.sync_survey.specs.Walk.{all_blocks, end_fault, fault_at, frame_bytes, head_of}
-use Rattle.sync_survey.specs.{Walk.{numbered_frames, stream_run}, declared.items.Item.Item}
+use Rattle.sync_survey.specs.{Walk.stream_run, declared.items.Item.Item}
 use Rattle.sync_survey.specs.declared.items.Item.TheVariants.{End, Frame as FrameItem}
-use Rattle.sync_survey.specs.declared.places.{Head.Head, Piece.Piece, PlacedFrame.PlacedFrame}
-use Rattle.sync_survey.specs.declared.{places.Start.Start, runs.Region.TheVariants.{Front, Stream}}
+use Rattle.sync_survey.specs.declared.places.{Head.Head, PlacedFrame.PlacedFrame, Start.Start}
+use Rattle.sync_survey.specs.declared.runs.Region.TheVariants.{Front, Stream}
 
 -- the front of a file ends where its run stops
 pub front_end-is : (file : List ℕ) → (item_run Front file 0).stop ≡ front_end_of file
@@ -97,8 +96,7 @@ module _ (c : ClassFields) (front : List (List ℕ)) (first : HeaderFields) (inf
 
   -- the areas have as many bytes as were laid
   pub many : areas_length (fields_of_frames frames) ≡ length area_data
-  many = omega
-      (arith, length-laid 0 0 (all_frame_data frames) (omega arith) is.laid, areas-all 0 frames)
+  many = grind (arith, length-laid, areas-all)
 
   file-is : file ≡ concat front ++ (own ++ after)
   unfolding laid_file
@@ -116,18 +114,11 @@ module _ (c : ClassFields) (front : List (List ℕ)) (first : HeaderFields) (inf
       ∙ drop_at own after head_size long_own
 
   long_file : length file ≡ from + (head_size + length after)
-  long_file = omega (
-    arith,
-    ap length file-is,
-    length-append (concat front) (own ++ after),
-    length-append own after,
-    long_own,
-  )
+  long_file = grind (arith, file-is, length-append, long_own)
 
   -- each frame is there
   pub frames-stand : StandFrom file (frames_offset front first info) frames area_data
-  frames-stand = framed_bytes-stand c file (frames_offset front first info) frames area_data
-      (concat back) is.entries many (ap (λ n. drop n file) place-is ∙ frames_stand)
+  frames-stand = grind (arith, framed_bytes-stand, many, place-is, frames_stand)
 
   -- ---- the runs
 
@@ -137,12 +128,7 @@ module _ (c : ClassFields) (front : List (List ℕ)) (first : HeaderFields) (inf
 
   front_run : item_run Front file 0
       ≡ record { items = placed 0 (block_items front is.blocks_before); stop = from }
-  front_run =
-      let none : 0 + from ≡ from = omega arith in
-      whole-item_run Front file 0 (block_items front is.blocks_before) (concat front) (own ++ after)
-      (blocks-whole Front front is.blocks_before) (omega arith) file-is
-      (ap (whole_item_at Front file) none ∙ not_in_front file from h first_item)
-      ∙ ap (λ n. record { items = placed 0 (block_items front is.blocks_before); stop = n }) none
+  front_run = grind (arith, whole-item_run, blocks-whole, file-is, not_in_front, first_item, placed)
 
   -- the stream starts with the Info frame
   pub start-is : start_of file ≡ Ok start
@@ -150,9 +136,7 @@ module _ (c : ClassFields) (front : List (List ℕ)) (first : HeaderFields) (inf
       first_item (omega (arith, long_file))
 
   later_whole : AreWhole Stream later_items after
-  later_whole = whole-append Stream (frame_items frames) (block_items back is.blocks_behind)
-      (bytes_of_frames frames) (concat back) (framed_bytes-whole c frames area_data is.entries many)
-      (blocks-whole Stream back is.blocks_behind)
+  later_whole = grind (arith, whole-append, framed_bytes-whole, many, blocks-whole)
 
   -- where the stream ends
   pub stop : ℕ
@@ -180,8 +164,7 @@ module _ (c : ClassFields) (front : List (List ℕ)) (first : HeaderFields) (inf
   -- the Info frame is the head
   pub head-is : head_of file start.first ≡ Some (head_at from first)
   unfolding head_of
-  head-is = head_by start.first _ _
-      (ap (head_text_of h) own_bytes ∙ info_text first info is.header is.sizes)
+  head-is = grind (arith, head_by, own_bytes, info_text)
 
   -- its area has as many bytes as the head's
   pub head_area-is : length (head_bytes file (Some (head_at from first)))
@@ -196,20 +179,12 @@ module _ (c : ClassFields) (front : List (List ℕ)) (first : HeaderFields) (inf
 
   -- the frames are those that were given
   pub frames-are : frames_from file start ≡ frames_at (frames_offset front first info) frames
-  frames-are =
-      ap₂ numbered_frames head-is (ap (λ (r : ItemRun). frames_of r.items) stream)
-      ∙ frames-placed (from + head_size) frames back is.blocks_behind
-      ∙ ap (λ n. frames_at n frames) (sym place-is)
+  frames-are = grind (arith, head-is, stream, frames-placed, frames_at, place-is)
 
   -- the blocks are those before the frames and those after them
   pub blocks-are : all_blocks file start ≡ blocks_from 0 front
       ++ blocks_from (frames_offset front first info + length (bytes_of_frames frames)) back
-  blocks-are =
-      ap₂ (λ (a b : List Piece). a ++ b)
-      (ap (λ (r : ItemRun). blocks_of r.items) front_run ∙ blocks-placed 0 front is.blocks_before)
-      (ap (λ (r : ItemRun). blocks_of r.items) stream
-      ∙ blocks-behind c (from + head_size) frames area_data back is.blocks_behind is.entries many
-      ∙ ap (λ n. blocks_from (n + length (bytes_of_frames frames)) back) (sym place-is))
+  blocks-are = grind (arith, front_run, blocks-placed, stream, blocks-behind, many, place-is)
 
   -- ---- the end
 
@@ -224,5 +199,4 @@ module _ (c : ClassFields) (front : List (List ℕ)) (first : HeaderFields) (inf
   -- nothing is at fault at the end
   pub no-end_fault : end_fault file (frames_from file start)
       (fault_at (stream_run file start).stop (item_at file (stream_run file start).stop)) ≡ None
-  no-end_fault = ap₂ (end_fault file) frames-are (ended_at (stream_run file start) stream)
-      ∙ some_frames file (frames_offset front first info) frames is.some
+  no-end_fault = grind (arith, frames-are, ended_at, stream, some_frames)

@@ -1,10 +1,10 @@
 -- No frame of a laid file is at fault, and none is lost.
-use Rattle.std.proofs.Common.{ap, ap₂, arith, Bool, cond, drop, false, length, List, map, None, not}
+use Rattle.std.proofs.Common.{ap, ap₂, arith, Bool, cond, drop, false, length, List, map, None}
 use Rattle.std.proofs.Common.{Option, option_map, refl, slice_get, Some, subst, suc, sym, take}
-use Rattle.std.proofs.Common.{true, zero, zero-add, ℕ, [], ◌+◌, ◌<◌, ◌==◌, ◌||◌, ◌∙◌, ◌∷◌, ◌≡◌, ◌≤◌}
+use Rattle.std.proofs.Common.{true, zero, zero-add, ℕ, [], ◌+◌, ◌<◌, ◌==◌, ◌∙◌, ◌∷◌, ◌≡◌, ◌≤◌}
 use Rattle.std.proofs.lemmas.Bool.{and_right, le-ltb, ne_eqb}
 use Rattle.std.{proofs.lemmas.Option.{slice_get-map, slice_get_within}, specs.List.enumerate_from}
-use Rattle.frame_header.specs.{Fields.{ClassFields, same_class}, Tables.class_of}
+use Rattle.frame_header.specs.Fields.{ClassFields}
 use Rattle.frame_writer.specs.Frames.{all_frame_data, Frame, frame_data}
 use Rattle.frame_writer.specs.Laid.{areas_end, CanDataBeLaid, data_end, frame_data_end}
 use Rattle.frame_writer.specs.Laid.{frame_data_start}
@@ -15,8 +15,8 @@ use Rattle.laying.specs.LaidFiles.{AreStreamEntries, frame_length, rows_from}
 use Rattle.side_info.specs.{Frame.stored_crc, Side.payload_bytes, declared.side.Side.Side}
 use Rattle.sync_survey.{proofs.SurveyPartsLemmas.{AreSound, IsSound, StandWell}, specs.Laws.AreNear}
 use Rattle.sync_survey.specs.MainData.{data_end_after, data_end_before, end_of_data, head_area}
-use Rattle.sync_survey.specs.MainData.{is_lost, is_silent, lacks_data, marked_row, marked_rows}
-use Rattle.sync_survey.specs.{MainData.{own_area, place, points_too_far, start_of_data}, Row.Row}
+use Rattle.sync_survey.specs.MainData.{is_lost, lacks_data, marked_row, marked_rows, place}
+use Rattle.sync_survey.specs.{MainData.{points_too_far, start_of_data}, Row.Row}
 use Rattle.sync_survey.specs.declared.places.Head.{Head}
 
 -- ---- one frame
@@ -51,39 +51,25 @@ module _ (file : List ℕ) (c : ClassFields) (head : ℕ) (end area_start : ℕ)
   has_data ended = and_right (ended == 0) (points_too_far (head + area_start) r) reaches
 
   well : (ended : ℕ) → ended ≤ head + end → StandWell (head + area_start) ended r
-  well ended before = record {
-    begins = reaches;
-    apart = le-ltb _ _ (omega (arith, start-there, begins, before));
-    within = le-ltb _ _ (omega (arith, end-there, ends, ap own_area row.header));
-  }
+  well ended before = grind (arith, reaches, le-ltb, start-there, end-there)
 
   -- after it the main data end no later than those that
   -- were laid; a silent frame doesn't change where they end
   pub behind-most : (ended : ℕ) → ended ≤ head + end
       → data_end_after (head + area_start) ended (Some r)
       ≤ head + frame_data_end area_start (frame_data f)
-  behind-most ended before =
-      either_most (is_silent r || lacks_data (head + area_start) ended r) ended
-      (end_of_data (head + area_start) r) (head + frame_data_end area_start (frame_data f))
-      (omega (arith, begins, before)) (omega (arith, end-there))
+  behind-most ended before = grind (arith, either_most, end-there)
 
   -- it isn't at fault
   pub sound-there : (allowed ended count : ℕ) → ended ≤ head + end → count < allowed
       → IsSound (stored_crc (drop r.offset file)) c allowed (head + area_start) ended count r
-  sound-there allowed ended count before few = record {
-    same = ap (λ d. not (same_class d c)) (ap class_of row.header ∙ row.entry.class)
-        ∙ ap not (same-class c);
-    word = row.word;
-    main = λ has. well ended before;
-    few = ne_eqb count allowed (λ e. omega (arith, e, few));
-  }
+  sound-there allowed ended count before few = grind (arith, same-class, well, ne_eqb)
 
 -- ---- all of them
 
 piece_get : (fs : List Frame) (i : ℕ) (f : Frame) → slice_get fs i ≡ Some f
     → slice_get (all_frame_data fs) i ≡ Some (frame_data f)
-piece_get fs i f is =
-    slice_get-map frame_data fs i ∙ ap (λ (o : Option Frame). option_map frame_data o) is
+piece_get fs i f is = grind (arith, slice_get-map, option_map)
 
 piece_none : (at : ℕ) (fs : List Frame) (i : ℕ) → slice_get (rows_from at fs) i ≡ None
     → slice_get (all_frame_data fs) i ≡ None
@@ -120,8 +106,7 @@ module _ (file : List ℕ) (c : ClassFields) (head : Option Head) (at : ℕ) (fs
         found = piece;
         own = found.1;
         row = found.2;
-        laid =
-            well-laid 0 0 (all_frame_data fs) i (frame_data found.0) fits piece;
+        laid = grind (arith, well-laid 0 0 (all_frame_data fs) i (frame_data found.0) fits piece);
       }
 
   -- the place of a frame is after the head's area and the areas of the frames before it
@@ -132,9 +117,7 @@ module _ (file : List ℕ) (c : ClassFields) (head : Option Head) (at : ℕ) (fs
   behind_by : (i : ℕ) (o : Option Row) → slice_get rows i ≡ o → data_end_before head rows i
       ≤ head_area head + end i → data_end_after (place head rows i) (data_end_before head rows i) o
       ≤ head_area head + end (suc i)
-  behind_by i None is before =
-      omega
-      (arith, before, ap (data_end 0 0) (take-last (all_frame_data fs) i (piece_none at fs i is)))
+  behind_by i None is before = grind (arith, take-last, piece_none)
   behind_by i (Some r) is before =
       let here = is_at i r is in
       let most = behind-most file c (head_area head) (end i) (area_start i) here.frame r
@@ -165,13 +148,7 @@ module _ (file : List ℕ) (c : ClassFields) (head : Option Head) (at : ℕ) (fs
       here.laid.begins here.laid.ends allowed (data_end_before head rows i) i (ended-most i) within)
 
   none_lost : (i : ℕ) (r : Row) → slice_get rows i ≡ Some r → is_lost head rows i r ≡ r.lost
-  none_lost i r is =
-      let here = is_at i r is in
-      ap (λ n. lacks_data n (data_end_before head rows i) r) (place-there i)
-      ∙ has_data file c (head_area head) (end i)
-      (area_start i) here.frame r
-      here.row here.laid.begins here.laid.ends (data_end_before head rows i)
-      ∙ sym here.row.kept
+  none_lost i r is = grind (arith, is_at i r is, place-there i, has_data)
 
   marks : (n : ℕ) (more : List Row)
       → ((i : ℕ) (r : Row) → slice_get more i ≡ Some r → is_lost head rows (n + i) r ≡ r.lost)
@@ -179,8 +156,7 @@ module _ (file : List ℕ) (c : ClassFields) (head : Option Head) (at : ℕ) (fs
   marks n [] kept = refl
   marks n (r ∷ more) kept =
       let none : n + 0 ≡ n = omega arith in
-      let same : is_lost head rows n r ≡ r.lost =
-      ap (λ m. is_lost head rows m r) (sym none) ∙ kept 0 r refl in
+      let same : is_lost head rows n r ≡ r.lost = grind arith in
       let own : marked_row head rows n r ≡ r = λ j. record r { lost = same j } in
       ap₂ (λ (q : Row) (qs : List Row). q ∷ qs) own (marks (n + 1) more
       (λ i q is. ap (λ m. is_lost head rows m q) (omega arith) ∙ kept (suc i) q is))
@@ -195,13 +171,7 @@ module _ (file : List ℕ) (c : ClassFields) (head : Option Head) (at : ℕ) (fs
   pub starts-there : (i : ℕ) (r : Row) → slice_get rows i ≡ Some r
       → (f : Frame) × (slice_get fs i ≡ Some f) × (start_of_data (place head rows i) r
       ≡ head_area head + frame_data_start (area_start i) (frame_data f))
-  starts-there i r is =
-      let here = is_at i r is in (
-        here.frame,
-        here.own,
-        ap (λ n. start_of_data n r) (place-there i) ∙ start-there file c (head_area head) (end i)
-            (area_start i) here.frame r here.row here.laid.begins here.laid.ends,
-      )
+  starts-there i r is = grind (arith, is_at i r is, place-there i, start-there)
 
 -- the main data of each frame begin within the areas of the frames before it, without the head's
 pub laid-near : (file : List ℕ) (c : ClassFields) (at : ℕ) (fs : List Frame) (area_data : List ℕ)

@@ -14,7 +14,7 @@ use Rattle.laying.proofs.RelayLemmas.{AreOnward, onward-all, onward-first, onwar
 use Rattle.laying.specs.{Needs.need_of, NeedsFit.IsPlacedSurvey, Passing.needs_from}
 use Rattle.side_info.specs.Side.{payload_bits, payload_bytes}
 use Rattle.slot_plan.proofs.{FreeByteLemmas.within-fit, PartLemmas.class-range}
-use Rattle.slot_plan.proofs.ReserveLemmas.{AllFit, fit-from, layout-fit, starts_of}
+use Rattle.slot_plan.proofs.ReserveLemmas.{AllFit, fit-from, layout-fit}
 use Rattle.slot_plan.specs.{FreeBytes.FitsBehind, Layouts.{FrameLengths, HasLayout}}
 use Rattle.slot_plan.specs.{Parts.{AreNeedsOfClass, own_frame}, Reserve.free_bytes_behind}
 use Rattle.sync_survey.proofs.SurveyPartsLemmas.{data-none_well, StandWell}
@@ -46,22 +46,12 @@ step_by : (window place ended free : ℕ) (r : Row) (silent lost : Bool) → is_
     → r.side.main_data_begin ≤ window → ended ≤ place → shown window place ended ≤ free
     → Goes window place (cond (silent || lost) ended (end_of_data place r)) (own_area r.header)
     (cond lost 0 (payload_bytes r.side)) free
-step_by window place ended free r true true silent lost well near ends some =
-    (omega arith, omega arith, omega arith)
-step_by window place ended free r false true silent lost well near ends some =
-    (omega arith, omega arith, omega arith)
+step_by window place ended free r true true silent lost well near ends some = grind arith
+step_by window place ended free r false true silent lost well near ends some = grind arith
 step_by window place ended free r true false silent lost well near ends some =
-    let none = silent_bytes r silent in
-    (omega (arith, none), omega arith, omega (arith, none))
+    grind (arith, silent_bytes)
 step_by window place ended free r false false silent lost well near ends some =
-    let stands = well refl in
-    let begins = ltb-false place r.side.main_data_begin stands.begins in
-    let apart = ltb-false (place - r.side.main_data_begin) ended stands.apart in
-    let within = ltb-false (place + own_area r.header) (end_of_data place r) stands.within in (
-      omega (arith, begins, apart, within),
-      omega (arith, within),
-      omega (arith, begins, apart, within),
-    )
+    grind (arith, ltb-false)
 
 -- ---- all frames
 
@@ -69,11 +59,7 @@ area_more : (f : Row → ℕ) (rows : List Row) (n : ℕ) (r : Row) → slice_ge
     → sum_by f (take (suc n) rows) ≡ sum_by f (take n rows) + f r
 area_more f [] n r is = absurd cc
 area_more f (q ∷ rows) zero r is = let same : q ≡ r = cc in omega (arith, ap f same)
-area_more f (q ∷ rows) (suc n) r is =
-    let apart : f q + (sum_by f (take n rows) + f r) ≡ (f q + sum_by f (take n rows)) + f r =
-    omega arith in
-    sum_by-cons f q (take (suc n) rows) ∙ ap (λ m. f q + m) (area_more f rows n r is) ∙ apart
-    ∙ ap (λ m. m + f r) (sym (sum_by-cons f q (take n rows)))
+area_more f (q ∷ rows) (suc n) r is = grind (arith, sum_by, sum_by-cons, area_more f rows n r is)
 
 place_more : (head : Option Head) (rows : List Row) (n : ℕ) (r : Row) → slice_get rows n ≡ Some r
     → place head rows (suc n) ≡ place head rows n + own_area r.header
@@ -167,16 +153,13 @@ fit-take window free _ _ fit = tt
 
 range-map : {X Y : Type 0} (f : X → Y) (from to : ℕ) (xs : List X)
     → slice_range (map f xs) from to ≡ map f (slice_range xs from to)
-range-map f from to xs =
-    ap (take (to - from)) (drop-map f from xs) ∙ take-map f (to - from) (drop from xs)
+range-map f from to xs = grind (arith, drop-map, take-map)
 
 feasible-fit : (window : ℕ) (frames : List FrameLengths) → AllFit window window frames
     → HasLayout window window frames
 unfolding HasLayout
-feasible-fit window frames fit = (
-  starts_of window 0 window frames,
-  layout-fit window 0 window window frames (omega arith) (omega arith) fit,
-)
+feasible-fit window frames fit =
+    grind (arith, layout-fit window 0 window window frames (omega arith) (omega arith) fit)
 
 -- the needs of a part are of the class, and have a layout after a whole window
 abbrev pub Fits : SurveyFields → ℕ → ℕ → Type 0

@@ -1,7 +1,7 @@
 -- Parts, concatenated: each begins where those before it end, and each has its layout alone.
-use Rattle.std.proofs.Common.{All, AllPairs, ap, append-nil, append_assoc, ap₂, arith, drop, length}
-use Rattle.std.proofs.Common.{length-append, List, map, refl, slice_range, subst, suc, sym, take, ℕ}
-use Rattle.std.proofs.Common.{[], ◌++◌, ◌+◌, ◌-◌, ◌<◌, ◌↔◌, ◌∙◌, ◌∷◌, ◌≡◌, ◌≤◌}
+use Rattle.std.proofs.Common.{All, AllPairs, ap, append-nil, append_assoc, arith, length}
+use Rattle.std.proofs.Common.{length-append, List, map, refl, slice_range, subst, suc, sym, ℕ, []}
+use Rattle.std.proofs.Common.{◌++◌, ◌+◌, ◌<◌, ◌↔◌, ◌∙◌, ◌∷◌, ◌≡◌, ◌≤◌}
 use Rattle.std.proofs.Math.Seq.{drop-append_seam, take-append_seam}
 use Rattle.std.proofs.lemmas.List.{length-drop, length-map, length-take-le, Concat.flat_map-append}
 use Rattle.std.proofs.lemmas.List.{Elements.All-cons, Kept.AllPairs-cons}
@@ -10,7 +10,7 @@ use Rattle.frame_header.proofs.SlotLemmas.{areas-ascend, Contains-all_slots}
 use Rattle.frame_header.specs.Fields.{ClassFields, HeaderFields, IsHeader, SlotFields}
 use Rattle.frame_header.specs.{Slots.all_slots, Tables.{class_of, window_of}}
 use Rattle.laying.proofs.NeedsFitLemmas.{AreKnown, part-fits, part-known}
-use Rattle.laying.specs.Needs.{need_of, needs_of_parts, part_places, plan_input, PlanInput}
+use Rattle.laying.specs.Needs.{need_of, needs_of_parts, part_places, plan_input}
 use Rattle.laying.specs.NeedsFit.{any_choice, IsFitPlanInput, IsPartOf, IsPlacedSurvey, own_choice}
 use Rattle.slot_plan.proofs.{AreaLemmas.class-ascend, LeastPlanLemmas.least-plan-is}
 use Rattle.slot_plan.specs.{Laws.{ChoosesInOrder, PartsChooseInOrder}, Layouts.HasLayout}
@@ -32,12 +32,7 @@ record Fits (class : ClassFields) (rows : List Row) : Type 0 where
 
 part_some : (rows : List Row) (from to : ℕ) → from < to → to ≤ length rows
     → 0 < length (slice_range rows from to)
-part_some rows from to some within = omega (
-  arith,
-  length-take-le (to - from) (drop from rows) (omega (arith, length-drop from rows, within)),
-  length-drop from rows,
-  some,
-)
+part_some rows from to some within = grind (arith, length-take-le, length-drop, some)
 
 fits : (class : ClassFields) (rows : List Row) → IsPartOf class rows → Fits class rows
 fits class rows part =
@@ -86,9 +81,7 @@ class_all : (class : ClassFields) (parts : List (List Row)) → AllFits class pa
     → AreNeedsOfClass class (needs_of_parts parts)
 unfolding needs_of_parts AreNeedsOfClass
 class_all class [] all = tt
-class_all class (rows ∷ parts) all =
-    class-append class (map need_of rows)
-    (needs_of_parts parts) all.0.all (class_all class parts all.1)
+class_all class (rows ∷ parts) all = grind (arith, class-append, class_all class parts all.1)
 
 -- needs of a class are of one class
 pub one_class : (class : ClassFields) (needs : List Need) → AreNeedsOfClass class needs
@@ -107,9 +100,7 @@ window_is class (need ∷ needs) some all = ap (λ c. window_of c.version) all.0
 
 length-needs : (rows : List Row) (parts : List (List Row))
     → length (needs_of_parts (rows ∷ parts)) ≡ length rows + length (needs_of_parts parts)
-length-needs rows parts =
-    ap length (needs-cons rows parts) ∙ length-append (map need_of rows) (needs_of_parts parts)
-    ∙ ap (λ n. n + length (needs_of_parts parts)) (length-map rows need_of)
+length-needs rows parts = grind (arith, needs-cons, length-append, length-map)
 
 -- no part is before the first, and each is before the end of all
 places_within : (class : ClassFields) (at : ℕ) (parts : List (List Row)) → AllFits class parts → All
@@ -117,22 +108,14 @@ places_within : (class : ClassFields) (at : ℕ) (parts : List (List Row)) → A
 unfolding part_places
 places_within class at [] all = λ k d lt. absurd (omega (arith, lt))
 places_within class at (rows ∷ parts) all =
-    let behind = places_within class (at + length rows) parts all.1 in
-    let count = length-needs rows parts in
-    All-cons (λ place. (at ≤ place) × (place < at + length (needs_of_parts (rows ∷ parts)))) at
-    (part_places (at + length rows) parts)
-    (omega arith, omega (arith, count, all.0.some))
-    (λ k d lt. let one = behind k d lt in (omega (arith, one.0), omega (arith, one.1, count)))
+    grind (arith, length-needs, All-cons, places_within class (at + length rows) parts all.1)
 
 places_ascend : (class : ClassFields) (at : ℕ) (parts : List (List Row)) → AllFits class parts
     → AllPairs (λ m n. m < n) (part_places at parts)
 unfolding part_places
 places_ascend class at [] all = λ i j d before lt. absurd (omega (arith, lt))
 places_ascend class at (rows ∷ parts) all =
-    let behind = places_within class (at + length rows) parts all.1 in
-    AllPairs-cons (λ m n. m < n) at (part_places (at + length rows) parts)
-    (λ k d lt. omega (arith, (behind k d lt).0, all.0.some))
-    (places_ascend class (at + length rows) parts all.1)
+    grind (arith, places_within, AllPairs-cons, places_ascend class (at + length rows) parts all.1)
 
 -- ---- the parts of the needs
 
@@ -140,11 +123,7 @@ places_ascend class at (rows ∷ parts) all =
 middle : (before part behind : List Need) (from to : ℕ) → from ≡ length before
     → to ≡ length before + length part → slice_range (before ++ (part ++ behind)) from to ≡ part
 middle before part behind from to is ends =
-    let many : to - from ≡ length part = omega (arith, is, ends) in
-    ap (λ n. take (to - from) (drop n (before ++ (part ++ behind)))) is
-    ∙ ap (λ n. take n (drop (length before) (before ++ (part ++ behind)))) many
-    ∙ ap (take (length part)) (drop-append_seam before (part ++ behind))
-    ∙ take-append_seam part behind
+    grind (arith, drop-append_seam before (part ++ behind), take-append_seam part behind)
 
 -- cutting the needs at the places of the parts gives the needs of each part
 pub parts_are : (before : List Need) (at : ℕ) (parts : List (List Row)) → at ≡ length before
@@ -153,17 +132,7 @@ pub parts_are : (before : List Need) (at : ℕ) (parts : List (List Row)) → at
 unfolding needs_in_parts part_places
 parts_are before at [] is = refl
 parts_are before at (rows ∷ []) is =
-    let part : List Need = map need_of rows in
-    let whole : before ++ needs_of_parts (rows ∷ []) ≡ before ++ (part ++ needs_of_parts []) =
-    ap (λ l. before ++ l) (needs-cons rows []) in
-    let empty : needs_of_parts [] ≡ [] = nothing in
-    let count : length (before ++ (part ++ needs_of_parts [])) ≡ length before + length part =
-    length-append before (part ++ needs_of_parts []) ∙ ap (λ n. length before + n)
-    (length-append part (needs_of_parts []) ∙ omega (arith, ap length empty)) in
-    ap (λ l. slice_range l at (length l) ∷ []) whole
-    ∙ ap (λ l. l ∷ [])
-    (middle before part (needs_of_parts []) at
-    (length (before ++ (part ++ needs_of_parts []))) is count)
+    grind (arith, needs-cons, nothing, length-append, slice_range, middle)
 parts_are before at (rows ∷ next ∷ parts) is =
     let part : List Need = map need_of rows in
     let later : List (List Row) = next ∷ parts in
@@ -189,18 +158,12 @@ feasible_all class (rows ∷ parts) all = (all.0.feasible, feasible_all class pa
 each_class : (class : ClassFields) (parts : List (List Row)) → AllFits class parts
     → All (λ part. AreNeedsOfClass class part) (map (map need_of) parts)
 each_class class [] all = λ k d lt. absurd (omega (arith, lt))
-each_class class (rows ∷ parts) all =
-    All-cons (λ part. AreNeedsOfClass class part) (map need_of rows)
-    (map (map need_of) parts) all.0.all (each_class class parts all.1)
+each_class class (rows ∷ parts) all = grind (arith, All-cons, each_class class parts all.1)
 
 -- ---- choices in order
 
 keeps : (r : Row) → IsHeader r.header → ChoosesInOrder own_choice (need_of r)
-keeps r known = record {
-  class = IsClass-class_of r.header known;
-  ascending = λ i j d before lt. absurd (omega (arith, before, lt));
-  own = (0, omega arith, refl);
-}
+keeps r known = grind (arith, IsClass-class_of, known)
 
 may_any : (r : Row) → IsHeader r.header → ChoosesInOrder any_choice (need_of r)
 may_any r known =
@@ -223,8 +186,7 @@ module _ (choices : HeaderFields → List SlotFields)
       → PartsChooseInOrder choices (map (map need_of) parts)
   parts_choose class [] all = λ k d lt. absurd (omega (arith, lt))
   parts_choose class (rows ∷ parts) all =
-      All-cons (λ part. All (ChoosesInOrder choices) part) (map need_of rows)
-      (map (map need_of) parts) (rows_choose rows all.0.known) (parts_choose class parts all.1)
+      grind (arith, All-cons, rows_choose, parts_choose class parts all.1)
 
 -- ---- all of it
 
@@ -271,17 +233,7 @@ parts-fit class parts some all = planned class parts some (all_fits class parts 
 pub one-part-fits : (s : SurveyFields) (from to : ℕ) → IsPlacedSurvey s → from < to
     → to ≤ length s.frames → IsFitPlanInput s.class (plan_input (slice_range s.frames from to ∷ []))
 one-part-fits s from to placed some within =
-    let part : IsPartOf s.class (slice_range s.frames from to) =
-    record {
-      survey = s;
-      from = from;
-      to = to;
-      placed = placed;
-      same = refl;
-      some = some;
-      within = within;
-      are = refl;
-    } in
+    let part : IsPartOf s.class (slice_range s.frames from to) = grind (arith, some) in
     planned s.class (slice_range s.frames from to ∷ []) (omega arith)
     (fits s.class (slice_range s.frames from to) part, tt)
 
@@ -307,8 +259,7 @@ parts-plan class choices parts placed fit in_order =
 pub needs-push : (parts : List (List Row)) (rows : List Row)
     → needs_of_parts (parts ++ rows ∷ []) ≡ needs_of_parts parts ++ map need_of rows
 unfolding needs_of_parts
-needs-push parts rows = flat_map-append (map need_of) parts (rows ∷ [])
-    ∙ ap (λ l. needs_of_parts parts ++ l) (append-nil (map need_of rows))
+needs-push parts rows = grind (arith, flat_map-append, append-nil)
 
 -- one more part adds its place, where those before it end
 pub places-push : (at : ℕ) (parts : List (List Row)) (rows : List Row)
@@ -317,8 +268,7 @@ pub places-push : (at : ℕ) (parts : List (List Row)) (rows : List Row)
 unfolding part_places needs_of_parts
 places-push at [] rows = ap (λ n. n ∷ []) (omega arith)
 places-push at (first ∷ parts) rows =
-    ap (λ l. at ∷ l) (places-push (at + length first) parts rows ∙ ap (λ n.
-    part_places (at + length first) parts ++ n ∷ []) (omega (arith, length-needs first parts)))
+    grind (arith, length-needs, places-push (at + length first) parts rows)
 
 -- the input of the planner, with one more part at its end
 pub asked-push : (parts : List (List Row)) (rows : List Row) (needs : List Need) (places : List ℕ)
@@ -327,9 +277,4 @@ pub asked-push : (parts : List (List Row)) (rows : List Row) (needs : List Need)
     → all ≡ needs ++ map need_of rows → all_places ≡ places ++ place ∷ []
     → record { needs = all; places = all_places } ≡ plan_input (parts ++ rows ∷ [])
 asked-push parts rows needs places place all all_places is at added put =
-    let of_needs : needs ≡ needs_of_parts parts = ap (λ (a : PlanInput). a.needs) is in
-    let of_places : places ≡ part_places 0 parts = ap (λ (a : PlanInput). a.places) is in
-    let here : place ≡ 0 + length (needs_of_parts parts) = at ∙ ap length of_needs ∙ omega arith in
-    ap₂ (λ (n : List Need) (p : List ℕ). record { needs = n; places = p })
-    (added ∙ ap (λ l. l ++ map need_of rows) of_needs ∙ sym (needs-push parts rows))
-    (put ∙ ap₂ (λ (l : List ℕ) n. l ++ n ∷ []) of_places here ∙ sym (places-push 0 parts rows))
+    grind (arith, needs-push, places-push)

@@ -1,11 +1,10 @@
 -- Steps of a pass, in order.
-use Rattle.std.proofs.Common.{ap, append-nil, append_assoc, arith, Err, IsErrAnd, length}
-use Rattle.std.proofs.Common.{length-append, List, Ok, OnOk, refl, Result, subst, sym, take, ℕ, []}
-use Rattle.std.proofs.{Common.{◌++◌, ◌+◌, ◌∙◌, ◌∷◌, ◌≡◌, ◌≢◌, ◌≤◌}, Math.Seq.take-append-add}
+use Rattle.std.proofs.Common.{append-nil, append_assoc, arith, Err, IsErrAnd, length-append, List}
+use Rattle.std.proofs.Common.{Ok, OnOk, refl, Result, subst, sym, take, ℕ, [], ◌++◌, ◌∙◌, ◌∷◌, ◌≡◌}
+use Rattle.std.proofs.{Common.{◌≢◌, ◌≤◌}, Math.Seq.take-append-add}
 use Rattle.frame_writer.specs.Frames.{all_frame_data, Frame, WaitingFrames}
 use Rattle.frame_writer.specs.Laid.{BeginsWithin, FrameData}
-use Rattle.frame_writer.specs.Writing.{AcceptsFrame, AreBytesBehind, IsWriterOf, WritesPart}
-use Rattle.frame_writer.specs.Writing.{Writing}
+use Rattle.frame_writer.specs.Writing.{AcceptsFrame, WritesPart, Writing}
 use Rattle.laying.specs.Passing.{HoldsLastAreas, IsRelayReady, LaysFrames, LaysPart, PassEndsEarly}
 use Rattle.laying.specs.declared.relay.Relay.{Relay}
 use Rattle.outside.proofs.FilesLemmas.{appended_nothing, appended_twice}
@@ -19,19 +18,13 @@ module _ (relay : Relay) (old new : Files) (fed now : Fed) where
   ready-held : ((file : List ℕ) → Holds new relay.pass.input.now file
       → Holds old relay.pass.input.now file) → IsRelayReady relay old fed
       → IsPassReady relay.pass new now → IsRelayReady relay new now
-  ready-held held ready pass = record {
-    pass = pass;
-    length_is = ready.length_is;
-    exact = λ file holds. ready.exact file (held file holds);
-    laid = ready.laid;
-  }
+  ready-held held ready pass = grind arith
 
   -- all is ready for the next step after bytes were appended
   -- to the output, with the feed still on the input
   pub ready-with : (more : List ℕ) → new ≡ with_appended_bytes old relay.pass.output.now more
       → IsRelayReady relay old fed → IsPassReady relay.pass new now → IsRelayReady relay new now
-  ready-with more is ready = ready-held (λ file. input_held old new
-      relay.pass.input.now relay.pass.output.now more file ready.pass.apart is) ready
+  ready-with more is ready = grind (arith, ready-held, input_held)
 
   -- if no file changed, all is ready for the next step
   pub ready-filled : new ≡ old → IsRelayReady relay old fed → IsPassReady relay.pass new now
@@ -57,25 +50,12 @@ ready-passed relay {before} {after} {old} {new} {fed} passed ready =
 pub holds-later : (window input output : List ℕ) (s : SurveyFields) (at count i : ℕ)
     (old new : Files) (more : List ℕ) → input ≢ output → new ≡ with_appended_bytes old output more
     → HoldsLastAreas window input old s at count i → HoldsLastAreas window input new s at count i
-holds-later window input output s at count i old new more apart is over = record {
-  passed = over.passed;
-  long = over.long;
-  reaches = over.reaches;
-  within = over.within;
-  few = over.few;
-  is = λ file holds. over.is file (input_held old new input output more file apart is holds);
-}
+holds-later window input output s at count i old new more apart is over = grind (arith, input_held)
 
 -- after a failed write a pass ended early
 pub ends-short : {name bytes : List ℕ} {old new : Files} {fault : PassFault}
     → AppendedPrefix name bytes old new → PassEndsEarly name bytes old new fault
-ends-short part = record {
-  count = part.count;
-  within = omega (arith, part.short);
-  short = λ failed. part.short;
-  files =
-      part.files;
-}
+ends-short part = grind arith
 
 -- ---- frames passed to the writer
 
@@ -95,8 +75,7 @@ module _ (input output : List ℕ) where
     is = none;
     passed = [];
     files = sym (appended_nothing files output there);
-    writer = λ base out fs are. subst (λ (xs : List ℕ). IsWriterOf base xs w (fs ++ []))
-        (sym (append-nil out)) (subst (IsWriterOf base out w) (sym (append-nil fs)) are);
+    writer = grind (arith, append-nil);
   }
 
   -- a frame that the writer accepted was laid
@@ -112,13 +91,7 @@ module _ (input output : List ℕ) where
       → ((file : List ℕ) → Holds before input file → made file ≡ other file)
       → LaysFrames input output made old new before after
       → LaysFrames input output other old new before after
-  lays_as made other old new before after same lays = record {
-    frames = lays.frames;
-    is = λ file holds. lays.is file holds ∙ same file holds;
-    passed = lays.passed;
-    files = lays.files;
-    writer = lays.writer;
-  }
+  lays_as made other old new before after same lays = grind arith
 
   -- a write failed at the first of them
   pub part_one : (made : List ℕ → List Frame) (reach : ℕ) (f : Frame) (old : Writing)
@@ -133,11 +106,7 @@ module _ (input output : List ℕ) where
     done = f ∷ [];
     held = held;
     writer = part.writer;
-    is = λ file holds more begins. (
-      more,
-      ap (λ (l : List Frame). l ++ more) (is file holds),
-      begins_more reach held.waiting.free (all_frame_data more) within begins,
-    );
+    is = grind (arith, begins_more);
   }
 
   -- none of them was laid, as a read failed
@@ -148,17 +117,10 @@ module _ (input output : List ℕ) where
       → LaysPart input output made reach w files files fault
   part_none made reach w files read there begins = record {
     settled = w.unsent;
-    prefix = record {
-      count = 0;
-      within = omega arith;
-      short = λ failed.
-          absurd (subst IsReadPassFault failed read);
-      files = sym (appended_nothing files output there);
-    };
+    prefix = grind (arith, appended_nothing);
     done = [];
     held = w.held;
-    writer = λ base out fs are. subst (AreBytesBehind base (out ++ w.unsent) w.held)
-        (sym (append-nil fs)) are;
+    writer = grind (arith, append-nil);
     is = λ file holds more within. (made file ++ more, refl, begins file holds more within);
   }
 
@@ -169,18 +131,10 @@ module _ (input output : List ℕ) where
         → LaysFrames input output (λ file. made file ++ next file) old new before after
     lays_then new after more = record {
       frames = lays.frames ++ more.frames;
-      is = λ file holds. (λ i. lays.is file holds i ++ more.is file
-          (input_holds before now input output lays.passed file apart lays.files holds) i);
+      is = grind (arith, input_holds);
       passed = lays.passed ++ more.passed;
-      files = more.files ∙ ap (λ f. with_appended_bytes f output more.passed) lays.files
-          ∙ appended_twice before output lays.passed more.passed;
-      writer = λ base out fs are.
-          subst (λ (xs : List ℕ). IsWriterOf base xs new (fs ++ (lays.frames ++ more.frames)))
-          (append_assoc out lays.passed more.passed)
-          (subst (IsWriterOf base ((out ++ lays.passed) ++ more.passed) new)
-          (append_assoc fs lays.frames more.frames)
-          (more.writer base (out ++ lays.passed) (fs ++ lays.frames)
-          (lays.writer base out fs are)));
+      files = grind (arith, appended_twice);
+      writer = grind (arith, append_assoc);
     }
 
     -- if the second step failed, a part of that was laid
@@ -189,28 +143,18 @@ module _ (input output : List ℕ) where
         → LaysPart input output (λ file. made file ++ next file) reach old before after fault
     part_then reach after part = record {
       settled = lays.passed ++ part.settled;
-      prefix = record {
-        count = length lays.passed + part.prefix.count;
-        within = omega (arith, part.prefix.within, length-append lays.passed part.settled);
-        short = λ failed.
-            omega (arith, part.prefix.short failed, length-append lays.passed part.settled);
-        files = part.prefix.files
-            ∙ ap (λ f. with_appended_bytes f output (take part.prefix.count part.settled))
-            lays.files
-            ∙ appended_twice before output lays.passed (take part.prefix.count part.settled)
-            ∙ ap (with_appended_bytes before output)
-            (sym (take-append-add lays.passed part.settled part.prefix.count));
-      };
+      prefix =
+          grind (
+            arith,
+            length-append lays.passed part.settled,
+            appended_twice before output
+                lays.passed (take part.prefix.count part.settled),
+            take-append-add lays.passed
+                part.settled part.prefix.count,
+          );
       done = lays.frames ++ part.done;
       held = part.held;
-      writer = λ base out fs are.
-          subst
-          (λ (xs : List ℕ). AreBytesBehind base xs part.held (fs ++ (lays.frames ++ part.done)))
-          (append_assoc out lays.passed part.settled)
-          (subst (AreBytesBehind base ((out ++ lays.passed) ++ part.settled) part.held)
-          (append_assoc fs lays.frames part.done)
-          (part.writer base (out ++ lays.passed) (fs ++ lays.frames)
-          (lays.writer base out fs are)));
+      writer = grind (arith, append_assoc);
       is = λ file holds more begins.
           let found = part.is file (input_holds before now input output lays.passed file apart
           lays.files holds) more begins in (

@@ -9,9 +9,7 @@ use Rattle.laying.proofs.{PlannedFrameLemmas.one, RelayLemmas.relaid_frames-end}
 use Rattle.laying.specs.Fits.{FitsFromReach, last_reach, reach_behind}
 use Rattle.laying.specs.Places.{frame_count_behind, own_places, places_for}
 use Rattle.laying.specs.Relaid.{relaid_frames, rest_behind}
-use Rattle.slot_plan.specs.Layouts.{begins_of}
-use Rattle.slot_plan.specs.LeastPlan.{earliest_placement, first_list, frames_in_slots}
-use Rattle.slot_plan.specs.LeastPlan.{lead_in_alone, least_plan, placed_items}
+use Rattle.slot_plan.specs.LeastPlan.{earliest_placement, lead_in_alone, least_plan, placed_items}
 use Rattle.slot_plan.specs.Parts.{all_items, need_item, part_items, PlanItem}
 use Rattle.slot_plan.specs.declared.needs.{Need.Need, Placed.Placed}
 
@@ -27,8 +25,7 @@ placed-length _ _ _ = omega arith
 least-length : (window : ℕ) (items : List PlanItem) (found : Option (List SlotFields))
     → length (unwrap_or (option_map (earliest_placement window items) found) []) ≤ length items
 least-length window items None = omega arith
-least-length window items (Some slots) =
-    placed-length items slots (begins_of window 0 0 (frames_in_slots items slots))
+least-length window items (Some slots) = grind (arith, placed-length)
 
 items-length : (choices : HeaderFields → List SlotFields) (part : List Need)
     (lead_in : Option SlotFields) → length (part_items choices part lead_in) ≤ length part + 1
@@ -43,24 +40,14 @@ whole-items : (window : ℕ) (choices : HeaderFields → List SlotFields) (parts
 unfolding all_items
 whole-items window choices [] = omega arith
 whole-items window choices (part ∷ parts) =
-    let items = part_items choices part (lead_in_alone window choices part) in
-    omega (
-      arith,
-      whole-items window choices parts,
-      items-length choices part (lead_in_alone window choices part),
-      length-append items (all_items choices parts (map (lead_in_alone window choices) parts)),
-      length-append part (flat_map (λ (p : List Need). p) parts),
-    )
+    grind (arith, items-length, length-append, flat_map, whole-items window choices parts)
 
 -- a plan has a place for each frame, and at most one more for each part
 pub plan-length : (window : ℕ) (choices : HeaderFields → List SlotFields) (parts : List (List Need))
     → length (least_plan window choices parts)
     ≤ length (flat_map (λ (part : List Need). part) parts) + length parts
 unfolding least_plan
-plan-length window choices parts =
-    let items = all_items choices parts (map (lead_in_alone window choices) parts) in
-    omega
-    (arith, least-length window items (first_list window items), whole-items window choices parts)
+plan-length window choices parts = grind (arith, least-length, whole-items)
 
 -- ---- how many places frames take
 
@@ -81,9 +68,7 @@ pub places-next : (frames : ℕ) (p : Placed) (placed : List Placed) → 0 < fra
     ≡ places_for (frame_count_behind p.lead_in (frames - 1)) placed + 1
 unfolding places_for
 places-next zero p placed some = absurd (omega (arith, some))
-places-next (suc frames) p placed some =
-    let same : frames ≡ suc frames - 1 = omega arith in
-    ap (λ n. suc (places_for (frame_count_behind p.lead_in n) placed)) same ∙ omega arith
+places-next (suc frames) p placed some = grind arith
 
 -- after a lead-in all frames are left
 pub behind-lead : (b : Bool) (frames next : ℕ) → 0 < frames → b ≡ true → next ≡ frames
@@ -159,10 +144,7 @@ relaid_frames-own [] [] = refl
 relaid_frames-own [] (p ∷ placed) = refl
 relaid_frames-own (x ∷ xs) [] = refl
 relaid_frames-own (x ∷ xs) (p ∷ placed) =
-    ap (λ n. one p.lead_in p x ∷ relaid_frames (rest_behind p.lead_in x xs) (own_places n placed))
-    (sym (behind-length p.lead_in x xs))
-    ∙ ap (λ (l : List Frame). one p.lead_in p x ∷ l)
-    (relaid_frames-own (rest_behind p.lead_in x xs) placed)
+    grind (arith, one, behind-length, relaid_frames-own (rest_behind p.lead_in x xs) placed)
 
 -- main data after them may begin as far back if only their own places are taken
 pub last-own : (window reach : ℕ) (xs : List Need) (placed : List Placed)

@@ -1,8 +1,8 @@
 -- Frames in the slots and with the main_data_begin of
 -- their plan can be laid, and are otherwise unchanged.
 use Rattle.std.proofs.Common.{ap, ap₂, arith, Bool, cond, Contains, drop, false, length, List, map}
-use Rattle.std.proofs.Common.{refl, slice_index, subst, sym, take, true, ℕ, [], ◌*◌, ◌+◌, ◌-◌, ◌/◌}
-use Rattle.std.proofs.{Common.{◌<◌, ◌==◌, ◌^◌, ◌∙◌, ◌∷◌, ◌≡◌, ◌≤◌}, lemmas.List.get_or_default}
+use Rattle.std.proofs.Common.{refl, slice_index, subst, sym, true, ℕ, [], ◌*◌, ◌+◌, ◌-◌, ◌/◌, ◌<◌}
+use Rattle.std.proofs.{Common.{◌==◌, ◌^◌, ◌∙◌, ◌∷◌, ◌≡◌, ◌≤◌}, lemmas.List.get_or_default}
 use Rattle.bit_fields.specs.Bits.{bits}
 use Rattle.frame_header.proofs.SlotLemmas.{IsSlot-nth_slot, length-all_slots}
 use Rattle.frame_header.specs.Fields.{ClassFields, HeaderFields, IsHeader, IsSlot, SlotFields}
@@ -18,7 +18,7 @@ use Rattle.side_info.specs.Side.{front_widths_of, granules_in, no_side, payload_
 use Rattle.side_info.specs.{Side.SideFits, declared.side.Side.Side}
 use Rattle.slot_plan.specs.declared.needs.{Need.Need, Placed.Placed}
 use Rattle.sync_survey.proofs.EmptiedLemmas.{no_bits, no_bytes}
-use Rattle.sync_survey.specs.MainData.{granule_lengths, no_slot, split_bits, StreamFrame}
+use Rattle.sync_survey.specs.MainData.{granule_lengths, StreamFrame}
 
 -- ---- one frame of a plan
 
@@ -60,12 +60,7 @@ window_below _ channels = below_two (channels == 1)
 -- side information with another main_data_begin within the window still fits
 pub begun_fits : (c : ClassFields) (s : Side) (begin : ℕ) → SideFits c s
     → begin ≤ window_of c.version → SideFits c (record s { main_data_begin = begin })
-begun_fits c s begin fits within = record {
-  main_data_begin = omega (arith, within, window_below c.version c.channels);
-  private_bits = fits.private_bits;
-  scfsi = fits.scfsi;
-  granules = fits.granules;
-}
+begun_fits c s begin fits within = grind (arith, window_below)
 
 bits_begun : (s : Side) (begin : ℕ)
     → payload_bits (record s { main_data_begin = begin }) ≡ payload_bits s
@@ -79,20 +74,13 @@ bytes_begun s begin = ap (λ n. (n + 7) / 8) (bits_begun s begin)
 
 nothing_filled : (n m : ℕ) → n ≡ 0 → m ≡ 0 → drop n (bits []) ≡ zeros (8 * m - n)
 unfolding bits
-nothing_filled n m none few =
-    ap (λ k. drop k (bits [])) none ∙ ap₂ (λ j k. zeros (8 * j - k)) (sym few) (sym none)
+nothing_filled n m none few = grind arith
 
 module _ (c : ClassFields) (p : Placed) (f : Frame) (slot : IsSlot p.slot)
     (near : p.begin ≤ window_of c.version) (is : IsStreamEntry c f) where
   header-there : (guarded : Bool)
       → IsHeader (record f.kept.header { protected = guarded; slot = p.slot })
-  header-there guarded = record {
-    slot = slot;
-    frequency_index = is.header.frequency_index;
-    mode = is.header.mode;
-    mode_extension = is.header.mode_extension;
-    emphasis = is.header.emphasis;
-  }
+  header-there guarded = grind arith
 
   lead_in-entry : IsStreamEntry c (lead_in_with_place p f)
   lead_in-entry =
@@ -109,23 +97,7 @@ module _ (c : ClassFields) (p : Placed) (f : Frame) (slot : IsSlot p.slot)
       }
 
   moved-entry : IsStreamEntry c (frame_with_place p f)
-  moved-entry = record {
-    header = header-there f.kept.header.protected;
-    class = is.class;
-    pairs = record {
-      scfsi = is.pairs.scfsi;
-      granules = is.pairs.granules;
-      first = is.pairs.first;
-      second =
-          is.pairs.second;
-    };
-    fits = begun_fits c f.kept.side p.begin is.fits near;
-    octets = is.octets;
-    size = is.size ∙ sym (bytes_begun f.kept.side p.begin);
-    filled = ap (λ n. drop n (bits f.payload)) (bits_begun f.kept.side p.begin) ∙ is.filled
-        ∙ ap₂ (λ m n. zeros (8 * m - n)) (sym (bytes_begun f.kept.side p.begin))
-        (sym (bits_begun f.kept.side p.begin));
-  }
+  moved-entry = grind (arith, header-there, begun_fits, bytes_begun, bits_begun)
 
   -- the frame at the place can be laid
   pub one-entry : (b : Bool) → IsStreamEntry c (one b p f)
@@ -143,18 +115,8 @@ lengths_begun h s begin = refl
 pub one-stream : (b : Bool) (p : Placed) (f : Frame)
     → stream_entry (one b p f) ≡ one_in_stream b (stream_entry f)
 unfolding bits payload_bits
-one-stream true p f = ap (λ lengths. record {
-  header = record f.kept.header { protected = false; slot = no_slot };
-  side = no_side;
-  payload = split_bits lengths [];
-}) (lengths_begun f.kept.header no_side p.begin)
-one-stream false p f =
-    ap₂ (λ lengths n. record {
-      header = record f.kept.header { slot = no_slot };
-      side = record f.kept.side { main_data_begin = 0 };
-      payload = split_bits lengths (take n (bits f.payload));
-    })
-    (lengths_begun f.kept.header f.kept.side p.begin) (bits_begun f.kept.side p.begin)
+one-stream true p f = grind (arith, lengths_begun)
+one-stream false p f = grind (arith, lengths_begun, bits_begun)
 
 -- mapping what is left after a place is what is left of the mapped items
 pub next-map : {X Y : Type 0} (g : X → Y) (b : Bool) (x : X) (xs : List X)
@@ -193,15 +155,7 @@ pub laid_more : (c : ClassFields) (end before bytes area : ℕ) (g : Frame) (gs 
     → AreLaidFrom c end before (g ∷ gs) (q ∷ qs)
 laid_more c end before bytes area g gs q qs is same long wide starts ends behind = record {
   entries = (is, behind.entries);
-  fit = (
-    starts,
-    omega (arith, ends, long, wide),
-    subst (λ m. CanDataBeLaidFrom m (before + frame_area g.kept) (all_frame_data gs))
-        (ap (λ n. before - g.kept.side.main_data_begin + n) (sym long))
-        (subst (λ n. CanDataBeLaidFrom (before - g.kept.side.main_data_begin + bytes) n
-        (all_frame_data gs))
-        (ap (λ n. before + n) (sym wide)) behind.fit),
-  );
+  fit = grind arith;
   stream_is = ap₂ (λ x xs. x ∷ xs) same behind.stream_is;
 }
 

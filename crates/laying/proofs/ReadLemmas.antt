@@ -1,10 +1,10 @@
 -- The main data of frames, read area by area.
 use Rattle.std.proofs.Common.{ap, append-nil, append_assoc, ap₂, arith, Bool, cond, drop, eqb}
-use Rattle.std.proofs.Common.{false, flat_map, IfSome, inl, inr, length, length-append, length-drop}
-use Rattle.std.proofs.Common.{List, min, Option, refl, replicate, slice_get, Some, subst, suc}
-use Rattle.std.proofs.Common.{sum_by, sym, take, true, zero, ℕ, [], ◌*◌, ◌++◌, ◌+◌, ◌-◌, ◌/◌, ◌==◌}
-use Rattle.std.proofs.{Common.{◌∙◌, ◌∷◌, ◌≡◌, ◌≢◌, ◌≤◌, ◌⊎◌}, Math.Seq.drop-append-add}
-use Rattle.std.proofs.lemmas.Bool.{ltb-false, Decides.eqb_tells}
+use Rattle.std.proofs.Common.{false, flat_map, inl, inr, length, length-append, length-drop, List}
+use Rattle.std.proofs.Common.{min, Option, refl, replicate, slice_get, Some, suc, sum_by, sym, take}
+use Rattle.std.proofs.Common.{true, zero, ℕ, [], ◌*◌, ◌++◌, ◌+◌, ◌-◌, ◌/◌, ◌==◌, ◌∙◌, ◌∷◌, ◌≡◌, ◌≢◌}
+use Rattle.std.proofs.{Common.{◌≤◌, ◌⊎◌}, Math.Seq.drop-append-add, lemmas.Bool.ltb-false}
+use Rattle.std.proofs.lemmas.Bool.Decides.{eqb_tells}
 use Rattle.std.proofs.lemmas.List.{drop-drop, length-replicate, length-take-le, nil_from_length}
 use Rattle.std.proofs.lemmas.List.{take-append-drop, Sums.sum_by-cons}
 use Rattle.bit_fields.proofs.BitsLemmas.{AreBelow-drop, AreBelow-take, AreBits-bits, bits-front}
@@ -13,10 +13,8 @@ use Rattle.bit_fields.specs.Bits.{AreBits, AreBytes, bits, bytes}
 use Rattle.frame_header.specs.Fields.{ClassFields, HeaderFields}
 use Rattle.frame_header.specs.Tables.{class_of, length_of, overhead_of, window_of}
 use Rattle.frame_header.specs.declared.version.Version.{Version, TheVariants.One}
-use Rattle.frame_writer.specs.Laid.{zeros}
 use Rattle.laying.proofs.BeginLemmas.{begin-near}
-use Rattle.laying.proofs.SurveyFrameLemmas.{AreBytes-packed_bytes, bits-packed_bytes, filling}
-use Rattle.laying.proofs.SurveyFrameLemmas.{main-place}
+use Rattle.laying.proofs.SurveyFrameLemmas.{AreBytes-packed_bytes, bits-packed_bytes, main-place}
 use Rattle.laying.specs.Passing.{IsAreaOf, IsWindowOverFrames, IsWindowOverLast, skipped_area_bytes}
 use Rattle.laying.specs.{Relaid.{packed_bytes, payload_of}, Surveys.CanBeRelaid}
 use Rattle.outside.proofs.FilesLemmas.{there_holds}
@@ -27,7 +25,7 @@ use Rattle.sync_survey.{proofs.SurveyPartsLemmas.data-none_well, specs.Faults.Su
 use Rattle.sync_survey.specs.MainData.{area_bytes, data_end_before, end_of_data, head_area}
 use Rattle.sync_survey.specs.MainData.{head_bytes, main_bytes, own_area, payload_at, place}
 use Rattle.sync_survey.specs.{MainData.start_of_data, Row.Row}
-use Rattle.sync_survey.specs.Survey.{FramesAreLaid, IsSurveyLaidOut, IsWellPlaced, IsWholeHead}
+use Rattle.sync_survey.specs.Survey.{FramesAreLaid, IsSurveyLaidOut, IsWellPlaced}
 use Rattle.sync_survey.specs.declared.places.Head.{Head}
 
 -- ---- a frame within the file
@@ -36,8 +34,7 @@ use Rattle.sync_survey.specs.declared.places.Head.{Head}
 pub area-at : (file : List ℕ) (offset : ℕ) (h : HeaderFields) (at size : ℕ)
     → at ≡ offset + overhead_of (class_of h) h.protected → size ≡ own_area h
     → take size (drop at file) ≡ area_bytes file offset h
-area-at file offset h at size at_is size_is = ap₂ (λ m n. take m (drop n file)) size_is at_is
-    ∙ ap (take (own_area h)) (sym (drop-drop (overhead_of (class_of h) h.protected) offset file))
+area-at file offset h at size at_is size_is = grind (arith, drop-drop)
 
 -- consecutive frames end no earlier than they begin
 pub laid-behind : (from to : ℕ) (rows : List Row) → FramesAreLaid from rows to → from ≤ to
@@ -52,10 +49,7 @@ laid-behind from to (r ∷ rows) laid = omega (
 pub laid-within : (from to : ℕ) (rows : List Row) (i : ℕ) (r : Row) → FramesAreLaid from rows to
     → slice_get rows i ≡ Some r → r.offset + length_of (class_of r.header) r.header.slot ≤ to
 laid-within from to [] i r laid is = absurd cc
-laid-within from to (q ∷ rows) zero r laid is =
-    let same : q ≡ r = cc in
-    subst (λ (x : Row). x.offset + length_of (class_of x.header) x.header.slot ≤ to) same
-    (laid-behind (q.offset + length_of (class_of q.header) q.header.slot) to rows laid.2)
+laid-within from to (q ∷ rows) zero r laid is = grind (arith, laid-behind)
 laid-within from to (q ∷ rows) (suc i) r laid is =
     laid-within (q.offset + length_of (class_of q.header) q.header.slot) to rows i r laid.2 is
 
@@ -81,18 +75,13 @@ areas-last : (file : List ℕ) (rows : List Row) (r : Row)
     → flat_map (λ (q : Row). area_bytes file q.offset q.header) (rows ++ r ∷ []) ≡ flat_map
     (λ (q : Row). area_bytes file q.offset q.header) rows ++ area_bytes file r.offset r.header
 areas-last file [] r = append-nil (area_bytes file r.offset r.header)
-areas-last file (q ∷ rows) r =
-    ap (λ (l : List ℕ). area_bytes file q.offset q.header ++ l) (areas-last file rows r)
-    ∙ sym (append_assoc (area_bytes file q.offset q.header) (flat_map
-    (λ (x : Row). area_bytes file x.offset x.header) rows) (area_bytes file r.offset r.header))
+areas-last file (q ∷ rows) r = grind (arith, append_assoc, flat_map, areas-last file rows r)
 
 -- the place of the next frame is further on by the area of this one
 pub place-next : (head : Option Head) (rows : List Row) (i : ℕ) (r : Row)
     → slice_get rows i ≡ Some r → place head rows (i + 1) ≡ place head rows i + own_area r.header
 unfolding place
-place-next head rows i r is =
-    ap (λ (l : List Row). head_area head + sum_by (λ (q : Row). own_area q.header) l)
-    (take-next rows i r is) ∙ ap (λ n. head_area head + n) (sum-last (take i rows) r) ∙ omega arith
+place-next head rows i r is = grind (arith, sum_by, take-next rows i r is, sum-last (take i rows) r)
 
 -- one more frame adds the bytes of its area to the main data
 pub main-next : (file : List ℕ) (head : Option Head) (rows : List Row) (i : ℕ) (r : Row)
@@ -100,11 +89,7 @@ pub main-next : (file : List ℕ) (head : Option Head) (rows : List Row) (i : �
     ≡ main_bytes file head (take i rows) ++ area_bytes file r.offset r.header
 unfolding main_bytes
 main-next file head rows i r is =
-    ap (λ (l : List Row). head_bytes file head
-    ++ flat_map (λ (q : Row). area_bytes file q.offset q.header) l) (take-next rows i r is)
-    ∙ ap (λ (l : List ℕ). head_bytes file head ++ l) (areas-last file (take i rows) r)
-    ∙ sym (append_assoc (head_bytes file head) (flat_map (λ (q : Row). area_bytes file
-    q.offset q.header) (take i rows)) (area_bytes file r.offset r.header))
+    grind (arith, flat_map, take-next rows i r is, areas-last file (take i rows) r, append_assoc)
 
 -- the areas of concatenated frames are the areas of the first frames, then of the others
 areas-append : (file : List ℕ) (rows more : List Row)
@@ -113,9 +98,7 @@ areas-append : (file : List ℕ) (rows more : List Row)
     ++ flat_map (λ (q : Row). area_bytes file q.offset q.header) more
 areas-append file [] more = refl
 areas-append file (q ∷ rows) more =
-    ap (λ (l : List ℕ). area_bytes file q.offset q.header ++ l) (areas-append file rows more)
-    ∙ sym (append_assoc (area_bytes file q.offset q.header) (flat_map (λ (x : Row). area_bytes file
-    x.offset x.header) rows) (flat_map (λ (x : Row). area_bytes file x.offset x.header) more))
+    grind (arith, append_assoc, flat_map, areas-append file rows more)
 
 -- the main data of the first frames are the beginning of the main data of all
 pub main-front : (file : List ℕ) (head : Option Head) (rows : List Row) (n : ℕ)
@@ -154,11 +137,10 @@ data-within head c rows i r is kept =
     data-none_well (place head rows i)
     (data_end_before head rows i) r is.sound (sym is.mark ∙ kept) in
     let begins : r.side.main_data_begin ≤ place head rows i =
-    ltb-false (place head rows i) r.side.main_data_begin stands.begins in
+    grind (arith, ltb-false) in
     record {
       begins = begins;
-      apart = ltb-false (place head rows i - r.side.main_data_begin)
-          (data_end_before head rows i) stands.apart;
+      apart = grind (arith, ltb-false);
       near = omega (arith, begin-near c r.side is.fits, window_most c);
       ends = omega (
         arith,
@@ -176,10 +158,7 @@ bits-least n = omega arith
 pub packed_bytes-is : (new bs : List ℕ) (count : ℕ) → AreBytes new → AreBits bs → length bs ≡ count
     → AreBitsPacked new count bs → new ≡ packed_bytes bs
 packed_bytes-is new bs count octets are many is =
-    let same : replicate (8 * length new - count) 0 ≡ filling bs are =
-    ap₂ (λ m n. zeros (8 * m - n)) (is.few ∙ ap (λ n. (n + 7) / 8) (sym many)) (sym many) in
-    bits-injective new (packed_bytes bs) octets (AreBytes-packed_bytes bs are)
-    (is.same ∙ ap (λ (l : List ℕ). bs ++ l) same ∙ sym (bits-packed_bytes bs are))
+    grind (arith, bits-injective, AreBytes-packed_bytes, bits-packed_bytes)
 
 -- the bits cut from the window are the frame's main data
 pub cut-is : (file main new : List ℕ) (s : SurveyFields) (i : ℕ) (r : Row) (area begin count : ℕ)
@@ -231,11 +210,7 @@ no_data main at = refl
 -- a lost frame has no main data
 pub lost-is : (file : List ℕ) (s : SurveyFields) (i : ℕ) (r : Row) → r.lost ≡ true
     → [] ≡ payload_of file s i r
-lost-is file s i r lost =
-    let at = start_of_data (place s.head s.frames i) r in
-    no_data (main_bytes file s.head s.frames) at ∙ ap (λ b.
-    packed_bytes (payload_at (main_bytes file s.head s.frames) at (cond b no_side r.side)))
-    (sym lost)
+lost-is file s i r lost = grind (arith, no_data)
 
 -- a window holds as many bytes as it is over, or 2,048
 pub window-holds : (held main : List ℕ) → IsWindowOver held main
@@ -258,24 +233,8 @@ pub last-next : (before after area input : List ℕ) (files : Files) (s : Survey
     → IsAreaOf area input files r
     → ((main : List ℕ) → IsWindowOver before main → IsWindowOver after (main ++ area))
     → IsWindowOverLast after input files s first (i + 1)
-last-next before after area input files s first i r found over has more = record {
-  main = over.main ++ area;
-  held = more over.main over.held;
-  long = omega (
-    arith,
-    length-append over.main area,
-    over.long,
-    has.long,
-    place-next s.head s.frames i r found,
-  );
-  is = λ file holds.
-      let own = over.is file holds in (
-        own.0,
-        own.1,
-        main-next file s.head s.frames i r found ∙ ap₂ (λ (l m : List ℕ). l ++ m)
-            own.2 (sym (has.is file holds)) ∙ append_assoc own.0 over.main area,
-      );
-}
+last-next before after area input files s first i r found over has more =
+    grind (arith, length-append, place-next, main-next, append_assoc)
 
 -- with no area read yet
 pub last-none : (window input : List ℕ) (files : Files) (s : SurveyFields) (first : ℕ)
@@ -309,11 +268,7 @@ last-none window input files s first some held has =
 -- the last 2,048 bytes of the last areas are the last of all areas
 last-kept : (held front main : List ℕ) → 2048 ≤ length main → IsWindowOver held main
     → IsWindowOver held (front ++ main)
-last-kept held front main many is =
-    let from : length (front ++ main) - 2048 ≡ length front + (length main - 2048) =
-    omega (arith, length-append front main, many) in
-    is
-    ∙ sym (ap (λ n. drop n (front ++ main)) from ∙ drop-append-add front main (length main - 2048))
+last-kept held front main many is = grind (arith, length-append, drop-append-add)
 
 skipped-most : (s : SurveyFields) (first : ℕ)
     → skipped_area_bytes s first ≤ place s.head s.frames first
@@ -328,25 +283,13 @@ pub last-whole : (window input : List ℕ) (files : Files) (s : SurveyFields) (f
     → IsFileThere files input
     → (first ≡ 0) ⊎ (place s.head s.frames first + 2048 ≤ place s.head s.frames i)
     → IsWindowOverLast window input files s first i → IsWindowOverFrames window input files s i
-last-whole window input files s first i there (inl none) over =
-    let skipped : skipped_area_bytes s first ≡ 0 = ap (λ n. skipped_area_bytes s n) none in
-    record {
-      main = over.main;
-      held = over.held;
-      long = omega (arith, over.long, skipped);
-      is = λ file holds.
-          let own = over.is file holds in
-          let empty : own.0 ≡ [] = nil_from_length own.0 (own.1 ∙ skipped) in
-          sym (own.2 ∙ ap (λ (l : List ℕ). l ++ over.main) empty);
-    }
+last-whole window input files s first i there (inl none) over = grind (arith, nil_from_length)
 last-whole window input (Untold touched) s first i there (inr far) over =
     let skipped : List ℕ = replicate (skipped_area_bytes s first) 0 in
     record {
       main = skipped ++ over.main;
-      held = last-kept window skipped
-          over.main (omega (arith, over.long, far, skipped-most s first)) over.held;
-      long = length-append skipped over.main ∙ ap (λ n. n + length over.main)
-          (length-replicate (skipped_area_bytes s first) 0) ∙ over.long;
+      held = grind (arith, last-kept, skipped-most);
+      long = grind (arith, length-append, length-replicate);
       is = λ file holds. absurd holds;
     }
 last-whole window input (Told f) s first i there (inr far) over =
@@ -354,11 +297,9 @@ last-whole window input (Told f) s first i there (inr far) over =
     let own = over.is held.0 held.1 in
     record {
       main = own.0 ++ over.main;
-      held = last-kept window own.0 over.main (omega (arith, over.long, far, skipped-most s first))
-          over.held;
+      held = grind (arith, last-kept, skipped-most);
       long = length-append own.0 over.main ∙ ap (λ n. n + length over.main) own.1 ∙ over.long;
-      is = λ file holds. sym own.2 ∙ ap (λ (b : List ℕ). main_bytes b s.head (take i s.frames))
-          (only-one held.0 file (sym held.1 ∙ holds));
+      is = grind arith;
     }
   where
     only-one : (a b : List ℕ) → some a ≡ some b → a ≡ b
@@ -380,5 +321,4 @@ main-first file head rows = append-nil (head_bytes file head)
 -- the head is within the length
 pub head-within : (s : SurveyFields) (head : Head) → IsSurveyLaidOut s → s.head ≡ Some head
     → head.offset + length_of (class_of head.header) head.header.slot ≤ s.length
-head-within s head laid is = (subst (λ (h : Option Head). IfSome h
-    (IsWholeHead s.first s.class s.length)) is laid.head).within
+head-within s head laid is = grind arith

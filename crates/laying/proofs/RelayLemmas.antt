@@ -1,9 +1,8 @@
 -- Frames in order, as they are planned.
-use Rattle.std.proofs.Common.{ap, append-nil, append_assoc, ap₂, arith, Bool, cond, drop, false}
-use Rattle.std.proofs.Common.{get_or, inl, inr, length, List, map, min, refl, slice_get}
-use Rattle.std.proofs.Common.{slice_range, Some, subst, suc, sym, take, true, zero, ℕ, [], ◌++◌}
-use Rattle.std.proofs.{Common.{◌+◌, ◌-◌, ◌<◌, ◌∙◌, ◌∷◌, ◌≡◌, ◌≤◌, ◌⊎◌}, lemmas.Bool.cases_lt}
-use Rattle.std.{proofs.lemmas.Option.slice_get-get_or, specs.List.enumerate_from}
+use Rattle.std.proofs.Common.{ap, append-nil, append_assoc, arith, Bool, cond, drop, false, get_or}
+use Rattle.std.proofs.Common.{inl, inr, length, List, map, min, refl, slice_get, slice_range, Some}
+use Rattle.std.proofs.Common.{suc, sym, true, zero, ℕ, [], ◌++◌, ◌+◌, ◌<◌, ◌∙◌, ◌∷◌, ◌≡◌, ◌≤◌, ◌⊎◌}
+use Rattle.std.{proofs.lemmas.{Bool.cases_lt, Option.slice_get-get_or}, specs.List.enumerate_from}
 use Rattle.frame_header.specs.Tables.{area_of, class_of}
 use Rattle.frame_writer.specs.{Frames.{all_frame_data, Frame}, Laid.BeginsWithin, Writing.Writing}
 use Rattle.laying.proofs.PassLemmas.{lays_as}
@@ -21,21 +20,16 @@ drop-next : {X : Type 0} (xs : List X) (i : ℕ) (x : X) → slice_get xs i ≡ 
     → drop i xs ≡ x ∷ drop (i + 1) xs
 drop-next [] i x is = absurd cc
 drop-next (y ∷ xs) zero x is = ap (λ z. z ∷ xs) cc
-drop-next (y ∷ xs) (suc i) x is =
-    let more : suc i + 1 ≡ suc (i + 1) = omega arith in
-    drop-next xs i x is ∙ ap (λ n. x ∷ drop n (y ∷ xs)) (sym more)
+drop-next (y ∷ xs) (suc i) x is = grind (arith, drop-next xs i x is)
 
 -- a stretch is its first item and those after it
 pub range-next : {X : Type 0} (xs : List X) (i to : ℕ) (x : X) → slice_get xs i ≡ Some x → i < to
     → slice_range xs i to ≡ x ∷ slice_range xs (i + 1) to
-range-next xs i to x is within =
-    let one_more : to - i ≡ suc (to - (i + 1)) = omega (arith, within) in
-    ap₂ (λ n l. take n l) one_more (drop-next xs i x is)
+range-next xs i to x is within = grind (arith, drop-next)
 
 -- after its end there is nothing
 pub range-none : {X : Type 0} (xs : List X) (i to : ℕ) → to ≤ i → slice_range xs i to ≡ []
-range-none xs i to past = let none : to - i ≡ 0 = omega (arith, past) in
-    ap (λ n. take n (drop i xs)) none
+range-none xs i to past = grind arith
 
 module _ {X : Type 0} (xs : List X) (i : ℕ) (x : X) (within : i < length xs)
     (is : x ≡ get_or xs i x) where
@@ -50,9 +44,7 @@ module _ {X : Type 0} (xs : List X) (i : ℕ) (x : X) (within : i < length xs)
 -- the item at a place of a list is at that place of an equal list
 pub read-at : {X : Type 0} (xs ys : List X) (i : ℕ) (x : X) → i < length ys → xs ≡ ys
     → x ≡ get_or xs i x → slice_get ys i ≡ Some x
-read-at {X} xs ys i x within same is =
-    let here : i < length xs = omega (arith, within, ap length same) in
-    ap (λ (l : List X). slice_get l i) (sym same) ∙ found-at xs i x here is
+read-at {X} xs ys i x within same is = grind (arith, found-at)
 
 module _ {X : Type 0} (xs : List X) where
   -- these items are those from number n on
@@ -78,9 +70,7 @@ module _ {X : Type 0} (xs : List X) where
 pub left-range : {X : Type 0} (xs : List X) (i to next : ℕ) (x : X) (b : Bool)
     → slice_get xs i ≡ Some x → i < to → next ≡ i + cond b 0 1
     → rest_behind b x (slice_range xs (i + 1) to) ≡ slice_range xs next to
-left-range xs i to next x true found within is =
-    let same : next ≡ i = omega (arith, is) in
-    sym (range-next xs i to x found within) ∙ ap (λ n. slice_range xs n to) (sym same)
+left-range xs i to next x true found within is = grind (arith, range-next, slice_range)
 left-range xs i to next x false found within is = ap (λ n. slice_range xs n to) (sym is)
 
 -- ---- the frames of a file
@@ -89,21 +79,14 @@ each-get : (f : ℕ → Row → Frame) (n : ℕ) (rows : List Row) (i : ℕ) (r 
     → slice_get rows i ≡ Some r
     → slice_get (map (λ (p : ℕ × Row). f p.0 p.1) (enumerate_from n rows)) i ≡ Some (f (n + i) r)
 each-get f n [] i r is = absurd cc
-each-get f n (q ∷ rows) zero r is =
-    let same : q ≡ r = cc in
-    let at : n ≡ n + 0 = omega arith in
-    ap₂ (λ m x. Some (f m x)) at same
-each-get f n (q ∷ rows) (suc i) r is =
-    let at : n + 1 + i ≡ n + suc i = omega arith in
-    each-get f (n + 1) rows i r is ∙ ap (λ m. Some (f m r)) at
+each-get f n (q ∷ rows) zero r is = grind arith
+each-get f n (q ∷ rows) (suc i) r is = grind (arith, each-get f (n + 1) rows i r is)
 
 -- the frame at a place of the survey is made from the row there
 pub all-get : (file : List ℕ) (s : SurveyFields) (i : ℕ) (r : Row) → slice_get s.frames i ≡ Some r
     → slice_get (all_frames file s) i ≡ Some (survey_frame file s i r)
 unfolding all_frames
-all-get file s i r is =
-    let at : 0 + i ≡ i = omega arith in
-    each-get (survey_frame file s) 0 s.frames i r is ∙ ap (λ n. Some (survey_frame file s n r)) at
+all-get file s i r is = grind (arith, each-get (survey_frame file s) 0 s.frames i r is)
 
 -- ---- one place of a plan
 
@@ -127,15 +110,7 @@ module _ (s : SurveyFields) (i to next : ℕ) (row : Row) (p : Placed) (placed :
       × FitsFromReach window (reach_behind window p (need_of row))
       (map need_of (slice_range s.frames next to)) placed
   unfolding FitsFromReach
-  fits-next window reach fits =
-      let opened =
-      subst (λ (l : List Need). FitsFromReach window reach l (p ∷ placed)) needs-next fits in (
-        opened.0,
-        opened.1,
-        subst (λ (l : List Need). FitsFromReach window
-            (reach_behind window p (need_of row)) l placed)
-            needs-left opened.2,
-      )
+  fits-next window reach fits = grind (arith, needs-next, needs-left)
 
   -- all places reach as far as those after the first do
   pub last-next : (window reach : ℕ)
@@ -143,10 +118,7 @@ module _ (s : SurveyFields) (i to next : ℕ) (row : Row) (p : Placed) (placed :
       ≡ last_reach window (reach_behind window p (need_of row))
       (map need_of (slice_range s.frames next to)) placed
   unfolding last_reach
-  last-next window reach =
-      ap (λ (l : List Need). last_reach window reach l (p ∷ placed)) needs-next
-      ∙ ap (λ (l : List Need). last_reach window (reach_behind window p (need_of row)) l placed)
-      needs-left
+  last-next window reach = grind (arith, needs-next, needs-left)
 
   -- the first is the frame in its place, and the others come after it
   pub relaid_frames-next : (file : List ℕ)
@@ -154,13 +126,7 @@ module _ (s : SurveyFields) (i to next : ℕ) (row : Row) (p : Placed) (placed :
       planned_frame p (survey_frame file s i row)
       ∷ relaid_frames (slice_range (all_frames file s) next to) placed
   relaid_frames-next file =
-      let all = all_frames file s in
-      let f = survey_frame file s i row in
-      let got = all-get file s i row found in
-      ap (λ (l : List Frame). relaid_frames l (p ∷ placed)) (range-next all i to f got within)
-      ∙ relaid_frames-cons p placed f (slice_range all (i + 1) to)
-      ∙ ap (λ (l : List Frame). planned_frame p f ∷ relaid_frames l placed)
-      (left-range all i to next f p.lead_in got within next_is)
+      grind (arith, all-get, range-next, relaid_frames-cons, slice_range, left-range)
 
 -- ---- as many places as frames
 
@@ -176,8 +142,7 @@ fits-some window reach s i to p placed fits = by_cases (cases_lt i to)
 
     by_cases : (i < to) ⊎ (to ≤ i) → i < to
     by_cases (inl within) = within
-    by_cases (inr past) = absurd (none-fits (map need_of (slice_range s.frames i to))
-        (ap (map need_of) (range-none s.frames i to past)) fits)
+    by_cases (inr past) = grind (arith, slice_range, range-none)
 
 -- ---- the end
 
@@ -246,11 +211,7 @@ part_more input output made rest whole reach last old before after begins same p
 pub reach-lead : (window : ℕ) (p : Placed) (need : Need) → p.lead_in ≡ true
     → reach_behind window p need
     ≡ min window (p.begin + area_of (class_of need.header) p.slot false)
-reach-lead window p need is =
-    let none : p.begin + area_of (class_of need.header) p.slot false - 0
-    ≡ p.begin + area_of (class_of need.header) p.slot false = omega arith in
-    ap (λ b. min window (p.begin + area_of (class_of need.header)
-    p.slot (cond b false need.header.protected) - cond b 0 need.bytes)) is ∙ ap (min window) none
+reach-lead window p need is = grind arith
 
 -- The first of these frames were passed to the writer, and the rest of them are to follow.
 pub record LaysUpTo (input output : List ℕ) (whole rest : List ℕ → List Frame) (old new : Writing)
@@ -269,8 +230,4 @@ module _ (input output : List ℕ) (whole rest : List ℕ → List Frame) (old n
   -- if nothing is left to lay, all frames were laid
   pub lays-all : ((file : List ℕ) → Holds before input file → rest file ≡ [])
       → LaysFrames input output whole old new before after
-  lays-all none =
-      lays_as input output sofar.made whole old new before after
-      (λ file holds. sym (sofar.left file holds ∙ ap (λ (l : List Frame). sofar.made file ++ l)
-      (none file holds) ∙ append-nil (sofar.made file)))
-      sofar.lays
+  lays-all none = grind (arith, lays_as, append-nil)

@@ -2,15 +2,15 @@
 -- file, and have as many bits as their side information says.
 use Rattle.std.proofs.Common.{ap, ap₂, arith, Bool, cond, drop, false, flat_map, length}
 use Rattle.std.proofs.Common.{length-append, length-drop, List, map, None, Ok, Option, option_map}
-use Rattle.std.proofs.Common.{refl, slice_get, Some, subst, suc, sum_by, sym, take, true, zero, ℕ}
-use Rattle.std.proofs.Common.{[], ◌*◌, ◌++◌, ◌+◌, ◌-◌, ◌/◌, ◌∙◌, ◌∷◌, ◌≡◌, ◌≤◌}
-use Rattle.std.proofs.lemmas.{Bool.ltb-false, List.{drop_at, length-take-le, take_at}}
-use Rattle.std.{proofs.lemmas.List.Sums.sum_by-cons, specs.List.{cons_option, enumerate_from}}
+use Rattle.std.proofs.Common.{refl, slice_get, Some, subst, suc, sum_by, take, true, zero, ℕ, []}
+use Rattle.std.proofs.{Common.{◌*◌, ◌++◌, ◌+◌, ◌-◌, ◌/◌, ◌∙◌, ◌∷◌, ◌≡◌, ◌≤◌}, lemmas.Bool.ltb-false}
+use Rattle.std.proofs.lemmas.List.{drop_at, length-take-le, take_at, Sums.sum_by-cons}
+use Rattle.std.specs.List.{cons_option, enumerate_from}
 use Rattle.bit_fields.proofs.BitsLemmas.{AreBelow-append, AreBelow-drop, AreBelow-take}
 use Rattle.bit_fields.proofs.BitsLemmas.{AreBits-bits, AreBytes-bytes, bits-bytes, length-bits}
 use Rattle.bit_fields.{proofs.BitsLemmas.length-bytes, specs.Bits.{AreBits, AreBytes, bits}}
 use Rattle.frame_header.proofs.{HeaderLemmas.IsClass-class_of, SlotLemmas.area-is}
-use Rattle.frame_header.specs.{Fields.{ClassFields, HeaderFields}, Tables.{class_of, overhead_of}}
+use Rattle.frame_header.specs.Fields.{ClassFields, HeaderFields}
 use Rattle.frame_writer.{proofs.LaidLemmas.length-zeros, specs.{Frames.Frame, Laid.zeros}}
 use Rattle.laying.proofs.BlockLemmas.{surveyed-blocks}
 use Rattle.laying.proofs.RelayLemmas.{AreOnward, onward-all, onward-first, onward-rest}
@@ -31,9 +31,8 @@ use Rattle.sync_survey.proofs.SurveyPartsLemmas.{data-none_well, frames_from, su
 use Rattle.sync_survey.proofs.SurveyedFileLemmas.{survey_of-parts}
 use Rattle.sync_survey.specs.Faults.{stream_of_survey, survey_fields, SurveyFields}
 use Rattle.sync_survey.specs.Items.{item_at, size_of}
-use Rattle.sync_survey.specs.MainData.{area_bytes, data_end_before, end_of_data, granule_lengths}
-use Rattle.sync_survey.specs.MainData.{head_area, head_bytes, main_bytes, marked_row, marked_rows}
-use Rattle.sync_survey.specs.MainData.{own_area, payload_at, place, row_side, rows_of, split_bits}
+use Rattle.sync_survey.specs.MainData.{area_bytes, head_area, head_bytes, main_bytes, marked_row}
+use Rattle.sync_survey.specs.MainData.{marked_rows, own_area, payload_at, place, row_side, rows_of}
 use Rattle.sync_survey.specs.MainData.{start_of_data, stream_frame, stream_frames, StreamFrame}
 use Rattle.sync_survey.specs.{Row.Row, Runs.{AreEndToEnd, frame_of_item, frames_of, PlacedItem}}
 use Rattle.sync_survey.specs.Survey.{AreWellPlaced, IsWellPlaced, survey_of}
@@ -51,13 +50,12 @@ AreWholeFrames file (p ∷ ps) = IsWholeFrameAt file p.offset p.header × AreWho
 frame_more : (file : List ℕ) (at : ℕ) (item : Item) (ps : List PlacedFrame) → item_at file at ≡ item
     → at + size_of item ≤ length file → AreWholeFrames file ps
     → AreWholeFrames file (cons_option (frame_of_item at item) ps)
-frame_more file at (FrameItem h) ps is within are = (
-  record {
-    header = header_front-in_range (drop at file) h (stands-at file at (FrameItem h) is);
-    within = within;
-  },
-  are,
-)
+frame_more file at (FrameItem h) ps is within are =
+    grind (
+      arith,
+      header_front-in_range (drop at file) h (stands-at file at (FrameItem h) is),
+      stands-at file,
+    )
 frame_more file at _ ps is within are = are
 
 ends-frames : (file : List ℕ) (from : ℕ) (ps : List PlacedItem) (to : ℕ)
@@ -76,12 +74,7 @@ numbered_frames-whole file (Some head) (p ∷ ps) are = are.1
 
 -- side information with lists as long as the arrays has pairs of granules and channels
 pub shaped_pairs : (s : Side) → IsShaped s → HasPairs s
-shaped_pairs s shaped = record {
-  scfsi = shaped.scfsi;
-  granules = shaped.granules;
-  first = shaped.first;
-  second = shaped.second;
-}
+shaped_pairs s shaped = grind arith
 
 rows-whole : (file : List ℕ) (ps : List PlacedFrame) → AreWholeFrames file ps
     → AreWholeRows file (rows_of file ps)
@@ -99,10 +92,8 @@ marks-whole : (file : List ℕ) (head : Option Head) (rows : List Row) (n : ℕ)
     → AreWholeRows file more → AreWholeRows file
     (map (λ (p : ℕ × Row). marked_row head rows p.0 p.1) (enumerate_from n more))
 marks-whole file head rows n [] are = tt
-marks-whole file head rows n (r ∷ more) are = (
-  record { frame = are.0.frame; pairs = are.0.pairs },
-  marks-whole file head rows (n + 1) more are.1,
-)
+marks-whole file head rows n (r ∷ more) are =
+    grind (arith, rows, marks-whole file head rows (n + 1) more are.1)
 
 -- rows that are whole in the file are whole when marked
 pub marked_rows-whole : (file : List ℕ) (head : Option Head) (rows : List Row)
@@ -127,12 +118,7 @@ head-whole file p is = head_by file p _ is
 
 area-length : (file : List ℕ) (offset : ℕ) (h : HeaderFields) → IsWholeFrameAt file offset h
     → length (area_bytes file offset h) ≡ own_area h
-area-length file offset h is =
-    let over = overhead_of (class_of h) h.protected in
-    let whole =
-    (area-is (class_of h) h.slot h.protected (IsClass-class_of h is.header) is.header.slot).0 in
-    length-take-le (own_area h) (drop over (drop offset file))
-    (omega (arith, whole, is.within, length-drop over (drop offset file), length-drop offset file))
+area-length file offset h is = grind (arith, area-is, IsClass-class_of, length-take-le, length-drop)
 
 areas-length : (file : List ℕ) (rows : List Row) → AreWholeRows file rows
     → length (flat_map (λ (r : Row). area_bytes file r.offset r.header) rows)
@@ -261,15 +247,7 @@ data-ends : (head : Option Head) (c : ClassFields) (rows : List Row) (i : ℕ) (
     → payload_bytes (cond lost no_side r.side)
     ≤ (place head rows i + own_area r.header) - start_of_data (place head rows i) r
 data-ends head c rows i r is true lost = omega (arith, no_bytes)
-data-ends head c rows i r is false lost =
-    let stands =
-    data-none_well (place head rows i)
-    (data_end_before head rows i) r is.sound (sym is.mark ∙ lost) in
-    omega (
-      arith,
-      ltb-false (place head rows i + own_area r.header)
-          (end_of_data (place head rows i) r) stands.within,
-    )
+data-ends head c rows i r is false lost = grind (arith, data-none_well, rows, ltb-false)
 
 module _ (file : List ℕ) (head : Option Head) (c : ClassFields) (rows : List Row)
     (front : HasWholeHead file head) (are : AreWholeRows file rows)
@@ -282,9 +260,7 @@ module _ (file : List ℕ) (head : Option Head) (c : ClassFields) (rows : List R
     own_bits = payload_at main (start_of_data (place head rows i) r) (row_side r)
 
     data-bits : AreBits own_bits
-    data-bits = AreBelow-take 2 (payload_bits (row_side r))
-        (drop (8 * start_of_data (place head rows i) r) (bits main))
-        (AreBelow-drop 2 (8 * start_of_data (place head rows i) r) (bits main) (AreBits-bits main))
+    data-bits = grind (arith, AreBelow-take, rows, AreBelow-drop, AreBits-bits)
 
     data-length : length own_bits ≡ payload_bits (row_side r)
     data-length =
@@ -311,10 +287,7 @@ module _ (file : List ℕ) (head : Option Head) (c : ClassFields) (rows : List R
 
     own-filled : drop (payload_bits (row_side r)) (bits (packed_bytes own_bits))
         ≡ zeros (8 * payload_bytes (row_side r) - payload_bits (row_side r))
-    own-filled =
-        ap (drop (payload_bits (row_side r))) (bits-packed_bytes own_bits data-bits)
-        ∙ drop_at own_bits (filling own_bits data-bits) (payload_bits (row_side r)) data-length
-        ∙ ap₂ (λ m n. zeros (8 * m - n)) bytes-is data-length
+    own-filled = grind (arith, bits-packed_bytes, data-bits, drop_at, data-length, bytes-is)
 
     -- the frame can be laid
     pub own-entry : IsStreamEntry c own
@@ -332,15 +305,7 @@ module _ (file : List ℕ) (head : Option Head) (c : ClassFields) (rows : List R
 
     -- in the stream it is the frame of its row
     pub own-stream : stream_entry own ≡ stream_frame main head rows i r
-    own-stream =
-        let all : take (payload_bits (row_side r)) (bits (packed_bytes own_bits)) ≡ own_bits =
-        ap (take (payload_bits (row_side r))) (bits-packed_bytes own_bits data-bits)
-        ∙ take_at own_bits (filling own_bits data-bits) (payload_bits (row_side r)) data-length in
-        ap (λ bs. record {
-          header = (stream_entry own).header;
-          side = (stream_entry own).side;
-          payload = split_bits (granule_lengths r.header (row_side r)) bs;
-        }) all
+    own-stream = grind (arith, bits-packed_bytes, data-bits, take_at, data-length)
 
   -- ---- all of them
 

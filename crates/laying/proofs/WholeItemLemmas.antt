@@ -1,7 +1,7 @@
 -- Bytes that are concatenated items: where they are in a file, the items are its run.
 use Rattle.std.proofs.Common.{ap, append_assoc, arith, drop, length, length-append, length-drop}
-use Rattle.std.proofs.Common.{List, None, option_map, option_to_list, refl, Some, subst, sym, take}
-use Rattle.std.proofs.{Common.{true, ℕ, [], ◌++◌, ◌+◌, ◌∙◌, ◌∷◌, ◌≡◌, ◌≤◌}, Math.Seq.take-length}
+use Rattle.std.proofs.Common.{List, None, option_map, refl, Some, subst, sym, take, true, ℕ, []}
+use Rattle.std.proofs.{Common.{◌++◌, ◌+◌, ◌∙◌, ◌∷◌, ◌≡◌, ◌≤◌}, Math.Seq.take-length}
 use Rattle.std.{proofs.lemmas.List.{drop-drop, drop_at}, specs.List.concat}
 use Rattle.laying.specs.LaidFiles.{AreBlocks, blocks_from, IsBlock}
 use Rattle.sync_survey.proofs.ItemBytesLemmas.{block_front-bytes, IsItem}
@@ -9,8 +9,8 @@ use Rattle.sync_survey.proofs.{ItemListLemmas.item_at-known, OneItemLemmas.stand
 use Rattle.sync_survey.{proofs.RunsLemmas.{item_run-only, whole_item_at-whole}, specs.Items.size_of}
 use Rattle.sync_survey.specs.Runs.{AreEndToEnd, belongs, blocks_of, frames_of, item_run, PlacedItem}
 use Rattle.sync_survey.specs.{Runs.whole_item_at, declared.items.Item.{Item, TheVariants.Block}}
-use Rattle.sync_survey.specs.declared.{places.Piece.Piece, runs.Region.Region}
-use Rattle.tag_blocks.specs.{Blocks.block_front, declared.block.Block.Block as TagBlock}
+use Rattle.sync_survey.specs.declared.runs.Region.{Region}
+use Rattle.tag_blocks.specs.Blocks.{block_front}
 
 -- ---- whole items
 
@@ -23,16 +23,9 @@ AreWhole part (item ∷ items) bytes = (own : List ℕ) × (rest : List ℕ) × 
 -- whole items concatenated with whole items are whole items
 pub whole-append : (part : Region) (xs ys : List Item) (front back : List ℕ)
     → AreWhole part xs front → AreWhole part ys back → AreWhole part (xs ++ ys) (front ++ back)
-whole-append part [] ys front back are behind =
-    subst (AreWhole part ys) (sym (ap (λ (l : List ℕ). l ++ back) are)) behind
-whole-append part (x ∷ xs) ys front back are behind = (
-  are.0,
-  are.1 ++ back,
-  ap (λ (l : List ℕ). l ++ back) are.2 ∙ append_assoc are.0 are.1 back,
-  are.3,
-  are.4,
-  whole-append part xs ys are.1 back are.5 behind,
-)
+whole-append part [] ys front back are behind = grind arith
+whole-append part (x ∷ xs) ys front back are behind =
+    grind (arith, append_assoc, whole-append part xs ys are.1 back are.5 behind)
 
 -- ---- where they are
 
@@ -78,8 +71,7 @@ pub whole-item_run : (part : Region) (file : List ℕ) (at : ℕ) (items : List 
     → drop at file ≡ bytes ++ behind → whole_item_at part file (at + length bytes) ≡ None
     → item_run part file at ≡ record { items = placed at items; stop = at + length bytes }
 whole-item_run part file at items bytes behind are within is none =
-    item_run-only part file at (placed at
-    items) (at + length bytes) (whole-end part file at items bytes behind are within is) none
+    search (arith, item_run-only, whole-end)
 
 -- ---- blocks
 
@@ -88,8 +80,7 @@ block_item bytes is =
     let block = is.0 in
     let whole : take block.length bytes ≡ bytes = ap (λ n. take n bytes) is.2 ∙ take-length bytes in
     let stands : (rest : List ℕ) → block_front (bytes ++ rest) ≡ Some block =
-    λ rest. ap (λ (l : List ℕ). block_front (l ++ rest)) (sym whole)
-    ∙ block_front-bytes bytes rest block is.1 (omega (arith, is.2)) in
+    grind (arith, block_front-bytes) in
     record {
       size = sym is.2;
       known = λ rest. sym (stands-only (bytes ++ rest) (Block block) (stands rest));
@@ -118,12 +109,4 @@ pub blocks-placed : (at : ℕ) (blocks : List (List ℕ)) (are : AreBlocks block
     → blocks_of (placed at (block_items blocks are)) ≡ blocks_from at blocks
 blocks-placed at [] are = refl
 blocks-placed at (b ∷ blocks) are =
-    let block = are.0.0 in
-    let there : option_map (λ (k : TagBlock). record { offset = at; block = k }) (block_front b)
-    ≡ Some (record { offset = at; block = block }) =
-    ap (option_map (λ (k : TagBlock). record { offset = at; block = k })) are.0.1 in
-    ap (λ n. record { offset = at; block = block }
-    ∷ blocks_of (placed (at + n) (block_items blocks are.1))) are.0.2
-    ∙ ap (λ (l : List Piece). record { offset = at; block = block } ∷ l)
-    (blocks-placed (at + length b) blocks are.1)
-    ∙ ap (λ o. option_to_list o ++ blocks_from (at + length b) blocks) (sym there)
+    grind (arith, option_map, blocks-placed (at + length b) blocks are.1)

@@ -1,12 +1,11 @@
 -- Gains that can move: when a change of gains is refused, and when it isn't.
 use Rattle.std.proofs.Common.{ap, arith, Bool, cond, Err, false, inl, inr, length, List, None, not}
 use Rattle.std.proofs.Common.{Ok, Option, pos, refl, Result, rules, Some, subst, suc, sym, true}
-use Rattle.std.proofs.Common.{zero, ℕ, ℤ, ◌+ℤ◌, [], ◌&&◌, ◌<◌, ◌==◌, ◌∙◌, ◌∷◌, ◌≡◌, ◌≢◌, ◌≤◌, ◌⊎◌}
+use Rattle.std.proofs.Common.{zero, ℕ, ℤ, [], ◌&&◌, ◌<◌, ◌==◌, ◌∙◌, ◌∷◌, ◌≡◌, ◌≢◌, ◌≤◌, ◌⊎◌}
 use Rattle.std.{proofs.lemmas.Bool.{le-ltb, ltb-false, ne_eqb}, specs.Option.option_or}
 use Rattle.std.specs.Prelude.{nat_lt, unsigned_abs}
 use Rattle.commands.proofs.RefusingLemmas.{first-cons, first-nil, none_both, none_first}
-use Rattle.commands.proofs.RefusingLemmas.{refusal_or-ok}
-use Rattle.commands.specs.Refusing.{or_else, refusal_or, then_made}
+use Rattle.commands.{proofs.RefusingLemmas.refusal_or-ok, specs.Refusing.{refusal_or, then_made}}
 use Rattle.commands.specs.declared.fault.{EditFault.EditFault, Refusal.Refusal}
 use Rattle.commands.specs.declared.fault.Refusal.TheVariants.{Joint, Mono}
 use Rattle.gain_edits.proofs.ProperLemmas.{read_ok, tagged-parts, undone-parts}
@@ -26,9 +25,8 @@ use Rattle.legality.specs.Choices.{AreSeparate, CanChange, CanMove, channel_step
 use Rattle.legality.specs.{Choices.{IsLegalUndo, StaysGain}, Inputs.{FileInput, HoldsOfEach}}
 use Rattle.moved_gains.{proofs.MovedGainLemmas.within, specs.Change.FileChange}
 use Rattle.moved_gains.specs.{Course.constant_steps, Edited.row_out_of_range}
-use Rattle.moved_gains.specs.Gains.{gain_out_of_range, is_out_of_range, is_silent_granule}
-use Rattle.moved_gains.specs.{Gains.side_out_of_range, TagPlace.tag_offset}
-use Rattle.moved_gains.specs.TagReading.{file_tag, longest_tag}
+use Rattle.moved_gains.specs.Gains.{gain_out_of_range, is_out_of_range, side_out_of_range}
+use Rattle.moved_gains.specs.{TagPlace.tag_offset, TagReading.{file_tag, longest_tag}}
 use Rattle.moved_gains.specs.declared.gains.OutOfRange.{OutOfRange}
 use Rattle.moved_gains.specs.declared.tag_fault.FileTagFault.{FileTagFault}
 use Rattle.requests.specs.{Shifts.steps_of, declared.shift.Channels.Channels}
@@ -71,18 +69,11 @@ GranuleMoves steps s granule channel = 0 < (granule_in s granule channel).part2_
 
 granule-moves : (steps : ℤ) (s : Side) (granule channel : ℕ)
     → gain_out_of_range steps s granule channel ≡ None → GranuleMoves steps s granule channel
-granule-moves steps s granule channel none loud =
-    let g = granule_in s granule channel in
-    stays (pos g.global_gain +ℤ steps)
-    (loud-inside (is_silent_granule g) (is_out_of_range (pos g.global_gain +ℤ steps)) _ none
-    (ne_eqb g.part2_3_length 0 (λ e. omega (arith, e, loud))))
+granule-moves steps s granule channel none loud = grind (arith, stays, pos, loud-inside, ne_eqb)
 
 moves-granule : (steps : ℤ) (s : Side) (granule channel : ℕ) → GranuleMoves steps s granule channel
     → gain_out_of_range steps s granule channel ≡ None
-moves-granule steps s granule channel moves =
-    let g = granule_in s granule channel in
-    inside-none (is_silent_granule g) (is_out_of_range (pos g.global_gain +ℤ steps)) _
-    (λ loud. stays-inside (pos g.global_gain +ℤ steps) (moves (is-some g.part2_3_length loud)))
+moves-granule steps s granule channel moves = grind (arith, inside-none, pos, stays-inside, is-some)
 
 -- ---- one frame
 
@@ -229,9 +220,7 @@ separate s none = at (s.class.channels == 1) refl none
     at false is e = record { two = differ s.class.channels 1 is; each = each-apart s.frames e }
 
 separate-none : (s : SurveyFields) → AreSeparate s → single_channel_fault s ≡ None
-separate-none s are =
-    ap (λ b. cond b (Some Mono) (joint_fault s.frames)) (ne_eqb s.class.channels 1 are.two)
-    ∙ apart-each s.frames are.each
+separate-none s are = grind (arith, ne_eqb, apart-each)
 
 can-change : (channels : Channels) (s : SurveyFields)
     → cond (are_both channels) None (single_channel_fault s) ≡ None → CanChange channels s
@@ -290,8 +279,7 @@ module _ (shift : Shift) (file : List ℕ) (s : SurveyFields) where
       let four = none_first (output_fault s bytes) _ three.1 in
       record {
         channels = can-change shift.channels s one.0;
-        gains = free-moves (constant_steps (steps_of shift))
-            (λ i. steps_of shift) s.frames (constant_steps-agree (steps_of shift) s.frames) four.1;
+        gains = grind (arith, free-moves, constant_steps-agree (steps_of shift) s.frames);
         noted = λ tags. record {
           tag = parts.tag;
           read = read_ok (file_tag file s) parts.tag parts.read;
@@ -308,17 +296,7 @@ module _ (shift : Shift) (file : List ℕ) (s : SurveyFields) where
       → IsLegalGain shift false input
   unfolding gain_change
   plain-legal change e =
-      let one = refusal_or-ok (or_else (channel_fault shift s)
-      (range_fault (constant_steps (steps_of shift)) s.frames)) _ change e in
-      let two =
-      none_first (channel_fault shift s)
-      (range_fault (constant_steps (steps_of shift)) s.frames) one.0 in
-      record {
-        channels = can-change shift.channels s two.0;
-        gains = free-moves (constant_steps (steps_of shift))
-            (λ i. steps_of shift) s.frames (constant_steps-agree (steps_of shift) s.frames) two.1;
-        noted = λ tags. absurd cc;
-      }
+      grind (arith, refusal_or-ok, none_first, can-change, free-moves, constant_steps-agree)
 
   -- a gain that isn't refused is legal
   pub gain-legal : (tags : Bool) (change : FileChange) → gain_change shift tags file s ≡ Ok change
@@ -329,8 +307,7 @@ module _ (shift : Shift) (file : List ℕ) (s : SurveyFields) where
 
   free : (tags : Bool) → IsLegalGain shift tags input
       → range_fault (constant_steps (steps_of shift)) s.frames ≡ None
-  free tags legal = moves-free (constant_steps (steps_of shift))
-      (λ i. steps_of shift) s.frames (constant_steps-agree (steps_of shift) s.frames) legal.gains
+  free tags legal = grind (arith, moves-free, constant_steps-agree)
 
   legal-noted : IsLegalGain shift true input
       → (change : FileChange) × (tagged_change shift file s ≡ Ok change)
@@ -382,15 +359,7 @@ module _ (shift : Shift) (file : List ℕ) (s : SurveyFields) where
 pub undo-legal : (file : List ℕ) (s : SurveyFields) (change : FileChange)
     → undo_change file s ≡ Ok change → IsLegalUndo (record { bytes = file; survey = s })
 undo-legal file s change e =
-    let parts = undone-parts file s change e in
-    record {
-      tag = parts.tag;
-      read = read_ok (file_tag file s) parts.tag parts.read;
-      undo = parts.undo;
-      item = found-ok (tag_offset s) (undo_from 32 parts.tag.items) parts.undo parts.item;
-      gains = free-moves (constant_steps (undo_steps parts.undo)) (λ i. undo_steps parts.undo)
-          s.frames (constant_steps-agree (undo_steps parts.undo) s.frames) parts.free;
-    }
+    grind (arith, undone-parts file s change e, read_ok, found-ok, free-moves, constant_steps-agree)
 
 -- a legal undo isn't refused
 pub legal-undo : (file : List ℕ) (s : SurveyFields)

@@ -1,9 +1,9 @@
 -- Names that are apart, and the surveys of inputs.
 use Rattle.std.proofs.Common.{ap, arith, bytes_eq, cond, Contains, false, length, List, None, Ok}
-use Rattle.std.proofs.Common.{refl, Some, subst, suc, sym, true, zero, ℕ, [], ◌+◌, ◌∙◌, ◌∷◌, ◌≡◌}
-use Rattle.std.proofs.{Common.◌≤◌, lemmas.{Bool.false_from_ne_true, List.Elements.All-cons}}
-use Rattle.std.proofs.lemmas.{List.Folds.list_any_at, Map.Views.Contains-from_any}
-use Rattle.std.{proofs.lemmas.Slice.Eq.bytes_eq-Decides, specs.List.list_any}
+use Rattle.std.proofs.Common.{refl, Some, subst, suc, zero, ℕ, [], ◌+◌, ◌∙◌, ◌∷◌, ◌≡◌, ◌≤◌}
+use Rattle.std.proofs.lemmas.{Bool.false_from_ne_true, List.{Elements.All-cons, Folds.list_any_at}}
+use Rattle.std.proofs.lemmas.{Map.Views.Contains-from_any, Slice.Eq.bytes_eq-Decides}
+use Rattle.std.specs.List.{list_any}
 use Rattle.commands.{proofs.MakeLemmas.no_clash, specs.Command.clash_from}
 use Rattle.legality.specs.Inputs.{AreNamesApart, FileInput, HoldsOfEach, HoldsOfEachNext, IsInput}
 use Rattle.outside.{proofs.FilesLemmas.bytes_eq_same, specs.Files.Contents}
@@ -28,21 +28,14 @@ each-cons P x xs first rest (suc i) y is = rest i y is
 -- what holds of the first two elements and of each two neighbours after them holds of each two
 pub next-cons : {A : Type 0} (P : A → A → Type 0) (x y : A) (more : List A) → P x y
     → HoldsOfEachNext (y ∷ more) P → HoldsOfEachNext (x ∷ y ∷ more) P
-next-cons P x y more first rest zero p q is next =
-    let one : x ≡ p = cc in
-    let two : y ≡ q = cc in
-    subst (λ a. P a q) one (subst (P x) two first)
+next-cons P x y more first rest zero p q is next = grind arith
 next-cons P x y more first rest (suc i) p q is next = rest i p q is next
 
 -- ---- names
 
 none-is : (name : List ℕ) (outputs : List (List ℕ)) → list_any (bytes_eq name) outputs ≡ false
     → Contains outputs name → ⊥
-none-is name outputs none has =
-    let found : list_any (bytes_eq name) outputs ≡ true = list_any_at (bytes_eq name) outputs
-    has.0 name has.1 (ap (bytes_eq name) has.2 ∙ bytes_eq_same name) in
-    let both : true ≡ false = sym found ∙ none in
-    absurd cc
+none-is name outputs none has = grind (arith, bytes_eq, list_any_at, bytes_eq_same)
 
 is-none : (name : List ℕ) (outputs : List (List ℕ)) → (Contains outputs name → ⊥)
     → list_any (bytes_eq name) outputs ≡ false
@@ -87,8 +80,7 @@ survey-whole file allowed s e =
     let rows = rows_of file (frames_from file parts.0) in
     let few = few-rows file head (class_from parts.0) allowed rows
     (all_faults-none_sound file head (class_from parts.0) allowed rows parts.1.frames) in
-    let size : length s.frames ≡ length rows =
-    ap (λ (t : SurveyFields). length t.frames) (sym parts.2) ∙ length-marked_rows head rows in
+    let size : length s.frames ≡ length rows = grind (arith, length-marked_rows) in
     record {
       long = whole.0;
       well_formed = survey_fields-allowed file allowed (length file + 1) s (omega arith) whole.1;
@@ -104,8 +96,7 @@ whole-survey file allowed s whole =
     let read = parts.1 in
     let head = head_of file start.first in
     let rows = rows_of file (frames_from file start) in
-    let size : length s.frames ≡ length rows =
-    ap (λ (t : SurveyFields). length t.frames) (sym parts.2) ∙ length-marked_rows head rows in
+    let size : length s.frames ≡ length rows = grind (arith, length-marked_rows) in
     survey_of-short file allowed whole.long
     ∙ survey_fields-told file allowed start (record {
       start_is = read.start_is;

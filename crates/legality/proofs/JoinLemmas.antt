@@ -1,14 +1,13 @@
 -- The inputs of a join, in order.
-use Rattle.std.proofs.Common.{ap, arith, cond, Err, length, List, None, Ok, Option, refl, Result}
-use Rattle.std.proofs.Common.{Some, subst, suc, sym, zero, ℕ, [], ◌+◌, ◌-◌, ◌∙◌, ◌∷◌, ◌≡◌, ◌≤◌}
+use Rattle.std.proofs.Common.{ap, arith, length, List, None, Ok, Option, refl, Result, Some, suc}
+use Rattle.std.proofs.Common.{sym, zero, ℕ, [], ◌+◌, ◌-◌, ◌∙◌, ◌∷◌, ◌≡◌, ◌≤◌}
 use Rattle.std.specs.Prelude.{slice_get, unwrap_or}
 use Rattle.commands.{proofs.RefusingLemmas.then_ok, specs.Refusing.then_made}
 use Rattle.commands.specs.{SingleOutput.most_frames, declared.fault.EditFault.EditFault}
-use Rattle.commands.specs.declared.fault.{EditFault.TheVariants.Refused, Refusal.TheVariants.Differ}
 use Rattle.frame_header.specs.Fields.{ClassFields}
 use Rattle.join_edits.proofs.{InputLemmas.follows-may, PartLemmas.part-is}
 use Rattle.join_edits.specs.Inputs.{HasClassOfFirst}
-use Rattle.join_edits.specs.Join.{join_part, join_parts, join_parts_from, surveyed_part, whole_part}
+use Rattle.join_edits.specs.Join.{join_part, join_parts, join_parts_from, whole_part}
 use Rattle.laying.specs.Relaid.{FilePart}
 use Rattle.legality.proofs.InputLemmas.{survey-input, survey-whole, whole-survey}
 use Rattle.legality.specs.{Choices.AreInputsOfOneClass, Inputs.{AreInputs, FileInput, input_frames}}
@@ -27,8 +26,7 @@ Follow first (input ∷ inputs) =
 follow-class : (class : ClassFields) (inputs : List FileInput) → Follow (Some class) inputs
     → (i : ℕ) (p : FileInput) → slice_get inputs i ≡ Some p → p.survey.class ≡ class
 follow-class class [] follow i p is = absurd cc
-follow-class class (input ∷ inputs) follow zero p is = let same : input ≡ p = cc in
-    subst (λ (q : FileInput). q.survey.class ≡ class) same follow.0
+follow-class class (input ∷ inputs) follow zero p is = grind arith
 follow-class class (input ∷ inputs) follow (suc i) p is = follow-class class inputs follow.1 i p is
 
 class-follow : (class : ClassFields) (inputs : List FileInput)
@@ -42,13 +40,8 @@ each-first : (inputs : List FileInput) → Follow None inputs → (first : FileI
     → slice_get inputs 0 ≡ Some first → (i : ℕ) (p : FileInput) → slice_get inputs i ≡ Some p
     → p.survey.class ≡ first.survey.class
 each-first [] follow first is i p here = absurd cc
-each-first (input ∷ inputs) follow first is zero p here =
-    let same : first ≡ p = cc in
-    subst (λ (q : FileInput). q.survey.class ≡ first.survey.class) same refl
-each-first (input ∷ inputs) follow first is (suc i) p here =
-    let same : input ≡ first = cc in
-    follow-class input.survey.class inputs follow.1 i p here
-    ∙ ap (λ (q : FileInput). q.survey.class) same
+each-first (input ∷ inputs) follow first is zero p here = grind arith
+each-first (input ∷ inputs) follow first is (suc i) p here = grind (arith, follow-class)
 
 one-class : (inputs : List FileInput) → Follow None inputs → AreInputsOfOneClass inputs
 one-class [] follow i j p q is here = absurd cc
@@ -66,10 +59,7 @@ class-one (input ∷ inputs) one =
 is-part : (place : ℕ) (first : Option ClassFields) (allowed : ℕ) (o : Option (List ℕ))
     (file : List ℕ) (s : SurveyFields) → o ≡ Some file → survey_of file allowed ≡ Ok s
     → HasClassOfFirst first s.class → join_part place first allowed o ≡ Ok (whole_part file s)
-is-part place first allowed o file s there surveyed follows =
-    ap (join_part place first allowed) there ∙ ap (surveyed_part place first file) surveyed
-    ∙ ap (λ b. cond b (Ok (whole_part file s)) (Err (Refused (Differ place))))
-    (follows-may first s.class follows)
+is-part place first allowed o file s there surveyed follows = grind (arith, follows-may)
 
 -- ---- all inputs
 
@@ -94,8 +84,7 @@ parts-join files place first allowed (name ∷ names) parts e =
     (allowed - length part.survey.frames) files names) _ parts one.2 in
     let is = part-is place first allowed (files name) part one.1 in
     let input : FileInput = record { bytes = is.file; survey = is.survey } in
-    let same : ◌≡◌ {A = SurveyFields} part.survey is.survey =
-    ap (λ (p : FilePart). p.survey) (sym is.whole) in
+    let same : ◌≡◌ {A = SurveyFields} part.survey is.survey = grind arith in
     let more = parts-join files (place + 1) (Some (unwrap_or first part.survey.class))
     (allowed - length part.survey.frames) names rest.0 rest.1 in
     let few = (survey-whole is.file allowed is.survey is.surveyed).few in
@@ -103,11 +92,7 @@ parts-join files place first allowed (name ∷ names) parts e =
       inputs = input ∷ more.inputs;
       are = (survey-input files name is.file allowed is.survey is.there is.surveyed, more.are);
       few = omega (arith, more.few, few, ap (λ (s : SurveyFields). length s.frames) same);
-      follow = (
-        is.follows,
-        subst (λ (s : SurveyFields). Follow (Some (unwrap_or first s.class)) more.inputs) same
-            more.follow,
-      );
+      follow = grind arith;
     }
 
 join-parts : (files : Contents) (place : ℕ) (first : Option ClassFields) (allowed : ℕ)

@@ -1,13 +1,13 @@
 -- What is legal is accepted, and what is accepted is legal, command by command.
-use Rattle.std.proofs.Common.{ap, append-nil, arith, Bool, Contains, Err, false, length, List, map}
-use Rattle.std.proofs.Common.{None, Ok, Option, refl, Result, Some, subst, sym, true, ℕ, [], ◌++◌}
-use Rattle.std.proofs.{Common.{◌+◌, ◌↔◌, ◌∙◌, ◌∷◌, ◌≡◌, ◌≤◌}, lemmas.List.Elements.All-cons}
+use Rattle.std.proofs.Common.{ap, append-nil, arith, Bool, Err, false, length, List, map, None, Ok}
+use Rattle.std.proofs.Common.{Option, refl, Result, Some, subst, sym, true, ℕ, [], ◌++◌, ◌+◌, ◌↔◌}
+use Rattle.std.proofs.{Common.{◌∙◌, ◌∷◌, ◌≡◌, ◌≤◌}, lemmas.List.Elements.All-cons}
 use Rattle.commands.proofs.MadeLemmas.{made-of, makes-parts, of-made, parts-make}
 use Rattle.commands.proofs.{RefusingLemmas.then_ok, TellingLemmas.text-parts}
 use Rattle.commands.specs.{Command.{clash_from, Made}, Refusing.then_made}
 use Rattle.commands.specs.SingleOutput.{input_result, Making, most_frames, one_command, Task}
 use Rattle.commands.specs.{WithText.with_text, declared.fault.EditFault.EditFault}
-use Rattle.cue_sheet.specs.declared.place.Place.{Place, TheVariants.End}
+use Rattle.cue_sheet.specs.declared.place.Place.{Place}
 use Rattle.cut_edits.proofs.ChosenLemmas.{laid-parts, laying-is}
 use Rattle.cut_edits.proofs.PieceLemmas.{exact-is, piece-parts}
 use Rattle.cut_edits.specs.Chosen.{all_choice, chosen_needs, cut_choice, cut_command, cut_refuses}
@@ -69,18 +69,15 @@ no-names outputs = λ k d within. absurd (omega (arith, within))
 
 -- help is always legal
 pub help-legal : (files : Contents) → IsLegalFor Help files
-help-legal files =
-    record { names = no-names []; inputs = []; are = tt; few = omega arith; choices = tt }
+help-legal files = grind (arith, no-names)
 
 -- the version is always legal
 pub version-legal : (files : Contents) → IsLegalFor Version files
-version-legal files =
-    record { names = no-names []; inputs = []; are = tt; few = omega arith; choices = tt }
+version-legal files = grind (arith, no-names)
 
 -- a drill is always legal
 pub drill-legal : (seed count : ℕ) (files : Contents) → IsLegalFor (Drill seed count) files
-drill-legal seed count files =
-    record { names = no-names []; inputs = []; are = tt; few = omega arith; choices = tt }
+drill-legal seed count files = grind (arith, no-names)
 
 -- ---- one input
 
@@ -103,8 +100,7 @@ module _ (asked : Request) (files : Contents) (input : List ℕ)
   the-one : (inputs : List FileInput) → AreInputs files (input ∷ []) inputs
       → input_frames inputs ≤ most_frames_of asked → AreLegalChoices asked files inputs → IsOneOf
   the-one [] are few choices = absurd are
-  the-one (one ∷ []) are few choices =
-      record { input = one; is = are.0; few = omega (arith, few); choice = choices }
+  the-one (one ∷ []) are few choices = grind arith
   the-one (one ∷ next ∷ inputs) are few choices = absurd are.1
 
   one-legal : IsLegalFor asked files ↔ (AreApart (input ∷ []) × IsOneOf)
@@ -152,13 +148,7 @@ module _ (text : List ℕ → SurveyFields → List ℕ) (files : Contents) (inp
   text-law : (Legal : Type 0)
       → Legal ↔ (AreNamesApart (input ∷ []) [] × IsOne NoChoice files input most_frames)
       → Legal ↔ AcceptsFiles (text_command text input) files
-  text-law Legal is = (
-    (λ legal. one-text (is.0 legal).1),
-    (λ made. is.1 (
-      All-cons (λ name. Contains [] name → ⊥) input [] (λ has. omega (arith, has.1)) (no-names []),
-      text-one (files input) made.0 refl made.1,
-    )),
-  )
+  text-law Legal is = grind (arith, one-text, All-cons, no-names, text-one)
 
 list-law : (files : Contents) (input : List ℕ)
     → IsLegalFor (ListFile input) files ↔ AcceptsFiles (list_command input) files
@@ -428,31 +418,11 @@ split-at-law files input prefix places =
 module _ (Pieces : List Place → Type 0) (sheet : List ℕ) (files : Contents) where
   sheet-places : IsSheetWith Pieces sheet files → (places : List Place)
       × (cue_sheet_places (files sheet) ≡ Ok places) × Pieces places
-  sheet-places is = (
-    is.starts ++ End ∷ [],
-    parts-cue (files sheet) (is.starts ++ End ∷ []) (record {
-      bytes = is.bytes;
-      there = is.there;
-      small = is.small;
-      starts = is.starts;
-      read = is.read;
-      all = refl;
-    }),
-    is.pieces,
-  )
+  sheet-places is = grind (arith, parts-cue)
 
   places-sheet : (places : List Place) → cue_sheet_places (files sheet) ≡ Ok places
       → Pieces places → IsSheetWith Pieces sheet files
-  places-sheet places e pieces =
-      let cue = cue-parts (files sheet) places e in
-      record {
-        bytes = cue.bytes;
-        there = cue.there;
-        small = cue.small;
-        starts = cue.starts;
-        read = cue.read;
-        pieces = subst Pieces (sym cue.all) pieces;
-      }
+  places-sheet places e pieces = grind (arith, cue-parts)
 
 split-by-law : (files : Contents) (input prefix sheet : List ℕ)
     → IsLegalFor (SplitBy false input prefix sheet) files
@@ -534,8 +504,7 @@ module _ (seamless : Bool) (files : Contents) (output : List ℕ) (inputs : List
 made-parts : {X : Type 0} (files : Contents) (inputs : List (List ℕ)) (file : List FilePart → X)
     (parts : List FilePart) → join_parts files inputs ≡ Ok parts
     → then_made (join_parts files inputs) (λ ps. Ok (file ps)) ≡ Ok (file parts)
-made-parts files inputs file parts e =
-    ap (λ (r : Result (List FilePart) EditFault). then_made r (λ ps. Ok (file ps))) e
+made-parts files inputs file parts e = grind arith
 
 join-law : (files : Contents) (output : List ℕ) (inputs : List (List ℕ))
     → IsLegalFor (Join false output inputs) files ↔ AcceptsFiles (join_command output inputs) files

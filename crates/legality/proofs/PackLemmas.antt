@@ -9,8 +9,8 @@ use Rattle.commands.specs.{Refusing.{refusal_or, then_made}, SingleOutput.most_f
 use Rattle.commands.specs.declared.fault.EditFault.{EditFault, TheVariants.Refused}
 use Rattle.commands.specs.declared.fault.Refusal.TheVariants.{NoRate, Unfit}
 use Rattle.cut_edits.proofs.ChosenLemmas.{laid-fault, laid-parts, laying-is}
-use Rattle.cut_edits.specs.Chosen.{all_choice, Chosen, chosen_needs, chosen_rows, laying_making}
-use Rattle.cut_edits.specs.Chosen.{placed_part, Planning}
+use Rattle.cut_edits.specs.Chosen.{all_choice, Chosen, chosen_needs, laying_making, placed_part}
+use Rattle.cut_edits.specs.Chosen.{Planning}
 use Rattle.frame_header.specs.{Fields.{ClassFields, SlotFields}, Slots.all_slots}
 use Rattle.frame_header.specs.Tables.{rate_of, window_of}
 use Rattle.laying.{proofs.PlacesLemmas.range-whole, specs.{Laid.file_laid, Needs.need_of}}
@@ -23,10 +23,9 @@ use Rattle.pack_edits.proofs.PlanLemmas.{rows-sound}
 use Rattle.pack_edits.specs.Rates.{fitted_plan, is_rate, menu_in, no_rate, rate_refusal, rates_plan}
 use Rattle.rate_plan.proofs.LeastMenuPlanLemmas.{least_menu_plan-is}
 use Rattle.rate_plan.specs.LeastMenuPlan.{least_menu_plan}
-use Rattle.rate_plan.specs.Menus.{CanBeLaidFromMenu, IsFirstUnfitFrame, IsMenuPlan, menu_items}
+use Rattle.rate_plan.specs.Menus.{CanBeLaidFromMenu, IsFirstUnfitFrame, IsMenuPlan}
 use Rattle.requests.specs.declared.mode.PackMode.{PackMode, TheVariants.{Constant, Floor}}
-use Rattle.slot_plan.specs.{Lists.CanBeLaid, Plans.item_areas, declared.needs.Need.Need}
-use Rattle.slot_plan.specs.declared.needs.Placed.{Placed}
+use Rattle.slot_plan.specs.{Lists.CanBeLaid, declared.needs.{Need.Need, Placed.Placed}}
 use Rattle.sync_survey.proofs.PlacedRowLemmas.{survey_fields-placed}
 use Rattle.sync_survey.{proofs.SurveyedFileLemmas.survey_of-parts, specs.Faults.SurveyFields}
 use Rattle.sync_survey.specs.Survey.{survey_of}
@@ -82,11 +81,7 @@ no-rate_none rate class none = at (is_rate rate class) refl none
 -- a bit rate of the class isn't refused
 pub rate-none : (rate : ℕ) (class : ClassFields) → IsRate rate class
     → rate_refusal rate class ≡ None
-rate-none rate class is =
-    ap (λ b. cond b None (Some (NoRate rate)))
-    (lt-ltb 0 (length (menu_in (Constant rate) class))
-    (kept-some (λ slot. rate_of class slot == rate) is.0 (eq-eqb (rate_of class is.0) rate is.2)
-    all_slots is.1.0 is.1.1 is.1.2))
+rate-none rate class is = grind (arith, lt-ltb, kept-some, eq-eqb)
 
 -- ---- a plan
 
@@ -94,9 +89,7 @@ laid : (window : ℕ) (menu : List SlotFields) (needs : List Need) (placed : Lis
     → IsMenuPlan window menu needs placed
     → (lead_in : Bool) × CanBeLaidFromMenu window lead_in menu needs
 unfolding CanBeLaid
-laid window menu needs placed plan =
-    let items = menu_items plan.lead_in menu needs in
-    (plan.lead_in, (item_areas items placed, plan.whole.least.chosen, plan.whole.least.feasible))
+laid window menu needs placed plan = grind (arith, placed)
 
 -- all frames are chosen
 same-chosen : (a b : Chosen) (r : Result Chosen EditFault) → r ≡ Ok a → r ≡ Ok b → a ≡ b
@@ -118,8 +111,7 @@ module _ (file : List ℕ) (s : SurveyFields) (is : survey_of file most_frames �
 
   choose-all : all_choice file s ≡ Ok chosen
   unfolding all_choice
-  choose-all = within-ok (head_info file s.head).quality (head_info file s.head).extension 0
-      (length s.frames) (length s.frames) (some-frames file most_frames s is, omega arith)
+  choose-all = grind (arith, within-ok, some-frames)
 
   abbrev needs : List Need
   needs = chosen_needs chosen s
@@ -139,11 +131,7 @@ module _ (file : List ℕ) (s : SurveyFields) (is : survey_of file most_frames �
       → laying_making all_choice plan file s ≡ Ok bytes
       → (placed : List Placed) × (plan s.class needs ≡ Ok placed)
   made-planned plan bytes made =
-      let by = laid-parts all_choice plan file s bytes made in (
-        by.placed,
-        subst (λ (c : Chosen). plan s.class (chosen_needs c s) ≡ Ok by.placed)
-            (same-chosen by.chosen chosen (all_choice file s) by.chose choose-all) by.planned,
-      )
+      grind (arith, laid-parts all_choice plan file s bytes made, same-chosen, choose-all)
 
   -- ---- from a menu
 
@@ -154,11 +142,7 @@ module _ (file : List ℕ) (s : SurveyFields) (is : survey_of file most_frames �
   placed = survey_fields-placed file most_frames s (survey_of-parts file most_frames s is).1
 
   needs-some : 1 ≤ length needs
-  needs-some = omega (
-    arith,
-    rows-some chosen s placed some (omega arith),
-    length-map (chosen_rows chosen s) need_of,
-  )
+  needs-some = grind (arith, rows-some, placed, some, length-map)
 
   module _ (mode : PackMode) (none : no_rate mode s.class ≡ None) where
     abbrev menu : List SlotFields
@@ -202,17 +186,7 @@ module _ (file : List ℕ) (s : SurveyFields) (is : survey_of file most_frames �
       → laying_making all_choice (rates_plan mode) file s ≡ Ok bytes
       → (none : no_rate mode s.class ≡ None) × (found : List Placed)
       × (least_menu_plan (window_of s.class.version) (menu_in mode s.class) needs ≡ Ok found)
-  rates-parts mode bytes made =
-      let window = window_of s.class.version in
-      let planned = made-planned (rates_plan mode) bytes made in
-      let one = then_ok (refusal_or (no_rate mode s.class) (menu_in mode s.class))
-      (λ menu. fitted_plan (least_menu_plan window menu needs)) planned.0 planned.1 in
-      let ok = refusal_or-ok (no_rate mode s.class) (menu_in mode s.class) one.0 one.1 in (
-        ok.0,
-        planned.0,
-        fitted_plan-ok (least_menu_plan window (menu_in mode s.class) needs)
-            planned.0 (ap (λ menu. fitted_plan (least_menu_plan window menu needs)) ok.1 ∙ one.2),
-      )
+  rates-parts mode bytes made = grind (arith, made-planned, then_ok, refusal_or-ok, fitted_plan-ok)
 
   -- a packing with one bit rate that isn't refused has a bit rate of the class, and room
   pub constant-legal : (rate : ℕ) (bytes : List ℕ)
@@ -249,8 +223,7 @@ module _ (file : List ℕ) (s : SurveyFields) (is : survey_of file most_frames �
   unfit-made rate i none unfit =
       let window = window_of s.class.version in
       let is_unfit : IsFirstUnfitFrame window (menu_in (Constant rate) s.class) needs i =
-      subst (λ l. IsFirstUnfitFrame window (menu_in (Constant rate) s.class) l i)
-      (sym needs-all) unfit in
+      grind (arith, needs-all) in
       let least = ((menu-law (Constant rate) none).1 i).0 is_unfit in
       laying-is all_choice (rates_plan (Constant rate)) file s chosen (Err (Refused (Unfit i)))
       choose-all (plan-is chosen s placed some (omega arith) (Constant rate) (Err i) none least)
@@ -284,8 +257,7 @@ module _ (file : List ℕ) (s : SurveyFields) (is : survey_of file most_frames �
   made-unfit rate i e =
       elim (laid-fault all_choice (rates_plan (Constant rate)) file s (Refused (Unfit i)) e)
       as (λ _. IsRate rate s.class × IsFirstUnfit rate s i) [
-        | inl refused ↦
-            absurd (both-answers chosen (Refused (Unfit i)) (all_choice file s) choose-all refused)
+        | inl refused ↦ grind (arith, both-answers, choose-all)
         | inr no_plan ↦
             let same = same-chosen no_plan.0 chosen (all_choice file s) no_plan.1 choose-all in
             let plan = plan-unfit rate i (subst (λ (c : Chosen). rates_plan (Constant rate)

@@ -15,18 +15,7 @@ use Rattle.sync_survey.specs.Start.{front_end_of}
 
 left-where : (files : Contents) (input bytes : List ℕ) → input_salvaged (files input) ≡ Ok bytes
     → IsLegalSalvage input files
-left-where files input bytes e =
-    let is = read-where (files input) bytes e in
-    let has = read-frames is.file is.left is.read in
-    record {
-      bytes = is.file;
-      there = is.there;
-      long = has.long;
-      first = has.first;
-      begins = has.begins;
-      some = has.some;
-      few = has.few;
-    }
+left-where files input bytes e = grind (arith, read-where, read-frames)
 
 read-legal : (files : Contents) (input : List ℕ) (is : IsLegalSalvage input files)
     → input_salvaged (files input)

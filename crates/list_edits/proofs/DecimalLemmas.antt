@@ -9,31 +9,21 @@ use Rattle.list_edits.specs.Decimals.{four_digits, two_digits}
 -- number
 pub decimal_hundreds : (q k : ℕ) → 0 < q → k < 100 → q * 100 + k < 2 ^ 64
     → decimal (q * 100 + k) ≡ decimal q ++ two_digits k
-decimal_hundreds q k some two few =
-    let n : ℕ = q * 100 + k in
-    let a : n / 10 / 10 ≡ q = omega arith in
-    let b : n / 10 % 10 ≡ k / 10 % 10 = omega arith in
-    let d : n % 10 ≡ k % 10 = omega arith in
-    rw (
-      decimal_step n (omega arith) few,
-      decimal_step (n / 10) (omega arith) (omega arith),
-      append_assoc,
-      a,
-      b,
-      d,
-    ) refl
+decimal_hundreds q k some two few = grind (arith, decimal_step, append_assoc)
 
 -- the digits of ten thousands plus a number below 10,000 are the digits of the ten thousands and
 -- the four of the number
 pub decimal_myriads : (q k : ℕ) → 0 < q → k < 10000 → q * 10000 + k < 2 ^ 64
     → decimal (q * 10000 + k) ≡ decimal q ++ four_digits k
 decimal_myriads q k some four few =
-    let a : q * 10000 + k ≡ (q * 100 + k / 100) * 100 + k % 100 = omega arith in
-    ap decimal a
-    ∙ decimal_hundreds (q * 100 + k / 100) (k % 100) (omega arith) (omega arith) (omega arith)
-    ∙ ap (λ ds. ds ++ two_digits (k % 100))
-    (decimal_hundreds q (k / 100) some (omega arith) (omega arith))
-    ∙ append_assoc (decimal q) (two_digits (k / 100)) (two_digits (k % 100))
+    grind (
+      arith,
+      decimal_hundreds (q * 100 + k / 100) (k % 100) (omega arith) (omega arith) (omega
+          arith),
+      decimal_hundreds q (k / 100) some (omega arith) (omega arith),
+      append_assoc (decimal q)
+          (two_digits (k / 100)) (two_digits (k % 100)),
+    )
 
 -- ---- a number whose leading digits are kept, given how much it exceeds them
 
@@ -63,24 +53,24 @@ put_behind kept q ds line same first then is = rw (then, first, is, same, append
 
 -- a number from 10 to 99 has two digits
 pub decimal_two : (n : ℕ) → 10 ≤ n → n < 100 → decimal n ≡ two_digits n
-decimal_two n lo hi =
-    let a : n / 10 % 10 ≡ n / 10 = omega arith in
-    rw (decimal_step n lo (omega arith), decimal_digit (n / 10) (omega arith), a) refl
+decimal_two n lo hi = grind (arith, decimal_step, decimal_digit)
 
 -- a number of three or four digits has the digits of its hundreds, and two more
 pub decimal_split : (n : ℕ) → 100 ≤ n → n < 10000
     → decimal n ≡ decimal (n / 100) ++ two_digits (n % 100)
 decimal_split n lo hi =
-    let e : n ≡ n / 100 * 100 + n % 100 = omega arith in
-    ap decimal e ∙ decimal_hundreds (n / 100) (n % 100) (omega arith) (omega arith) (omega arith)
+    grind (arith, decimal_hundreds (n / 100) (n % 100) (omega arith) (omega arith) (omega arith))
 
 -- a number before a line, which has at most 20 digits
 pub few_before : (n : ℕ) (line : List ℕ) {new : List ℕ} → n < 2 ^ 64 → new ≡ decimal n ++ line
     → length new ≤ length line + 20
 few_before n line small is =
-    let few : length (decimal n) ≤ 20 =
-    length-decimal-le 20 n (omega arith) (omega arith) (omega arith) in
-    omega (arith, few, ap length is, length-append (decimal n) line)
+    grind (
+      arith,
+      length-decimal-le 20 n (omega arith) (omega arith) (omega arith),
+      length-append
+          (decimal n) line,
+    )
 
 -- a number below 10,000 before a line, whose hundreds are put last
 pub put_split : (n hundreds rest : ℕ) (line : List ℕ) {before new : List ℕ} → 100 ≤ n → n < 10000

@@ -1,13 +1,13 @@
 -- The lines about a file, one of which may be absent, and the frames that they are about.
-use Rattle.std.proofs.Common.{ap, arith, Bool, drop, false, fold, get_or, length, List, max, min}
-use Rattle.std.proofs.Common.{Option, refl, Some, suc, sym, true, ℕ, [], ◌++◌, ◌+◌, ◌<◌, ◌∙◌, ◌∷◌}
-use Rattle.std.proofs.{Common.◌≡◌, Math.Seq.drop-cons, lemmas.List.drop_more}
+use Rattle.std.proofs.Common.{arith, Bool, drop, false, fold, get_or, length, List, max, min}
+use Rattle.std.proofs.Common.{Option, refl, Some, true, ℕ, [], ◌++◌, ◌+◌, ◌<◌, ◌∷◌, ◌≡◌}
+use Rattle.std.proofs.{Math.Seq.drop-cons, lemmas.List.drop_more}
 use Rattle.std.specs.Prelude.{flat_map, if◌then◌else◌, slice_get}
 use Rattle.list_edits.specs.InfoText.{gain_lines}
 use Rattle.list_edits.specs.Totals.{greatest_rate, least_rate, row_rate, row_rates}
 use Rattle.moved_gains.proofs.ExtremesLemmas.{joined_extremes-append}
 use Rattle.moved_gains.specs.GainExtremes.{extremes_of, extremes_of_both, joined_extremes}
-use Rattle.moved_gains.specs.{GainExtremes.moving_gains, declared.gain_extremes.Gains.Gains}
+use Rattle.moved_gains.specs.declared.gain_extremes.Gains.{Gains}
 use Rattle.sync_survey.specs.Row.{Row}
 
 -- ---- lines
@@ -22,44 +22,31 @@ unless-lines false line others = refl
 -- the line that is met, and the lines that are left
 pub line-at : (lines : List (List ℕ)) (i : ℕ) (line : List ℕ) → i < length lines
     → line ≡ get_or lines i line → drop i lines ≡ line ∷ drop (i + 1) lines
-line-at lines i line within is =
-    let next : suc i ≡ i + 1 = omega arith in
-    drop-cons lines i line within ∙ ap (λ n. get_or lines i line ∷ drop n lines) next
-    ∙ ap (λ (l : List ℕ). l ∷ drop (i + 1) lines) (sym is)
+line-at lines i line within is = grind (arith, drop-cons)
 
 -- ---- bit rates
 
 -- the frame that is met, and the frames that are left
 pub row-at : (rows : List Row) (i : ℕ) (row : Row) → i < length rows → row ≡ get_or rows i row
     → drop i rows ≡ row ∷ drop (i + 1) rows
-row-at rows i row within is =
-    drop_more rows i row within ∙ ap (λ (r : Row). r ∷ drop (i + 1) rows) (sym is)
+row-at rows i row within is = grind (arith, drop_more)
 
 -- the least bit rate is the same with the first frame's once more
 pub least-again : (rows : List Row) (first : Row) → slice_get rows 0 ≡ Some first
     → fold min (row_rate first) (row_rates rows) ≡ least_rate rows
 least-again [] first is = absurd cc
-least-again (r ∷ rows) first is =
-    let same : r ≡ first = cc in
-    let one : min (row_rate first) (row_rate r) ≡ row_rate r = rw (sym same) (omega arith) in
-    ap (λ (n : ℕ). fold min n (row_rates rows)) one
+least-again (r ∷ rows) first is = grind arith
 
 -- the greatest bit rate is the same with the first frame's once more
 pub greatest-again : (rows : List Row) (first : Row) → slice_get rows 0 ≡ Some first
     → fold max (row_rate first) (row_rates rows) ≡ greatest_rate rows
 greatest-again [] first is = absurd cc
-greatest-again (r ∷ rows) first is =
-    let same : r ≡ first = cc in
-    let one : max (row_rate first) (row_rate r) ≡ row_rate r = rw (sym same) (omega arith) in
-    ap (λ (n : ℕ). fold max n (row_rates rows)) one
+greatest-again (r ∷ rows) first is = grind arith
 
 -- three texts, joined, are the same if each is
 pub three-lines : {a b d : List ℕ} (x y z : List ℕ) → a ≡ x → b ≡ y → d ≡ z
     → flat_map (λ (l : List ℕ). l) (a ∷ b ∷ d ∷ []) ≡ flat_map (λ (l : List ℕ). l) (x ∷ y ∷ z ∷ [])
-three-lines {a} {b} {d} x y z p q r =
-    ap (λ (l : List ℕ). flat_map (λ (l : List ℕ). l) (l ∷ b ∷ d ∷ [])) p
-    ∙ ap (λ (l : List ℕ). flat_map (λ (l : List ℕ). l) (x ∷ l ∷ d ∷ [])) q
-    ∙ ap (λ (l : List ℕ). flat_map (λ (l : List ℕ). l) (x ∷ y ∷ l ∷ [])) r
+three-lines {a} {b} {d} x y z p q r = grind arith
 
 -- the lines before the lines of the gains, one of which may be absent, and these
 pub all-lines : {a b c d e f g h : List ℕ} (class frames rates main head : List ℕ) (none : Bool)
@@ -69,9 +56,7 @@ pub all-lines : {a b c d e f g h : List ℕ} (class frames rates main head : Lis
     ≡ flat_map (λ (l : List ℕ). l)
     (class ∷ frames ∷ rates ∷ main ∷ head ∷ ((if none then [] else here ∷ []) ++ (played ∷ gains)))
 all-lines class frames rates main head none here played gains p q r s t u v w =
-    rw (p, q, r, s, t, u, v, w)
-    (ap (λ rest. class ++ (frames ++ (rates ++ (main ++ (head ++ rest)))))
-    (sym (unless-lines none here (played ∷ gains))))
+    grind (arith, unless-lines)
 
 -- the gains of both channels are the gains of the one and of the other
 pub gains-said : (rows : List Row) (n channels : ℕ) (left right : Option Gains)
@@ -79,8 +64,4 @@ pub gains-said : (rows : List Row) (n channels : ℕ) (left right : Option Gains
     → flat_map (λ (l : List ℕ). l) (gain_lines n left right (joined_extremes left right))
     ≡ flat_map (λ (l : List ℕ). l)
     (gain_lines channels (extremes_of 0 rows) (extremes_of 1 rows) (extremes_of_both rows))
-gains-said rows n channels left right p q r =
-    rw (p, q, r)
-    (ap (λ (both : Option Gains). flat_map (λ (l : List ℕ). l)
-    (gain_lines channels (extremes_of 0 rows) (extremes_of 1 rows) both))
-    (joined_extremes-append (moving_gains 0 rows) (moving_gains 1 rows)))
+gains-said rows n channels left right p q r = grind (arith, joined_extremes-append)

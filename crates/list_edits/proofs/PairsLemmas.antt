@@ -14,8 +14,7 @@ below : (n p : ℕ) → T (are_pairs n) → p < n
 below zero p t h = absurd (omega arith)
 below (suc n) p t h =
     elim (eq-zero-or-pos (n - p)) [
-      | inl z ↦ let e : p ≡ n = omega arith in let a = and_l _ (are_pairs n) t in
-          rw e (eqb→eq _ _ (and_l _ _ a), eqb→eq _ _ (and_r _ _ a))
+      | inl z ↦ grind (arith, and_l, eqb→eq, and_r)
       | inr g ↦ below n p (and_r _ (are_pairs n) t) (omega arith)
     ]
 

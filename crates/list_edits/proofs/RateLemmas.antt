@@ -1,7 +1,7 @@
 -- The text of each bit rate.
 use Rattle.std.proofs.Common.{ap, arith, Bool, bytes_eq, drop, false, get_or, if◌then◌else◌, inl}
-use Rattle.std.proofs.Common.{inr, length, List, suc, sym, true, zero, ℕ, [], ◌%◌, ◌&&◌, ◌++◌, ◌+◌}
-use Rattle.std.proofs.Common.{◌/◌, ◌<◌, ◌∙◌, ◌∷◌, ◌≡◌, ◌≤◌, ◌⊎◌}
+use Rattle.std.proofs.Common.{inr, length, List, suc, true, zero, ℕ, [], ◌%◌, ◌&&◌, ◌++◌, ◌+◌, ◌/◌}
+use Rattle.std.proofs.Common.{◌<◌, ◌∙◌, ◌∷◌, ◌≡◌, ◌≤◌, ◌⊎◌}
 use Rattle.std.proofs.lemmas.Bool.{and_parts, cases_lt, cond_above, cond_below, ltb-true}
 use Rattle.std.proofs.lemmas.{Fmt.decimal_digit, Slice.Eq.bytes_eq-Decides}
 use Rattle.std.specs.Prelude.{codes, decimal, nat_lt, slice_index}
@@ -50,8 +50,6 @@ pub text_at : (texts : List RateText) (rates : List ℕ) (i : ℕ) → are_texts
 text_at [] rates i are few = absurd (omega arith)
 text_at (text ∷ texts) [] i are few = absurd cc
 text_at (text ∷ texts) (rate ∷ rates) zero are few =
-    let both = and_parts _ _ (and_parts _ _ are).0 in
-    (bytes_eq-Decides _ _).0 both.1 ∙ ap (λ ds. codes ": " ++ (ds ++ codes " kbit/s"))
-    (sym (digits-are rate (ltb-true rate 1000 both.0)))
+    grind (arith, and_parts, bytes_eq-Decides, digits-are, ltb-true)
 text_at (text ∷ texts) (rate ∷ rates) (suc i) are few =
     text_at texts rates i (and_parts _ _ are).1 (omega arith)

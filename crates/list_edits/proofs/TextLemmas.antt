@@ -1,13 +1,13 @@
 -- What a command that sends a text of one file leaves, given the survey of its input.
 use Rattle.std.proofs.Common.{ap, ap₂, arith, Err, inl, inr, length, List, Ok, refl, Result, Some}
-use Rattle.std.proofs.Common.{subst, sym, ℕ, [], ◌+◌, ◌∙◌, ◌∷◌, ◌≡◌, ◌≤◌}
+use Rattle.std.proofs.Common.{subst, sym, ℕ, [], ◌+◌, ◌∙◌, ◌≡◌, ◌≤◌}
 use Rattle.std.specs.{Prelude.{IfErr, OnErr, OnOk}, Result.IsErrAnd}
 use Rattle.commands.proofs.{InputLemmas.of_bytes_behind, MakeLemmas.{made-same, ok_made}}
 use Rattle.commands.proofs.NamedLemmas.{lost_name, missed_name, unread_name}
 use Rattle.commands.proofs.{RefusingLemmas.before_first, TellingLemmas.{says-all, says-prefix}}
 use Rattle.commands.proofs.WhyLemmas.{each_why}
 use Rattle.commands.specs.AfterCall.{HasNumbers, HasSurveyNumbers, IsCommandDone, IsCommandFault}
-use Rattle.commands.specs.AfterCall.{TakesMemory, why_of}
+use Rattle.commands.specs.AfterCall.{TakesMemory}
 use Rattle.commands.specs.Command.{Command, HasAnswer, HoldsStreams, Made, MakesStreams}
 use Rattle.commands.specs.{Command.written_files, SentText.{answer_fault, IsCommandText, SaysText}}
 use Rattle.commands.specs.SingleOutput.{IsFileFault, most_frames}
@@ -24,9 +24,8 @@ use Rattle.sync_survey.proofs.BytesFaultLemmas.{IsOfBytes, survey_fields-of_byte
 use Rattle.sync_survey.proofs.FoldersLemmas.{survey_of-short}
 use Rattle.sync_survey.proofs.SurveyPartsLemmas.{survey_fields-allowed}
 use Rattle.sync_survey.proofs.SurveyedFileLemmas.{survey_of-parts}
-use Rattle.sync_survey.specs.Faults.{IsWellFormed, longest_file, survey_fields, SurveyFields}
-use Rattle.sync_survey.specs.{Survey.survey_of, declared.survey_fault.SurveyFault.SurveyFault}
-use Rattle.sync_survey.specs.declared.survey_fault.SurveyFault.TheVariants.{Absent}
+use Rattle.sync_survey.specs.{Faults.{IsWellFormed, longest_file, SurveyFields}, Survey.survey_of}
+use Rattle.sync_survey.specs.declared.survey_fault.SurveyFault.{SurveyFault, TheVariants.Absent}
 
 -- ---- the last step
 
@@ -55,8 +54,7 @@ module _ (text : List ℕ → SurveyFields → List ℕ) (input : List ℕ) wher
       → surveyed_text (text bytes) (survey_of bytes most_frames) ≡ answer)
       → HasAnswer (text_command text input) files answer
   gives_bytes (Untold touched) answer there is = tt
-  gives_bytes (Told f) answer there is = let held = there_holds f input there in
-      ap (input_text text) held.1 ∙ is held.0 held.1
+  gives_bytes (Told f) answer there is = grind (arith, there_holds)
 
   -- ---- a fault of the survey
 
@@ -71,47 +69,32 @@ module _ (text : List ℕ → SurveyFields → List ℕ) (input : List ℕ) wher
       → IfTold files (λ f. TakesMemory ((text_command text input).makes f))
   takes_memory (Untold touched) there few = tt
   takes_memory (Told f) there few =
-      let held = there_holds f input there in
-      subst TakesMemory (sym (gives_survey f held.0 (survey_fields held.0 most_frames)
-      held.1 (survey_of-short held.0 most_frames (few held.0 held.1))))
-      (survey_takes held.0 (survey_fields held.0 most_frames)
-      (survey_fields-of_bytes held.0 most_frames))
+      grind (
+        arith,
+        there_holds,
+        gives_survey,
+        survey_of-short,
+        survey_takes,
+        survey_fields-of_bytes,
+      )
 
   module _ (old new : Seen) (fault : EditFault) where
     -- a fault of the file leaves everything as it was
     pub survey_left : IsFileFault 0 most_frames input old new fault
         → IsCommandFault (text_command text input) old new fault
-    survey_left h = each_why (why_of fault) h (record {
-      rejected = λ r. record {
-        defined = subst (λ e. HasAnswer (text_command text input) old.files (Err e)) (sym r.1)
-            (gives_bytes old.files (Err (Input 0 r.0))
-            r.2.there (λ bytes holds. ap (surveyed_text (text bytes)) (r.2.bytes bytes holds)));
-        stays = r.2.stays;
-      };
-      missing = λ m. record {
-        defined = subst (λ e. HasAnswer (text_command text input) old.files (Err e)) (sym m.is)
-            (gives_absent old.files m.missing);
-        rose = missed_name (input ∷ []) 0 refl m;
-        files =
-            m.files;
-      };
-      unread = λ u. record {
-        names = refl;
-        before = before_first old.files (text_command text input).makes fault
-            u.is;
-        rose = unread_name (input ∷ []) 0 refl u;
-        files = inl u.files;
-      };
-      shorter = λ l. record {
-        ended = lost_name (input ∷ []) 0 refl l;
-        touches = subst
-            (λ files. OnlyTouches [] old.files files) (sym l.files) (touches_none [] old.files);
-      };
-      unwritten = λ k w. absurd w;
-      unsent = λ w. absurd w;
-      no_memory = λ n.
-          record { names = refl; takes = takes_memory old.files n.there n.few; stays = n.stays };
-    })
+    survey_left h =
+        search (
+          arith,
+          each_why,
+          gives_bytes,
+          gives_absent,
+          missed_name,
+          before_first,
+          unread_name,
+          lost_name,
+          touches_none,
+          takes_memory,
+        )
 
   -- ---- a file without fault, with this text
 
@@ -121,12 +104,8 @@ module _ (text : List ℕ → SurveyFields → List ℕ) (input : List ℕ) wher
     abbrev made_of : Made
     made_of = record { outputs = []; text = said }
 
-    abbrev with_text : List ℕ → Result Made EditFault
-    with_text told = Ok (record { outputs = []; text = told })
-
     gives : HasAnswer (text_command text input) files (Ok made_of)
-    gives = gives_bytes files (Ok made_of) there (λ bytes holds.
-        ap (surveyed_text (text bytes)) (is bytes holds) ∙ ap with_text (text_is bytes holds))
+    gives = grind (arith, gives_bytes)
 
     module _ (new : Files) (counts after : Counts) (same : new ≡ files)
         (done : after ≡ counts) where
@@ -187,10 +166,7 @@ module _ (text : List ℕ → SurveyFields → List ℕ) (input : List ℕ) wher
     -- the text of the command is this one
     only_text : (told : List ℕ) → IsCommandText (text_command text input) files told → said ≡ told
     only_text told (inl always) = absurd cc
-    only_text told (inr known) =
-        let makes : (text_command text input).makes known.0 ≡ Ok made_of =
-        subst (λ fs. HasAnswer (text_command text input) fs (Ok made_of)) known.2 gives in
-        ap (λ (m : Made). m.text) (made-same made_of known.1 (sym makes ∙ known.3)) ∙ known.4
+    only_text told (inr known) = grind (arith, gives, made-same)
 
     -- all of the text was sent or, if a write failed, a prefix
     pub says : {T : Type 0} (old new : Heard) (result : Result T EditFault)
@@ -198,14 +174,7 @@ module _ (text : List ℕ → SurveyFields → List ℕ) (input : List ℕ) wher
         → OnOk result (new.sent ≡ sent_and_more old.sent said)
         → OnErr result (SentPrefix said old.sent new.sent) → HasCause old.faults new.faults result
         → SaysText (text_command text input) files old new (answer_fault result)
-    says old new =
-        told_by (λ r. OnOk r (new.sent ≡ sent_and_more old.sent said)
-        → OnErr r (SentPrefix said old.sent new.sent) → HasCause old.faults new.faults r
-        → SaysText (text_command text input) files old new (answer_fault r))
-        (λ x sent part cause. says-all (text_command text input) files old new said only_text sent
-        cause.done)
-        (λ sent part cause. says-prefix (text_command text input) files old new said only_text part
-        cause.failed)
+    says old new = grind (arith, told_by, says-all, only_text, says-prefix)
 
 -- ---- a call that is refused before anything is sent
 
@@ -235,14 +204,4 @@ pub refused_run : (text : List ℕ → SurveyFields → List ℕ) (input : List 
     → IsTextRun (text_command text input) old new heard heard answer
 refused_run text input old new heard (Ok x) fault is left of files counts = absurd is
 refused_run text input old new heard (Err first) fault is left of files counts =
-    let command = text_command text input in
-    record {
-      done = tt;
-      left = subst (IsCommandFault command old new) (sym is) left;
-      says = subst (λ f. SaysText command old.files heard heard (Some f)) (sym is)
-          (unsaid command old.files heard fault of);
-      numbers = subst (HasNumbers command) (sym is) (survey_numbers text input fault of);
-      streams = tt;
-      files = files;
-      counts = counts;
-    }
+    grind (arith, says, unsaid, survey_numbers)

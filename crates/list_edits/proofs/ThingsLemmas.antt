@@ -1,28 +1,24 @@
 -- The things of a file are two lists, each in order of offset.
-use Rattle.std.proofs.Common.{ap, ap₂, arith, cond, false, List, ltb, map, None, Option, refl, Some}
-use Rattle.std.proofs.Common.{subst, sym, true, ℕ, [], ◌++◌, ◌+◌, ◌-◌, ◌∙◌, ◌∷◌, ◌≡◌, ◌≤◌}
-use Rattle.std.specs.Prelude.{is_some, MatchOption}
+use Rattle.std.proofs.Common.{arith, false, List, map, None, Option, refl, Some, subst, ℕ, [], ◌++◌}
+use Rattle.std.{proofs.Common.{◌+◌, ◌∷◌, ◌≡◌, ◌≤◌}, specs.Prelude.{is_some, MatchOption}}
 use Rattle.frame_header.specs.Tables.{class_of, length_of}
 use Rattle.list_edits.specs.Things.{frames_from, frames_left, head_thing, IsLeadingOffset}
 use Rattle.list_edits.specs.Things.{leading_things, offset_of, ordered_things, stream_things}
 use Rattle.list_edits.specs.{Things.{things_left, things_of}, declared.things.Thing.Thing}
-use Rattle.list_edits.specs.declared.things.{Thing.TheVariants.{Block, Frame, Junk}, Things.Things}
+use Rattle.list_edits.specs.declared.things.{Thing.TheVariants.{Block, Frame}, Things.Things}
 use Rattle.sync_survey.proofs.OrderLemmas.{after_map, merged_other, merged_own, ordered_both}
 use Rattle.sync_survey.{proofs.OrderLemmas.rises_from, specs.Faults.SurveyFields}
 use Rattle.sync_survey.specs.Merge.{firsts_left, PassesFirst, PassesSecond, seconds_left}
 use Rattle.sync_survey.specs.{Order.{IsFirstAfter, IsFirstFrom, merged_list, RisesBy}, Row.Row}
 use Rattle.sync_survey.specs.Survey.{BlocksAreLaid, FramesAreLaid, IsSurveyLaidOut}
-use Rattle.sync_survey.specs.declared.{merge.Merge.Merge, places.{Head.Head, Piece.Piece}}
+use Rattle.sync_survey.specs.declared.places.{Head.Head, Piece.Piece}
 
 -- the blocks of a file are in order of offset
 pub blocks_rise : (from to : ℕ) (blocks : List Piece) → BlocksAreLaid from blocks to
     → RisesBy offset_of from (map Block blocks)
 blocks_rise from to [] laid = tt
-blocks_rise from to (b ∷ blocks) laid = (
-  laid.0,
-  rises_from offset_of b.offset (b.offset + b.block.length) (map Block blocks) (omega arith)
-      (blocks_rise (b.offset + b.block.length) to blocks laid.1),
-)
+blocks_rise from to (b ∷ blocks) laid =
+    grind (arith, rises_from, blocks_rise (b.offset + b.block.length) to blocks laid.1)
 
 frames_rise : (from to number : ℕ) (rows : List Row) → FramesAreLaid from rows to
     → RisesBy offset_of from (frames_from number rows)
@@ -43,14 +39,13 @@ head_rises first (Some head) ts rises = (omega arith, rises)
 pub stream_rises : (s : SurveyFields) → IsSurveyLaidOut s
     → RisesBy offset_of s.junk (stream_things s)
 stream_rises s laid =
-    let rest : List Thing = head_thing s.first s.head ++ frames_from 0 s.frames in
-    let behind = head_rises s.first s.head (frames_from 0 s.frames)
-    (frames_rise s.first s.length 0 s.frames laid.frames) in
-    elim (ltb s.junk s.first)
-    as (λ b. RisesBy offset_of s.junk (cond b (Junk s.junk (s.first - s.junk) ∷ []) [] ++ rest)) [
-      | true ↦ (omega arith, rises_from offset_of s.junk s.first rest laid.junk behind)
-      | false ↦ rises_from offset_of s.junk s.first rest laid.junk behind
-    ]
+    grind (
+      arith,
+      head_rises s.first s.head (frames_from 0 s.frames) (frames_rise s.first s.length 0
+          s.frames laid.frames),
+      frames_rise s.first s.length 0 s.frames laid.frames,
+      rises_from,
+    )
 
 -- in order, the things are the blocks merged with the others
 pub ordered_things-is : (s : SurveyFields) → IsSurveyLaidOut s
@@ -78,20 +73,13 @@ module _ (old new : Things) where
       → IsFirstFrom offset_of piece.offset (leading_things old ++ frames_left old)
       → things_left old ≡ Block piece ∷ things_left new
   unfolding things_left
-  block_first piece same passes from =
-      let blocks : List Thing = map Block (firsts_left new.others) in
-      ap (λ bs. merged_list offset_of (map Block bs) (leading_things old ++ frames_left old))
-      passes.firsts
-      ∙ merged_own offset_of (Block piece) blocks (leading_things old ++ frames_left old) from
-      ∙ ap (λ us. Block piece ∷ merged_list offset_of blocks us)
-      (sym (ap₂ (λ ls fs. ls ++ fs) same (ap₂ frames_from passes.number passes.seconds)))
+  block_first piece same passes from = grind (arith, merged_own)
 
   -- a block is met while the junk or the head is left
   pub block_met : (piece : Piece) (at : ℕ) → leading_things new ≡ leading_things old
       → PassesFirst piece old.others new.others → IsLeadingOffset (Some at) (leading_things old)
       → piece.offset ≤ at → things_left old ≡ Block piece ∷ things_left new
-  block_met piece at same passes is le = block_first piece same passes
-      (from_leading at piece.offset (leading_things old) (frames_left old) is le)
+  block_met piece at same passes is le = grind (arith, block_first, from_leading)
 
   -- the junk or the head is met
   pub leading_things-met : (result : Option Thing) (at : ℕ)
@@ -102,16 +90,7 @@ module _ (old new : Things) where
       → MatchOption result (things_left old ≡ []) (λ t. things_left old ≡ t ∷ things_left new)
   unfolding things_left
   leading_things-met None at is after same none = absurd (subst (IsLeadingOffset (Some at)) none is)
-  leading_things-met (Some t) at is after same first =
-      let at_is : at ≡ offset_of t = subst (IsLeadingOffset (Some at)) first is in
-      ap (λ ls. merged_list offset_of (map Block (firsts_left old.others)) (ls ++ frames_left old))
-      first
-      ∙ merged_other offset_of (map Block (firsts_left old.others)) t (leading_things new
-      ++ frames_left old)
-      (subst (λ n. IsFirstAfter offset_of n (map Block (firsts_left old.others)))
-      at_is (after_map offset_of Block at (firsts_left old.others) after))
-      ∙ ap (λ (o : Merge Piece Row). t ∷ merged_list offset_of (map Block (firsts_left o))
-      (leading_things new ++ frames_from o.next_second (seconds_left o))) (sym same)
+  leading_things-met (Some t) at is after same first = grind (arith, merged_other, after_map)
 
   module _ (none : leading_things old ≡ []) (none_now : leading_things new ≡ []) where
     -- a frame is met
@@ -119,27 +98,13 @@ module _ (old new : Things) where
         → IsFirstAfter (λ (p : Piece). p.offset) row.offset (firsts_left old.others)
         → things_left old ≡ Frame old.others.next_second row ∷ things_left new
     unfolding things_left
-    frame_met row passes after =
-        let number : ℕ = old.others.next_second in
-        let frames : frames_left old ≡ Frame number row ∷ frames_left new =
-        ap (frames_from number) passes.seconds
-        ∙ ap (λ n. Frame number row ∷ frames_from n (seconds_left new.others)) (sym passes.number)
-        in
-        ap₂ (λ ls fs. merged_list offset_of (map Block (firsts_left old.others)) (ls ++ fs)) none
-        frames
-        ∙ merged_other offset_of (map Block (firsts_left old.others)) (Frame number row)
-        (frames_left new) (after_map offset_of Block row.offset (firsts_left old.others) after)
-        ∙ ap₂ (λ bs ls. Frame number row ∷ merged_list offset_of (map Block bs)
-        (ls ++ frames_left new)) (sym passes.firsts) (sym none_now)
+    frame_met row passes after = grind (arith, merged_other, after_map)
 
     -- a block before which no other thing comes is the next
     pub block_alone : (piece : Piece) → PassesFirst piece old.others new.others
         → IsFirstFrom (λ (r : Row). r.offset) piece.offset (seconds_left old.others)
         → things_left old ≡ Block piece ∷ things_left new
-    block_alone piece passes from =
-        block_first piece (none_now ∙ sym none) passes
-        (subst (λ ls. IsFirstFrom offset_of piece.offset (ls ++ frames_left old)) (sym none)
-        (from_frames piece.offset old.others.next_second (seconds_left old.others) from))
+    block_alone piece passes from = grind (arith, block_first, from_frames)
 
 -- if nothing leads and both lists are at their ends, nothing is left
 pub none_met : (t : Things) → leading_things t ≡ [] → firsts_left t.others ≡ []

@@ -60,10 +60,7 @@ at-first rows first rate h s some is same header side =
 
 sum-more : (f : Row → ℕ) (row : Row) (rest : List Row) (so_far all : ℕ)
     → so_far + sum_by f (row ∷ rest) ≡ all → (so_far + f row) + sum_by f rest ≡ all
-sum-more f row rest so_far all is =
-    let grouped : (so_far + f row) + sum_by f rest ≡ so_far + (f row + sum_by f rest) =
-    omega arith in
-    grouped ∙ ap (λ n. so_far + n) (sym (sum_by-cons f row rest)) ∙ is
+sum-more f row rest so_far all is = grind (arith, sum_by-cons)
 
 lost-cons : (row : Row) (rest : List Row)
     → lost_count (row ∷ rest) ≡ (if row.lost then 1 else 0) + lost_count rest
@@ -77,9 +74,7 @@ lost-cons row rest = at row.lost (filter (λ (r : Row). r.lost) rest)
 gains-more : (channel : ℕ) (row : Row) (rest : List Row) (so_far : Option Gains) → joined_extremes
     (joined_extremes so_far (extremes (row_gains channel row))) (extremes_of channel rest)
     ≡ joined_extremes so_far (extremes_of channel (row ∷ rest))
-gains-more channel row rest so_far =
-    joined_extremes-assoc so_far (extremes (row_gains channel row)) (extremes_of channel rest)
-    ∙ ap (joined_extremes so_far) (sym (extremes-cons channel row rest))
+gains-more channel row rest so_far = grind (arith, joined_extremes-assoc, extremes-cons)
 
 before-more : (rows rest : List Row) (row : Row) (h : HeaderTotals) (s : SideTotals)
     → AreBefore rows (row ∷ rest) h s
@@ -89,11 +84,7 @@ before-more rows rest row h s before = record {
   lengths = sum-more (λ (r : Row). header_frame_length r.header) row rest _ _ before.lengths;
   least = before.least;
   greatest = before.greatest;
-  lost =
-      let one = if row.lost then 1 else 0 in
-      let grouped : (s.lost + one) + lost_count rest ≡ s.lost + (one + lost_count rest) =
-      omega arith in
-      grouped ∙ ap (λ n. s.lost + n) (sym (lost-cons row rest)) ∙ before.lost;
+  lost = grind (arith, lost-cons);
   main_data = sum-more row_main_data row rest _ _ before.main_data;
   left = gains-more 0 row rest s.left ∙ before.left;
   right = gains-more 1 row rest s.right ∙ before.right;
@@ -153,8 +144,7 @@ with-sound row s bytes left right is p q r =
 -- all frames have the class of the survey
 pub classed : (s : SurveyFields) → IsSurveyLaidOut s → (rows : List Row) (class : ClassFields)
     → rows ≡ s.frames → class ≡ s.class → AreFramesOfClass class rows
-classed s laid rows class same is = λ i row got.
-    out_classed s laid i row (subst (λ (l : List Row). slice_get l i ≡ Some row) same got) ∙ sym is
+classed s laid rows class same is = grind (arith, out_classed)
 
 -- ---- no frame is left
 
@@ -163,8 +153,7 @@ none-moves channel = ap extremes (moving-nil channel) ∙ extremes-nil
 
 gains-all : (channel : ℕ) (so_far all : Option Gains)
     → joined_extremes so_far (extremes_of channel []) ≡ all → so_far ≡ all
-gains-all channel so_far all is =
-    sym (joined_extremes-None so_far) ∙ ap (joined_extremes so_far) (sym (none-moves channel)) ∙ is
+gains-all channel so_far all is = grind (arith, joined_extremes-None, none-moves)
 
 -- once no frame is left, these are the totals of all frames
 pub all-met : (rows : List Row) (h : HeaderTotals) (s : SideTotals) → AreBefore rows [] h s

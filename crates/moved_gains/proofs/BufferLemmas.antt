@@ -1,77 +1,45 @@
 -- What is held of an input, and what waits before it.
-use Rattle.std.proofs.Common.{ap, ap₂, arith, drop, length, length-drop, List, refl, sym, take, ℕ}
-use Rattle.std.proofs.Common.{[], ◌+◌, ◌-◌, ◌∙◌, ◌≡◌, ◌≤◌}
-use Rattle.std.proofs.lemmas.List.{drop-drop, drop-take, take-take}
+use Rattle.std.proofs.Common.{arith, drop, length, length-drop, List, take, ℕ, [], ◌+◌, ◌-◌, ◌≡◌}
+use Rattle.std.proofs.{Common.◌≤◌, lemmas.List.{drop-drop, drop-take, take-take}}
 use Rattle.outside.{proofs.FeedLemmas.fed_nothing, specs.Feed.{Fed, IsFedFrom}}
 use Rattle.outside.specs.Files.{Files, Holds, with_appended_bytes}
 use Rattle.outside.specs.{Pass.{IsPassReady, WritesMadeBytes}, declared.pass.Pass.Pass}
 
 -- the end of a part of a list
 pub part_later : (m n : ℕ) (xs : List ℕ) → n ≤ m → drop n (take m xs) ≡ take (m - n) (drop n xs)
-part_later m n xs few =
-    let sum : m ≡ n + (m - n) = omega (arith, few) in
-    ap (λ k. drop n (take k xs)) sum ∙ drop-take n (m - n) xs
+part_later m n xs few = grind (arith, drop-take n (m - n) xs)
 
 -- what is held after the next bytes were passed on
 pub held_later : (room : List ℕ) (done end n : ℕ) → done + n ≤ end
     → take (end - (done + n)) (drop (done + n) room) ≡ drop n (take (end - done) (drop done room))
-held_later room done end n few =
-    let less : end - done - n ≡ end - (done + n) = omega (arith, few) in
-    sym (part_later (end - done) n (drop done room) (omega (arith, few))
-    ∙ ap₂ take less (drop-drop n done room))
+held_later room done end n few = grind (arith, part_later, drop-drop)
 
 -- the next bytes that are held are the file's
 pub held_piece : (fed : Fed) (files : Files) (name : List ℕ) (at n : ℕ) → fed.place ≡ at
     → n ≤ length fed.held → IsFedFrom fed files name → (file : List ℕ) → Holds files name file
     → take n fed.held ≡ take n (drop at file)
-held_piece fed files name at n place enough fed_from file holds =
-    ap (take n) (sym (fed_from.same file holds)) ∙ take-take n (length fed.held)
-    (drop fed.place file) enough ∙ ap (λ k. take n (drop k file)) place
+held_piece fed files name at n place enough fed_from file holds = grind (arith, take-take)
 
 -- a pass stays ready if other bytes of the input are held
 pub ready_with : (pass : Pass) (files : Files) (fed later : Fed)
     → IsFedFrom later files pass.input.now → IsPassReady pass files fed
     → IsPassReady pass files later
-ready_with pass files fed later fed_from ready = record {
-  apart = ready.apart;
-  source = ready.source;
-  target = ready.target;
-  length_is = ready.length_is;
-  few = ready.few;
-  fed_from = fed_from;
-}
+ready_with pass files fed later fed_from ready = grind arith
 
 -- after the next bytes, the bytes that are held are still the input's
 pub ready_after : (pass : Pass) (files : Files) (fed later : Fed) (n : ℕ) → n ≤ length fed.held
     → later.place ≡ fed.place + n → later.held ≡ drop n fed.held → IsPassReady pass files fed
     → IsPassReady pass files later
 ready_after pass files fed later n enough place held ready =
-    ready_with pass files fed later
-    (record {
-      same = λ file holds.
-          let long : length later.held ≡ length fed.held - n =
-          ap length held ∙ length-drop n fed.held in
-          ap₂ (λ k m. take k (drop m file)) long place
-          ∙ ap (take (length fed.held - n)) (sym (drop-drop n fed.place file))
-          ∙ sym (part_later (length fed.held) n (drop fed.place file) enough)
-          ∙ ap (drop n) (ready.fed_from.same file holds)
-          ∙ sym held;
-    })
-    ready
+    grind (arith, ready_with, length-drop, drop-drop, part_later)
 
 -- a feed that holds nothing is ready for the pass
 pub ready_empty : (pass : Pass) (files : Files) (fed none : Fed) → none.held ≡ []
     → IsPassReady pass files fed → IsPassReady pass files none
-ready_empty pass files fed none nothing ready =
-    ready_with pass files fed none (fed_nothing none files pass.input.now nothing) ready
+ready_empty pass files fed none nothing ready = grind (arith, ready_with, fed_nothing)
 
 -- all that waited was appended
 pub all_on : (pass : Pass) (waits : List ℕ) (old now : Files)
     → now ≡ with_appended_bytes old pass.output.now waits
     → WritesMadeBytes pass (λ file. []) waits [] old now
-all_on pass waits old now is = record {
-  piece = [];
-  is = λ file holds. refl;
-  passed =
-      record { passed = waits; split = refl; files = is };
-}
+all_on pass waits old now is = grind arith

@@ -1,16 +1,16 @@
 -- A file without fault and without junk: all its bytes are items, which split at its tag.
-use Rattle.std.proofs.Common.{ap, ap₂, arith, length, List, None, Option, option_to_list, refl}
-use Rattle.std.proofs.Common.{Some, subst, sym, ℕ, [], ◌++◌, ◌+◌, ◌∙◌, ◌∷◌, ◌≡◌}
+use Rattle.std.proofs.Common.{ap, arith, length, List, None, Option, option_to_list, refl, Some}
+use Rattle.std.proofs.Common.{subst, sym, ℕ, [], ◌++◌, ◌+◌, ◌∙◌, ◌∷◌, ◌≡◌}
 use Rattle.std.{proofs.lemmas.List.Elements.filter_map-append, specs.List.find}
 use Rattle.moved_gains.proofs.MovedItemLemmas.{ends-append}
 use Rattle.moved_gains.proofs.ReadFileLemmas.{has_stream, HasStream, later_run}
 use Rattle.moved_gains.proofs.SplitItemLemmas.{final, IsSplit, last-told, split-last, split-tag}
 use Rattle.moved_gains.proofs.{SplitItemLemmas.stop_of, TagReadingLemmas.place-some}
-use Rattle.moved_gains.specs.TagPlace.{is_tag, last_end, tag_block, tag_length, tag_offset}
+use Rattle.moved_gains.specs.TagPlace.{is_tag, tag_block, tag_length, tag_offset}
 use Rattle.sync_survey.proofs.ItemListLemmas.{ends-stream}
 use Rattle.sync_survey.proofs.RunsLemmas.{frames-append, front-frames, item_run-ends}
 use Rattle.sync_survey.proofs.SurveyPartsLemmas.{frames_from, IsRead, told_from}
-use Rattle.sync_survey.specs.{Faults.SurveyFields, MainData.{marked_rows, rows_of}}
+use Rattle.sync_survey.specs.Faults.{SurveyFields}
 use Rattle.sync_survey.specs.Runs.{AreEndToEnd, block_of_item, blocks_of, frames_of, item_run}
 use Rattle.sync_survey.specs.Runs.{ItemRun, PlacedItem}
 use Rattle.sync_survey.specs.Walk.{end_fault, head_of, numbered_frames, stream_run}
@@ -64,8 +64,7 @@ module _ (file : List ℕ) (allowed : ℕ) (start : Start) (read : IsRead file a
 
   -- the frames of all items are the frames of the stream
   pub items-frames : frames_of items ≡ start.first ∷ rest
-  items-frames = frames-append front.items stream.items
-      ∙ ap₂ (λ (a b : List PlacedFrame). a ++ b) (front-frames file 0) stream-frames
+  items-frames = grind (arith, frames-append, front-frames, stream-frames)
 
   -- the blocks of the items are the survey's
   pub items-blocks : blocks_of items ≡ s.blocks
@@ -80,22 +79,14 @@ module _ (file : List ℕ) (allowed : ℕ) (start : Start) (read : IsRead file a
 
   split_by : (o : Option Piece) → tag_block s ≡ o → IsSplit file items 0 (tag_offset s)
       (tag_offset s + tag_length s) (length file) (option_to_list o)
-  split_by (Some b) is =
-      let place = place-some s b is in
-      let found : find is_tag (blocks_of items) ≡ Some b = ap (find is_tag) items-blocks ∙ is in
-      let split = split-tag file 0 items (length file) b items-end found in
-      subst (λ m. IsSplit file items 0 m (m + tag_length s) (length file) (b ∷ [])) (sym place.0)
-      (subst (λ n. IsSplit file items 0 b.offset (b.offset + n) (length file) (b ∷ []))
-      (sym place.1) split)
+  split_by (Some b) is = grind (arith, place-some, items-blocks, split-tag, items-end)
   split_by None is =
       let none : find is_tag (blocks_of items) ≡ None = ap (find is_tag) items-blocks ∙ is in
       let split =
       split-last file (length file) 0 items start.first rest items-end items-frames none in
       let long : tag_length s ≡ 0 = rw is refl in
       let last : tag_offset s ≡ stop_of (final start.first rest) =
-      rw is (ap (λ (l : List PlacedFrame). last_end (marked_rows head (rows_of file l))) frames-is
-      ∙ last-told file head start.first rest
-      (λ e. some_frames file (frames_from file start) _ read.end (frames-is ∙ e))) in
+      grind (arith, frames-is, last-told, some_frames, frames_from) in
       let next : tag_offset s + tag_length s ≡ stop_of (final start.first rest) =
       omega (arith, long, last) in
       subst (λ m. IsSplit file items 0 m (tag_offset s + tag_length s) (length file) []) (sym last)

@@ -1,6 +1,6 @@
 -- The numbers of the frames of a file at their offsets.
-use Rattle.std.proofs.Common.{ap, arith, Bool, cond, get_or, length, List, Ok, refl, slice_get}
-use Rattle.std.proofs.Common.{Some, subst, suc, sym, zero, ℕ, [], ◌+◌, ◌<◌, ◌∙◌, ◌∷◌, ◌≡◌, ◌≤◌}
+use Rattle.std.proofs.Common.{arith, get_or, length, List, Ok, refl, slice_get, Some, subst, suc}
+use Rattle.std.proofs.Common.{sym, zero, ℕ, [], ◌+◌, ◌<◌, ◌∙◌, ◌∷◌, ◌≡◌, ◌≤◌}
 use Rattle.std.proofs.lemmas.{Bool.{le-ltb, lt-ltb}, Option.slice_get_read}
 use Rattle.frame_header.proofs.{HeaderLemmas.IsClass-class_of, LengthLemmas.area_some}
 use Rattle.frame_header.specs.{Fields.IsHeader, Tables.{class_of, length_of}}
@@ -17,13 +17,11 @@ use Rattle.sync_survey.specs.Walk.{numbered_frames, stream_run}
 
 before : (row : Row) (rows : List Row) (at : ℕ) → row.offset < at
     → number_at (row ∷ rows) at ≡ suc (number_at rows at)
-before row rows at low = ap (λ (b : Bool). cond b (suc (number_at rows at)) (number_at rows at))
-    (lt-ltb row.offset at low)
+before row rows at low = grind (arith, lt-ltb)
 
 behind : (row : Row) (rows : List Row) (at : ℕ) → at ≤ row.offset
     → number_at (row ∷ rows) at ≡ number_at rows at
-behind row rows at high = ap (λ (b : Bool). cond b (suc (number_at rows at)) (number_at rows at))
-    (le-ltb row.offset at high)
+behind row rows at high = grind (arith, le-ltb)
 
 -- no frame is before an offset that isn't after the first
 none_before : (at from : ℕ) (rows : List Row) → at ≤ from → AreRising from rows
@@ -36,13 +34,9 @@ none_before at from (row ∷ rows) low rise =
 -- the number of a frame in order is its place
 pub rising_numbered : (from : ℕ) (rows : List Row) → AreRising from rows → AreRowsNumbered rows
 rising_numbered from [] rise i row is = absurd cc
-rising_numbered from (q ∷ rows) rise zero row is =
-    let same : q ≡ row = cc in
-    subst (λ (x : Row). number_at (q ∷ rows) x.offset ≡ 0) same (behind q rows
-    q.offset (omega arith) ∙ none_before q.offset (suc q.offset) rows (omega arith) rise.1)
+rising_numbered from (q ∷ rows) rise zero row is = grind (arith, behind, none_before)
 rising_numbered from (q ∷ rows) rise (suc i) row is =
-    before q rows row.offset (omega (arith, rising_get (suc q.offset) rows i row rise.1 is))
-    ∙ ap (λ n. suc n) (rising_numbered (suc q.offset) rows rise.1 i row is)
+    grind (arith, before, rising_get, rising_numbered (suc q.offset) rows rise.1 i row is)
 
 -- ---- the frames of a survey
 
@@ -50,10 +44,7 @@ abbrev AreKnown : List Row → Type 0
 AreKnown rows = (i : ℕ) (row : Row) → slice_get rows i ≡ Some row → IsHeader row.header
 
 some_bytes : (row : Row) → IsHeader row.header → 0 < length_of (class_of row.header) row.header.slot
-some_bytes row known = omega (
-  arith,
-  area_some (class_of row.header) row.header.slot (IsClass-class_of row.header known) known.slot,
-)
+some_bytes row known = grind (arith, area_some, IsClass-class_of)
 
 laid_rising : (from : ℕ) (rows : List Row) (to : ℕ) → AreKnown rows → FramesAreLaid from rows to
     → AreRising from rows
@@ -102,9 +93,7 @@ out_few s laid = omega (
 pub frame_steps : (course : Course) (rows : List Row) (i : ℕ) (row : Row) → AreRowsNumbered rows → i
     < length rows → row ≡ get_or rows i row
     → steps_at_offset course rows row.offset ≡ course_steps course i
-frame_steps course rows i row numbered_frames within is =
-    ap (course_steps course)
-    (numbered_frames i row (slice_get_read rows (length rows) i row refl within is))
+frame_steps course rows i row numbered_frames within is = grind (arith, slice_get_read)
 
 -- the number of a frame of a surveyed file is its place
 pub survey_numbered : (file : List ℕ) (allowed : ℕ) (s : SurveyFields)

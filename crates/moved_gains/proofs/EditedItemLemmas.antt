@@ -112,9 +112,7 @@ module _ (steps : ℕ → Steps) (lost : ℕ → Bool) (file new : List ℕ) (ga
       let here = whole_item_at-is Stream file p.offset p.item ends.1 in
       let place : p.offset - gap ≡ at = omega (arith, ends.0, there) in
       let stands : drop (p.offset - gap) new ≡ own ++ rest =
-      ap (λ n. drop n new) place ∙ is ∙ ap (λ (l : List ℕ). l ++ behind)
-      (moved-cons steps lost file p ps)
-      ∙ append_assoc own (moved_items steps lost file ps) behind in
+      grind (arith, moved-cons, append_assoc) in
       let next : drop (p.offset - gap + size) new ≡ rest =
       sym (drop-drop size (p.offset - gap) new) ∙ ap (drop size) stands
       ∙ drop_at own rest size (moved_own (steps p.offset)

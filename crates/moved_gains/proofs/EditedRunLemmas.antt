@@ -63,10 +63,8 @@ pub moved_first : (steps : ℕ → Steps) (lost : ℕ → Bool) (file : List ℕ
       offset = first.offset;
       item = Frame first.header;
     } ∷ ps) ≡ first_bytes steps lost file first o ++ moved_items steps lost file ps
-moved_first steps lost file first ps None =
-    moved-cons steps lost file (record { offset = first.offset; item = Frame first.header }) ps
-moved_first steps lost file first ps (Some head) =
-    ap (λ l. l ++ moved_items steps lost file ps) (append-nil (frame_bytes file first))
+moved_first steps lost file first ps None = grind (arith, moved-cons)
+moved_first steps lost file first ps (Some head) = grind (arith, append-nil)
 
 -- the offsets of the lost frames of a file
 abbrev pub lost_from : List ℕ → Start → ℕ → Bool
@@ -147,8 +145,7 @@ module _ (steps : ℕ → Steps) (file : List ℕ) (allowed : ℕ) (start : Star
   own_item = whole_item h own own_moved.whole
 
   before_are : AreItems front.items before
-  before_are = kept_items file 0
-      front.items front.stop (ends-stream Front file 0 front.items front.stop front_ends)
+  before_are = grind (arith, kept_items, ends-stream, front_ends)
 
   after_are : AreItems later.items after
   after_are = moved_are steps lost file (first + size) later.items later.stop all later_ends
@@ -218,8 +215,7 @@ module _ (steps : ℕ → Steps) (file : List ℕ) (allowed : ℕ) (start : Star
 
   -- the edited file starts with the same frame
   pub new-start : start_of new_file ≡ Ok (moved_start start)
-  new-start = start_by new_file front_end h
-      (front_end-is new_file ∙ ap (λ (r : ItemRun). r.stop) new-front) new_first new_room
+  new-start = grind (arith, start_by, front_end-is, new-front, new_first, new_room)
 
   -- ---- frames and blocks
 

@@ -1,7 +1,7 @@
 -- The survey of the edited file is the file's, with moved gains and without the junk.
-use Rattle.std.proofs.Common.{ap, ap₂, arith, Bool, cond, false, length, List, ltb, map, Ok, Option}
-use Rattle.std.proofs.Common.{refl, subst, sym, true, ℕ, ◌++◌, ◌-◌, ◌<◌, ◌∙◌, ◌≡◌, ◌≤◌}
-use Rattle.std.proofs.lemmas.{Bool.{le-ltb, lt-ltb}, List.{map-append, map-id}}
+use Rattle.std.proofs.Common.{ap, ap₂, arith, Bool, length, List, map, Ok, Option, refl, subst, sym}
+use Rattle.std.proofs.{Common.{ℕ, ◌++◌, ◌-◌, ◌<◌, ◌∙◌, ◌≡◌, ◌≤◌}, lemmas.Bool.{le-ltb, lt-ltb}}
+use Rattle.std.proofs.lemmas.List.{map-append, map-id}
 use Rattle.bit_fields.specs.Bits.{AreBytes}
 use Rattle.moved_gains.proofs.EditedRunLemmas.{frames-moved, gap_of, lost_from, moved_start}
 use Rattle.moved_gains.proofs.EditedRunLemmas.{new-blocks, new-frames, new-head, new-head_area}
@@ -15,9 +15,8 @@ use Rattle.sync_survey.proofs.ItemListLemmas.{blocks-between, nearer_piece}
 use Rattle.sync_survey.proofs.RunsLemmas.{item_run-ends}
 use Rattle.sync_survey.proofs.SurveyPartsLemmas.{frames_from, IsRead, survey_fields-parts}
 use Rattle.sync_survey.proofs.SurveyPartsLemmas.{survey_fields-told, told_from}
-use Rattle.sync_survey.specs.Faults.{class_from, survey_fields, SurveyFields}
-use Rattle.sync_survey.specs.{MainData.{is_lost, rows_of}, Row.Row}
-use Rattle.sync_survey.specs.Runs.{blocks_of, item_run, ItemRun}
+use Rattle.sync_survey.specs.{Faults.{survey_fields, SurveyFields}, MainData.{is_lost, rows_of}}
+use Rattle.sync_survey.specs.{Row.Row, Runs.{blocks_of, item_run}}
 use Rattle.sync_survey.specs.{Walk.{all_blocks, head_of, stream_run}, declared.places.Head.Head}
 use Rattle.sync_survey.specs.declared.places.{Piece.Piece, Start.Start}
 use Rattle.sync_survey.specs.declared.runs.Region.TheVariants.{Front, Stream}
@@ -29,13 +28,11 @@ same_block b = b
 
 before_first : (first gap : ℕ) (b : Piece) → b.offset < first
     → edited_block first gap b ≡ same_block b
-before_first first gap b below = let is : ltb b.offset first ≡ true = lt-ltb b.offset first below in
-    ap (λ (x : Bool). cond x b (nearer_piece gap b)) is
+before_first first gap b below = grind (arith, lt-ltb, nearer_piece)
 
 behind_first : (first gap : ℕ) (b : Piece) → first ≤ b.offset
     → edited_block first gap b ≡ nearer_piece gap b
-behind_first first gap b above = let is : ltb b.offset first ≡ false =
-    le-ltb b.offset first above in ap (λ (x : Bool). cond x b (nearer_piece gap b)) is
+behind_first first gap b above = grind (arith, le-ltb, nearer_piece)
 
 -- ---- the survey
 
@@ -57,13 +54,7 @@ module _ (steps : ℕ → Steps) (file : List ℕ) (allowed : ℕ) (start : Star
   head = head_of file start.first
 
   past : length new ≤ (stream_run new (moved_start start)).stop
-  past =
-      omega (
-        arith,
-        ap (λ (r : ItemRun). r.stop) (new-stream steps file allowed start all read),
-        new-length steps file allowed start all read,
-        (has_stream file allowed start read).stop,
-      )
+  past = grind (arith, new-stream, new-length, has_stream)
 
   -- the edited file is the file's image
   pub edited_image : IsFileImage (λ at. at - gap) steps lost file new start (moved_start start)
@@ -121,18 +112,7 @@ module _ (steps : ℕ → Steps) (file : List ℕ) (allowed : ℕ) (start : Star
   -- the survey of the edited file is the file's, moved
   pub new-told : told_from new (moved_start start) ≡ edited_survey steps (told_from file start)
   unfolding edited_survey
-  new-told =
-      let head = new-head steps file allowed start all read in
-      let long = new-length steps file allowed start all read in
-      λ i. record {
-        frames = new-marked i;
-        blocks = blocks_same i;
-        head = head i;
-        junk = start.front_end;
-        first = start.front_end;
-        class = class_from start;
-        length = long i;
-      }
+  new-told = grind (arith, new-head, new-length, new-marked, blocks_same)
 
   survey_fields-from : survey_fields new allowed ≡ Ok (edited_survey steps (told_from file start))
   survey_fields-from = survey_fields-told new allowed (moved_start start) new-read ∙ ap Ok new-told

@@ -1,7 +1,7 @@
 -- The least and the greatest of gains: for two lists together, and that they are two of the gains.
-use Rattle.std.proofs.Common.{ap, ap₂, arith, Contains, drop, fold, get_or, inl, inr, length, List}
-use Rattle.std.proofs.Common.{max, min, None, Option, refl, Some, subst, suc, sym, zero, ℕ, []}
-use Rattle.std.proofs.{Common.{◌++◌, ◌+◌, ◌<◌, ◌∙◌, ◌∷◌, ◌≡◌, ◌≤◌}, lemmas.Bool.cases_lt}
+use Rattle.std.proofs.Common.{ap, arith, Contains, drop, fold, get_or, inl, inr, length, List, max}
+use Rattle.std.proofs.Common.{min, None, Option, refl, Some, suc, sym, zero, ℕ, [], ◌++◌, ◌+◌, ◌<◌}
+use Rattle.std.proofs.{Common.{◌∷◌, ◌≡◌, ◌≤◌}, lemmas.Bool.cases_lt}
 use Rattle.std.proofs.lemmas.List.{append-nil, drop_all, drop_more, Sums.fold-append}
 use Rattle.std.specs.Prelude.{IfNone, IfSome, slice_get, slice_index_or}
 use Rattle.moved_gains.proofs.CourseLemmas.{out_classed}
@@ -14,15 +14,11 @@ use Rattle.sync_survey.specs.{Faults.SurveyFields, Row.Row, Survey.IsSurveyLaidO
 
 fold-min : (a b : ℕ) (xs : List ℕ) → fold min (min a b) xs ≡ min a (fold min b xs)
 fold-min a b [] = refl
-fold-min a b (x ∷ xs) =
-    let one : min (min a b) x ≡ min a (min b x) = omega arith in
-    ap (λ n. fold min n xs) one ∙ fold-min a (min b x) xs
+fold-min a b (x ∷ xs) = grind (arith, fold-min a (min b x) xs)
 
 fold-max : (a b : ℕ) (xs : List ℕ) → fold max (max a b) xs ≡ max a (fold max b xs)
 fold-max a b [] = refl
-fold-max a b (x ∷ xs) =
-    let one : max (max a b) x ≡ max a (max b x) = omega arith in
-    ap (λ n. fold max n xs) one ∙ fold-max a (max b x) xs
+fold-max a b (x ∷ xs) = grind (arith, fold-max a (max b x) xs)
 
 -- the extreme gains of two lists, joined, are those of both lists together
 pub joined_extremes-append : (xs ys : List ℕ)
@@ -30,10 +26,7 @@ pub joined_extremes-append : (xs ys : List ℕ)
 unfolding extremes
 joined_extremes-append [] ys = refl
 joined_extremes-append (x ∷ xs) [] = ap extremes (sym (append-nil (x ∷ xs)))
-joined_extremes-append (x ∷ xs) (y ∷ ys) =
-    let least = sym (fold-append min x xs (y ∷ ys) ∙ fold-min (fold min x xs) y ys) in
-    let greatest = sym (fold-append max x xs (y ∷ ys) ∙ fold-max (fold max x xs) y ys) in
-    ap₂ (λ (a b : ℕ). Some (record { least = a; greatest = b })) least greatest
+joined_extremes-append (x ∷ xs) (y ∷ ys) = grind (arith, fold-append, fold-min, fold-max)
 
 -- joining extreme gains is associative
 pub joined_extremes-assoc : (f g h : Option Gains)
@@ -41,12 +34,7 @@ pub joined_extremes-assoc : (f g h : Option Gains)
 joined_extremes-assoc None g h = refl
 joined_extremes-assoc (Some f) None h = refl
 joined_extremes-assoc (Some f) (Some g) None = refl
-joined_extremes-assoc (Some f) (Some g) (Some h) =
-    let least : min (min f.least g.least) h.least ≡ min f.least (min g.least h.least) =
-    omega arith in
-    let greatest : max (max f.greatest g.greatest) h.greatest
-    ≡ max f.greatest (max g.greatest h.greatest) = omega arith in
-    ap₂ (λ (a b : ℕ). Some (record { least = a; greatest = b })) least greatest
+joined_extremes-assoc (Some f) (Some g) (Some h) = grind arith
 
 -- joining with no gains changes nothing
 pub joined_extremes-None : (g : Option Gains) → joined_extremes g None ≡ g
@@ -74,8 +62,7 @@ extremes-nil = refl
 -- the extreme gains of frames are those of the first frame and of the others, joined
 pub extremes-cons : (channel : ℕ) (row : Row) (rows : List Row) → extremes_of channel (row ∷ rows)
     ≡ joined_extremes (extremes (row_gains channel row)) (extremes_of channel rows)
-extremes-cons channel row rows = ap extremes (moving-cons channel row rows)
-    ∙ sym (joined_extremes-append (row_gains channel row) (moving_gains channel rows))
+extremes-cons channel row rows = grind (arith, moving-cons, joined_extremes-append)
 
 -- ---- what they are
 
@@ -106,15 +93,11 @@ module _ (a x : ℕ) (xs : List ℕ) (n : ℕ) where
 
 least_there : (a : ℕ) (xs : List ℕ) → Contains (a ∷ xs) (fold min a xs)
 least_there a [] = (0, omega arith, refl)
-least_there a (x ∷ xs) =
-    let there = least_there (min a x) xs in
-    min_there a x xs (fold min (min a x) xs) there.0 there.1 there.2
+least_there a (x ∷ xs) = grind (arith, min_there, least_there (min a x) xs)
 
 greatest_there : (a : ℕ) (xs : List ℕ) → Contains (a ∷ xs) (fold max a xs)
 greatest_there a [] = (0, omega arith, refl)
-greatest_there a (x ∷ xs) =
-    let there = greatest_there (max a x) xs in
-    max_there a x xs (fold max (max a x) xs) there.0 there.1 there.2
+greatest_there a (x ∷ xs) = grind (arith, max_there, greatest_there (max a x) xs)
 
 least_first : (a : ℕ) (xs : List ℕ) → fold min a xs ≤ a
 least_first a [] = omega arith
@@ -128,27 +111,20 @@ between : (a : ℕ) (xs : List ℕ) (k d : ℕ) → k < length (a ∷ xs)
     → (fold min a xs ≤ slice_index_or (a ∷ xs) k d) × (slice_index_or (a ∷ xs) k d ≤ fold max a xs)
 between a xs zero d lt = (least_first a xs, greatest_first a xs)
 between a [] (suc k) d lt = absurd (omega (arith, lt))
-between a (x ∷ xs) (suc zero) d lt =
-    (omega (arith, least_first (min a x) xs), omega (arith, greatest_first (max a x) xs))
+between a (x ∷ xs) (suc zero) d lt = grind (arith, least_first, greatest_first)
 between a (x ∷ xs) (suc (suc k)) d lt =
     let less : suc k < suc (length xs) = omega (arith, lt) in
     ((between (min a x) xs (suc k) d less).0, (between (max a x) xs (suc k) d less).1)
 
 are_extremes : (a : ℕ) (xs : List ℕ)
     → AreExtremes (a ∷ xs) (record { least = fold min a xs; greatest = fold max a xs })
-are_extremes a xs = record {
-  least = least_there a xs;
-  greatest = greatest_there a xs;
-  between = λ k d lt. between a xs k d lt;
-}
+are_extremes a xs = grind (arith, least_there, greatest_there, between)
 
 -- if there are extreme gains, they are the least and the greatest
 pub extremes-Some : (xs : List ℕ) (g : Gains) → extremes xs ≡ Some g → AreExtremes xs g
 unfolding extremes
 extremes-Some [] g e = absurd cc
-extremes-Some (x ∷ xs) g e =
-    let same : record { least = fold min x xs; greatest = fold max x xs } ≡ g = cc in
-    subst (AreExtremes (x ∷ xs)) same (are_extremes x xs)
+extremes-Some (x ∷ xs) g e = grind (arith, are_extremes x xs)
 
 -- the two gains that a call returns are the least and the greatest
 pub some_extremes : (xs : List ℕ) (o : Option Gains) → o ≡ extremes xs → IfSome o (AreExtremes xs)
@@ -170,27 +146,20 @@ no_first (row ∷ rows) is = absurd cc
 -- without a frame there are no extreme gains
 pub extremes-empty : (channel : ℕ) (rows : List Row) → None ≡ slice_get rows 0
     → None ≡ extremes_of channel rows
-extremes-empty channel rows is = sym (ap (extremes_of channel) (no_first rows is)
-    ∙ ap extremes (moving-nil channel) ∙ extremes-nil)
+extremes-empty channel rows is = grind (arith, no_first, moving-nil, extremes-nil)
 
 -- the extreme gains from frame i on are those of frame i and of the frames after it, joined
 pub extremes-from : (channel : ℕ) (rows : List Row) (i : ℕ) (row : Row) → i < length rows
     → row ≡ get_or rows i row → extremes_of channel (drop i rows)
     ≡ joined_extremes (extremes (row_gains channel row)) (extremes_of channel (drop (i + 1) rows))
-extremes-from channel rows i row lt is =
-    ap (extremes_of channel)
-    (drop_more rows i row lt ∙ ap (λ (r : Row). r ∷ drop (i + 1) rows) (sym is))
-    ∙ extremes-cons channel row (drop (i + 1) rows)
+extremes-from channel rows i row lt is = grind (arith, drop_more, extremes-cons)
 
 -- after the last frame what was found is all
 pub extremes-all : (channel : ℕ) (rows : List Row) (i : ℕ) (found : Option Gains) → length rows ≤ i
     → extremes_of channel rows ≡ joined_extremes found (extremes_of channel (drop i rows))
     → extremes_of channel rows ≡ found
 extremes-all channel rows i found end is =
-    is
-    ∙ ap (λ (rs : List Row). joined_extremes found (extremes_of channel rs)) (drop_all i rows end)
-    ∙ ap (joined_extremes found) (ap extremes (moving-nil channel) ∙ extremes-nil)
-    ∙ joined_extremes-None found
+    grind (arith, drop_all, moving-nil, extremes-nil, joined_extremes-None)
 
 -- ---- the channels of frames
 

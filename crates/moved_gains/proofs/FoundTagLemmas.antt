@@ -1,7 +1,7 @@
 -- The tag's block that a survey finds: it is an APEv2 block, within the file, and is there.
 use Rattle.std.proofs.Common.{ap, arith, Bool, cond, drop, Err, false, length, length-drop, List}
-use Rattle.std.proofs.Common.{None, Ok, Option, refl, Some, subst, suc, sym, take, true, ℕ, [], ◌+◌}
-use Rattle.std.proofs.{Common.{◌-◌, ◌∙◌, ◌∷◌, ◌≡◌, ◌≤◌}, lemmas.Bool.false≢true}
+use Rattle.std.proofs.Common.{None, Ok, Option, refl, Some, subst, sym, take, true, ℕ, [], ◌+◌, ◌∙◌}
+use Rattle.std.proofs.{Common.{◌∷◌, ◌≡◌, ◌≤◌}, lemmas.Bool.false≢true}
 use Rattle.std.proofs.lemmas.List.{append-nil, length-take-le, Folds.find-append}
 use Rattle.std.specs.{List.{cons_option, find}, Option.option_or}
 use Rattle.moved_gains.specs.TagPlace.{is_tag, last_end, row_end, tag_block}
@@ -32,8 +32,7 @@ ape_by at size _ is = absurd (false≢true is)
 -- a tag is an APEv2 block
 pub tag_kind : (b : Piece) → is_tag b ≡ true
     → b.block ≡ record { kind = Ape; length = b.block.length }
-tag_kind b is = ap (λ k. record { kind = k; length = b.block.length })
-    (ape_by b.offset b.block.length b.block.kind is)
+tag_kind b is = grind (arith, ape_by)
 
 found_by : (x b : Piece) (xs : List Piece) (P : Type 0) (t : Bool) → is_tag x ≡ t
     → cond t (Some x) (find is_tag xs) ≡ Some b → (is_tag x ≡ true → x ≡ b → P)
@@ -56,8 +55,7 @@ found_tag (x ∷ xs) b e = found_case x b xs (is_tag b ≡ true) e
 
 laid_from : (from : ℕ) (xs : List Piece) (to : ℕ) → BlocksAreLaid from xs to → from ≤ to
 laid_from from [] to laid = laid
-laid_from from (x ∷ xs) to laid =
-    omega (arith, laid.0, laid_from (x.offset + x.block.length) xs to laid.1)
+laid_from from (x ∷ xs) to laid = grind (arith, laid_from (x.offset + x.block.length) xs to laid.1)
 
 tag_laid : (from : ℕ) (xs : List Piece) (to : ℕ) (b : Piece) → BlocksAreLaid from xs to
     → find is_tag xs ≡ Some b → b.offset + b.block.length ≤ to
@@ -81,13 +79,7 @@ module _ (part : Region) (file : List ℕ) where
       → (find is_tag bs ≡ Some b → whole_item_at part file b.offset ≡ Some (Block b.block))
       → find is_tag (cons_option (block_of_item at item) bs) ≡ Some b
       → whole_item_at part file b.offset ≡ Some (Block b.block)
-  one_found at (Block x) bs b here later e =
-      found_case (record { offset = at; block = x }) b bs
-      (whole_item_at part file b.offset ≡ Some (Block b.block)) e
-      (λ is same. subst (λ (y : Piece). whole_item_at part file y.offset ≡ Some (Block y.block))
-      same
-      here)
-      (λ none rest. later rest)
+  one_found at (Block x) bs b here later e = grind (arith, found_case)
   one_found at _ bs b here later e = later e
 
   -- a block found among consecutive items is there
@@ -126,8 +118,7 @@ there_by part file b tag is =
     record {
       within = own.0;
       long = long;
-      front = own.1 ∙ ap Some (tag_kind b tag)
-          ∙ ap (λ n. Some (record { kind = Ape; length = n })) (sym long);
+      front = grind (arith, tag_kind, long);
     }
 
 all_cases : (file : List ℕ) (start : Start) (b : Piece) (o : Option Piece)
@@ -149,8 +140,7 @@ pub tag-there : (file : List ℕ) (allowed : ℕ) (s : SurveyFields) (b : Piece)
 tag-there file allowed s b e found =
     let parts = survey_fields-parts file allowed s e in
     let start = parts.0 in
-    let told : find is_tag (all_blocks file start) ≡ Some b =
-    ap (λ (t : SurveyFields). find is_tag t.blocks) parts.2 ∙ found in
+    let told : find is_tag (all_blocks file start) ≡ Some b = grind arith in
     all_cases file start b (find is_tag (blocks_of (item_run Front file 0).items)) told refl
     (sym (find-append is_tag (blocks_of (item_run Front file 0).items)
     (blocks_of (stream_run file start).items)) ∙ told)
@@ -171,16 +161,13 @@ survey_of-survey_fields file allowed s e = survey_cases file allowed _ s _ e
 -- a survey says how long the file is
 pub survey_fields-length : (file : List ℕ) (allowed : ℕ) (s : SurveyFields)
     → survey_fields file allowed ≡ Ok s → length file ≡ s.length
-survey_fields-length file allowed s e = let parts = survey_fields-parts file allowed s e in
-    ap (λ (t : SurveyFields). t.length) parts.2
+survey_fields-length file allowed s e = grind (arith, survey_fields-parts)
 
 -- ---- the end of the last frame
 
 -- one more frame before others doesn't change the end of the last
 pub last_more : (r q : Row) (rows : List Row) → last_end (r ∷ q ∷ rows) ≡ last_end (q ∷ rows)
-last_more r q rows =
-    let m : length (r ∷ q ∷ rows) - 1 ≡ suc (length (q ∷ rows) - 1) = omega arith in
-    rw m refl
+last_more r q rows = grind arith
 
 -- the end of one frame is its own
 pub last_one : (r : Row) → last_end (r ∷ []) ≡ row_end r

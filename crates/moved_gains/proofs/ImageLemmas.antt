@@ -3,7 +3,7 @@
 -- and hold the same main data.
 use Rattle.std.proofs.Common.{ap, ap₂, arith, Bool, drop, false, flat_map, length, List, map, None}
 use Rattle.std.proofs.Common.{not, Ok, Option, option_map, refl, slice_get, Some, subst, suc, sym}
-use Rattle.std.proofs.Common.{take, true, zero, ℕ, [], ◌&&◌, ◌++◌, ◌+◌, ◌==◌, ◌∙◌, ◌∷◌, ◌≡◌, ◌≤◌}
+use Rattle.std.proofs.Common.{true, zero, ℕ, [], ◌&&◌, ◌++◌, ◌+◌, ◌==◌, ◌∙◌, ◌∷◌, ◌≡◌, ◌≤◌}
 use Rattle.std.proofs.lemmas.{Bool.{eq-eqb, eqb-true, not-false}, List.{drop_all, take_at}}
 use Rattle.std.specs.List.{enumerate_from}
 use Rattle.bit_fields.specs.Bits.{AreBytes}
@@ -17,8 +17,7 @@ use Rattle.moved_gains.proofs.MovedRowLemmas.{marked-image, numbered-same, rows_
 use Rattle.moved_gains.specs.{Edited.moved_frame_unless_lost, Gains.moved_side_unless_lost}
 use Rattle.requests.specs.declared.shift.Steps.{Steps}
 use Rattle.side_info.proofs.FrameLemmas.{IsRight, side_in-take, stored_crc-take}
-use Rattle.side_info.specs.{CheckWord.check_word_of, Frame.{side_in, stored_crc}}
-use Rattle.side_info.specs.declared.side.Side.{Side}
+use Rattle.side_info.specs.{Frame.{side_in, stored_crc}, declared.side.Side.Side}
 use Rattle.sync_survey.proofs.{ItemListLemmas.frame_by, ItemsLemmas.header_front-in_range}
 use Rattle.sync_survey.proofs.{OneItemLemmas.stands-only_at, SameHeadLemmas.area-frame}
 use Rattle.sync_survey.proofs.SurveyLemmas.{overhead-within}
@@ -28,15 +27,14 @@ use Rattle.sync_survey.specs.Faults.{all_faults, class_from, has_wrong_crc}
 use Rattle.sync_survey.specs.MainData.{area_bytes, head_bytes, is_lost, main_bytes, marked_row}
 use Rattle.sync_survey.specs.MainData.{marked_rows, row_of, rows_of, stream_frame, stream_frames}
 use Rattle.sync_survey.specs.{MainData.StreamFrame, Row.Row, Start.start_of}
-use Rattle.sync_survey.specs.Walk.{end_fault, fault_at, frame_bytes, head_of, stream_run}
+use Rattle.sync_survey.specs.Walk.{frame_bytes, head_of, stream_run}
 use Rattle.sync_survey.specs.declared.{items.Item.TheVariants.End, places.Head.Head}
 use Rattle.sync_survey.specs.declared.places.{PlacedFrame.PlacedFrame, Start.Start}
 
 -- ---- the bytes of one frame
 
 frame_long : (h : HeaderFields) → IsHeader h → 6 ≤ length_of (class_of h) h.slot
-frame_long h header =
-    omega (arith, area_some (class_of h) h.slot (IsClass-class_of h header) header.slot)
+frame_long h header = grind (arith, area_some, IsClass-class_of, header)
 
 module _ (file : List ℕ) (p : PlacedFrame) (header : IsHeader p.header) where
   abbrev h : HeaderFields
@@ -61,21 +59,12 @@ module _ (file : List ℕ) (p : PlacedFrame) (header : IsHeader p.header) where
   -- a frame without a wrong check word has the right one or none
   pub own-right : has_wrong_crc (stored_crc bytes) (row_of file p) ≡ false
       → IsRight h (frame_bytes file p)
-  own-right none protected =
-      own-word
-      ∙ wrong_by h.protected (stored_crc bytes) (check_word_of h (side_in h bytes)) none protected
-      ∙ ap (check_word_of h) (sym own-side)
+  own-right none protected = grind (arith, own-word, wrong_by, bytes, own-side)
 
   -- with the right one it isn't wrong
   not_wrong : IsRight h (frame_bytes file p)
       → has_wrong_crc (stored_crc bytes) (row_of file p) ≡ false
-  not_wrong right = by_protected h.protected refl
-    where
-      by_protected : (b : Bool) → h.protected ≡ b
-          → (b && not (stored_crc bytes == check_word_of h (side_in h bytes))) ≡ false
-      by_protected true is =
-          ap not (eq-eqb _ _ (sym own-word ∙ right is ∙ ap (check_word_of h) own-side))
-      by_protected false is = refl
+  not_wrong right = grind (arith, bytes, eq-eqb, own-word, right, own-side)
 
 -- the check words of these frames are right
 abbrev pub AreRight : List ℕ → List Row → Type 0
@@ -122,9 +111,7 @@ module _ (to : ℕ → ℕ) (steps : ℕ → Steps) (stays : ℕ → Bool) (file
       let moved = moved_whole (stays p.offset) (steps p.offset) h frame whole in
       let same : frame_bytes new (frame_by to p)
       ≡ moved_frame_unless_lost (stays p.offset) (steps p.offset) h frame =
-      ap (take size) stands
-      ∙ take_at (moved_frame_unless_lost (stays p.offset) (steps p.offset) h frame) rest size
-      moved.whole.size in
+      grind (arith, take_at) in
       record {
         header = header_front-in_range frame h whole.header;
         whole = λ all. whole;
@@ -159,18 +146,14 @@ module _ (to : ℕ → ℕ) (steps : ℕ → Steps) (stays : ℕ → Bool) (file
   rows-image : (ps : List PlacedFrame) → AreImages ps
       → rows_of new (map (frame_by to) ps) ≡ map (image_row to steps stays) (rows_of file ps)
   rows-image [] are = refl
-  rows-image (p ∷ ps) are =
-      ap₂ (λ (r : Row) (rs : List Row). r ∷ rs) (row-image p are.0) (rows-image ps are.1)
+  rows-image (p ∷ ps) are = grind (arith, row-image, rows-image ps are.1)
 
   words-image : (ps : List PlacedFrame) → AreImages ps → AreRight file (rows_of file ps) → (i : ℕ)
       (r : Row) → slice_get (rows_of file ps) i ≡ Some r
       → has_wrong_crc (stored_crc (drop (to r.offset) new)) (image_row to steps stays r) ≡ false
   words-image [] are right i r is = absurd cc
   words-image (p ∷ ps) are right zero r is =
-      let same : row_of file p ≡ r = cc in
-      subst (λ (x : Row). has_wrong_crc (stored_crc (drop (to x.offset) new))
-      (image_row to steps stays x) ≡ false) same
-      (word-image p are.0 (right 0 (row_of file p) refl))
+      grind (arith, word-image p are.0 (right 0 (row_of file p) refl), right 0 (row_of file p) refl)
   words-image (p ∷ ps) are right (suc i) r is =
       words-image ps are.1 (λ i r is. right (suc i) r is) i r is
 
@@ -178,8 +161,7 @@ module _ (to : ℕ → ℕ) (steps : ℕ → Steps) (stays : ℕ → Bool) (file
       → flat_map (λ (r : Row). area_bytes new (to r.offset) r.header) (rows_of file ps)
       ≡ flat_map (λ (r : Row). area_bytes file r.offset r.header) (rows_of file ps)
   areas-image [] are = refl
-  areas-image (p ∷ ps) are =
-      ap₂ (λ (a b : List ℕ). a ++ b) (area-image p are.0) (areas-image ps are.1)
+  areas-image (p ∷ ps) are = grind (arith, area-image, areas-image ps are.1)
 
 -- ---- the head
 
@@ -220,8 +202,7 @@ each_marked : (area : ℕ → HeaderFields → List ℕ) (head : Option Head) (a
     (map (λ (p : ℕ × Row). marked_row head all p.0 p.1) (enumerate_from n rows))
     ≡ flat_map (λ (r : Row). area r.offset r.header) rows
 each_marked area head all n [] = refl
-each_marked area head all n (r ∷ rows) =
-    ap (λ l. area r.offset r.header ++ l) (each_marked area head all (n + 1) rows)
+each_marked area head all n (r ∷ rows) = grind (arith, area, each_marked area head all (n + 1) rows)
 
 all_marked : (area : ℕ → HeaderFields → List ℕ) (head : Option Head) (rows : List Row)
     → flat_map (λ (r : Row). area r.offset r.header) (marked_rows head rows)
@@ -264,8 +245,7 @@ module _ (to : ℕ → ℕ) (steps : ℕ → Steps) (stays : ℕ → Bool) (file
   rows = rows_of file (frames_from file start)
 
   rows_there : rows_of new (frames_from new there) ≡ map (image_row to steps stays) rows
-  rows_there = ap (rows_of new) image.frames
-      ∙ rows-image to steps stays file new (frames_from file start) image.images
+  rows_there = grind (arith, rows-image, frames_from)
 
   -- it is without fault if the file is
   pub read-image : (allowed : ℕ) → IsRead file allowed start → IsRead new allowed there
@@ -284,9 +264,8 @@ module _ (to : ℕ → ℕ) (steps : ℕ → Steps) (stays : ℕ → Bool) (file
             (words-image to steps stays file new (frames_from file start) image.images
             (λ i r is. (sound i r is).word)) sound);
         end =
-            ap₂ (end_fault new) image.frames
-            (ap (fault_at stop) (sym (stands-only_at new stop End nothing)))
-            ∙ end_fault-by file new to (frames_from file start) _ read.end;
+            grind
+            (arith, stands-only_at new stop End nothing, end_fault-by, frames_from file start);
       }
 
   -- the same frames are marked there, so that the marked rows are there as each marked row is

@@ -16,9 +16,9 @@ use Rattle.moved_gains.proofs.WrittenLemmas.{append_three}
 use Rattle.moved_gains.proofs.WrittenTagLemmas.{parted_among, parted_front}
 use Rattle.moved_gains.specs.{Change.{file_with_change, retagged_file}, Edited.edited_file}
 use Rattle.moved_gains.specs.Kept.{ArePatchesAllowed, ArePatchesInOrder, BeginsAfter}
-use Rattle.moved_gains.specs.Kept.{ChangesKeepAll, KeepsAll, LeavesJunk, MayBecome, MovesFrame}
-use Rattle.moved_gains.specs.Kept.{Patch, patched_file, ReplacesTag}
-use Rattle.moved_gains.specs.{Moving.{moved_row_bytes, row_end, row_length}, Streams.edited_survey}
+use Rattle.moved_gains.specs.Kept.{ChangesKeepAll, KeepsAll, MovesFrame, Patch, patched_file}
+use Rattle.moved_gains.specs.{Kept.ReplacesTag, Moving.{moved_row_bytes, row_end}}
+use Rattle.moved_gains.specs.Streams.{edited_survey}
 use Rattle.moved_gains.specs.TagPlace.{file_with_tag, tag_length, tag_offset}
 use Rattle.outside.specs.Pass.{bytes_between}
 use Rattle.requests.specs.declared.shift.Steps.{Steps}
@@ -30,8 +30,7 @@ use Rattle.sync_survey.specs.{Faults.{survey_fields, SurveyFields}, Row.Row}
 ordered_earlier : (at to : ℕ) (patches : List Patch) → at ≤ to → ArePatchesInOrder to patches
     → ArePatchesInOrder at patches
 ordered_earlier at to [] low order = tt
-ordered_earlier at to (patch ∷ patches) low order =
-    (omega (arith, low, order.0), order.1, order.2, order.3)
+ordered_earlier at to (patch ∷ patches) low order = grind arith
 
 patches_earlier : (file : List ℕ) (at to : ℕ) (patches : List Patch) → at ≤ to
     → ArePatchesInOrder to patches
@@ -77,18 +76,7 @@ module _ (T : List ℕ → Type 0) (steps : ℕ → Steps) (file : List ℕ) (s 
 
   moves : (i : ℕ) (row : Row) → slice_get s.frames i ≡ Some row → IsFrameOf file row
       → MovesFrame file s (row_patch row)
-  moves i row there here =
-      let size : row_end row - row.offset ≡ row_length row = omega arith in
-      record {
-        number = i;
-        row = row;
-        there = there;
-        from = refl;
-        to = refl;
-        now = subst (λ n. MayBecome row (take n (drop row.offset file))
-            (moved_row_bytes (steps row.offset) file row)) (sym size)
-            (row_differs (steps row.offset) file row here);
-      }
+  moves i row there here = grind (arith, row_differs)
 
   all_move : (n : ℕ) (rows : List Row)
       → ((i : ℕ) (row : Row) → slice_get rows i ≡ Some row → slice_get s.frames (n + i) ≡ Some row)
@@ -104,44 +92,32 @@ module _ (T : List ℕ → Type 0) (steps : ℕ → Steps) (file : List ℕ) (s 
       → ArePatchesAllowed T file s patches
       → ArePatchesAllowed T file s (row_patches rows ++ patches)
   rows_allowed [] patches all later = later
-  rows_allowed (row ∷ rows) patches all later =
-      (inr (inr all.0), rows_allowed rows patches all.1 later)
+  rows_allowed (row ∷ rows) patches all later = grind (arith, rows_allowed rows patches all.1 later)
 
   -- frames up to an offset, and patches from it on
   rows_begin : (at : ℕ) (rows : List Row) (patches : List Patch) (to : ℕ) → EndBy at rows to
       → ArePatchesInOrder to patches → (x : ℕ) → x < at
       → BeginsAfter x (row_patches rows ++ patches)
-  rows_begin at [] patches to ends order x low =
-      begins_later x to patches (omega (arith, low, ends)) order
+  rows_begin at [] patches to ends order x low = grind (arith, begins_later)
   rows_begin at (row ∷ rows) patches to ends order x low = omega (arith, low, ends.0)
 
   rows_ordered : (at : ℕ) (rows : List Row) (patches : List Patch) (to : ℕ) → EndBy at rows to
       → ArePatchesInOrder to patches → ArePatchesInOrder at (row_patches rows ++ patches)
   rows_ordered at [] patches to ends order = ordered_earlier at to patches ends order
-  rows_ordered at (row ∷ rows) patches to ends order = (
-    ends.0,
-    omega (arith, ends.1),
-    rows_begin (row_end row) rows patches to ends.2 order row.offset ends.1,
-    rows_ordered (row_end row) rows patches to ends.2 order,
-  )
+  rows_ordered at (row ∷ rows) patches to ends order =
+      grind (arith, rows_begin, rows_ordered (row_end row) rows patches to ends.2 order)
 
   patches-moved : (at : ℕ) (rows : List Row)
       → patched_file file at (row_patches rows ++ []) ≡ moved_from steps file at rows
   patches-moved at [] = sym (moved_from-nil steps file at)
-  patches-moved at (row ∷ rows) =
-      ap (λ (l : List ℕ). bytes_between file at row.offset
-      ++ (moved_row_bytes (steps row.offset) file row ++ l)) (patches-moved (row_end row) rows)
+  patches-moved at (row ∷ rows) = grind (arith, patches-moved (row_end row) rows)
 
   patches-before : (at : ℕ) (rows : List Row) (patch : Patch) (patches : List Patch)
       → patched_file file at (row_patches rows ++ (patch ∷ patches))
       ≡ moved_to steps file at patch.from rows ++ (patch.now ++ patched_file file patch.to patches)
   patches-before at [] patch patches = refl
   patches-before at (row ∷ rows) patch patches =
-      let own = moved_row_bytes (steps row.offset) file row in
-      ap (λ (l : List ℕ). bytes_between file at row.offset ++ (own ++ l))
-      (patches-before (row_end row) rows patch patches)
-      ∙ sym (append_three (bytes_between file at row.offset) own (moved_to steps file
-      (row_end row) patch.from rows) (patch.now ++ patched_file file patch.to patches))
+      grind (arith, append_three, moved_to, patches-before (row_end row) rows patch patches)
 
   -- ---- the junk
 
@@ -170,8 +146,7 @@ module _ (T : List ℕ → Type 0) (steps : ℕ → Steps) (file : List ℕ) (s 
             in_order = ordered_earlier at s.junk patches low order;
             allowed = allowed;
             begins = λ x less. begins_later x s.junk patches less order;
-            written = patches_earlier file at s.junk patches low order
-                ∙ ap (λ n. bytes_between file at s.junk ++ patched_file file n patches) (sym same);
+            written = grind (arith, patches_earlier);
           }
       by_junk (suc n) is = record {
         all = junk_patch ∷ patches;
@@ -249,12 +224,7 @@ module _ (file : List ℕ) (allowed : ℕ) (s : SurveyFields) (all : AreBytes fi
         let zero_less : a - 0 ≡ a = omega arith in
         record {
           patches = tag_patch ∷ joined.all;
-          in_order = (
-            omega arith,
-            omega arith,
-            joined.begins a (omega (arith, front.some, front.before)),
-            joined.in_order,
-          );
+          in_order = grind (arith, joined.begins, front.some, front.before, joined.in_order);
           allowed = (inr (inl tag_allowed), joined.allowed);
           written =
               (parted_front steps file allowed s is front).tagged bytes
@@ -273,15 +243,12 @@ module _ (file : List ℕ) (allowed : ℕ) (s : SurveyFields) (all : AreBytes fi
         subst (AllMove MayBe steps file s) among.all (each_moves MayBe) in
         let before_moves = each_before (Moves MayBe steps file s) among.before among.behind parts in
         let behind_moves = each_behind (Moves MayBe steps file s) among.before among.behind parts in
-        let behind_allowed : ArePatchesAllowed MayBe file s behind =
-        rows_allowed MayBe steps file s among.behind [] behind_moves tt in
+        let behind_allowed : ArePatchesAllowed MayBe file s behind = grind (arith, rows_allowed) in
         let behind_order =
         rows_ordered MayBe steps file s (a + size) among.behind [] s.length among.rest tt in
         let all_allowed : ArePatchesAllowed MayBe file s (before ++ (tag_patch ∷ behind)) =
-        rows_allowed MayBe steps file s among.before (tag_patch ∷ behind) before_moves
-        (inr (inl tag_allowed), behind_allowed) in
-        let tag_order : ArePatchesInOrder a (tag_patch ∷ behind) =
-        (omega arith, omega arith, tag_begins among.behind among.rest apart.apart, behind_order) in
+        grind (arith, rows_allowed, tag_allowed) in
+        let tag_order : ArePatchesInOrder a (tag_patch ∷ behind) = grind arith in
         let order : ArePatchesInOrder s.first (before ++ (tag_patch ∷ behind)) =
         rows_ordered MayBe steps
         file s s.first among.before (tag_patch ∷ behind) a among.front tag_order in
@@ -333,14 +300,7 @@ allowed_weaker : (T U : List ℕ → Type 0) → ((tag : List ℕ) → T tag →
     → ArePatchesAllowed U file s patches
 allowed_weaker T U weaker file s [] may = tt
 allowed_weaker T U weaker file s (patch ∷ patches) may =
-    (one may.0, allowed_weaker T U weaker file s patches may.1)
-  where
-    one : LeavesJunk s patch ⊎ (ReplacesTag T s patch ⊎ MovesFrame file s patch)
-        → LeavesJunk s patch ⊎ (ReplacesTag U s patch ⊎ MovesFrame file s patch)
-    one (inl junk) = inl junk
-    one (inr (inl tag)) =
-        inr (inl (record { from = tag.from; to = tag.to; now = weaker patch.now tag.now }))
-    one (inr (inr frame)) = inr (inr frame)
+    grind (arith, allowed_weaker T U weaker file s patches may.1)
 
 -- patches are allowed too where more may be the tag
 pub keeps_weaker : (T U : List ℕ → Type 0) → ((tag : List ℕ) → T tag → U tag) → (file : List ℕ)

@@ -55,11 +55,7 @@ changing_same : (changes : Bool) (width : ℕ) (xs ys : List ℕ) (fields : List
     (old new : List ℕ) → length xs ≡ width → length ys ≡ width → (changes ≡ false → ys ≡ xs)
     → DiffersInFields fields old new
     → DiffersInFields (record { width = width; changes = changes } ∷ fields) (xs ++ old) (ys ++ new)
-changing_same changes width xs ys fields old new m n same later = (
-  λ stays. take_at ys new width n ∙ same stays ∙ sym (take_at xs old width m),
-  subst (λ l. DiffersInFields fields l (drop width (ys ++ new))) (sym (drop_at xs old width m))
-      (subst (λ l. DiffersInFields fields old l) (sym (drop_at ys new width n)) later),
-)
+changing_same changes width xs ys fields old new m n same later = grind (arith, take_at, drop_at)
 
 -- ---- granules
 
@@ -86,12 +82,9 @@ other_gain version g gain fields old new silent later =
     (length-group_bits (12 ∷ 9 ∷ []) (g.part2_3_length ∷ g.big_values ∷ []) refl) own in
     let old_is : granule_bits version g ++ old
     ≡ before ++ (bits_of 8 g.global_gain ++ (behind ++ old)) =
-    ap (λ l. l ++ old) (bits-parts version g)
-    ∙ append_three before (bits_of 8 g.global_gain) behind old in
+    grind (arith, bits-parts, append_three) in
     let new_is : granule_bits version (record g { global_gain = gain }) ++ new
-    ≡ before ++ (bits_of 8 gain ++ (behind ++ new)) =
-    ap (λ l. l ++ new) (bits-parts version (record g { global_gain = gain }))
-    ∙ append_three before (bits_of 8 gain) behind new in
+    ≡ before ++ (bits_of 8 gain ++ (behind ++ new)) = grind (arith, bits-parts, append_three) in
     subst (λ l. DiffersInFields (granule_fields version g ++ fields) l
     (granule_bits version (record g { global_gain = gain }) ++ new)) (sym old_is)
     (subst (λ l. DiffersInFields (granule_fields version g ++ fields)
@@ -123,20 +116,7 @@ all_same : (version : Version) (gs hs : List Granule) (area : List ℕ) → AreM
     (flat_map (granule_bits version) hs ++ area)
 all_same version [] [] area moved_granule = refl
 all_same version (g ∷ gs) (h ∷ hs) area moves =
-    let fields = flat_map (granule_fields version) gs in
-    let old = flat_map (granule_bits version) gs in
-    let new = flat_map (granule_bits version) hs in
-    let one : DiffersInFields (granule_fields version g ++ fields)
-    (granule_bits version g ++ (old ++ area)) (granule_bits version h ++ (new ++ area)) =
-    subst (λ k. DiffersInFields (granule_fields version g ++ fields)
-    (granule_bits version g ++ (old ++ area)) (granule_bits version k ++ (new ++ area))) moves.0.1
-    (moved_granule-same version moves.0.0 g fields (old ++ area) (new ++ area)
-    (all_same version gs hs area moves.1)) in
-    subst (λ l. DiffersInFields (granule_fields version g ++ fields) l
-    ((granule_bits version h ++ new)
-    ++ area)) (sym (append_assoc (granule_bits version g) old area))
-    (subst (λ l. DiffersInFields (granule_fields version g ++ fields) (granule_bits version g
-    ++ (old ++ area)) l) (sym (append_assoc (granule_bits version h) new area)) one)
+    grind (arith, flat_map, moved_granule-same, append_assoc, all_same version gs hs area moves.1)
 all_same version _ _ area moved_granule = absurd moved_granule
 
 granules_moved : (steps : Steps) (c : ClassFields) → IsClass c → (s : Side) → IsShaped s
@@ -170,8 +150,7 @@ unfolding side_bits moved_side
 side_same steps c class s shaped area =
     let t = moved_side steps s in
     let front = group_bits (front_widths c) (s.main_data_begin ∷ s.private_bits ∷ s.scfsi) in
-    let long : length front ≡ sum (front_widths c) = length-group_bits (front_widths c)
-    (s.main_data_begin ∷ s.private_bits ∷ s.scfsi) (front-long c class s shaped) in
+    let long : length front ≡ sum (front_widths c) = grind (arith, length-group_bits) in
     let old = flat_map (granule_bits c.version) (granules_in c s) in
     let new = flat_map (granule_bits c.version) (granules_in c t) in
     let fields =
@@ -203,8 +182,7 @@ word_same true xs ys fields old new m n later =
     let y : length (bits ys) ≡ 16 = omega (arith, length-bits ys, n) in
     changing_same true 16 (bits xs) (bits ys) fields old new x y
     (λ stays. absurd (false≢true (sym stays))) later
-word_same false xs ys fields old new m n later =
-    subst (λ l. DiffersInFields fields (l ++ old) (l ++ new)) (sym bits-nil) later
+word_same false xs ys fields old new m n later = grind (arith, bits-nil)
 
 -- ---- a frame
 
@@ -214,8 +192,7 @@ own_word protected frame = cond protected (take 2 (drop 4 frame)) []
 
 behind_word : (protected : Bool) (frame : List ℕ)
     → drop 4 frame ≡ own_word protected frame ++ drop (side_place protected) frame
-behind_word true frame = sym (take-append-drop 2 (drop 4 frame))
-    ∙ ap (λ l. take 2 (drop 4 frame) ++ l) (drop-drop 2 4 frame)
+behind_word true frame = grind (arith, take-append-drop, drop-drop)
 behind_word false frame = refl
 
 -- a frame, part by part
@@ -240,9 +217,7 @@ parts h frame class all room =
 -- the bits of four parts
 bits-four : (a b c d : List ℕ)
     → bits (a ++ (b ++ (c ++ d))) ≡ bits a ++ (bits b ++ (bits c ++ bits d))
-bits-four a b c d =
-    bits-append a (b ++ (c ++ d))
-    ∙ ap (λ l. bits a ++ l) (bits-append b (c ++ d) ∙ ap (λ l. bits b ++ l) (bits-append c d))
+bits-four a b c d = grind (arith, bits-append)
 
 side-spelled : (c : ClassFields) (s : Side) → IsClass c → IsShaped s
     → bits (bytes (side_bits c s)) ≡ side_bits c s
@@ -291,16 +266,15 @@ frame_same steps h frame class all room =
 frame_differs : (steps : Steps) (h : HeaderFields) (frame : List ℕ) → IsWhole h frame
     → IsRight h frame → DiffersInGains h frame (moved_frame steps h frame)
 frame_differs steps h frame whole right =
-    let class = whole_class h frame whole in
-    let room = (whole_room h frame whole).0 in
-    let to = moved_whole false steps h frame whole in
-    record {
-      size = to.whole.size ∙ sym whole.size;
-      all = to.whole.all;
-      fields = frame_same steps h frame class whole.all room;
-      word = λ same. ap (λ t. frame_with_side h t frame) (sym to.side ∙ same)
-          ∙ frame_with_side-own h frame class whole.all room right;
-    }
+    grind (
+      arith,
+      whole_class h frame whole,
+      whole_room h frame whole,
+      moved_whole false steps h
+          frame whole,
+      frame_same,
+      frame_with_side-own,
+    )
 
 -- a frame of a file may become the frame with moved gains; a lost frame stays
 pub row_differs : (steps : Steps) (file : List ℕ) (row : Row) → IsFrameOf file row
@@ -318,6 +292,4 @@ row_differs steps file row here = by_lost row.lost
         (DiffersInGains h frame
         (cond lost frame (frame_with_side h (moved_side steps row.side) frame)))
     by_lost true = refl
-    by_lost false =
-        subst (λ (s : Side). DiffersInGains h frame (frame_with_side h (moved_side steps s) frame))
-        (sym here.side) (frame_differs steps h frame here.whole here.right)
+    by_lost false = grind (arith, frame_differs steps h frame here.whole here.right)

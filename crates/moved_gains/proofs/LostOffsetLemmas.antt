@@ -1,8 +1,8 @@
 -- Frames are in order, so a frame is lost if a lost frame is
 -- at its offset, since no two frames are at the same offset.
 use Rattle.std.proofs.Common.{ap, ap₂, arith, Bool, false, List, map, Option, refl, slice_get, Some}
-use Rattle.std.proofs.Common.{subst, suc, sym, true, zero, zero-add, ℕ, [], ◌&&◌, ◌+◌, ◌<◌, ◌==◌}
-use Rattle.std.proofs.{Common.{◌||◌, ◌∙◌, ◌∷◌, ◌≡◌, ◌≤◌}, lemmas.Bool.{eq-eqb, ne_eqb}}
+use Rattle.std.proofs.Common.{subst, suc, sym, true, zero, zero-add, ℕ, [], ◌&&◌, ◌+◌, ◌<◌, ◌||◌}
+use Rattle.std.proofs.{Common.{◌∙◌, ◌∷◌, ◌≡◌, ◌≤◌}, lemmas.Bool.{eq-eqb, ne_eqb}}
 use Rattle.std.specs.List.{cons_option, enumerate_from}
 use Rattle.moved_gains.specs.{Edited.is_lost_at, Moving.row_end}
 use Rattle.sync_survey.proofs.RunsLemmas.{item_run-ends, whole_item_at-is}
@@ -31,8 +31,7 @@ rising_less low high (r ∷ rows) le rise = (omega (arith, le, rise.0), rise.1)
 pub rising_get : (from : ℕ) (rows : List Row) (i : ℕ) (r : Row) → AreRising from rows
     → slice_get rows i ≡ Some r → from ≤ r.offset
 rising_get from [] i r rise is = absurd cc
-rising_get from (q ∷ rows) zero r rise is = let same : q ≡ r = cc in
-    subst (λ (x : Row). from ≤ x.offset) same rise.0
+rising_get from (q ∷ rows) zero r rise is = grind arith
 rising_get from (q ∷ rows) (suc i) r rise is =
     omega (arith, rise.0, rising_get (suc q.offset) rows i r rise.1 is)
 
@@ -47,8 +46,7 @@ EndBy from (row ∷ rows) to =
 -- frames between two offsets: the second offset isn't before the first
 pub end_rises : (from : ℕ) (rows : List Row) (to : ℕ) → EndBy from rows to → from ≤ to
 end_rises from [] to ends = ends
-end_rises from (row ∷ rows) to ends =
-    omega (arith, ends.0, ends.1, end_rises (row_end row) rows to ends.2)
+end_rises from (row ∷ rows) to ends = grind (arith, end_rises (row_end row) rows to ends.2)
 
 -- frames in order between two offsets are in order from any earlier one
 pub end_earlier : (from later : ℕ) (rows : List Row) (to : ℕ) → from ≤ later → EndBy later rows to
@@ -65,11 +63,8 @@ end_later from (row ∷ rows) to later up ends =
 
 end_rising : (from : ℕ) (rows : List Row) (to : ℕ) → EndBy from rows to → AreRising from rows
 end_rising from [] to ends = tt
-end_rising from (row ∷ rows) to ends = (
-  ends.0,
-  rising_less (suc row.offset) (row_end row) rows (omega (arith, ends.1))
-      (end_rising (row_end row) rows to ends.2),
-)
+end_rising from (row ∷ rows) to ends =
+    grind (arith, rising_less, end_rising (row_end row) rows to ends.2)
 
 -- the rows of placed frames, marked as lost by offset
 abbrev pub rows_by : (ℕ → Bool) → List ℕ → List PlacedFrame → List Row
@@ -80,12 +75,9 @@ module _ (lost : ℕ → Bool) (file : List ℕ) where
       → EndBy (at + size_of item) (rows_by lost file frames) to
       → EndBy at (rows_by lost file (cons_option (frame_of_item at item) frames)) to
   end_more at (Frame h) frames to some ends = (omega arith, omega (arith, some), ends)
-  end_more at (Block b) frames to some ends =
-      end_earlier at (at + b.length) (rows_by lost file frames) to (omega arith) ends
-  end_more at Zero frames to some ends =
-      end_earlier at (at + 1) (rows_by lost file frames) to (omega arith) ends
-  end_more at _ frames to some ends =
-      end_earlier at (at + 0) (rows_by lost file frames) to (omega arith) ends
+  end_more at (Block b) frames to some ends = grind (arith, end_earlier)
+  end_more at Zero frames to some ends = grind (arith, end_earlier)
+  end_more at _ frames to some ends = grind (arith, end_earlier)
 
   -- the frames of consecutive items
   pub items_end : (part : Region) (from : ℕ) (ps : List PlacedItem) (to : ℕ)
@@ -110,24 +102,14 @@ there_alone false other same is none = none
 
 none_lost : (rows : List Row) (at : ℕ) → AreRising (suc at) rows → is_lost_at rows at ≡ false
 none_lost [] at rise = refl
-none_lost (r ∷ rows) at rise =
-    not_there r.lost (is_lost_at rows at) (r.offset == at)
-    (ne_eqb r.offset at (λ e. omega (arith, e, rise.0)))
-    ∙ none_lost rows at (rising_less (suc at) (suc r.offset) rows (omega (arith, rise.0)) rise.1)
+none_lost (r ∷ rows) at rise = grind (arith, not_there, ne_eqb, rising_less, none_lost rows)
 
 lost_get : (from : ℕ) (rows : List Row) (i : ℕ) (r : Row) → AreRising from rows
     → slice_get rows i ≡ Some r → is_lost_at rows r.offset ≡ r.lost
 lost_get from [] i r rise is = absurd cc
-lost_get from (q ∷ rows) zero r rise is =
-    let same : q ≡ r = cc in
-    subst (λ (x : Row). is_lost_at (q ∷ rows) x.offset ≡ x.lost) same
-    (there_alone q.lost (is_lost_at rows q.offset) (q.offset == q.offset)
-    (eq-eqb q.offset q.offset refl) (none_lost rows q.offset rise.1))
+lost_get from (q ∷ rows) zero r rise is = grind (arith, there_alone, eq-eqb, none_lost)
 lost_get from (q ∷ rows) (suc i) r rise is =
-    let behind = rising_get (suc q.offset) rows i r rise.1 is in
-    not_there q.lost (is_lost_at rows r.offset) (q.offset == r.offset)
-    (ne_eqb q.offset r.offset (λ e. omega (arith, e, behind)))
-    ∙ lost_get (suc q.offset) rows i r rise.1 is
+    grind (arith, rising_get, not_there, ne_eqb, lost_get (suc q.offset) rows i r rise.1 is)
 
 -- ---- marked frames
 
@@ -149,17 +131,13 @@ each_get : (head : Option Head) (all : List Row) (n : ℕ) (rows : List Row) (i 
     → slice_get (map (λ (p : ℕ × Row). marked_row head all p.0 p.1) (enumerate_from n rows)) i
     ≡ Some (marked_row head all (n + i) r)
 each_get head all n [] i r is = absurd cc
-each_get head all n (q ∷ rows) zero r is =
-    let same : q ≡ r = cc in
-    ap₂ (λ m (x : Row). Some (marked_row head all m x)) (omega arith) same
-each_get head all n (q ∷ rows) (suc i) r is =
-    each_get head all (n + 1) rows i r is ∙ ap (λ m. Some (marked_row head all m r)) (omega arith)
+each_get head all n (q ∷ rows) zero r is = grind arith
+each_get head all n (q ∷ rows) (suc i) r is = grind (arith, each_get head all (n + 1) rows i r is)
 
 marked_rows-get : (head : Option Head) (rows : List Row) (i : ℕ) (r : Row) → slice_get rows i
     ≡ Some r → slice_get (marked_rows head rows) i ≡ Some (marked_row head rows i r)
 unfolding marked_rows
-marked_rows-get head rows i r is =
-    each_get head rows 0 rows i r is ∙ ap (λ m. Some (marked_row head rows m r)) (zero-add i)
+marked_rows-get head rows i r is = grind (arith, each_get head rows 0 rows i r is, zero-add i)
 
 -- frame i is lost exactly if a lost frame of them is at its offset
 pub lost-at : (head : Option Head) (from : ℕ) (rows : List Row) → AreRising from rows
@@ -202,8 +180,7 @@ items_rising file part from ps to ends = end_rising from (rows_of file (frames_o
 
 numbered_frames-rising : (file : List ℕ) (from : ℕ) (o : Option Head) (ps : List PlacedFrame)
     → AreRising from (rows_of file ps) → AreRising from (rows_of file (numbered_frames o ps))
-numbered_frames-rising file from (Some head) (p ∷ ps) rise =
-    rising_less from (suc p.offset) (rows_of file ps) (omega (arith, rise.0)) rise.1
+numbered_frames-rising file from (Some head) (p ∷ ps) rise = grind (arith, rising_less)
 numbered_frames-rising file from _ _ rise = rise
 
 -- the frames of a walk are in order

@@ -11,12 +11,12 @@ use Rattle.moved_gains.proofs.{MovingLemmas.moved_to, RowLemmas.Each}
 use Rattle.moved_gains.proofs.WholeFrameLemmas.{AreFramesOf, frame_of, IsFrameOf, row_shaped}
 use Rattle.moved_gains.proofs.WholeFrameLemmas.{row_sized}
 use Rattle.moved_gains.proofs.WrittenLemmas.{append_three, between_long}
-use Rattle.moved_gains.specs.Gains.{moved_granule, moved_side, moved_side_unless_lost}
+use Rattle.moved_gains.specs.Gains.{moved_side, moved_side_unless_lost}
 use Rattle.moved_gains.specs.Moving.{moved_bytes, moved_row_bytes, row_end, row_length}
 use Rattle.outside.specs.Pass.{bytes_between}
 use Rattle.requests.specs.declared.shift.Steps.{Steps}
 use Rattle.side_info.proofs.{FrameLemmas.frame_with_side-again, SideLemmas.IsShaped}
-use Rattle.side_info.specs.{Frame.frame_with_side, Side.granule_in, declared.side.Side.Side}
+use Rattle.side_info.specs.{Frame.frame_with_side, declared.side.Side.Side}
 use Rattle.sync_survey.specs.Row.{Row}
 
 -- all these steps are the sum of one change and of the other
@@ -27,16 +27,7 @@ pub record AreTogether (one two all : Steps) : Type 0 where
 sum_side : (one two all : Steps) → AreTogether one two all → (s : Side)
     → moved_side (sum_of one two) s ≡ moved_side all s
 unfolding moved_side
-sum_side one two all sum s =
-    let left = sym sum.left in
-    let right = sym sum.right in
-    λ i. record s {
-      granules =
-          (moved_granule (left i) (granule_in s 0 0) ∷ moved_granule (right i) (granule_in s 0 1)
-          ∷ [])
-          ∷ (moved_granule (left i) (granule_in s 1 0) ∷ moved_granule (right i) (granule_in s 1 1)
-          ∷ []) ∷ [];
-    }
+sum_side one two all sum s = grind arith
 
 -- side information moved twice is moved once by both steps together
 pub side_again : (one two all : Steps) → AreTogether one two all → (s : Side) → IsShaped s
@@ -126,10 +117,7 @@ module _ (one two all : ℕ → Steps) (file new : List ℕ) (to : ℕ → ℕ) 
       → moved_to two new there (end - at + there) (map (stood to one) rows)
       ≡ moved_to all file at end rows
   moved_again at end there [] tail sum frames ends within place is =
-      let n : end - at + there - there ≡ end - at = omega arith in
-      ap (λ k. take k (drop there new)) n
-      ∙ ap (take (end - at)) is
-      ∙ take_at (bytes_between file at end) tail (end - at) (between_long file at end ends within)
+      grind (arith, take_at, between_long)
   moved_again at end there (row ∷ rows) tail sum frames ends within place is =
       let up = end_rises (row_end row) rows end ends.2 in
       let here = place row.offset ends.0 (omega (arith, ends.1, up)) in

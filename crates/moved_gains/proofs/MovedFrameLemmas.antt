@@ -1,6 +1,6 @@
 -- A frame with moved gains: what it has in common with the frame, moved twice, and not at all.
 use Rattle.std.proofs.Common.{ap, arith, Bool, cond, drop, false, length, List, MatchBool, Ok, refl}
-use Rattle.std.proofs.Common.{suc, sym, take, true, zero, ℕ, ℤ, [], ◌++◌, ◌+◌, ◌-◌, ◌<◌, ◌∙◌, ◌≡◌}
+use Rattle.std.proofs.Common.{suc, take, true, zero, ℕ, ℤ, [], ◌++◌, ◌+◌, ◌-◌, ◌<◌, ◌∙◌, ◌≡◌}
 use Rattle.bit_fields.proofs.BitsLemmas.{AreBelow-append, AreBelow-drop, AreBelow-take}
 use Rattle.bit_fields.proofs.BitsLemmas.{AreBits-bits_of, AreBytes-bytes}
 use Rattle.bit_fields.specs.Bits.{AreBytes, bits_of, bytes}
@@ -10,8 +10,7 @@ use Rattle.frame_header.specs.Tables.{class_of, length_of, overhead_of, side_siz
 use Rattle.moved_gains.proofs.GainsLemmas.{SideFits-moved_side}
 use Rattle.moved_gains.proofs.MovedGainLemmas.{GainsFit, IsNoStep, IsShaped-moved, side_none}
 use Rattle.moved_gains.specs.Edited.{moved_frame, moved_frame_unless_lost}
-use Rattle.moved_gains.specs.Gains.{is_silent_granule, moved_gain, moved_granule, moved_side}
-use Rattle.moved_gains.specs.Gains.{moved_side_unless_lost}
+use Rattle.moved_gains.specs.Gains.{moved_granule, moved_side, moved_side_unless_lost}
 use Rattle.requests.specs.declared.shift.Steps.{Steps}
 use Rattle.side_info.proofs.FrameLemmas.{area-frame_with_side, fits-side_in, frame_with_side-own}
 use Rattle.side_info.proofs.FrameLemmas.{HasRoom, header-frame_with_side, IsRight}
@@ -23,7 +22,7 @@ use Rattle.side_info.proofs.SideLemmas.{AreBits-side_bits, each_class, each_shap
 use Rattle.side_info.{proofs.SideLemmas.side_with, specs.CheckWord.check_word_of}
 use Rattle.side_info.specs.Frame.{crc_part, frame_with_side, side_in}
 use Rattle.side_info.specs.Granule.{GranuleFits, no_granule}
-use Rattle.side_info.specs.Side.{granule_in, has_granule, HasOtherGains, side_bits, SideFits}
+use Rattle.side_info.specs.Side.{granule_in, HasOtherGains, side_bits, SideFits}
 use Rattle.side_info.specs.declared.{granule.Granule.Granule, side.Side.Side}
 use Rattle.sync_survey.proofs.ItemBytesLemmas.{frame_item, header_front-four, IsItem}
 use Rattle.sync_survey.{proofs.ItemsLemmas.header_front-in_range, specs.Items.header_front}
@@ -33,8 +32,7 @@ use Rattle.sync_survey.specs.declared.items.Item.TheVariants.{Frame}
 
 -- a moved granule differs in no field but global_gain
 moved_granule-alike : (steps : ℤ) (g : Granule) → AreGranulesAlike g (moved_granule steps g)
-moved_granule-alike steps g = elim (is_silent_granule g) as (λ b. AreGranulesAlike g (cond b g
-    (record g { global_gain = moved_gain steps g.global_gain }))) [ true ↦ refl | false ↦ refl ]
+moved_granule-alike steps g = grind arith
 
 moved_granules : (steps : Steps) (m p a b : ℕ) (g h k l : Granule) (granule channel : ℕ)
     → AreGranulesAlike (granule_in (side_with m p a b g h k l) granule channel)
@@ -64,14 +62,7 @@ other_gains steps =
 last_granule-moved : (steps : Steps) (c : ClassFields) → IsClass c → (s : Side)
     → AreGranulesAlike (last_granule c s) (last_granule c (moved_side steps s))
 unfolding moved_side
-last_granule-moved steps =
-    each_class (λ c. (s : Side)
-    → AreGranulesAlike (last_granule c s) (last_granule c (moved_side steps s)))
-    (λ f s. moved_granule-alike steps.left (granule_in s 1 0))
-    (λ f s. moved_granule-alike steps.right (granule_in s 1 1))
-    (λ f s. moved_granule-alike steps.left (granule_in s 0 0))
-    (λ f s. moved_granule-alike steps.right (granule_in s 0 1))
-    (λ f channels two. two)
+last_granule-moved steps = grind (arith, each_class, last_granule, moved_granule-alike)
 
 -- moved gains leave a frame as it is from two bytes before its area on
 last_bytes-moved : (steps : Steps) (h : HeaderFields) (frame : List ℕ) → IsClass (class_of h)
@@ -87,8 +78,7 @@ last_bytes-moved steps h frame class all room =
 
 word_bytes : (h : HeaderFields) (s : Side) (b : Bool)
     → AreBytes (cond b (bytes (bits_of 16 (check_word_of h s))) [])
-word_bytes h s true =
-    AreBytes-bytes (bits_of 16 (check_word_of h s)) (AreBits-bits_of 16 (check_word_of h s))
+word_bytes h s true = grind (arith, AreBytes-bytes, AreBits-bits_of)
 word_bytes h s false = tt
 
 frame_bytes : (h : HeaderFields) (s : Side) (frame : List ℕ) → AreBytes frame
@@ -120,11 +110,7 @@ whole_class h frame whole = IsClass-class_of h (header_front-in_range frame h wh
 pub whole_room : (h : HeaderFields) (frame : List ℕ) → IsWhole h frame
     → (HasRoom h frame) × (6 + side_size_of (class_of h) < length frame)
 whole_room h frame whole =
-    let fields = header_front-in_range frame h whole.header in
-    let some = area_some (class_of h) h.slot (IsClass-class_of h fields) fields.slot in (
-      omega (arith, some, whole.size, overhead-most (class_of h) h.protected),
-      omega (arith, some, whole.size),
-    )
+    grind (arith, header_front-in_range, area_some, IsClass-class_of, overhead-most)
 
 -- ---- with moved gains
 
@@ -157,22 +143,17 @@ moved_whole false steps h frame whole =
     let shaped = IsShaped-moved steps (side_in h frame) (shaped-side_in h frame) in
     let fits =
     SideFits-moved_side (class_of h) steps (side_in h frame) (fits-side_in h frame class) in
-    let side : side_in h (frame_with_side h s frame) ≡ s =
-    side_in-frame_with_side h s frame class shaped fits room in
+    let side : side_in h (frame_with_side h s frame) ≡ s = grind (arith, side_in-frame_with_side) in
     record {
       whole = record {
-        header =
-            header_front-four (frame_with_side h s frame) frame
-            (header-frame_with_side h s frame room)
-            ∙ whole.header;
+        header = grind (arith, header_front-four, header-frame_with_side);
         size = length-frame_with_side h s frame class shaped room ∙ whole.size;
         all = frame_bytes h s frame whole.all;
       };
       same_end = last_bytes-moved steps h frame class whole.all room;
       same_area = area-frame_with_side h s frame class shaped room;
       side = side;
-      right = λ was protected. stored_crc-frame_with_side h s frame protected room
-          ∙ ap (check_word_of h) (sym side);
+      right = grind (arith, stored_crc-frame_with_side, side);
     }
 
 -- a whole frame is an item by itself
@@ -188,12 +169,7 @@ gain_fits c false g none = omega (arith, ap (λ (h : Granule). h.global_gain) no
 
 -- all gains of side information that fits are below 256
 pub gains_fit : (c : ClassFields) (s : Side) → SideFits c s → GainsFit s
-gains_fit c s fits = record {
-  first = gain_fits c (has_granule c 0 0) (granule_in s 0 0) (fits.granules 0 0);
-  second = gain_fits c (has_granule c 0 1) (granule_in s 0 1) (fits.granules 0 1);
-  third = gain_fits c (has_granule c 1 0) (granule_in s 1 0) (fits.granules 1 0);
-  fourth = gain_fits c (has_granule c 1 1) (granule_in s 1 1) (fits.granules 1 1);
-}
+gains_fit c s fits = grind (arith, gain_fits)
 
 -- moved by no step, a frame with the right check word stays
 pub frame_none : (steps : Steps) → IsNoStep steps → (h : HeaderFields) (frame : List ℕ)

@@ -1,10 +1,10 @@
 -- Moved gains: moved twice, not at all, and what moving leaves unchanged.
 use Rattle.std.proofs.Common.{ap, ap₂, arith, Bool, cond, false, flat_map, List, map, negsuc, None}
-use Rattle.std.proofs.Common.{not, Option, pos, refl, Some, suc, sym, take, true, unsigned_abs, ℕ}
-use Rattle.std.proofs.Common.{ℤ, ◌+ℤ◌, [], ◌%◌, ◌&&◌, ◌*◌, ◌+◌, ◌-◌, ◌/◌, ◌<◌, ◌==◌, ◌||◌, ◌∙◌, ◌∷◌}
-use Rattle.std.proofs.{Common.◌≡◌, Math.IntN.{+ℤ_assoc, +ℤ_idr}}
-use Rattle.std.proofs.lemmas.{Bool.{false≢true, ltb-false}, Int.{int_rem_euclid_is, ints}}
-use Rattle.std.specs.{Int.int_rem_euclid, Option.option_or}
+use Rattle.std.proofs.Common.{not, Option, pos, refl, Some, sym, take, true, unsigned_abs, ℕ, ℤ}
+use Rattle.std.proofs.Common.{◌+ℤ◌, [], ◌&&◌, ◌+◌, ◌/◌, ◌<◌, ◌==◌, ◌||◌, ◌∙◌, ◌∷◌, ◌≡◌}
+use Rattle.std.proofs.{Math.IntN.{+ℤ_assoc, +ℤ_idr}, lemmas.Bool.{false≢true, ltb-false}}
+use Rattle.std.{proofs.lemmas.Int.{int_rem_euclid_is, ints}, specs.Int.int_rem_euclid}
+use Rattle.std.specs.Option.{option_or}
 use Rattle.frame_header.specs.{Fields.HeaderFields, Tables.granules_of}
 use Rattle.frame_header.specs.declared.version.Version.{Version, TheVariants.{One, Two, TwoFive}}
 use Rattle.moved_gains.specs.Gains.{gain_out_of_range, is_out_of_range, is_silent_granule}
@@ -24,22 +24,9 @@ rem z = unsigned_abs (int_rem_euclid z (pos 256))
 -- the remainder of a sum depends on the remainder of its first part
 rem_sum : (z b : ℤ) → rem (pos (rem z) +ℤ b) ≡ rem (z +ℤ b)
 rem_sum (pos n) (pos m) = omega arith
-rem_sum (pos n) (negsuc m) =
-    ap unsigned_abs (int_rem_euclid_is (pos (n % 256) +ℤ negsuc m) (pos 256) 256 (suc m)
-    (n % 256 + 255 * suc m) (omega arith) refl (omega (arith, ints)))
-    ∙ omega arith
-    ∙ ap unsigned_abs (sym (int_rem_euclid_is (pos n +ℤ negsuc m) (pos 256) 256 (suc m)
-    (n + 255 * suc m) (omega arith) refl (omega (arith, ints))))
-rem_sum (negsuc n) (pos m) =
-    omega arith
-    ∙ ap unsigned_abs (sym (int_rem_euclid_is (negsuc n +ℤ pos m) (pos 256) 256 (suc n)
-    (m + 255 * suc n) (omega arith) refl (omega (arith, ints))))
-rem_sum (negsuc n) (negsuc m) =
-    ap unsigned_abs (int_rem_euclid_is (pos (255 - n % 256) +ℤ negsuc m) (pos 256) 256 (suc m)
-    (255 - n % 256 + 255 * suc m) (omega arith) refl (omega (arith, ints)))
-    ∙ omega arith
-    ∙ ap unsigned_abs (sym (int_rem_euclid_is (negsuc n +ℤ negsuc m) (pos 256) 256
-    (suc (suc (n + m))) (254 + 255 * (n + m) + 256) (omega arith) refl (omega (arith, ints))))
+rem_sum (pos n) (negsuc m) = grind (arith, unsigned_abs, int_rem_euclid_is, pos, negsuc, ints)
+rem_sum (negsuc n) (pos m) = grind (arith, unsigned_abs, int_rem_euclid_is, negsuc, pos, ints)
+rem_sum (negsuc n) (negsuc m) = grind (arith, unsigned_abs, int_rem_euclid_is, pos, negsuc, ints)
 
 -- moved twice is moved by the sum
 gain_twice : (a b : ℤ) (gain : ℕ) → moved_gain b (moved_gain a gain) ≡ moved_gain (a +ℤ b) gain
@@ -69,22 +56,19 @@ gain_next : (a b : ℤ) (gain : ℕ) → is_out_of_range (pos gain +ℤ a) ≡ f
     → is_out_of_range (pos (moved_gain a gain) +ℤ b) ≡ is_out_of_range (pos gain +ℤ (a +ℤ b))
 gain_next a b gain inside =
     let sum = within (pos gain +ℤ a) inside in
-    let to : pos (moved_gain a gain) ≡ pos gain +ℤ a =
-    ap (λ z. pos (rem z)) sum.is ∙ ap pos (gain_as_is sum.gain sum.small) ∙ sym sum.is in
+    let to : pos (moved_gain a gain) ≡ pos gain +ℤ a = grind (arith, pos, gain_as_is) in
     ap (λ z. is_out_of_range (z +ℤ b)) to ∙ ap is_out_of_range (+ℤ_assoc (pos gain) a b)
 
 -- ---- one granule
 
 moved_granule-silent : (steps : ℤ) (g : Granule) → is_silent_granule g ≡ true
     → moved_granule steps g ≡ g
-moved_granule-silent steps g silent =
-    ap (λ b. cond b g (record g { global_gain = moved_gain steps g.global_gain })) silent
+moved_granule-silent steps g silent = grind arith
 
 -- a granule that isn't silent gets the moved gain, and keeps all other fields
 pub moved_granule-loud : (steps : ℤ) (g : Granule) → is_silent_granule g ≡ false
     → moved_granule steps g ≡ record g { global_gain = moved_gain steps g.global_gain }
-moved_granule-loud steps g loud =
-    ap (λ b. cond b g (record g { global_gain = moved_gain steps g.global_gain })) loud
+moved_granule-loud steps g loud = grind arith
 
 -- the gain would leave the range
 abbrev pub is_stuck : ℤ → Granule → Bool
@@ -138,9 +122,7 @@ granule_next a b all sum g first =
 
 moved_granule-payload : (steps : ℤ) (g : Granule)
     → (moved_granule steps g).part2_3_length ≡ g.part2_3_length
-moved_granule-payload steps g = elim (is_silent_granule g) as (λ b. (cond b g (record g {
-  global_gain = moved_gain steps g.global_gain;
-})).part2_3_length ≡ g.part2_3_length) [ true ↦ refl | false ↦ refl ]
+moved_granule-payload steps g = grind arith
 
 -- ---- the gains of a frame
 
@@ -152,12 +134,7 @@ twice-with : (one two : Steps) (m p a b : ℕ) (g h k l : Granule)
     → moved_side two (moved_side one (side_with m p a b g h k l))
     ≡ moved_side (sum_of one two) (side_with m p a b g h k l)
 unfolding moved_side
-twice-with one two m p a b g h k l =
-    let gt = granule_twice one.left two.left g in
-    let ht = granule_twice one.right two.right h in
-    let kt = granule_twice one.left two.left k in
-    let lt = granule_twice one.right two.right l in
-    λ i. side_with m p a b (gt i) (ht i) (kt i) (lt i)
+twice-with one two m p a b g h k l = grind (arith, granule_twice, side_with)
 
 -- moved by one change and then by another is moved by their sum
 pub side_twice : (one two : Steps) (s : Side) → IsShaped s
@@ -182,13 +159,7 @@ NoneGoal steps s = GainsFit s → moved_side steps s ≡ s
 none-with : (steps : Steps) → IsNoStep steps → (m p a b : ℕ) (g h k l : Granule)
     → NoneGoal steps (side_with m p a b g h k l)
 unfolding moved_side
-none-with steps none m p a b g h k l fits =
-    let left : (x : Granule) → x.global_gain < 256 → moved_granule steps.left x ≡ x =
-    λ x small. ap (λ z. moved_granule z x) none.0 ∙ granule_none x small in
-    let right : (x : Granule) → x.global_gain < 256 → moved_granule steps.right x ≡ x =
-    λ x small. ap (λ z. moved_granule z x) none.1 ∙ granule_none x small in
-    λ i. side_with m p a b (left g fits.first i) (right h fits.second i) (left k fits.third i)
-    (right l fits.fourth i)
+none-with steps none m p a b g h k l fits = grind (arith, granule_none, side_with)
 
 -- moved by no step, side information stays
 pub side_none : (steps : Steps) → IsNoStep steps → (s : Side) → IsShaped s → GainsFit s
@@ -249,11 +220,7 @@ module _ (steps : Steps) (m p a b : ℕ) (g h k l : Granule) where
   pub free-whole : AreFree steps.left steps.right g h k l → steps.wrap ≡ false
       → side_out_of_range steps (side_with m p a b g h k l) ≡ None
   unfolding side_out_of_range
-  free-whole free strict =
-      let s = side_with m p a b g h k l in
-      ap (λ w. cond w None (first_out_of steps s)) strict
-      ∙ none_both _ _ (none_of _ _ free.first) (none_both _ _ (none_of _ _ free.second)
-      (none_both _ _ (none_of _ _ free.third) (none_of _ _ free.fourth)))
+  free-whole free strict = grind (arith, side_with, none_both, none_of)
 
   -- the gains of each granule and channel move by the steps of the channel
   pub moved_granule-with : moved_side steps (side_with m p a b g h k l) ≡ side_with m p a b
@@ -265,12 +232,7 @@ module _ (steps : Steps) (m p a b : ℕ) (g h k l : Granule) where
   payload-with : payload_bits (moved_side steps (side_with m p a b g h k l))
       ≡ payload_bits (side_with m p a b g h k l)
   unfolding payload_bits moved_side
-  payload-with =
-      let gp = moved_granule-payload steps.left g in
-      let hp = moved_granule-payload steps.right h in
-      let kp = moved_granule-payload steps.left k in
-      let lp = moved_granule-payload steps.right l in
-      λ i. 0 + (0 + gp i + hp i) + (0 + kp i + lp i)
+  payload-with = grind (arith, moved_granule-payload)
 
 -- with wrap no gain ever leaves the range
 pub wrapped-free : (steps : Steps) (s : Side) → steps.wrap ≡ true → side_out_of_range steps s ≡ None
@@ -358,16 +320,10 @@ lengths-with : (steps : Steps) (version : Version) (mono : Bool) (m p a b : ℕ)
     → lengths_of version mono (moved_side steps (side_with m p a b g h k l))
     ≡ lengths_of version mono (side_with m p a b g h k l)
 unfolding moved_side
-lengths-with steps One true m p a b g h k l =
-    λ i. moved_granule-payload steps.left g i ∷ moved_granule-payload steps.left k i ∷ []
-lengths-with steps One false m p a b g h k l =
-    λ i. moved_granule-payload steps.left g i ∷ moved_granule-payload steps.right h i
-    ∷ moved_granule-payload steps.left k i
-    ∷ moved_granule-payload steps.right l i ∷ []
-lengths-with steps Two false m p a b g h k l =
-    λ i. moved_granule-payload steps.left g i ∷ moved_granule-payload steps.right h i ∷ []
-lengths-with steps TwoFive false m p a b g h k l =
-    λ i. moved_granule-payload steps.left g i ∷ moved_granule-payload steps.right h i ∷ []
+lengths-with steps One true m p a b g h k l = grind (arith, moved_granule-payload)
+lengths-with steps One false m p a b g h k l = grind (arith, moved_granule-payload)
+lengths-with steps Two false m p a b g h k l = grind (arith, moved_granule-payload)
+lengths-with steps TwoFive false m p a b g h k l = grind (arith, moved_granule-payload)
 lengths-with steps _ true m p a b g h k l = λ i. moved_granule-payload steps.left g i ∷ []
 
 -- the lengths of all parts of main data stay

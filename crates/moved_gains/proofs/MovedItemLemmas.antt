@@ -1,8 +1,7 @@
 -- Items of a file that are in another one, each at an offset that depends only on its own.
 use Rattle.std.proofs.Common.{ap, arith, drop, false, length, length-drop, List, map, pos, Some}
-use Rattle.std.proofs.Common.{subst, sym, take, true, ℕ, [], ◌++◌, ◌+◌, ◌-◌, ◌<◌, ◌∙◌, ◌∷◌, ◌≡◌}
-use Rattle.std.proofs.{Common.◌≤◌, lemmas.List.{length-take, take-append-drop}}
-use Rattle.std.specs.List.{cons_option}
+use Rattle.std.proofs.Common.{subst, sym, take, true, ℕ, [], ◌++◌, ◌+◌, ◌-◌, ◌<◌, ◌∷◌, ◌≡◌, ◌≤◌}
+use Rattle.std.{proofs.lemmas.List.{length-take, take-append-drop}, specs.List.cons_option}
 use Rattle.frame_header.specs.Tables.{class_of, overhead_of}
 use Rattle.moved_gains.proofs.{EditedItemLemmas.frame_whole, ImageLemmas.AreImages}
 use Rattle.requests.specs.declared.shift.Steps.{Steps}
@@ -11,7 +10,7 @@ use Rattle.sync_survey.proofs.ItemBytesLemmas.{IsItem, kept_item}
 use Rattle.sync_survey.proofs.ItemListLemmas.{ends-rise, placed_by}
 use Rattle.sync_survey.proofs.ItemsLemmas.{header_front-in_range, stands-at}
 use Rattle.sync_survey.proofs.RunsLemmas.{whole_item_at-is, whole_item_at-whole}
-use Rattle.sync_survey.specs.Items.{item_at, item_front, size_of}
+use Rattle.sync_survey.specs.Items.{item_at, size_of}
 use Rattle.sync_survey.specs.Runs.{AreEndToEnd, frame_of_item, frames_of, PlacedItem, whole_item_at}
 use Rattle.sync_survey.specs.declared.items.Item.{Item, TheVariants.{Frame, Free}}
 use Rattle.sync_survey.specs.declared.{places.PlacedFrame.PlacedFrame, runs.Region.Region}
@@ -22,9 +21,7 @@ use Rattle.sync_survey.specs.declared.runs.Region.TheVariants.{Stream}
 there : (own at : ℕ) (item : Item) (file : List ℕ) (bytes : List ℕ) → IsItem item bytes
     → take own (drop at file) ≡ bytes → item_at file at ≡ item
 unfolding item_at
-there own at item file bytes is same =
-    ap item_front (sym (take-append-drop own (drop at file))
-    ∙ ap (λ l. l ++ drop own (drop at file)) same) ∙ is.known (drop own (drop at file))
+there own at item file bytes is same = grind (arith, take-append-drop own (drop at file), same)
 
 -- a whole item is where its bytes are
 pub item-moved : (file new : List ℕ) (at place : ℕ) (item : Item) → whole_item_at Stream file at
@@ -102,8 +99,7 @@ module _ (to : ℕ → ℕ) (file new : List ℕ) where
       let place : to p.offset ≡ at =
       omega (arith, moved.place p.offset (omega (arith, ends.0)) high, ends.0) in
       let same = moved.same p.offset size (omega (arith, ends.0)) high rise in
-      let next : IsMovedTo to file new (p.offset + size) end (at + size) = subst (λ n. IsMovedTo to
-      file new (n + size) end (at + size)) (sym ends.0) (behind from end at size moved) in
+      let next : IsMovedTo to file new (p.offset + size) end (at + size) = grind (arith, behind) in
       let last : (at + size) + (end - (p.offset + size)) ≡ at + (end - from) =
       omega (arith, ends.0, rise) in
       let later = items-moved (p.offset + size) ps end (at + size) ends.2 next in (
@@ -123,7 +119,6 @@ module _ (to : ℕ → ℕ) (file new : List ℕ) where
 pub ends-append : (part : Region) (file : List ℕ) (from : ℕ) (ps : List PlacedItem) (mid : ℕ)
     (qs : List PlacedItem) (end : ℕ) → AreEndToEnd part file from ps mid
     → AreEndToEnd part file mid qs end → AreEndToEnd part file from (ps ++ qs) end
-ends-append part file from [] mid qs end ends more =
-    subst (λ n. AreEndToEnd part file n qs end) (sym ends) more
+ends-append part file from [] mid qs end ends more = grind arith
 ends-append part file from (p ∷ ps) mid qs end ends more =
     (ends.0, ends.1, ends-append part file (p.offset + size_of p.item) ps mid qs end ends.2 more)

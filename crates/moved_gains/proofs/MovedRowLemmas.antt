@@ -1,8 +1,8 @@
 -- Rows with other offsets and with side information that says the same of main
 -- data: the same frames are lost, and none has a fault that had none.
-use Rattle.std.proofs.Common.{ap, ap₂, arith, Bool, cond, drop, false, List, ltb, map, None, Option}
+use Rattle.std.proofs.Common.{ap, ap₂, arith, Bool, drop, false, List, ltb, map, None, Option}
 use Rattle.std.proofs.Common.{option_map, refl, slice_get, Some, subst, suc, sum_by, sym, take}
-use Rattle.std.proofs.Common.{zero, zero-add, ℕ, [], ◌&&◌, ◌+◌, ◌-◌, ◌==◌, ◌||◌, ◌∙◌, ◌∷◌, ◌≡◌}
+use Rattle.std.proofs.Common.{zero, zero-add, ℕ, [], ◌&&◌, ◌+◌, ◌==◌, ◌∙◌, ◌∷◌, ◌≡◌}
 use Rattle.std.proofs.lemmas.{List.{take-map, Sums.sum_by-cons}, Option.slice_get-map, Simd.map-map}
 use Rattle.std.specs.List.{enumerate_from}
 use Rattle.frame_header.specs.Fields.{ClassFields}
@@ -15,10 +15,9 @@ use Rattle.side_info.specs.declared.side.Side.{Side}
 use Rattle.sync_survey.proofs.{ItemListLemmas.frame_by, SurveyPartsLemmas.{AreSound, IsSoundAt}}
 use Rattle.sync_survey.specs.Faults.{has_wrong_crc}
 use Rattle.sync_survey.specs.MainData.{data_end_after, data_end_before, end_of_data, head_area}
-use Rattle.sync_survey.specs.MainData.{is_lost, is_silent, lacks_data, marked_row, marked_rows}
-use Rattle.sync_survey.specs.{MainData.{own_area, place, row_of, rows_of}, Row.Row}
-use Rattle.sync_survey.specs.{Walk.{end_fault, numbered_frames}, declared.places.Head.Head}
-use Rattle.sync_survey.specs.declared.places.PlacedFrame.{PlacedFrame}
+use Rattle.sync_survey.specs.MainData.{is_lost, lacks_data, marked_row, marked_rows, own_area}
+use Rattle.sync_survey.specs.{MainData.{place, rows_of}, Row.Row, Walk.{end_fault, numbered_frames}}
+use Rattle.sync_survey.specs.declared.places.{Head.Head, PlacedFrame.PlacedFrame}
 use Rattle.sync_survey.specs.declared.survey_fault.SurveyFault.{SurveyFault}
 
 abbrev pub row_by : (ℕ → ℕ) → Row → Row
@@ -122,8 +121,7 @@ module _ (to : ℕ → ℕ) (side : Row → Side) (head : Option Head) (rows : L
 
     data_end-by : (place_now new_place : ℕ) (r : Row) → KeepsData r.side (side r)
         → new_place ≡ place_now → end_of_data new_place (changed r) ≡ end_of_data place_now r
-    data_end-by place_now new_place r kept same_place =
-        ap₂ (λ m n. m + n) (ap₂ (λ m n. m - n) same_place kept.begin) kept.bytes
+    data_end-by place_now new_place r kept same_place = grind arith
 
     behind-by : (place_now new_place ended new_ended : ℕ) (o : Option Row)
         → ((r : Row) → o ≡ Some r → KeepsData r.side (side r)) → new_place ≡ place_now
@@ -131,18 +129,12 @@ module _ (to : ℕ → ℕ) (side : Row → Side) (head : Option Head) (rows : L
         ≡ data_end_after place_now ended o
     behind-by place_now new_place ended new_ended None kept same_place same_ended = same_ended
     behind-by place_now new_place ended new_ended (Some r) kept same_place same_ended =
-        let own = kept r refl in
-        let silent : is_silent (changed r) ≡ is_silent r = ap (λ n. n == 0) own.bits in
-        let lacks =
-        lacks-by place_now new_place ended new_ended r own.begin same_place same_ended in
-        let loud = data_end-by place_now new_place r own same_place in
-        λ i. cond (silent i || lacks i) (same_ended i) (loud i)
+        grind (arith, lacks-by, data_end-by)
 
     end-by : (i : ℕ) → data_end_before new_head new_rows i ≡ data_end_before head rows i
     unfolding data_end_before
     end-by zero = refl
-    end-by (suc i) = ap (data_end_after _ _) (slice_get-map changed rows i)
-        ∙ behind-by _ _ _ _ (slice_get rows i) (keeps i) (place-by i) (end-by i)
+    end-by (suc i) = grind (arith, slice_get-map, behind-by, keeps, place-by, end-by i)
 
     -- the same frames are lost
     pub lost-by : (i : ℕ) (r : Row) → (side r).main_data_begin ≡ r.side.main_data_begin
@@ -162,14 +154,7 @@ module _ (to : ℕ → ℕ) (side : Row → Side) (head : Option Head) (rows : L
         subst (IsSoundAt new new_head class allowed new_rows i) found.2 (record {
           same = here.same;
           word = words i r found.1;
-          main = λ has.
-              let well = here.main (sym (lost-by i r own.begin) ∙ has) in
-              record {
-                begins = ap₂ ltb (place-by i) own.begin ∙ well.begins;
-                apart = ap₂ ltb (ap₂ (λ m n. m - n) (place-by i) own.begin) (end-by i) ∙ well.apart;
-                within = ap₂ ltb (ap (λ n. n + own_area r.header) (place-by i))
-                    (data_end-by _ _ r own (place-by i)) ∙ well.within;
-              };
+          main = grind (arith, lost-by, place-by, end-by, data_end-by);
           few = here.few;
         })
 
@@ -182,8 +167,7 @@ AreShaped rows = (i : ℕ) (r : Row) → slice_get rows i ≡ Some r → IsShape
 -- rows of a file have side information with lists as long as the arrays
 pub rows_shaped : (file : List ℕ) (ps : List PlacedFrame) → AreShaped (rows_of file ps)
 rows_shaped file [] i r is = absurd cc
-rows_shaped file (p ∷ ps) zero r is = let same : row_of file p ≡ r = cc in
-    subst (λ (x : Row). IsShaped x.side) same (shaped-side_in p.header (drop p.offset file))
+rows_shaped file (p ∷ ps) zero r is = grind (arith, shaped-side_in p.header (drop p.offset file))
 rows_shaped file (p ∷ ps) (suc i) r is = rows_shaped file ps i r is
 
 marks_shaped : (head : Option Head) (all : List Row) (n : ℕ) (rows : List Row) → AreShaped rows

@@ -1,27 +1,25 @@
 -- What is written is the edited file.
-use Rattle.std.proofs.Common.{ap, append-nil, append_assoc, ap₂, arith, Bool, cond, drop, length}
+use Rattle.std.proofs.Common.{ap, append-nil, append_assoc, ap₂, arith, Bool, drop, length}
 use Rattle.std.proofs.Common.{length-append, length-drop, List, None, Ok, Option, option_to_list}
-use Rattle.std.proofs.Common.{refl, Some, subst, sym, take, take-append-drop, ℕ, [], ◌++◌, ◌+◌, ◌-◌}
-use Rattle.std.proofs.{Common.{◌∙◌, ◌∷◌, ◌≡◌, ◌≤◌}, Math.Seq.take-add}
+use Rattle.std.proofs.Common.{refl, Some, sym, take, take-append-drop, ℕ, [], ◌++◌, ◌+◌, ◌-◌, ◌∙◌}
+use Rattle.std.proofs.{Common.{◌∷◌, ◌≡◌, ◌≤◌}, Math.Seq.take-add}
 use Rattle.std.proofs.lemmas.List.{drop-drop, drop_all, take_all, take_at}
-use Rattle.frame_header.specs.{Fields.HeaderFields, Tables.{class_of, length_of}}
+use Rattle.frame_header.specs.Fields.{HeaderFields}
 use Rattle.moved_gains.proofs.EditedItemLemmas.{moved-cons, moved-nil}
 use Rattle.moved_gains.proofs.FoundTagLemmas.{survey_fields-length, survey_of-survey_fields}
 use Rattle.moved_gains.proofs.LostOffsetLemmas.{EndBy, items_end, rows_by, told_rows}
 use Rattle.moved_gains.proofs.ReadFileLemmas.{has_stream}
 use Rattle.moved_gains.specs.Edited.{edited_file, is_lost_at, moved_frame_unless_lost, moved_item}
-use Rattle.moved_gains.specs.{Edited.{moved_items, moved_stream}, Gains.moved_side}
+use Rattle.moved_gains.specs.Edited.{moved_items, moved_stream}
 use Rattle.moved_gains.specs.Moving.{AreRowsOf, moved_row_bytes, row_end}
 use Rattle.outside.specs.Pass.{bytes_between}
 use Rattle.requests.specs.declared.shift.Steps.{Steps}
-use Rattle.side_info.{proofs.FrameLemmas.side_in-take, specs.Frame.{frame_with_side, side_in}}
-use Rattle.side_info.specs.declared.side.Side.{Side}
+use Rattle.side_info.proofs.FrameLemmas.{side_in-take}
 use Rattle.sync_survey.proofs.ItemListLemmas.{ends-within}
 use Rattle.sync_survey.proofs.ItemsLemmas.{header_front-in_range, stands-at}
 use Rattle.sync_survey.proofs.RunsLemmas.{bytes-ends, cons_list, IsItemOf, item_run-ends}
 use Rattle.sync_survey.proofs.{RunsLemmas.whole_item_at-is, SurveyLemmas.overhead-within}
-use Rattle.sync_survey.proofs.SurveyPartsLemmas.{frames_from, IsRead, survey_fields-parts}
-use Rattle.sync_survey.proofs.SurveyPartsLemmas.{told_from}
+use Rattle.sync_survey.proofs.SurveyPartsLemmas.{IsRead, survey_fields-parts, told_from}
 use Rattle.sync_survey.specs.{Faults.{survey_fields, SurveyFields}, Items.{item_at, size_of}}
 use Rattle.sync_survey.specs.Row.{Row}
 use Rattle.sync_survey.specs.Runs.{AreEndToEnd, bytes_of_items, frame_of_item, frames_of}
@@ -45,8 +43,7 @@ moved_from steps file at rows = moved_to steps file at (length file) rows
 -- without more frames the rest of the file is left
 pub moved_from-nil : (steps : ℕ → Steps) (file : List ℕ) (at : ℕ)
     → moved_from steps file at [] ≡ drop at file
-moved_from-nil steps file at =
-    take_all (length file - at) (drop at file) (omega (arith, length-drop at file))
+moved_from-nil steps file at = grind (arith, take_all, length-drop)
 
 -- the first of these frames is at this offset or after it
 abbrev pub IsBehind : ℕ → List Row → Type 0
@@ -103,18 +100,15 @@ module _ (steps : ℕ → Steps) (lost : ℕ → Bool) (part : Region) (file : L
       ≡ moved_frame_unless_lost (lost at) (steps at) h (item_bytes file at (Frame h))
       ++ moved_from steps file (at + size_of (Frame h)) (rows_by lost file frames)
   frame_step h here =
-      let row : Row =
-      record { offset = at; header = h; side = side_in h (drop at file); lost = lost at } in
-      let len = length_of (class_of h) h.slot in
-      let room = overhead-within h
-      (header_front-in_range (drop at file) h (stands-at file at (Frame h) here.is)) in
-      let none : at - at ≡ 0 = omega arith in
-      ap (λ n. take n (drop at file) ++ (moved_row_bytes (steps row.offset) file row
-      ++ moved_from steps file (row_end row) (rows_by lost file frames))) none
-      ∙ ap (λ (s : Side). cond (lost at) (item_bytes file at (Frame h))
-      (frame_with_side h (moved_side (steps at) s) (item_bytes file at (Frame h)))
-      ++ moved_from steps file (at + len) (rows_by lost file frames))
-      (sym (side_in-take h len (drop at file) room))
+      grind (
+        arith,
+        overhead-within h (header_front-in_range (drop at file) h (stands-at file at
+            (Frame h) here.is)),
+        header_front-in_range (drop at file) h (stands-at file at (Frame h)
+            here.is),
+        stands-at file,
+        side_in-take,
+      )
 
   item_step : (item : Item) → IsItemOf part file at item
       → IsBehind (at + size_of item) (rows_by lost file frames) → moved_from steps file at
@@ -122,8 +116,7 @@ module _ (steps : ℕ → Steps) (lost : ℕ → Bool) (part : Region) (file : L
       ≡ moved_item (steps at) (lost at) item (item_bytes file at item)
       ++ moved_from steps file (at + size_of item) (rows_by lost file frames)
   item_step (Frame h) here behind = frame_step h here
-  item_step item here behind =
-      moved_from-later steps file at (size_of item) (rows_by lost file frames) behind
+  item_step item here behind = grind (arith, moved_from-later steps file)
 
 -- consecutive items are written as the moved items
 pub moved_from-items : (steps : ℕ → Steps) (lost : ℕ → Bool) (part : Region) (file : List ℕ)
@@ -131,8 +124,7 @@ pub moved_from-items : (steps : ℕ → Steps) (lost : ℕ → Bool) (part : Reg
     → moved_from steps file from (rows_by lost file (frames_of ps))
     ≡ moved_items steps lost file ps ++ drop to file
 moved_from-items steps lost part file [] from to e =
-    moved_from-nil steps file from ∙ ap (λ n. drop n file) e
-    ∙ ap (λ (l : List ℕ). l ++ drop to file) (sym (moved-nil steps lost file))
+    grind (arith, moved_from-nil steps file from, moved-nil steps lost file)
 moved_from-items steps lost part file (p ∷ ps) from to e =
     let here = whole_item_at-is part file p.offset p.item e.1 in
     let next = p.offset + size_of p.item in
@@ -163,11 +155,9 @@ behind_head : (steps : ℕ → Steps) (lost : ℕ → Bool) (file : List ℕ) (h
     → drop to file ≡ [] → item_at file from ≡ Frame h
     → moved_from steps file from (rows_by lost file (numbered_frames head (frames_of ps)))
     ≡ moved_stream steps lost file head ps
-behind_head steps lost file None ps from to h e nothing first =
-    whole steps lost file ps from to e nothing
+behind_head steps lost file None ps from to h e nothing first = grind (arith, whole)
 behind_head steps lost file (Some head) [] from to h e nothing first =
-    moved_from-nil steps file from ∙ ap (λ n. drop n file) e ∙ nothing
-    ∙ sym (moved-nil steps lost file)
+    grind (arith, moved_from-nil steps file from, moved-nil steps lost file)
 behind_head steps lost file (Some head) (p ∷ ps) from to h e nothing first =
     let here = whole_item_at-is Stream file p.offset p.item e.1 in
     let is : p.item ≡ Frame h = sym here.is ∙ ap (item_at file) e.0 ∙ first in
@@ -187,19 +177,15 @@ behind_head steps lost file (Some head) (p ∷ ps) from to h e nothing first =
 front_bytes : (file : List ℕ)
     → bytes_of_items file (item_run Front file 0).items ≡ take (item_run Front file 0).stop file
 front_bytes file =
-    let r = item_run Front file 0 in
-    let all = bytes-ends Front file 0 r.items r.stop (item_run-ends Front file 0) in
-    let within =
-    ends-within Front file 0 r.items r.stop (item_run-ends Front file 0) (omega arith) in
-    let long : length (bytes_of_items file r.items) ≡ r.stop = omega (
+    grind (
       arith,
-      ap length all,
-      length-append (bytes_of_items file r.items) (drop r.stop file),
-      length-drop r.stop file,
-      within,
-    ) in
-    sym (take_at (bytes_of_items file r.items) (drop r.stop file) r.stop long)
-    ∙ ap (take r.stop) all
+      bytes-ends,
+      item_run-ends Front file 0,
+      ends-within,
+      length-append,
+      length-drop,
+      take_at,
+    )
 
 -- ---- the whole file
 
@@ -223,18 +209,14 @@ written_from steps file allowed start read =
 pub written-edited_file : (steps : ℕ → Steps) (file : List ℕ) (allowed : ℕ) (s : SurveyFields)
     → survey_fields file allowed ≡ Ok s
     → take s.junk file ++ moved_from steps file s.first s.frames ≡ edited_file steps file s
-written-edited_file steps file allowed s e =
-    let parts = survey_fields-parts file allowed s e in
-    subst (λ (t : SurveyFields). take t.junk file ++ moved_from steps file t.first t.frames
-    ≡ edited_file steps file t) parts.2 (written_from steps file allowed parts.0 parts.1)
+written-edited_file steps file allowed s e = grind (arith, survey_fields-parts, written_from)
 
 -- ---- a survey over a folder
 
 -- a survey says how long the file is
 pub survey_of-length : (file : List ℕ) (allowed : ℕ) (s : SurveyFields)
     → survey_of file allowed ≡ Ok s → length file ≡ s.length
-survey_of-length file allowed s e =
-    survey_fields-length file allowed s (survey_of-survey_fields file allowed s e)
+survey_of-length file allowed s e = grind (arith, survey_fields-length, survey_of-survey_fields)
 
 -- ---- the rows are those of the file
 
@@ -247,7 +229,4 @@ are_rows lost file (p ∷ ps) = (refl, are_rows lost file ps)
 pub survey_of-rows : (file : List ℕ) (allowed : ℕ) (s : SurveyFields)
     → survey_of file allowed ≡ Ok s → AreRowsOf file s.frames
 survey_of-rows file allowed s e =
-    let parts = survey_fields-parts file allowed s (survey_of-survey_fields file allowed s e) in
-    subst (λ (t : SurveyFields). AreRowsOf file t.frames) parts.2
-    (subst (AreRowsOf file) (sym (told_rows file parts.0))
-    (are_rows (is_lost_at (told_from file parts.0).frames) file (frames_from file parts.0)))
+    grind (arith, survey_fields-parts, survey_of-survey_fields, told_rows, are_rows)

@@ -1,9 +1,9 @@
 -- The tag of a file that got another one, and the file's own tag.
 use Rattle.std.proofs.Common.{ap, ap₂, arith, Bool, cond, drop, Err, false, filter, inl, inr}
-use Rattle.std.proofs.Common.{length, List, ltb, map, None, Ok, Option, refl, Result, Some, subst}
-use Rattle.std.proofs.Common.{sym, take, ℕ, [], ◌++◌, ◌+◌, ◌==◌, ◌∙◌, ◌∷◌, ◌≡◌, ◌≤◌}
+use Rattle.std.proofs.Common.{length, List, None, Ok, Option, refl, Result, Some, subst, sym, take}
+use Rattle.std.proofs.Common.{ℕ, [], ◌++◌, ◌+◌, ◌∙◌, ◌∷◌, ◌≡◌, ◌≤◌}
 use Rattle.std.proofs.lemmas.{Bool.{ltb-false, ne_eqb}, List.{drop-drop, take-append-drop}}
-use Rattle.std.{proofs.lemmas.List.Folds.find-append, specs.{List.find, Option.option_or}}
+use Rattle.std.{proofs.lemmas.List.Folds.find-append, specs.List.find}
 use Rattle.bit_fields.proofs.BitsLemmas.{AreBelow-drop, AreBelow-take, places_below}
 use Rattle.bit_fields.specs.Bits.{AreBytes}
 use Rattle.moved_gains.proofs.{CleanFileLemmas.split, FoundTagLemmas.tag-there}
@@ -13,16 +13,16 @@ use Rattle.moved_gains.proofs.TaggedByteLemmas.{new-bytes, new-front, new-later,
 use Rattle.moved_gains.proofs.TaggedByteLemmas.{new-own}
 use Rattle.moved_gains.specs.TagLaws.{AreTaggedBytes, HasNewTag, HasOwnTag, own_tag_bytes}
 use Rattle.moved_gains.specs.TagPlace.{file_with_tag, is_tag, IsTagBytes, new_blocks}
-use Rattle.moved_gains.specs.TagPlace.{retagged_fields, retagged_piece, stands_before}
-use Rattle.moved_gains.specs.TagPlace.{stands_behind, tag_block, tag_length, tag_offset}
-use Rattle.moved_gains.specs.TagReading.{file_tag, longest_tag, tag_of_block, tag_result_in_file}
+use Rattle.moved_gains.specs.TagPlace.{retagged_fields, stands_before, tag_block, tag_length}
+use Rattle.moved_gains.specs.TagPlace.{tag_offset}
+use Rattle.moved_gains.specs.TagReading.{file_tag, tag_of_block, tag_result_in_file}
 use Rattle.moved_gains.specs.declared.tag_fault.FileTagFault.TheVariants.{TooLarge}
 use Rattle.sync_survey.proofs.SurveyPartsLemmas.{IsRead, survey_fields-parts, told_from}
 use Rattle.sync_survey.specs.{Faults.{survey_fields, SurveyFields}, declared.places.Piece.Piece}
 use Rattle.sync_survey.specs.declared.places.Start.{Start}
 use Rattle.tag_blocks.proofs.BlocksLemmas.{block_front-least}
 use Rattle.tag_blocks.proofs.TagsLemmas.{IsTag-in, tag_bytes-in, tag_of-ok}
-use Rattle.tag_blocks.specs.{Blocks.block_front, Tags.{IsTag, tag_bytes, tag_of, TagFields}}
+use Rattle.tag_blocks.specs.{Blocks.block_front, Tags.{IsTag, tag_bytes, TagFields}}
 use Rattle.tag_blocks.specs.declared.{block.Kind.TheVariants.Ape, tag_fault.TagFault.TagFault}
 use Rattle.tag_blocks.specs.declared.tag_fault.TagFault.TheVariants.{BadTag}
 
@@ -44,8 +44,7 @@ module _ (file : List ℕ) (allowed : ℕ) (start : Start) (read : IsRead file a
   within = room file allowed start read no_junk block (inr is)
 
   one_block : new_blocks (length block) s ≡ piece ∷ []
-  one_block = let some : (length block == 0) ≡ false =
-      ne_eqb (length block) 0 (λ e. omega (arith, e, block_front-least block _ is)) in rw some refl
+  one_block = grind (arith, ne_eqb, block_front-least)
 
   -- no tag is before the new one
   none_before : find is_tag (filter (stands_before s) s.blocks) ≡ None
@@ -55,13 +54,7 @@ module _ (file : List ℕ) (allowed : ℕ) (start : Start) (read : IsRead file a
   -- the tag's block is the new one
   pub new_tag : tag_block (retagged_fields (length block) s) ≡ Some piece
   unfolding retagged_fields
-  new_tag =
-      find-append is_tag (filter (stands_before s) s.blocks) (new_blocks (length block) s
-      ++ map (retagged_piece (length block) s) (filter (stands_behind s) s.blocks))
-      ∙ ap₂ (λ (o : Option Piece) (l : List Piece). option_or o
-      (find is_tag
-      (l ++ map (retagged_piece (length block) s) (filter (stands_behind s) s.blocks))))
-      none_before one_block
+  new_tag = grind (arith, find-append, none_before, one_block)
 
   place : (tag_offset (retagged_fields (length block) s) ≡ tag_offset s)
       × (tag_length (retagged_fields (length block) s) ≡ length block)
@@ -110,13 +103,11 @@ own_same file s =
 
 own_is : (file : List ℕ) (s : SurveyFields) (b : Piece) → tag_block s ≡ Some b
     → own_tag_bytes file s ≡ take b.block.length (drop b.offset file)
-own_is file s b is = let place = place-some s b is in
-    ap₂ (λ m n. take n (drop m file)) place.0 place.1
+own_is file s b is = grind (arith, place-some)
 
 own_are : (file : List ℕ) (allowed : ℕ) (s : SurveyFields) → survey_fields file allowed ≡ Ok s
     → (o : Option Piece) → tag_block s ≡ o → IsTagBytes (own_tag_bytes file s)
-own_are file allowed s e None is = let none : tag_length s ≡ 0 = rw is refl in
-    inl (ap (λ n. take n (drop (tag_offset s) file)) none)
+own_are file allowed s e None is = grind arith
 own_are file allowed s e (Some b) is =
     subst IsTagBytes (sym (own_is file s b is)) (inr (tag-there file allowed s b e is).front)
 
@@ -132,12 +123,7 @@ block_bytes : (at : ℕ) (block : List ℕ) (tag : TagFields) → AreBytes block
     → block_front block ≡ Some (record { kind = Ape; length = length block })
     → tag_of_block at block ≡ Ok tag → IsTag tag × (tag_bytes tag ≡ block)
 block_bytes at block tag all is e =
-    let parts = read_by at (length block) tag (ltb longest_tag (length block)) (tag_of block) e in
-    let whole = tag_of-ok block tag (places_below block all) is
-    (ltb-false longest_tag (length block) parts.0) parts.1 in (
-      subst IsTag whole.1 (IsTag-in block whole.0),
-      ap tag_bytes (sym whole.1) ∙ tag_bytes-in block whole.0,
-    )
+    grind (arith, read_by, tag_of-ok, places_below, ltb-false, IsTag-in, tag_bytes-in)
 
 own_read : (file : List ℕ) (allowed : ℕ) (s : SurveyFields) → survey_fields file allowed ≡ Ok s
     → (tag : TagFields) (b : Piece) → AreBytes file → tag_block s ≡ Some b

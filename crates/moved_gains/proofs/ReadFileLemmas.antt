@@ -1,6 +1,6 @@
 -- A file that was read without fault: its first frame, and where its items end.
 use Rattle.std.proofs.Common.{ap, arith, drop, inl, inr, length, length-append, length-drop, List}
-use Rattle.std.proofs.Common.{refl, Some, sym, ℕ, ◌+◌, ◌∙◌, ◌∷◌, ◌≡◌, ◌≤◌}
+use Rattle.std.proofs.Common.{Some, sym, ℕ, ◌+◌, ◌∙◌, ◌∷◌, ◌≡◌, ◌≤◌}
 use Rattle.moved_gains.proofs.WholeFileLemmas.{front_end-is}
 use Rattle.sync_survey.proofs.ItemListLemmas.{items-length, kept_items}
 use Rattle.sync_survey.proofs.RunsLemmas.{IsItemOf, item_run-ends, item_run-next}
@@ -48,10 +48,8 @@ has_stream file allowed start read =
     let stream = item_run-next Stream file at item there in
     let items : List PlacedItem = record { offset = at; item = item } ∷ later.items in
     let bytes = bytes_of_items file items in
-    let ends : AreEndToEnd Stream file at items later.stop =
-    (refl, there, item_run-ends Stream file (at + size_of item)) in
-    let reached : ReachesTo file start (length file) =
-    reach-end file start (frames_from file start) (stream_run file start).stop refl read.end in
+    let ends : AreEndToEnd Stream file at items later.stop = grind (arith, there, item_run-ends) in
+    let reached : ReachesTo file start (length file) = grind (arith, reach-end, frames_from) in
     record {
       first = begins.frame;
       there = there;

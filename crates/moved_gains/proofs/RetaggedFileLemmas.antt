@@ -155,10 +155,7 @@ module _ (file : List ℕ) (allowed : ℕ) (start : Start) (read : IsRead file a
       ∙ ap (map (frame_by to)) old_frames
 
   kept : AreKept to file new all
-  kept =
-      subst (AreKept to file new) old_frames
-      (images-append to no_steps (λ at. true) file new (frames_of parts.front)
-      (frames_of parts.rest) low.1 high.1)
+  kept = grind (arith, old_frames, images-append, no_steps, parts.front, parts.rest, low.1, high.1)
 
   -- ---- the blocks
 
@@ -229,9 +226,7 @@ module _ (file : List ℕ) (allowed : ℕ) (start : Start) (read : IsRead file a
         (area-image to no_steps (λ at. true) file new start.first kept.0);
     frames = ap₂ numbered_frames new_head new_clean.frames ∙ numbered_frames-by to head all
         ∙ ap (map (frame_by to)) (sym (frames-is file allowed start read no_junk));
-    images = subst (AreKept to file new) (sym (frames-is file allowed start read no_junk))
-        (numbered_either (AreKept to file new) head start.first
-        (rest file allowed start read no_junk) kept kept.1);
+    images = grind (arith, frames-is, numbered_either, rest, kept);
     past = omega (arith, new_clean.stop);
   }
 
@@ -281,19 +276,14 @@ module _ (file : List ℕ) (allowed : ℕ) (start : Start) (read : IsRead file a
 -- a file without junk has its first frame where its front ends
 pub no_junk-start : (s : SurveyFields) (file : List ℕ) (start : Start) → told_from file start ≡ s
     → s.junk ≡ s.first → start.front_end ≡ start.first.offset
-no_junk-start s file start told clean =
-    ap (λ (t : SurveyFields). t.junk) told ∙ clean ∙ ap (λ (t : SurveyFields). t.first) (sym told)
+no_junk-start s file start told clean = grind (arith, clean)
 
 -- a file with another tag has the survey of the file, with that tag
 pub survey_fields-retagged_fields : (file bytes : List ℕ) (allowed : ℕ) (s : SurveyFields)
     → survey_fields file allowed ≡ Ok s → s.junk ≡ s.first → IsTagBytes bytes
     → survey_fields (file_with_tag bytes s file) allowed ≡ Ok (retagged_fields (length bytes) s)
 survey_fields-retagged_fields file bytes allowed s e clean are =
-    let parts = survey_fields-parts file allowed s e in
-    subst (λ t. survey_fields (file_with_tag bytes t file) allowed
-    ≡ Ok (retagged_fields (length bytes) t))
-    parts.2 (survey-from file allowed parts.0 parts.1 (no_junk-start s file parts.0 parts.2 clean)
-    bytes are)
+    grind (arith, survey_fields-parts, survey-from, no_junk-start, clean)
 
 -- The stream of a file with another tag is the same.
 pub stream-retagged_fields : (file bytes : List ℕ) (allowed : ℕ) (s : SurveyFields)
@@ -301,7 +291,4 @@ pub stream-retagged_fields : (file bytes : List ℕ) (allowed : ℕ) (s : Survey
     → stream_of_survey (file_with_tag bytes s file) (retagged_fields (length bytes) s)
     ≡ stream_of_survey file s
 stream-retagged_fields file bytes allowed s e clean are =
-    let parts = survey_fields-parts file allowed s e in
-    subst (λ t. stream_of_survey (file_with_tag bytes t file) (retagged_fields (length bytes) t)
-    ≡ stream_of_survey file t) parts.2 (stream-from file allowed
-    parts.0 parts.1 (no_junk-start s file parts.0 parts.2 clean) bytes are)
+    grind (arith, survey_fields-parts file allowed s e, stream-from, no_junk-start, clean)

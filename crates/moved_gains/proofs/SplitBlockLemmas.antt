@@ -1,7 +1,7 @@
 -- The blocks before the tag of a file, and those after it, selected by offset.
-use Rattle.std.proofs.Common.{ap, append-nil, ap₂, arith, Bool, false, filter, List, map, None}
-use Rattle.std.proofs.Common.{Option, option_to_list, refl, Some, true, ℕ, [], ◌++◌, ◌+◌, ◌<◌, ◌∙◌}
-use Rattle.std.proofs.{Common.{◌∷◌, ◌≡◌, ◌≤◌}, lemmas.Bool.{le-leb, le-ltb, lt-leb, lt-ltb}}
+use Rattle.std.proofs.Common.{ap, append-nil, arith, Bool, false, filter, List, map, None, Option}
+use Rattle.std.proofs.Common.{option_to_list, refl, Some, true, ℕ, [], ◌++◌, ◌+◌, ◌<◌, ◌∷◌, ◌≡◌}
+use Rattle.std.proofs.{Common.◌≤◌, lemmas.Bool.{le-leb, le-ltb, lt-leb, lt-ltb}}
 use Rattle.std.{proofs.lemmas.List.Elements.filter-append, specs.List.cons_option}
 use Rattle.moved_gains.specs.TagPlace.{stands_before, stands_behind, tag_length, tag_offset}
 use Rattle.sync_survey.proofs.{ItemListLemmas.{ends-rise, piece_by}, RunsLemmas.whole_item_at-is}
@@ -18,8 +18,7 @@ BeginBetween from to (b ∷ bs) = (from ≤ b.offset) × (b.offset < to) × Begi
 begin_lower : (low from to : ℕ) (bs : List Piece) → low ≤ from → BeginBetween from to bs
     → BeginBetween low to bs
 begin_lower low from to [] le begin = tt
-begin_lower low from to (b ∷ bs) le begin =
-    (omega (arith, le, begin.0), begin.1, begin_lower low from to bs le begin.2)
+begin_lower low from to (b ∷ bs) le begin = grind (arith, begin_lower low from to bs le begin.2)
 
 begin_more : (from to at : ℕ) (item : Item) (bs : List Piece) → from ≤ at → at < to
     → BeginBetween from to bs → BeginBetween from to (cons_option (block_of_item at item) bs)
@@ -58,8 +57,7 @@ pub blocks-stay : (to : ℕ → ℕ) (from end : ℕ) (bs : List Piece) → Begi
     → ((x : ℕ) → x < end → to x ≡ x) → map (piece_by to) bs ≡ bs
 blocks-stay to from end [] begin stays = refl
 blocks-stay to from end (b ∷ bs) begin stays =
-    ap₂ (λ x (l : List Piece). record { offset = x; block = b.block } ∷ l) (stays b.offset begin.1)
-    (blocks-stay to from end bs begin.2 stays)
+    grind (arith, blocks-stay to from end bs begin.2 stays)
 
 -- ---- at the tag
 
@@ -77,41 +75,24 @@ module _ (s : SurveyFields) (before behind : List Piece) (old : Option Piece) (e
   three : (test : Piece → Bool) (xs ys zs : List Piece) → filter test before ≡ xs
       → filter test (option_to_list old) ≡ ys → filter test behind ≡ zs
       → filter test blocks ≡ xs ++ (ys ++ zs)
-  three test xs ys zs first second third =
-      filter-append test before (option_to_list old ++ behind)
-      ∙ ap₂ (λ (a b : List Piece). a ++ b) first (filter-append test (option_to_list old) behind
-      ∙ ap₂ (λ (a b : List Piece). a ++ b) second third)
+  three test xs ys zs first second third = grind (arith, filter-append)
 
   one_false : (test : Piece → Bool) (b : Piece) → test b ≡ false → filter test (b ∷ []) ≡ []
   one_false test b fails = rw fails refl
 
   old_before : (o : Option Piece) → IsOld s o → filter (stands_before s) (option_to_list o) ≡ []
   old_before None old_is = refl
-  old_before (Some b) old_is =
-      one_false (stands_before s) b (le-ltb b.offset (tag_offset s) (omega (arith, old_is.0)))
+  old_before (Some b) old_is = grind (arith, one_false, le-ltb)
 
   old_behind : (o : Option Piece) → IsOld s o → filter (stands_behind s) (option_to_list o) ≡ []
   old_behind None old_is = refl
-  old_behind (Some b) old_is = one_false (stands_behind s) b
-      (lt-leb (tag_offset s + tag_length s) b.offset (omega (arith, old_is.0, old_is.1)))
+  old_behind (Some b) old_is = grind (arith, one_false, lt-leb)
 
   -- the blocks that are before the tag
   pub blocks-before : filter (stands_before s) blocks ≡ before
   blocks-before =
-      three (stands_before s) before [] []
-      (keeps_all (stands_before s) 0 (tag_offset s) before low
-      (λ b above below. lt-ltb b.offset (tag_offset s) below))
-      (old_before old is)
-      (keeps_none (stands_before s) (tag_offset s + tag_length s) end behind high
-      (λ b above below. le-ltb b.offset (tag_offset s) (omega (arith, above))))
-      ∙ append-nil before
+      grind (arith, three, keeps_all, lt-ltb, old_before, keeps_none, le-ltb, append-nil)
 
   -- the blocks that are after the tag
   pub blocks-behind : filter (stands_behind s) blocks ≡ behind
-  blocks-behind =
-      three (stands_behind s) [] [] behind
-      (keeps_none (stands_behind s) 0 (tag_offset s) before low
-      (λ b above below. lt-leb (tag_offset s + tag_length s) b.offset (omega (arith, below))))
-      (old_behind old is)
-      (keeps_all (stands_behind s) (tag_offset s + tag_length s) end behind high
-      (λ b above below. le-leb (tag_offset s + tag_length s) b.offset above))
+  blocks-behind = grind (arith, three, keeps_none, lt-leb, old_behind, keeps_all, le-leb)

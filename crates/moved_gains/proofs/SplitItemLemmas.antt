@@ -1,12 +1,10 @@
 -- The items of a file, split at its tag, or after the last frame if it has none.
-use Rattle.std.proofs.Common.{ap, arith, Bool, cond, false, List, map, None, Option, refl, Some}
-use Rattle.std.proofs.Common.{subst, sym, true, ℕ, [], ◌++◌, ◌+◌, ◌∙◌, ◌∷◌, ◌≡◌}
-use Rattle.std.specs.List.{cons_option, enumerate_from, find}
+use Rattle.std.proofs.Common.{arith, false, List, map, None, Option, refl, Some, subst, ℕ, [], ◌++◌}
+use Rattle.std.{proofs.Common.{◌+◌, ◌∷◌, ◌≡◌}, specs.List.{cons_option, enumerate_from, find}}
 use Rattle.frame_header.specs.Tables.{class_of, length_of}
 use Rattle.moved_gains.proofs.FoundTagLemmas.{found_case, last_more}
 use Rattle.moved_gains.specs.TagPlace.{is_tag, last_end}
-use Rattle.sync_survey.specs.{Items.size_of, MainData.{marked_row, marked_rows, row_of, rows_of}}
-use Rattle.sync_survey.specs.Row.{Row}
+use Rattle.sync_survey.specs.{Items.size_of, MainData.{marked_row, marked_rows, rows_of}, Row.Row}
 use Rattle.sync_survey.specs.Runs.{AreEndToEnd, block_of_item, blocks_of, frame_of_item, frames_of}
 use Rattle.sync_survey.specs.{Runs.{PlacedItem, whole_item_at}, Walk.numbered_frames}
 use Rattle.sync_survey.specs.declared.items.Item.{Item, TheVariants.{Block, Frame}}
@@ -61,11 +59,8 @@ push file at item ps cut next to old is other split = record {
   rest = split.rest;
   before = (refl, is, split.before);
   behind = split.behind;
-  frames = ap (cons_option (frame_of_item at item)) split.frames
-      ∙ sym (cons-append (frame_of_item at item) (frames_of split.front) (frames_of split.rest));
-  blocks = ap (cons_option (block_of_item at item)) split.blocks
-      ∙ sym (cons-append (block_of_item at item) (blocks_of split.front)
-      (old ++ blocks_of split.rest));
+  frames = grind (arith, cons-append);
+  blocks = grind (arith, cons-append);
   none = none_more (block_of_item at item) (blocks_of split.front) other split.none;
 }
 
@@ -79,18 +74,8 @@ tag_more : (file : List ℕ) (at : ℕ) (item : Item) (ps : List PlacedItem) (to
     → (find is_tag (blocks_of ps) ≡ Some b → IsSplitAt file (at + size_of item) ps to b)
     → find is_tag (cons_option (block_of_item at item) (blocks_of ps)) ≡ Some b
     → IsSplitAt file at (record { offset = at; item = item } ∷ ps) to b
-tag_more file at (Block x) ps to b is ends later e =
-    let here : Piece = record { offset = at; block = x } in
-    found_case here b (blocks_of ps)
-    (IsSplitAt file at (record { offset = at; item = Block x } ∷ ps) to b) e
-    (λ tag same. subst (IsSplitAt file at (record { offset = at; item = Block x } ∷ ps) to) same
-    (split_here file (record { offset = at; item = Block x } ∷ ps) ps at (at + x.length) to
-    (here ∷ []) ends refl refl))
-    (λ none rest. push file at (Block x) ps b.offset (b.offset + b.block.length) to (b ∷ []) is
-    (λ y same. let one : here ≡ y = cc in subst (λ (z : Piece). is_tag z ≡ false) one none)
-    (later rest))
-tag_more file at item ps to b is ends later e = push file at item ps
-    b.offset (b.offset + b.block.length) to (b ∷ []) is (λ y same. absurd cc) (later e)
+tag_more file at (Block x) ps to b is ends later e = grind (arith, found_case, split_here, push)
+tag_more file at item ps to b is ends later e = grind (arith, push)
 
 -- the items are those before the tag, the tag, and those after it
 pub split-tag : (file : List ℕ) (from : ℕ) (ps : List PlacedItem) (to : ℕ) (b : Piece)
@@ -117,12 +102,7 @@ IsSplitBehind file from ps to cut = IsSplit file ps from cut cut to []
 
 none_first : (x : Piece) (xs : List Piece) → find is_tag (x ∷ xs) ≡ None
     → (is_tag x ≡ false) × (find is_tag xs ≡ None)
-none_first x xs e = cases (is_tag x) refl e
-  where
-    cases : (t : Bool) → is_tag x ≡ t → cond t (Some x) (find is_tag xs) ≡ None
-        → (is_tag x ≡ false) × (find is_tag xs ≡ None)
-    cases true is e = absurd cc
-    cases false is e = (is, e)
+none_first x xs e = grind arith
 
 module _ (file : List ℕ) (to : ℕ) where
   last_frame : (at : ℕ) (item : Item) (ps : List PlacedItem) (p : PlacedFrame)
@@ -135,17 +115,9 @@ module _ (file : List ℕ) (to : ℕ) where
       → frames_of ps ≡ q ∷ qs → IsSplitBehind file (at + size_of item) ps to (stop_of (final q qs)))
       → IsSplitBehind file at (record { offset = at; item = item } ∷ ps) to (stop_of (final p rest))
   last_frame at item ps p rest [] is ends other size place none block frame are same later =
-      let cut : at + size_of item ≡ stop_of (final p rest) =
-      omega (arith, size, place) ∙ ap (λ (l : List PlacedFrame). stop_of (final p l)) same in
-      subst (IsSplitBehind file at (record { offset = at; item = item } ∷ ps) to) cut
-      (push file at item ps (at + size_of item) (at + size_of item) to [] is other
-      (split_here file ps ps (at + size_of item) (at + size_of item) to [] ends refl refl))
+      grind (arith, push, split_here)
   last_frame at item ps p rest (q ∷ qs) is ends other size place none block frame are same later =
-      let cut : stop_of (final q qs) ≡ stop_of (final p rest) =
-      ap (λ (l : List PlacedFrame). stop_of (final p l)) same in
-      subst (IsSplitBehind file at (record { offset = at; item = item } ∷ ps) to) cut
-      (push file at item ps (stop_of (final q qs)) (stop_of (final q qs)) to [] is other
-      (later q qs are))
+      grind (arith, push)
 
   last_item : (at : ℕ) (item : Item) (ps : List PlacedItem) (p : PlacedFrame)
       (rest : List PlacedFrame) → whole_item_at Stream file at ≡ Some item
@@ -155,23 +127,9 @@ module _ (file : List ℕ) (to : ℕ) where
       → cons_option (frame_of_item at item) (frames_of ps) ≡ p ∷ rest
       → find is_tag (cons_option (block_of_item at item) (blocks_of ps)) ≡ None
       → IsSplitBehind file at (record { offset = at; item = item } ∷ ps) to (stop_of (final p rest))
-  last_item at (Frame h) ps p rest is ends later e none =
-      let own : PlacedFrame = record { offset = at; header = h } in
-      let placed : PlacedItem = record { offset = at; item = Frame h } in
-      let here : own ≡ p = cc in
-      let others : frames_of ps ≡ rest = cc in
-      subst (λ (x : PlacedFrame). IsSplitBehind file at (placed ∷ ps) to (stop_of (final x rest)))
-      here
-      (last_frame at (Frame h) ps own rest (frames_of ps) is ends
-      (λ y same. absurd cc) refl refl none refl refl refl others (λ q qs are. later q qs are none))
-  last_item at (Block x) ps p rest is ends later e none =
-      let here : Piece = record { offset = at; block = x } in
-      let parts = none_first here (blocks_of ps) none in
-      push file at (Block x) ps (stop_of (final p rest)) (stop_of (final p rest)) to [] is
-      (λ y same. let one : here ≡ y = cc in subst (λ (z : Piece). is_tag z ≡ false) one parts.0)
-      (later p rest e parts.1)
-  last_item at item ps p rest is ends later e none = push file at item ps (stop_of (final p rest))
-      (stop_of (final p rest)) to [] is (λ y same. absurd cc) (later p rest e none)
+  last_item at (Frame h) ps p rest is ends later e none = grind (arith, last_frame, none)
+  last_item at (Block x) ps p rest is ends later e none = grind (arith, none_first, none, push)
+  last_item at item ps p rest is ends later e none = grind (arith, push, none)
 
   -- without a tag the items are those up to the last frame and those after it
   pub split-last : (from : ℕ) (ps : List PlacedItem) (p : PlacedFrame) (rest : List PlacedFrame)
@@ -188,16 +146,13 @@ module _ (file : List ℕ) (to : ℕ) where
 last_placed : (file : List ℕ) (p : PlacedFrame) (rest : List PlacedFrame)
     → last_end (rows_of file (p ∷ rest)) ≡ stop_of (final p rest)
 last_placed file p [] = refl
-last_placed file p (q ∷ qs) =
-    last_more (row_of file p) (row_of file q) (rows_of file qs) ∙ last_placed file q qs
+last_placed file p (q ∷ qs) = grind (arith, last_more, last_placed file q qs)
 
 last_each : (head : Option Head) (all : List Row) (n : ℕ) (rows : List Row)
     → last_end (map (λ (p : ℕ × Row). marked_row head all p.0 p.1) (enumerate_from n rows))
     ≡ last_end rows
 last_each head all n (r ∷ q ∷ rows) =
-    last_more (marked_row head all n r) (marked_row head all (n + 1) q)
-    (map (λ (p : ℕ × Row). marked_row head all p.0 p.1) (enumerate_from (n + 1 + 1) rows))
-    ∙ last_each head all (n + 1) (q ∷ rows) ∙ sym (last_more r q rows)
+    grind (arith, last_more, last_each head all (n + 1) (q ∷ rows))
 last_each head all n _ = refl
 
 last_end-marked_rows : (head : Option Head) (rows : List Row)
@@ -217,6 +172,4 @@ pub last-told : (file : List ℕ) (head : Option Head) (p : PlacedFrame) (rest :
     → ((numbered_frames head (p ∷ rest) ≡ []) → ⊥)
     → last_end (marked_rows head (rows_of file (numbered_frames head (p ∷ rest))))
     ≡ stop_of (final p rest)
-last-told file head p rest some =
-    last_end-marked_rows head (rows_of file (numbered_frames head (p ∷ rest)))
-    ∙ last_end-numbered_frames file head p rest some
+last-told file head p rest some = grind (arith, last_end-marked_rows, last_end-numbered_frames)

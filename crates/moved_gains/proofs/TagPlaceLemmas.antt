@@ -1,11 +1,11 @@
 -- Where the tag of a file is among its frames: before
 -- all of them, or after some and before the others.
-use Rattle.std.proofs.Common.{ap, append-nil, ap₂, arith, Bool, cond, drop, false, inl, inr, length}
+use Rattle.std.proofs.Common.{ap, append-nil, arith, Bool, cond, drop, false, inl, inr, length}
 use Rattle.std.proofs.Common.{length-drop, List, None, Ok, Option, refl, Some, subst, sym, take}
 use Rattle.std.proofs.Common.{true, ℕ, [], ◌++◌, ◌+◌, ◌<◌, ◌∙◌, ◌∷◌, ◌≡◌, ◌≤◌, ◌⊎◌}
 use Rattle.std.proofs.lemmas.List.{length-map, length-take-le, map-append, Folds.find-append}
-use Rattle.std.proofs.lemmas.List.FromFn.{length-enumerate_from}
-use Rattle.std.specs.{List.{cons_option, enumerate_from, find}, Option.option_or}
+use Rattle.std.{proofs.lemmas.List.FromFn.length-enumerate_from, specs.List.{cons_option, find}}
+use Rattle.std.specs.Option.{option_or}
 use Rattle.frame_header.{proofs.HeaderLemmas.IsClass-class_of, specs.Fields.HeaderFields}
 use Rattle.frame_header.specs.Tables.{class_of, length_of}
 use Rattle.moved_gains.proofs.FoundTagLemmas.{found_item, last_more}
@@ -27,7 +27,7 @@ use Rattle.sync_survey.proofs.SurveyLemmas.{overhead-within}
 use Rattle.sync_survey.proofs.SurveyPartsLemmas.{frames_from, IsRead, survey_fields-parts}
 use Rattle.sync_survey.proofs.SurveyPartsLemmas.{told_from}
 use Rattle.sync_survey.specs.{Faults.{survey_fields, SurveyFields}, Items.{item_at, size_of}}
-use Rattle.sync_survey.specs.{MainData.{marked_row, marked_rows, row_of, rows_of}, Row.Row}
+use Rattle.sync_survey.specs.{MainData.marked_rows, Row.Row}
 use Rattle.sync_survey.specs.Runs.{AreEndToEnd, blocks_of, frame_of_item, frames_of, item_run}
 use Rattle.sync_survey.specs.Runs.{ItemRun, PlacedItem}
 use Rattle.sync_survey.specs.Walk.{end_fault, fault_at, head_of, numbered_frames, stream_run}
@@ -35,7 +35,6 @@ use Rattle.sync_survey.specs.declared.items.Item.{Item, TheVariants.{Block, Fram
 use Rattle.sync_survey.specs.declared.places.{Head.Head, Piece.Piece, PlacedFrame.PlacedFrame}
 use Rattle.sync_survey.specs.declared.{places.Start.Start, runs.Region.Region}
 use Rattle.sync_survey.specs.declared.runs.Region.TheVariants.{Front, Stream}
-use Rattle.sync_survey.specs.declared.survey_fault.SurveyFault.{SurveyFault}
 
 module _ (lost : ℕ → Bool) (file : List ℕ) where
   abbrev pub by : List PlacedFrame → List Row
@@ -126,10 +125,7 @@ pub last_ends : (from : ℕ) (row : Row) (rows : List Row) (to : ℕ) → EndBy 
     → EndBy from (row ∷ rows) (last_end (row ∷ rows)) × (last_end (row ∷ rows) ≤ to)
 last_ends from row [] to ends = ((ends.0, ends.1, omega arith), ends.2)
 last_ends from row (q ∷ rows) to ends =
-    let rest = last_ends (row_end row) q rows to ends.2 in (
-      (ends.0, ends.1, subst (EndBy (row_end row) (q ∷ rows)) (sym (last_more row q rows)) rest.0),
-      omega (arith, last_more row q rows, rest.1),
-    )
+    grind (arith, last_more, last_ends (row_end row) q rows to ends.2)
 
 -- ---- where the tag is
 
@@ -169,9 +165,7 @@ pub record StandsSomewhere (steps : ℕ → Steps) (file : List ℕ) (s : Survey
 length-marked_rows : (head : Option Head) (rows : List Row)
     → length (marked_rows head rows) ≡ length rows
 unfolding marked_rows
-length-marked_rows head rows =
-    length-map (enumerate_from 0 rows) (λ (p : ℕ × Row). marked_row head rows p.0 p.1)
-    ∙ length-enumerate_from 0 rows
+length-marked_rows head rows = grind (arith, length-map, length-enumerate_from)
 
 -- without a tag its place is the end of the last frame, and it has no bytes
 pub tag_none : (s : SurveyFields) → tag_block s ≡ None
@@ -240,8 +234,7 @@ module _ (steps : ℕ → Steps) (file : List ℕ) (allowed : ℕ) (start : Star
     rest = cut.rest;
     some = cut.some;
   }
-  cut_by (Some found) b cut = cut_later lost file first (first + size)
-      (frames_of later.items) b later.stop (omega arith) cut
+  cut_by (Some found) b cut = grind (arith, cut_later, first, size)
 
   among_by : (b : Piece) → tag_block s ≡ Some b → first < b.offset → IsCut lost file first
       (numbered_frames head (start.first ∷ frames_of later.items)) b later.stop → IsApart s
@@ -252,15 +245,11 @@ module _ (steps : ℕ → Steps) (file : List ℕ) (allowed : ℕ) (start : Star
       let among : IsAmong s = record {
         before = rows_by lost file cut.before;
         behind = rows_by lost file cut.behind;
-        all = rows_told ∙ ap (rows_by lost file) cut.all ∙ map-append (λ (p : PlacedFrame).
-            record (row_of file p) { lost = lost p.offset }) cut.before cut.behind;
+        all = grind (arith, rows_told, rows_by, map-append);
         low = omega (arith, tag.0, beyond);
         past = omega (arith, tag.0, tag.1, beyond, has.low, cut.some);
         front = subst (EndBy first (rows_by lost file cut.before)) (sym tag.0) cut.front;
-        rest = end_later (tag_offset s + tag_length s)
-            (rows_by lost file cut.behind) later.stop (length file) stop_within
-            (subst (λ n. EndBy n (rows_by lost file cut.behind) later.stop)
-            (ap₂ (λ m n. m + n) (sym tag.0) (sym tag.1)) cut.rest);
+        rest = grind (arith, end_later, rows_by, stop_within);
         up = omega (arith, tag.0, tag.1, high, stop_within);
       } in
       record { among = among; apart = inr (omega (arith, tag.1, cut.some)) }
@@ -269,14 +258,7 @@ module _ (steps : ℕ → Steps) (file : List ℕ) (allowed : ℕ) (start : Star
       → end_fault file frames
       (fault_at (stream_run file start).stop (item_at file (stream_run file start).stop)) ≡ None
       → 0 < length rows
-  some_frame rows frames same none = at frames
-      (fault_at (stream_run file start).stop (item_at file (stream_run file start).stop)) same none
-    where
-      at : (fs : List PlacedFrame) (o : Option SurveyFault) → length rows ≡ length fs
-          → end_fault file fs o ≡ None → 0 < length rows
-      at [] None same e = absurd cc
-      at [] (Some fault) same e = absurd cc
-      at (p ∷ ps) o same e = omega (arith, same)
+  some_frame rows frames same none = grind arith
 
   rows_ends : EndBy first s.frames (length file)
   rows_ends = subst (λ l. EndBy first l (length file)) (sym rows_told)
@@ -286,9 +268,7 @@ module _ (steps : ℕ → Steps) (file : List ℕ) (allowed : ℕ) (start : Star
       (omega arith) later_end))
 
   frames_some : 0 < length s.frames
-  frames_some = some_frame s.frames (frames_from file start)
-      (length-marked_rows head (rows_of file (frames_from file start))
-      ∙ length-map (frames_from file start) (row_of file)) read.end
+  frames_some = grind (arith, some_frame, frames_from, length-marked_rows, length-map)
 
   last_by : (rows : List Row) → rows ≡ s.frames → EndBy first rows (length file) → 0 < length rows
       → tag_block s ≡ None → IsApart s
@@ -334,11 +314,7 @@ module _ (steps : ℕ → Steps) (file : List ℕ) (allowed : ℕ) (start : Star
 
   -- the tag is before the junk, or apart from all frames
   pub apart_place : IsInFront s ⊎ IsApart s
-  apart_place =
-      place_by _ _ refl refl
-      (find-append is_tag (blocks_of front.items) (blocks_of (stream_run file start).items)
-      ∙ ap (λ (l : List Piece). option_or (find is_tag (blocks_of front.items)) (find is_tag l))
-      blocks_later)
+  apart_place = grind (arith, place_by, find-append, blocks_later)
 
   somewhere : IsInFront s ⊎ IsApart s → IsInFront s ⊎ IsAmong s
   somewhere (inl front) = inl front

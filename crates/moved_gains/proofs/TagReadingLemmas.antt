@@ -1,7 +1,6 @@
 -- The tag of a file, from the bytes of its block.
-use Rattle.std.proofs.Common.{ap, arith, drop, Err, length, List, ltb, None, Ok, refl, Result, Some}
-use Rattle.std.proofs.Common.{subst, sym, take, true, ℕ, ◌+◌, ◌<◌, ◌∙◌, ◌≡◌, ◌≤◌}
-use Rattle.std.proofs.lemmas.Bool.{lt-ltb}
+use Rattle.std.proofs.Common.{arith, drop, length, List, None, Ok, refl, Result, Some, take, ℕ, ◌<◌}
+use Rattle.std.proofs.{Common.◌≡◌, lemmas.Bool.lt-ltb}
 use Rattle.moved_gains.proofs.FoundTagLemmas.{IsTagThere, survey_fields-length}
 use Rattle.moved_gains.proofs.FoundTagLemmas.{survey_of-survey_fields, tag-there}
 use Rattle.moved_gains.specs.TagPlace.{tag_block, tag_length, tag_offset}
@@ -45,32 +44,23 @@ module _ (name : List ℕ) (files : Files) (s : SurveyFields) (surveyed : (bytes
 
   -- the file is as long as the survey says
   pub told-length : (bytes : List ℕ) → Holds files name bytes → length bytes ≡ s.length
-  told-length bytes holds =
-      let is = surveyed bytes holds in
-      survey_fields-length bytes is.0 s (survey_of-survey_fields bytes is.0 s is.1)
+  told-length bytes holds = grind (arith, survey_fields-length, survey_of-survey_fields)
 
   -- a tag that is too long is refused
   pub too_large-refused : longest_tag < b.block.length
       → RefusesTag name files s (TooLarge b.block.length)
   too_large-refused large bytes holds =
-      let here = told-there bytes holds in
-      let own = take b.block.length (drop b.offset bytes) in
-      let more : ltb longest_tag (length own) ≡ true =
-      lt-ltb longest_tag (length own) (omega (arith, here.long, large)) in
-      file_tag-some bytes s b tag ∙ rw more (ap (λ n. Err (TooLarge n)) here.long)
+      grind (arith, told-there bytes holds, lt-ltb, file_tag-some bytes s b tag)
 
   module _ (block : List ℕ) (own : (bytes : List ℕ) → Holds files name bytes → block
       ≡ take b.block.length (drop b.offset bytes)) (long : length block ≡ b.block.length) where
     front_there : (bytes : List ℕ) → Holds files name bytes
         → block_front block ≡ Some (record { kind = Ape; length = length block })
-    front_there bytes holds =
-        subst (λ (l : List ℕ). block_front l ≡ Some (record { kind = Ape; length = length l }))
-        (sym (own bytes holds)) (told-there bytes holds).front
+    front_there bytes holds = grind (arith, told-there)
 
     tag_is : (bytes : List ℕ) → Holds files name bytes → (r : Result TagFields FileTagFault)
         → tag_of_block b.offset block ≡ r → file_tag bytes s ≡ r
-    tag_is bytes holds r is =
-        file_tag-some bytes s b tag ∙ ap (tag_of_block b.offset) (sym (own bytes holds)) ∙ is
+    tag_is bytes holds r is = grind (arith, file_tag-some)
 
     -- the tag is that of the block
     pub block-tag : (t : TagFields) → (block_front block
@@ -81,16 +71,6 @@ module _ (name : List ℕ) (files : Files) (s : SurveyFields) (surveyed : (bytes
     -- the fault of the tag is that of the block
     pub block-cause : (before after : Counts) (fault : FileTagFault) → after ≡ before
         → IsBlockCause b.offset block fault → IsTagCause name files s before after fault
-    block-cause before after (Bad at) same cause =
-        let place = place-some s b tag in
-        let low : tag_offset s ≤ at = omega (arith, place.0, cause.1) in
-        let high : 0 < tag_length s → at < tag_offset s + tag_length s =
-        λ some. let less = cause.2 (omega (arith, long, place.1, some)) in
-        omega (arith, less, long, place.0, place.1) in (
-          (λ bytes holds. tag_is bytes holds (Err (Bad at)) (cause.0 (front_there bytes holds))),
-          low,
-          high,
-          same,
-        )
+    block-cause before after (Bad at) same cause = grind (arith, place-some, tag_is, front_there)
     block-cause before after Memory same cause = same
     block-cause before after _ same cause = absurd cause

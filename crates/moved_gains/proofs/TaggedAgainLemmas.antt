@@ -66,8 +66,7 @@ module _ (one : ℕ → Steps) (file : List ℕ) (allowed : ℕ) (s : SurveyFiel
 
   -- the changed file has the survey of the edited file with another tag
   pub new_is : survey_fields new allowed ≡ Ok new_survey
-  new_is = survey_fields-retagged_fields (edited_file one file s) block allowed m moved_of clean
-      (inr front)
+  new_is = grind (arith, survey_fields-retagged_fields, moved_of, clean)
 
   -- it has the new tag
   pub has_block : HasNewTag (edited_file one file s) block m
@@ -124,8 +123,7 @@ module _ (one : ℕ → Steps) (file : List ℕ) (allowed : ℕ) (s : SurveyFiel
     before_long = sym (has_block.place ∙ parted.place)
 
     before_there : take (tag_offset new_survey) new ≡ before
-    before_there = ap (take (tag_offset new_survey)) (parted.tagged block)
-        ∙ take_at before (block ++ behind) (tag_offset new_survey) before_long
+    before_there = grind (arith, take_at, before_long)
 
     behind_there : drop (tag_offset new_survey + tag_length new_survey) new ≡ behind
     behind_there =
@@ -160,8 +158,7 @@ module _ (one : ℕ → Steps) (file : List ℕ) (allowed : ℕ) (s : SurveyFiel
         ∙ omega (arith, first_same, low, here.junk)
 
     by_behind : AreMovedBy to (a + old) (length file) next
-    by_behind x low high = follows size m (x - gap) (omega (arith, kept, low))
-        ∙ omega (arith, old_size, place, new_size, low, at.low, here.junk)
+    by_behind x low high = grind (arith, follows, kept, old_size, place, new_size)
 
     to_place : a - s.first + new_survey.first ≡ tag_offset new_survey
     to_place = omega (arith, place, first_same, at.low, here.junk)
@@ -204,33 +201,29 @@ module _ (one : ℕ → Steps) (file : List ℕ) (allowed : ℕ) (s : SurveyFiel
         at_front one s (omega (arith, at.some, at.before, here.junk)) at.some in
         let place : tag_offset n ≡ a = has_block.place ∙ kept in
         let past : retagged_offset size m s.junk ≡ s.junk - old + size =
-        follows size m s.junk (omega (arith, kept, at.before))
-        ∙ ap (λ k. s.junk - k + size) old_size in
+        grind (arith, follows, kept, old_size) in
         let between = bytes_between file (a + old) s.junk in
         let rows = moved_to one file s.first (length file) s.frames in
         let within : s.junk ≤ length file = omega (arith, here.size, here.junk, here.first) in
         let parted = parted_front one file allowed s is at in
-        let at_new : IsInFront n = record {
-          some = omega (arith, new_size, some);
-          before = omega (arith, place, new_size, new_junk, past, at.before);
-        } in
+        let at_new : IsInFront n = grind (arith, some, new_size, place, new_junk) in
         let between_long : length between ≡ s.junk - (a + old) = length-take-le (s.junk - (a + old))
         (drop (a + old) file) (omega (arith, length-drop (a + old) file, at.before, within)) in
         let before_same = before_there (take a file) (between ++ rows) parted in
         let next : tag_offset n + tag_length n ≡ a + size = ap₂ (λ j k. j + k) place new_size in
         let behind = behind_there (take a file) (between ++ rows) parted in
         let between_same : bytes_between new (tag_offset n + tag_length n) n.junk ≡ between =
-        ap (take (n.junk - (tag_offset n + tag_length n))) behind
-        ∙ take_at between rows (n.junk - (tag_offset n + tag_length n))
-        (omega (arith, between_long, next, new_junk, past, at.before)) in
+        grind (arith, take_at, new_junk) in
         let far : n.first ≡ (tag_offset n + tag_length n) + (s.junk - (a + old)) =
         omega (arith, new_first, past, next, at.before) in
         let rows_stand : drop n.first new ≡ rows ++ [] =
-        ap (λ k. drop k new) far
-        ∙ sym (drop-drop (s.junk - (a + old)) (tag_offset n + tag_length n) new)
-        ∙ ap (drop (s.junk - (a + old))) behind
-        ∙ drop_at between rows (s.junk - (a + old)) between_long
-        ∙ sym (append-nil rows) in
+        grind (
+          arith,
+          drop-drop (s.junk - (a + old)) (tag_offset n + tag_length n) new,
+          drop_at
+              between rows (s.junk - (a + old)) between_long,
+          append-nil rows,
+        ) in
         let end : length file - s.first + n.first ≡ length new = omega (
           arith,
           here.size,
@@ -244,8 +237,7 @@ module _ (one : ℕ → Steps) (file : List ℕ) (allowed : ℕ) (s : SurveyFiel
           at.before,
         ) in
         let by : AreMovedBy to s.first (length file) n.first =
-        λ x low high. follows size m (x - gap) (omega (arith, kept, low, here.junk, at.before))
-        ∙ omega (arith, old_size, new_first, past, low, here.junk, at.before) in
+        grind (arith, follows, kept, old_size, new_first, here.junk, at.before) in
         let rows_same : moved_to two new n.first (length new) n.frames
         ≡ moved_to all file s.first (length file) s.frames =
         ap₂ (λ k (l : List Row). moved_to two new n.first k l) (sym end) new_frames

@@ -1,7 +1,7 @@
 -- The bytes of a file with another tag: those before the tag and those after it are unchanged.
-use Rattle.std.proofs.Common.{ap, arith, Bool, cond, drop, false, length, length-append}
-use Rattle.std.proofs.Common.{length-drop, List, ltb, refl, subst, sym, take, true, ℕ, ◌++◌, ◌+◌}
-use Rattle.std.proofs.{Common.{◌-◌, ◌<◌, ◌∙◌, ◌≡◌, ◌≤◌}, lemmas.Bool.{le-ltb, lt-ltb}}
+use Rattle.std.proofs.Common.{ap, arith, drop, length, length-append, length-drop, List, refl, sym}
+use Rattle.std.proofs.Common.{take, ℕ, ◌++◌, ◌+◌, ◌-◌, ◌<◌, ◌∙◌, ◌≡◌, ◌≤◌}
+use Rattle.std.proofs.lemmas.Bool.{le-ltb, lt-ltb}
 use Rattle.std.proofs.lemmas.List.{drop-drop, drop-take, drop_at, length-take-le, take-append-le}
 use Rattle.std.proofs.lemmas.List.{take-take, take_at}
 use Rattle.bit_fields.proofs.BitsLemmas.{AreBelow-append, AreBelow-drop, AreBelow-take}
@@ -20,13 +20,11 @@ file_with_tag-is bytes s file = refl
 module _ (n : ℕ) (s : SurveyFields) where
   -- the offset of what was before the tag stays
   pub stays : (x : ℕ) → x < tag_offset s → retagged_offset n s x ≡ x
-  stays x low = let is : ltb x (tag_offset s) ≡ true = lt-ltb x (tag_offset s) low in
-      ap (λ (b : Bool). cond b x (x - tag_length s + n)) is
+  stays x low = grind (arith, lt-ltb)
 
   -- the offset of what was after the tag changes by the difference in length
   pub follows : (x : ℕ) → tag_offset s ≤ x → retagged_offset n s x ≡ x - tag_length s + n
-  follows x high = let is : ltb x (tag_offset s) ≡ false = le-ltb x (tag_offset s) high in
-      ap (λ (b : Bool). cond b x (x - tag_length s + n)) is
+  follows x high = grind (arith, le-ltb)
 
 module _ (bytes file : List ℕ) (s : SurveyFields)
     (room : tag_offset s + tag_length s ≤ length file) where
@@ -50,34 +48,19 @@ module _ (bytes file : List ℕ) (s : SurveyFields)
 
   -- the file is shorter by the old tag, and longer by the new bytes
   pub new-length : length new ≡ length file - tag_length s + n
-  new-length = omega (
-    arith,
-    ap length new-is,
-    length-append (take (tag_offset s) file) (bytes ++ later),
-    length-append bytes later,
-    front-long,
-    length-drop (tag_offset s + tag_length s) file,
-    room,
-  )
+  new-length = grind (arith, new-is, length-append, front-long, length-drop)
 
   -- the new file is bytes if the file and the new tag are
   pub new-bytes : AreBytes file → AreBytes bytes → AreBytes new
-  new-bytes all more =
-      subst AreBytes (sym new-is)
-      (AreBelow-append 256 (take (tag_offset s) file) (bytes ++ later)
-      (AreBelow-take 256 (tag_offset s) file all)
-      (AreBelow-append 256 bytes later more
-      (AreBelow-drop 256 (tag_offset s + tag_length s) file all)))
+  new-bytes all more = grind (arith, new-is, AreBelow-append, AreBelow-take, AreBelow-drop)
 
   -- what is before the tag stays
   pub new-front : take (tag_offset s) new ≡ take (tag_offset s) file
-  new-front = ap (take (tag_offset s)) new-is
-      ∙ take_at (take (tag_offset s) file) (bytes ++ later) (tag_offset s) front-long
+  new-front = grind (arith, new-is, take_at, front-long)
 
   -- the new bytes are where the tag was
   pub new-tag : drop (tag_offset s) new ≡ bytes ++ later
-  new-tag = ap (drop (tag_offset s)) new-is
-      ∙ drop_at (take (tag_offset s) file) (bytes ++ later) (tag_offset s) front-long
+  new-tag = grind (arith, new-is, drop_at, front-long)
 
   -- the new bytes are all there
   pub new-own : take n (drop (tag_offset s) new) ≡ bytes
@@ -85,28 +68,17 @@ module _ (bytes file : List ℕ) (s : SurveyFields)
 
   -- what was after the tag is after the new bytes
   pub new-later : drop (tag_offset s + n) new ≡ later
-  new-later =
-      sym (drop-drop n (tag_offset s) new) ∙ ap (drop n) new-tag ∙ drop_at bytes later n refl
+  new-later = grind (arith, drop-drop n (tag_offset s) new, new-tag, drop_at bytes later n refl)
 
   take_both : (x k : ℕ) (l : List ℕ) → take k (drop x l) ≡ drop x (take (x + k) l)
   take_both x k l = sym (drop-take x k l)
 
   front_same : (x k : ℕ) → x + k ≤ tag_offset s → take k (drop x new) ≡ take k (drop x file)
-  front_same x k within =
-      take_both x k new
-      ∙ ap (drop x)
-      (ap (take (x + k)) new-is ∙ take-append-le (x + k) (take (tag_offset s) file) (bytes
-      ++ later) (omega (arith, within, front-long)) ∙ take-take (x + k) (tag_offset s) file within)
-      ∙ sym (take_both x k file)
+  front_same x k within = grind (arith, take_both, new-is, take-append-le, front-long, take-take)
 
   -- what is before the tag is where it was
   pub front-moved : IsMovedTo (retagged_offset n s) file new 0 (tag_offset s) 0
-  front-moved = record {
-    place = λ x low high. stays n s x high ∙ omega arith;
-    same =
-        λ x k low high within. ap (λ y. take k (drop y new)) (stays n s x high)
-        ∙ front_same x k within;
-  }
+  front-moved = grind (arith, stays, front_same)
 
   later_same : (x : ℕ) → tag_offset s + tag_length s ≤ x
       → drop (x - tag_length s + n) new ≡ drop x file
@@ -122,8 +94,4 @@ module _ (bytes file : List ℕ) (s : SurveyFields)
   pub later-moved : IsMovedTo (retagged_offset n s) file new (tag_offset s + tag_length s)
       (length file)
       (tag_offset s + n)
-  later-moved = record {
-    place = λ x low high. follows n s x (omega (arith, low)) ∙ omega (arith, low);
-    same = λ x k low high within. ap (λ y. take k (drop y new)) (follows n s x (omega (arith, low)))
-        ∙ ap (take k) (later_same x low);
-  }
+  later-moved = grind (arith, follows, later_same)

@@ -2,8 +2,7 @@
 -- the range exactly if the least and the greatest don't.
 use Rattle.std.proofs.Common.{ap, ap₂, arith, Bool, cond, false, is_some, leb, List, ltb, max, min}
 use Rattle.std.proofs.Common.{neg_ℤ, negsuc, None, not, Option, pos, refl, Some, suc, sym, true}
-use Rattle.std.proofs.Common.{zero, ℕ, ℤ, ◌+ℤ◌, [], ◌&&◌, ◌++◌, ◌+◌, ◌-◌, ◌<◌, ◌||◌, ◌∙◌, ◌∷◌, ◌≡◌}
-use Rattle.std.proofs.{Common.◌≤◌, Math.IntN.+ℤ_idr}
+use Rattle.std.proofs.Common.{zero, ℕ, ℤ, ◌+ℤ◌, [], ◌&&◌, ◌++◌, ◌-◌, ◌<◌, ◌||◌, ◌∙◌, ◌∷◌, ◌≡◌}
 use Rattle.std.proofs.lemmas.Bool.{and_from, and_parts, le-leb, le-ltb, leb-true, lt-leb, lt-ltb}
 use Rattle.std.{proofs.lemmas.{Bool.{ltb-false, ltb-true}, List.append-nil}, specs.Cmp.both_ways}
 use Rattle.std.specs.{Option.option_or, Prelude.{int_le, MatchBool}}
@@ -15,8 +14,8 @@ use Rattle.moved_gains.specs.{Course.{constant_steps, equal_steps}, Edited.row_o
 use Rattle.moved_gains.specs.GainExtremes.{extremes, extremes_of_both, gain_that_moves}
 use Rattle.moved_gains.specs.GainExtremes.{joined_extremes, moving_gains, row_gains, side_gains}
 use Rattle.moved_gains.specs.GainExtremes.{takes_steps}
-use Rattle.moved_gains.specs.Gains.{gain_out_of_range, is_out_of_range, is_silent_granule}
-use Rattle.moved_gains.specs.{Gains.side_out_of_range, Moving.AreFramesOfClass}
+use Rattle.moved_gains.specs.Gains.{gain_out_of_range, is_out_of_range, side_out_of_range}
+use Rattle.moved_gains.specs.Moving.{AreFramesOfClass}
 use Rattle.moved_gains.specs.StepLaws.{AreSidesFitting, is_some_out_of_range, separate_steps}
 use Rattle.moved_gains.specs.{StepLaws.TakeSteps, declared.gain_extremes.Gains.Gains}
 use Rattle.moved_gains.specs.declared.gains.OutOfRange.{OutOfRange}
@@ -33,20 +32,10 @@ and_true true = refl
 and_true false = refl
 
 leb-min : (n a b : ℕ) → leb n (min a b) ≡ (leb n a && leb n b)
-leb-min n a b =
-    both_ways (leb n (min a b)) (leb n a && leb n b)
-    (λ is. let within : n ≤ min a b = leb-true n (min a b) is in and_from (leb n a) (leb n b)
-    (le-leb n a (omega (arith, within))) (le-leb n b (omega (arith, within))))
-    (λ is. let both = and_parts (leb n a) (leb n b) is in
-    le-leb n (min a b) (omega (arith, leb-true n a both.0, leb-true n b both.1)))
+leb-min n a b = grind (arith, leb-true, and_from, le-leb, and_parts)
 
 ltb-min : (n a b : ℕ) → ltb n (min a b) ≡ (ltb n a && ltb n b)
-ltb-min n a b =
-    both_ways (ltb n (min a b)) (ltb n a && ltb n b)
-    (λ is. let within : n < min a b = ltb-true n (min a b) is in and_from (ltb n a) (ltb n b)
-    (lt-ltb n a (omega (arith, within))) (lt-ltb n b (omega (arith, within))))
-    (λ is. let both = and_parts (ltb n a) (ltb n b) is in
-    lt-ltb n (min a b) (omega (arith, ltb-true n a both.0, ltb-true n b both.1)))
+ltb-min n a b = grind (arith, ltb-true, and_from, lt-ltb, and_parts)
 
 -- ---- one gain
 
@@ -87,19 +76,9 @@ takes_steps-down g n = by_least g.least
 pub takes_steps-one : (gain : ℕ) (steps : ℤ) → gain < 256
     → takes_steps (Some (record { least = gain; greatest = gain })) steps ≡ inside steps gain
 takes_steps-one gain (pos n) small =
-    takes_steps-up (record { least = gain; greatest = gain }) n
-    ∙ (elim (ltb 255 (gain + n)) as (λ b. ltb 255 (gain + n) ≡ b → leb n (255 - gain) ≡ not b) [
-      | true ↦ λ is. lt-leb n (255 - gain) (omega (arith, ltb-true 255 (gain + n) is, small))
-      | false ↦ λ is. le-leb n (255 - gain) (omega (arith, ltb-false 255 (gain + n) is, small))
-    ] refl)
+    grind (arith, takes_steps-up, lt-leb, ltb-true, le-leb, ltb-false)
 takes_steps-one gain (negsuc n) small =
-    takes_steps-down (record { least = gain; greatest = gain }) n
-    ∙ (elim (ltb gain (suc n)) as (λ b. ltb gain (suc n) ≡ b → ltb n gain
-    ≡ not (is_out_of_range (cond b (negsuc (suc n - suc gain)) (pos (gain - suc n))))) [
-      | true ↦ λ is. le-ltb n gain (omega (arith, ltb-true gain (suc n) is))
-      | false ↦ λ is. lt-ltb n gain (omega (arith, ltb-false gain (suc n) is))
-          ∙ sym (ap not (le-ltb 255 (gain - suc n) (omega (arith, small))))
-    ] refl)
+    grind (arith, takes_steps-down, negsuc, pos, le-ltb, ltb-true, lt-ltb, ltb-false)
 
 -- ---- many gains
 
@@ -114,11 +93,7 @@ takes_steps-joined_extremes (Some f) (Some g) (pos n) =
     takes_steps-up (record { least = min f.least g.least; greatest = max f.greatest g.greatest }) n
     ∙ ap (leb n) least ∙ leb-min n (255 - f.greatest) (255 - g.greatest)
     ∙ sym (ap₂ (λ (a b : Bool). a && b) (takes_steps-up f n) (takes_steps-up g n))
-takes_steps-joined_extremes (Some f) (Some g) (negsuc n) =
-    takes_steps-down (record { least = min f.least g.least; greatest = max f.greatest g.greatest })
-    n
-    ∙ ltb-min n f.least g.least
-    ∙ sym (ap₂ (λ (a b : Bool). a && b) (takes_steps-down f n) (takes_steps-down g n))
+takes_steps-joined_extremes (Some f) (Some g) (negsuc n) = grind (arith, takes_steps-down, ltb-min)
 
 extremes-one : (gain : ℕ) → extremes (gain ∷ []) ≡ Some (record { least = gain; greatest = gain })
 unfolding extremes
@@ -147,8 +122,7 @@ and_assoc false b c = refl
 pub inside-append : (steps : ℤ) (xs ys : List ℕ)
     → all_inside steps (xs ++ ys) ≡ (all_inside steps xs && all_inside steps ys)
 inside-append steps [] ys = refl
-inside-append steps (x ∷ xs) ys = ap (λ b. inside steps x && b) (inside-append steps xs ys)
-    ∙ and_assoc (inside steps x) (all_inside steps xs) (all_inside steps ys)
+inside-append steps (x ∷ xs) ys = grind (arith, and_assoc, inside-append steps xs ys)
 
 small-append : (xs ys : List ℕ) → AreSmall xs → AreSmall ys → AreSmall (xs ++ ys)
 small-append [] ys first second = second
@@ -157,11 +131,7 @@ small-append (x ∷ xs) ys first second = (first.0, small-append xs ys first.1 s
 -- by no steps no gain leaves the range
 inside-none : (gains : List ℕ) → AreSmall gains → all_inside (pos 0) gains ≡ true
 inside-none [] small = refl
-inside-none (gain ∷ gains) small =
-    and_from (inside (pos 0) gain) (all_inside (pos 0) gains)
-    (ap (λ z. not (is_out_of_range z)) (+ℤ_idr (pos gain))
-    ∙ ap not (le-ltb 255 gain (omega (arith, small.0))))
-    (inside-none gains small.1)
+inside-none (gain ∷ gains) small = grind (arith, and_from, pos, le-ltb, inside-none gains small.1)
 
 -- ---- one frame
 
@@ -176,28 +146,15 @@ some_if false x = refl
 some_at : (steps : ℤ) (s : Side) (granule channel : ℕ)
     → is_some (gain_out_of_range steps s granule channel)
     ≡ is_stuck steps (granule_in s granule channel)
-some_at steps s granule channel = some_if (is_stuck steps (granule_in s granule channel)) (record {
-  granule = granule;
-  channel = channel;
-  gain = (granule_in s granule channel).global_gain;
-})
+some_at steps s granule channel = grind (arith, some_if)
 
 moves_inside : (steps : ℤ) (g : Granule)
     → all_inside steps (gain_that_moves g) ≡ not (is_stuck steps g)
-moves_inside steps g =
-    elim (is_silent_granule g) as (λ b. all_inside steps (cond b [] (g.global_gain ∷ []))
-    ≡ not (not b && is_out_of_range (pos g.global_gain +ℤ steps))) [
-      | true ↦ refl
-      | false ↦ sym (and_true (inside steps g.global_gain))
-    ]
+moves_inside steps g = grind (arith, pos, and_true)
 
 gains_inside : (steps : ℤ) (s : Side) (channel : ℕ) → all_inside steps (side_gains channel s) ≡
     (not (is_stuck steps (granule_in s 0 channel)) && not (is_stuck steps (granule_in s 1 channel)))
-gains_inside steps s channel =
-    inside-append steps (gain_that_moves (granule_in s 0 channel))
-    (gain_that_moves (granule_in s 1 channel))
-    ∙ ap₂ (λ (a b : Bool). a && b) (moves_inside steps (granule_in s 0 channel))
-    (moves_inside steps (granule_in s 1 channel))
+gains_inside steps s channel = grind (arith, inside-append, moves_inside)
 
 one_of_four : (a b c d : Bool) → (a || (b || (c || d))) ≡ not ((not a && not c) && (not b && not d))
 one_of_four true b c d = refl
@@ -209,37 +166,19 @@ one_of_four false false false false = refl
 
 some_of_four : (o p q r : Option OutOfRange) → is_some (option_or o (option_or p (option_or q r)))
     ≡ (is_some o || (is_some p || (is_some q || is_some r)))
-some_of_four o p q r =
-    some_or o (option_or p (option_or q r))
-    ∙ ap (λ b. is_some o || b) (some_or p (option_or q r) ∙ ap (λ b. is_some p || b) (some_or q r))
+some_of_four o p q r = grind (arith, some_or, is_some)
 
 -- a gain of a frame leaves the range exactly if a gain of the left channel
 -- does by the left steps, or a gain of the right channel by the right steps
 side_stuck : (left right : ℤ) (s : Side) → is_some (side_out_of_range (separate_steps left right) s)
     ≡ not (all_inside left (side_gains 0 s) && all_inside right (side_gains 1 s))
 unfolding side_out_of_range
-side_stuck left right s =
-    some_of_four (gain_out_of_range left s 0 0) (gain_out_of_range right s 0 1)
-    (gain_out_of_range left s 1 0)
-    (gain_out_of_range right s 1 1)
-    ∙ ap₂ (λ (a b : Bool). a || b) (some_at left s 0 0)
-    (ap₂ (λ (a b : Bool). a || b) (some_at right s 0 1)
-    (ap₂ (λ (a b : Bool). a || b) (some_at left s 1 0) (some_at right s 1 1)))
-    ∙ one_of_four (is_stuck left (granule_in s 0 0)) (is_stuck right (granule_in s 0 1))
-    (is_stuck left (granule_in s 1 0)) (is_stuck right (granule_in s 1 1))
-    ∙ sym (ap₂ (λ (a b : Bool). not (a && b)) (gains_inside left s 0) (gains_inside right s 1))
+side_stuck left right s = grind (arith, some_of_four, some_at, one_of_four, gains_inside)
 
 row_stuck : (left right : ℤ) (row : Row)
     → is_some (row_out_of_range (separate_steps left right) row)
     ≡ not (all_inside left (row_gains 0 row) && all_inside right (row_gains 1 row))
-row_stuck left right row =
-    elim row.lost
-    as (λ b. is_some (cond b None (side_out_of_range (separate_steps left right) row.side))
-    ≡ not (all_inside left (cond b [] (side_gains 0 row.side))
-    && all_inside right (cond b [] (side_gains 1 row.side)))) [
-      | true ↦ refl
-      | false ↦ side_stuck left right row.side
-    ]
+row_stuck left right row = grind (arith, is_some, side_stuck)
 
 -- ---- all frames
 
@@ -268,21 +207,14 @@ inside-nil channel steps = ap (all_inside steps) (moving-nil channel)
 inside-cons : (channel : ℕ) (steps : ℤ) (row : Row) (rows : List Row)
     → all_inside steps (moving_gains channel (row ∷ rows))
     ≡ (all_inside steps (row_gains channel row) && all_inside steps (moving_gains channel rows))
-inside-cons channel steps row rows = ap (all_inside steps) (moving-cons channel row rows)
-    ∙ inside-append steps (row_gains channel row) (moving_gains channel rows)
+inside-cons channel steps row rows = grind (arith, moving-cons, inside-append)
 
 rows_stuck : (left right : ℤ) (rows : List Row)
     → is_some_out_of_range (constant_steps (separate_steps left right)) rows
     ≡ not (all_inside left (moving_gains 0 rows) && all_inside right (moving_gains 1 rows))
-rows_stuck left right [] = stuck-nil (constant_steps (separate_steps left right))
-    ∙ sym (ap₂ (λ (a b : Bool). not (a && b)) (inside-nil 0 left) (inside-nil 1 right))
+rows_stuck left right [] = grind (arith, stuck-nil, inside-nil)
 rows_stuck left right (row ∷ rows) =
-    stuck-cons (constant_steps (separate_steps left right)) row rows
-    ∙ ap₂ (λ (a b : Bool). a || b) (row_stuck left right row) (rows_stuck left right rows)
-    ∙ first_or_other (all_inside left (row_gains 0 row)) (all_inside right (row_gains 1 row))
-    (all_inside left (moving_gains 0 rows)) (all_inside right (moving_gains 1 rows))
-    ∙ sym (ap₂ (λ (a b : Bool). not (a && b)) (inside-cons 0 left row rows)
-    (inside-cons 1 right row rows))
+    grind (arith, stuck-cons, row_stuck, first_or_other, inside-cons, rows_stuck left right rows)
 
 each_stuck : (steps : ℕ → ℤ) (rows : List Row)
     → ((at : ℕ) → (all_inside (steps at) (moving_gains 0 rows) ≡ true)
@@ -293,9 +225,7 @@ each_stuck steps (row ∷ rows) free =
     let parts : (channel at : ℕ) → all_inside (steps at) (moving_gains channel (row ∷ rows)) ≡ true
     → (all_inside (steps at) (row_gains channel row) ≡ true)
     × (all_inside (steps at) (moving_gains channel rows) ≡ true) =
-    λ channel at is. and_parts (all_inside (steps at) (row_gains channel row))
-    (all_inside (steps at)
-    (moving_gains channel rows)) (sym (inside-cons channel (steps at) row rows) ∙ is) in
+    grind (arith, and_parts, inside-cons) in
     stuck-cons (λ at. equal_steps (steps at)) row rows
     ∙ ap₂ (λ (a b : Bool). a || b)
     (row_stuck (steps row.offset) (steps row.offset) row
@@ -317,24 +247,11 @@ wrap_stuck steps (row ∷ rows) wraps =
 -- ---- frames that fit
 
 small_gain : (g : Granule) → g.global_gain < 256 → AreSmall (gain_that_moves g)
-small_gain g small =
-    elim (is_silent_granule g) as (λ b. AreSmall (cond b [] (g.global_gain ∷ []))) [
-      | true ↦ tt
-      | false ↦ (small, tt)
-    ]
+small_gain g small = grind arith
 
 small_at : (channel : ℕ) (row : Row) → SideFits (class_of row.header) row.side
     → AreSmall (row_gains channel row)
-small_at channel row fits =
-    let c = class_of row.header in
-    let gain : (granule : ℕ) → AreSmall (gain_that_moves (granule_in row.side granule channel)) =
-    λ granule. small_gain (granule_in row.side granule channel) (gain_fits c (has_granule c granule
-    channel) (granule_in row.side granule channel) (fits.granules granule channel)) in
-    elim row.lost as (λ b. AreSmall (cond b [] (side_gains channel row.side))) [
-      | true ↦ tt
-      | false ↦ small-append (gain_that_moves (granule_in row.side 0 channel))
-          (gain_that_moves (granule_in row.side 1 channel)) (gain 0) (gain 1)
-    ]
+small_at channel row fits = grind (arith, small_gain, gain_fits, small-append)
 
 small_moving : (channel : ℕ) (rows : List Row) → AreSidesFitting rows
     → AreSmall (moving_gains channel rows)
@@ -362,16 +279,7 @@ no_second c granule one = by_granule (ltb granule (granules_of c.version))
 
 mono_at : (class : ClassFields) (row : Row) → class_of row.header ≡ class → class.channels ≡ 1
     → SideFits (class_of row.header) row.side → row_gains 1 row ≡ []
-mono_at class row same one fits =
-    let c = class_of row.header in
-    let lone : c.channels ≡ 1 = ap (λ (c : ClassFields). c.channels) same ∙ one in
-    let none : (granule : ℕ) → gain_that_moves (granule_in row.side granule 1) ≡ [] =
-    λ granule. ap gain_that_moves (lacks (has_granule c granule 1) c.version
-    (granule_in row.side granule 1) (no_second c granule lone) (fits.granules granule 1)) in
-    elim row.lost as (λ b. cond b [] (side_gains 1 row.side) ≡ []) [
-      | true ↦ refl
-      | false ↦ ap₂ (λ (a b : List ℕ). a ++ b) (none 0) (none 1)
-    ]
+mono_at class row same one fits = grind (arith, lacks, no_second)
 
 mono_moving : (class : ClassFields) (rows : List Row) → AreFramesOfClass class rows
     → class.channels ≡ 1 → AreSidesFitting rows → moving_gains 1 rows ≡ []

@@ -1,16 +1,16 @@
 -- A file whose bytes are all blocks, zero bytes and frames:
 -- its stream starts at the first frame, without junk.
-use Rattle.std.proofs.Common.{ap, ap₂, arith, length, List, None, Ok, refl, Some, subst, true, ℕ}
-use Rattle.std.proofs.{Common.{[], ◌++◌, ◌+◌, ◌∙◌, ◌∷◌, ◌≡◌, ◌≤◌}, lemmas.Bool.{false≢true, le-leb}}
+use Rattle.std.proofs.Common.{ap, ap₂, arith, length, List, None, Ok, refl, Some, subst, ℕ, []}
+use Rattle.std.proofs.{Common.{◌++◌, ◌+◌, ◌∙◌, ◌∷◌, ◌≡◌, ◌≤◌}, lemmas.Bool.{false≢true, le-leb}}
 use Rattle.std.specs.List.{cons_option}
 use Rattle.frame_header.specs.Fields.{HeaderFields}
 use Rattle.moved_gains.proofs.SplitItemLemmas.{cons-append}
 use Rattle.sync_survey.proofs.RunsLemmas.{item_run-next, item_run-only, item_run-stopped_run}
 use Rattle.sync_survey.proofs.RunsLemmas.{whole_item_at-is, whole_item_at-past, whole_item_at-whole}
-use Rattle.sync_survey.specs.Items.{item_at, item_fits, size_of}
+use Rattle.sync_survey.specs.Items.{item_at, size_of}
 use Rattle.sync_survey.specs.Runs.{AreEndToEnd, block_of_item, blocks_of, frame_of_item, frames_of}
 use Rattle.sync_survey.specs.Runs.{item_if_whole, item_run, ItemRun, PlacedItem, whole_item_at}
-use Rattle.sync_survey.specs.{Start.{front_end_of, start_at, start_of}, declared.items.Item.Item}
+use Rattle.sync_survey.specs.{Start.{front_end_of, start_of}, declared.items.Item.Item}
 use Rattle.sync_survey.specs.declared.items.Item.TheVariants.{End, Frame, Free, Nothing}
 use Rattle.sync_survey.specs.declared.places.{Piece.Piece, PlacedFrame.PlacedFrame, Start.Start}
 use Rattle.sync_survey.specs.declared.runs.Region.TheVariants.{Front, Stream}
@@ -44,8 +44,7 @@ frame_first file at h ps p rest is ends e =
     item_run-only Stream file at (record { offset = at; item = Frame h } ∷ ps) (length file)
     (refl, is, ends) (whole_item_at-past Stream file (length file) (omega arith)) in
     let front : item_run Front file at ≡ record { items = []; stop = at } =
-    item_run-stopped_run Front file at
-    (not_in_front file at h (whole_item_at-is Stream file at (Frame h) is).is) in
+    grind (arith, item_run-stopped_run, not_in_front, whole_item_at-is) in
     subst (λ (q : PlacedFrame). IsClean file at q rest (blocks_of ps)) same (record {
       front = ap (λ (r : ItemRun). r.stop) front;
       first = is;
@@ -65,13 +64,7 @@ passed file at item p rest blocks is clean =
       first = clean.first;
       frames = clean.frames;
       stop = clean.stop;
-      blocks_are =
-          ap (λ (r : ItemRun). blocks_of r.items ++ blocks_of (item_run Stream file p.offset).items)
-          front
-          ∙ cons-append (block_of_item at item)
-          (blocks_of (item_run Front file (at + size_of item)).items)
-          (blocks_of (item_run Stream file p.offset).items)
-          ∙ ap (cons_option (block_of_item at item)) clean.blocks_are;
+      blocks_are = grind (arith, front, cons-append);
     }
 
 one_item : (file : List ℕ) (at : ℕ) (item : Item) (ps : List PlacedItem) (p : PlacedFrame)
@@ -81,12 +74,9 @@ one_item : (file : List ℕ) (at : ℕ) (item : Item) (ps : List PlacedItem) (p 
     → cons_option (frame_of_item at item) (frames_of ps) ≡ p ∷ rest
     → IsClean file at p rest (cons_option (block_of_item at item) (blocks_of ps))
 one_item file at (Frame h) ps p rest is ends later e = frame_first file at h ps p rest is ends e
-one_item file at Free ps p rest is ends later e =
-    absurd (false≢true (whole_item_at-is Stream file at Free is).belongs)
-one_item file at End ps p rest is ends later e =
-    absurd (false≢true (whole_item_at-is Stream file at End is).belongs)
-one_item file at Nothing ps p rest is ends later e =
-    absurd (false≢true (whole_item_at-is Stream file at Nothing is).belongs)
+one_item file at Free ps p rest is ends later e = grind (arith, false≢true, whole_item_at-is)
+one_item file at End ps p rest is ends later e = grind (arith, false≢true, whole_item_at-is)
+one_item file at Nothing ps p rest is ends later e = grind (arith, false≢true, whole_item_at-is)
 one_item file at item ps p rest is ends later e =
     let here = whole_item_at-is Stream file at item is in
     passed file at item p rest (blocks_of ps)
@@ -114,11 +104,7 @@ pub start_by : (file : List ℕ) (at : ℕ) (h : HeaderFields) → front_end_of 
     → item_at file at ≡ Frame h → at + size_of (Frame h) ≤ length file
     → start_of file ≡ Ok (record { front_end = at; first = record { offset = at; header = h } })
 unfolding start_of
-start_by file at h front is within =
-    let fit : item_fits file at (Frame h) ≡ true = le-leb _ _ (omega (arith, within)) in
-    ap (λ n. start_at file n (item_at file n)) front
-    ∙ ap (start_at file at) is
-    ∙ rw fit refl
+start_by file at h front is within = grind (arith, le-leb, front)
 
 -- the start of a stream that begins with this frame, without junk
 abbrev pub start_with : PlacedFrame → Start
@@ -127,6 +113,4 @@ start_with p = record { front_end = p.offset; first = p }
 -- the stream of a clean file starts with its first frame
 pub clean-start : (file : List ℕ) (p : PlacedFrame) (rest : List PlacedFrame) (blocks : List Piece)
     → IsClean file 0 p rest blocks → start_of file ≡ Ok (start_with p)
-clean-start file p rest blocks is =
-    let here = whole_item_at-is Stream file p.offset (Frame p.header) is.first in
-    start_by file p.offset p.header (front_end-is file ∙ is.front) here.is here.within
+clean-start file p rest blocks is = grind (arith, whole_item_at-is, start_by, front_end-is)

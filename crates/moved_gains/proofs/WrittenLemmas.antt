@@ -1,5 +1,5 @@
 -- What is written, with the new tag in its place, is the changed file.
-use Rattle.std.proofs.Common.{ap, append_assoc, ap₂, arith, Bool, cond, drop, false, leb, length}
+use Rattle.std.proofs.Common.{ap, append_assoc, ap₂, arith, Bool, cond, drop, false, length}
 use Rattle.std.proofs.Common.{length-append, length-drop, List, None, Option, refl, Some, subst}
 use Rattle.std.proofs.Common.{sym, true, ℕ, [], ◌&&◌, ◌++◌, ◌+◌, ◌-◌, ◌<◌, ◌∙◌, ◌∷◌, ◌≡◌, ◌≤◌}
 use Rattle.std.proofs.lemmas.{Bool.{le-leb, lt-leb}, List.length-take-le}
@@ -33,16 +33,13 @@ pub left_at : (steps : ℕ → Steps) (tag : Option NewTag) (file : List ℕ) (a
     → bytes_written_from steps tag file at (drop i rows)
     ≡ copied_bytes tag file at row.offset ++ (moved_row_bytes (steps row.offset) file row
     ++ bytes_written_from steps tag file (row_end row) (drop (i + 1) rows))
-left_at steps tag file at rows i row is =
-    ap (bytes_written_from steps tag file at) is
-    ∙ written-cons steps tag file at row (drop (i + 1) rows)
+left_at steps tag file at rows i row is = grind (arith, written-cons)
 
 -- after the last frame the rest of the file is left
 pub left_behind : (steps : ℕ → Steps) (tag : Option NewTag) (file : List ℕ) (at size : ℕ)
     (rows : List Row) → rows ≡ [] → length file ≡ size
     → bytes_written_from steps tag file at rows ≡ copied_bytes tag file at size
-left_behind steps tag file at size rows none is = ap (bytes_written_from steps tag file at) none
-    ∙ written-nil steps tag file at ∙ ap (copied_bytes tag file at) is
+left_behind steps tag file at size rows none is = grind (arith, written-nil)
 
 -- ---- without a new tag
 
@@ -51,9 +48,7 @@ pub written-none : (steps : ℕ → Steps) (file : List ℕ) (at : ℕ) (rows : 
     → bytes_written_from steps None file at rows ≡ moved_from steps file at rows
 written-none steps file at [] = written-nil steps None file at
 written-none steps file at (row ∷ rows) =
-    written-cons steps None file at row rows
-    ∙ ap (λ (l : List ℕ). bytes_between file at row.offset ++
-    (moved_row_bytes (steps row.offset) file row ++ l)) (written-none steps file (row_end row) rows)
+    grind (arith, written-cons, written-none steps file (row_end row) rows)
 
 -- ---- frames before the tag, and frames after it
 
@@ -67,8 +62,7 @@ AreSized steps file rows = Each (IsSized steps file) rows
 -- as many bytes are between two offsets as the offsets are apart
 pub between_long : (file : List ℕ) (from to : ℕ) → from ≤ to → to ≤ length file
     → length (bytes_between file from to) ≡ to - from
-between_long file from to up within =
-    length-take-le (to - from) (drop from file) (omega (arith, length-drop from file, up, within))
+between_long file from to up within = grind (arith, length-take-le, length-drop)
 
 -- with moved gains as many bytes are between two offsets
 pub moved_to-long : (steps : ℕ → Steps) (file : List ℕ) (at to : ℕ) (rows : List Row)
@@ -76,19 +70,14 @@ pub moved_to-long : (steps : ℕ → Steps) (file : List ℕ) (at to : ℕ) (row
     → length (moved_to steps file at to rows) ≡ to - at
 moved_to-long steps file at to [] sized ends within = between_long file at to ends within
 moved_to-long steps file at to (row ∷ rows) sized ends within =
-    let up = end_rises (row_end row) rows to ends.2 in
-    omega (
+    grind (
       arith,
-      length-append (bytes_between file at row.offset) (moved_row_bytes (steps row.offset) file row
-          ++ moved_to steps file (row_end row) to rows),
-      length-append (moved_row_bytes (steps row.offset) file row)
-          (moved_to steps file (row_end row) to rows),
-      between_long file at row.offset ends.0 (omega (arith, ends.1, up, within)),
-      sized.0,
-      moved_to-long steps file (row_end row) to rows sized.1 ends.2 within,
-      ends.0,
-      ends.1,
-      up,
+      end_rises,
+      length-append,
+      moved_to,
+      between_long,
+      moved_to-long steps file
+          (row_end row) to rows sized.1 ends.2 within,
     )
 
 -- joining three lists and a fourth is associative
@@ -104,11 +93,7 @@ moved_split steps file at to [] behind ends next =
     moved_from-later steps file at (to - at) behind (subst (λ n. IsBehind n behind) (sym sum) next)
     ∙ ap (λ n. bytes_between file at to ++ moved_from steps file n behind) sum
 moved_split steps file at to (row ∷ before) behind ends next =
-    ap (λ (l : List ℕ). bytes_between file at row.offset
-    ++ (moved_row_bytes (steps row.offset) file row ++ l))
-    (moved_split steps file (row_end row) to before behind ends.2 next)
-    ∙ sym (append_three (bytes_between file at row.offset) (moved_row_bytes (steps row.offset) file
-    row) (moved_to steps file (row_end row) to before) (moved_from steps file to behind))
+    grind (arith, append_three, moved_split steps file (row_end row) to before behind ends.2 next)
 
 -- ---- with a new tag
 
@@ -123,26 +108,19 @@ module _ (steps : ℕ → Steps) (file : List ℕ) (tag : NewTag) where
   -- after the place of the tag the bytes are copied
   pub behind_tag : (from to : ℕ) → tag.at < from
       → copied_bytes (Some tag) file from to ≡ bytes_between file from to
-  behind_tag from to past = let none : leb from tag.at ≡ false = lt-leb from tag.at past in
-      rw none refl
+  behind_tag from to past = grind (arith, lt-leb)
 
   -- before the tag the bytes are copied
   pub before_tag : (from to : ℕ) → to < tag.end
       → copied_bytes (Some tag) file from to ≡ bytes_between file from to
-  before_tag from to past = not_all (leb from tag.at) (leb tag.at tag.end) (leb tag.end to)
-      (bytes_between file from tag.at ++ (new ++ bytes_between file tag.end to))
-      (bytes_between file from to) (lt-leb tag.end to past)
+  before_tag from to past = grind (arith, not_all, lt-leb)
 
   -- around the place of the tag the bytes are copied up to
   -- it and from its end on, with the new tag in between
   pub around_tag : (from to : ℕ) → from ≤ tag.at → tag.at ≤ tag.end → tag.end ≤ to
       → copied_bytes (Some tag) file from to
       ≡ bytes_between file from tag.at ++ (new ++ bytes_between file tag.end to)
-  around_tag from to low up high =
-      let a : leb from tag.at ≡ true = le-leb from tag.at low in
-      let b : leb tag.at tag.end ≡ true = le-leb tag.at tag.end up in
-      let c : leb tag.end to ≡ true = le-leb tag.end to high in
-      rw (a, b, c) refl
+  around_tag from to low up high = grind (arith, le-leb)
 
   -- all frames are after the tag
   pub written-behind : (at : ℕ) (rows : List Row) (to : ℕ) → tag.at < at → EndBy at rows to
@@ -159,17 +137,9 @@ module _ (steps : ℕ → Steps) (file : List ℕ) (tag : NewTag) where
   written-next : (at : ℕ) (behind : List Row) (to : ℕ) → at ≤ tag.at → tag.at ≤ tag.end → tag.end
       ≤ length file → EndBy tag.end behind to → bytes_written_from steps (Some tag) file at behind
       ≡ bytes_between file at tag.at ++ (new ++ moved_from steps file tag.end behind)
-  written-next at [] to low up within ends =
-      written-nil steps (Some tag) file at
-      ∙ around_tag at (length file) low up within
+  written-next at [] to low up within ends = grind (arith, written-nil, around_tag)
   written-next at (row ∷ behind) to low up within ends =
-      let rest =
-      moved_row_bytes (steps row.offset) file row ++ moved_from steps file (row_end row) behind in
-      written-cons steps (Some tag) file at row behind
-      ∙ ap₂ (λ (a b : List ℕ). a ++ (moved_row_bytes (steps row.offset) file row ++ b))
-      (around_tag at row.offset low up ends.0)
-      (written-behind (row_end row) behind to (omega (arith, up, ends.0, ends.1)) ends.2)
-      ∙ append_three (bytes_between file at tag.at) new (bytes_between file tag.end row.offset) rest
+      grind (arith, moved_from, written-cons, around_tag, written-behind, append_three)
 
   -- it is after some frames, and before the others
   pub written-split : (at : ℕ) (before behind : List Row) (to : ℕ) → EndBy at before tag.at

@@ -31,9 +31,7 @@ use Rattle.sync_survey.specs.declared.places.Piece.{Piece}
 
 module _ (first gap : ℕ) where
   kind_kept : (p : Piece) → is_tag (edited_block first gap p) ≡ is_tag p
-  kind_kept p =
-      elim (ltb p.offset first) as (λ b. is_tag (cond b p (record p { offset = p.offset - gap }))
-      ≡ is_tag p) [ true ↦ refl | false ↦ refl ]
+  kind_kept p = grind arith
 
   found_moved : (p : Piece) (b : Bool) (x y : Option Piece)
       → x ≡ option_map (edited_block first gap) y → cond b (Some (edited_block first gap p)) x
@@ -44,14 +42,10 @@ module _ (first gap : ℕ) where
   find_moved : (blocks : List Piece) → find is_tag (map (edited_block first gap) blocks)
       ≡ option_map (edited_block first gap) (find is_tag blocks)
   find_moved [] = refl
-  find_moved (p ∷ ps) = ap (λ b. cond b (Some (edited_block first gap p))
-      (find is_tag (map (edited_block first gap) ps))) (kind_kept p)
-      ∙ found_moved p (is_tag p) _ _ (find_moved ps)
+  find_moved (p ∷ ps) = grind (arith, kind_kept, found_moved, find_moved ps)
 
   size_kept : (p : Piece) → (edited_block first gap p).block.length ≡ p.block.length
-  size_kept p = elim (ltb p.offset first) as (λ b. (cond b p (record p {
-    offset = p.offset - gap;
-  })).block.length ≡ p.block.length) [ true ↦ refl | false ↦ refl ]
+  size_kept p = grind arith
 
 last_moved : (steps : ℕ → Steps) (gap from : ℕ) (row : Row) (rows : List Row) (to : ℕ)
     → EndBy from (row ∷ rows) to → gap ≤ from
@@ -100,8 +94,7 @@ module _ (steps : ℕ → Steps) (s : SurveyFields) where
       at None is = absurd (omega (arith, some, (tag_none s is).1))
       at (Some b) is =
           let place = (place-some s b is).0 in
-          let low : ltb b.offset s.first ≡ true =
-          lt-ltb b.offset s.first (omega (arith, front, place)) in
+          let low : ltb b.offset s.first ≡ true = grind (arith, lt-ltb, place) in
           (place-some m (edited_block s.first gap b) (some_moved b is)).0
           ∙ ap (λ c. (cond c b (record b { offset = b.offset - gap })).offset) low
           ∙ sym place
@@ -185,14 +178,9 @@ module _ (steps : ℕ → Steps) (file : List ℕ) (allowed : ℕ) (s : SurveyFi
       let within : junk ≤ length file = omega (arith, known.size, known.junk, known.first) in
       let sum : junk ≡ (a + size) + (junk - (a + size)) = omega (arith, front.before) in
       let to_junk : take junk file ≡ take a file ++ (own ++ between) =
-      ap (λ n. take n file) sum
-      ∙ take-add (a + size) (junk - (a + size)) file
-      ∙ ap (λ (l : List ℕ). l ++ between) (take-add a size file)
-      ∙ append_assoc (take a file) own between in
-      let front_long : length (take a file) ≡ a =
-      length-take-le a file (omega (arith, front.before, within)) in
-      let own_long : length own ≡ size =
-      length-take-le size (drop a file) (omega (arith, length-drop a file, front.before, within)) in
+      grind (arith, take-add, append_assoc, own) in
+      let front_long : length (take a file) ≡ a = grind (arith, length-take-le) in
+      let own_long : length own ≡ size = grind (arith, length-take-le, length-drop) in
       parted_by steps file s (take a file) (between ++ all)
       (at_front steps s (omega (arith, front.some, front.before, known.junk)) front.some
       ∙ sym front_long)
@@ -214,15 +202,12 @@ module _ (steps : ℕ → Steps) (file : List ℕ) (allowed : ℕ) (s : SurveyFi
       let before = moved_to steps file s.first a among.before in
       let rest = moved_from steps file (a + size) among.behind in
       let up : a + size ≤ length file = omega (arith, known.size, among.up) in
-      let long : length (take junk file) ≡ junk =
-      length-take-le junk file (omega (arith, known.size, known.junk, known.first)) in
+      let long : length (take junk file) ≡ junk = grind (arith, length-take-le) in
       let before_long : length before ≡ a - s.first = moved_to-long steps file s.first a
       among.before (each_before (IsSized steps file) among.before among.behind
       (subst (AreSized steps file) among.all known.sized)) among.front (omega (arith, up)) in
-      let own_long : length own ≡ size =
-      length-take-le size (drop a file) (omega (arith, length-drop a file, up)) in
-      let next : IsBehind (a + size) among.behind =
-      is_behind (a + size) among.behind s.length among.rest in
+      let own_long : length own ≡ size = grind (arith, length-take-le, length-drop) in
+      let next : IsBehind (a + size) among.behind = grind (arith, is_behind) in
       parted_by steps file s (take junk file ++ before) rest
       (at_behind steps s s.length (omega (arith, among.low)) known.ends known.some
       ∙ omega

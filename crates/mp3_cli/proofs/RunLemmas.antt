@@ -1,6 +1,6 @@
 -- What `run` promises, from how a command ends.
 use Rattle.std.proofs.Common.{ap, arith, Err, false, inl, inr, List, None, Ok, Option, refl, Result}
-use Rattle.std.proofs.Common.{Some, subst, sym, true, ℕ, [], ◌↔◌, ◌∙◌, ◌∷◌, ◌≡◌, ◌≢◌, ◌≤◌, ◌⊎◌}
+use Rattle.std.proofs.Common.{Some, subst, sym, ℕ, [], ◌↔◌, ◌∙◌, ◌∷◌, ◌≡◌, ◌≢◌, ◌≤◌, ◌⊎◌}
 use Rattle.std.proofs.{Math.Seq.take-nil, lemmas.Option.same_Some}
 use Rattle.std.specs.Prelude.{IfErr, IfSome, IsErrOf, OnOk}
 use Rattle.commands.proofs.TouchLemmas.{left_touched}
@@ -66,10 +66,7 @@ module _ (command : Command) (files : Files) (old new : Heard) where
 
 -- where nothing was sent, no line was sent
 pub sent_no_line : (sent : Sent) (faults : ℕ) → GotLine sent sent faults faults []
-sent_no_line sent faults = record {
-  later = omega arith;
-  got = inl (record { sent = sym (sent_nothing sent); done = refl });
-}
+sent_no_line sent faults = grind (arith, sent_nothing)
 
 got_nothing : (old new : Heard) → GetsLine old new [] → new.sent ≡ old.sent
 got_nothing old new line = at line.got
@@ -102,8 +99,7 @@ module _ (command : Command) (old new : Seen) (out_old out_new err_old err_new :
       command old new fault (subst (by_why (left_cases command old new fault)) (sym w) left))
 
   done_at : status ≡ 0 → all.fault ≡ None
-  done_at zero_is = by_case (λ is e. e)
-      (λ fault why e is w left. absurd (omega (arith, is, zero_is, (by_status why).0)))
+  done_at zero_is = grind (arith, by_case, by_status)
 
   -- with status 0 the command was done
   pub is_done : status ≡ 0 → IsCommandDone command old new
@@ -123,20 +119,17 @@ module _ (command : Command) (old new : Seen) (out_old out_new err_old err_new :
 
   nothing_by : (fault : EditFault) (why : Why) → all.fault ≡ Some fault → status ≡ cause_status why
       → status ≢ 3 → why_of fault ≡ why → out_new ≡ out_old
-  nothing_by fault why e is other w = sent_none command old.files out_old out_new fault
-      (λ unsent. other (is ∙ ap cause_status (sym w ∙ unsent))) (says_here (Some fault) e)
+  nothing_by fault why e is other w = grind (arith, sent_none, says_here)
 
   -- ---- by its status
 
   -- no status is above 4
   pub at_most : status ≤ 4
-  at_most = by_case (λ is e. omega (arith, is))
-      (λ fault why e is w left. omega (arith, is, (by_status why).1))
+  at_most = grind (arith, by_case, by_status)
 
   -- no command ends with status 2
   pub not_two : status ≢ 2
-  not_two two = by_case (λ is e. absurd (omega (arith, is, two)))
-      (λ fault why e is w left. (by_status why).2 (sym is ∙ two))
+  not_two two = grind (arith, by_case, by_status)
 
   -- a refusal and running out of memory leave all as it was
   stays_by : (fault : EditFault) (why : Why) → status ≡ cause_status why → status ≢ 3
@@ -147,18 +140,15 @@ module _ (command : Command) (old new : Seen) (out_old out_new err_old err_new :
 
   -- other statuses than 0 and 3 leave the files
   pub kept : status ≢ 0 → status ≢ 3 → new.files ≡ old.files
-  kept some other = by_case (λ is e. absurd (some is))
-      (λ fault why e is w left. ap (λ (s : Seen). s.files) (stays_by fault why is other left))
+  kept some other = grind (arith, by_case, stays_by)
 
   -- other statuses than 3 leave the counts
   pub counts_kept : status ≢ 3 → new.counts ≡ old.counts
-  counts_kept other = by_case (λ is e. (all.ends.done e).counts)
-      (λ fault why e is w left. ap (λ (s : Seen). s.counts) (stays_by fault why is other left))
+  counts_kept other = grind (arith, by_case, stays_by)
 
   -- other statuses than 0 and 3 leave standard output
   pub silent : status ≢ 0 → status ≢ 3 → out_new.sent ≡ out_old.sent
-  silent some other = by_case (λ is e. absurd (some is))
-      (λ fault why e is w left. ap (λ (h : Heard). h.sent) (nothing_by fault why e is other w))
+  silent some other = grind (arith, by_case, nothing_by)
 
   -- with status 0 a text that a command always sends was sent
   pub says_always : status ≡ 0
@@ -177,8 +167,7 @@ module _ (command : Command) (old new : Seen) (out_old out_new err_old err_new :
 
     made_here : all.fault ≡ None → (made : Made) × (command.makes f ≡ Ok made)
         × (new.files ≡ Told (written_files made.outputs f))
-    made_here e = subst (λ files. IfTold files (λ g. (made : Made) × (command.makes g ≡ Ok made)
-        × (new.files ≡ Told (written_files made.outputs g)))) told (all.ends.done e).made
+    made_here e = grind arith
 
     abbrev IsAsDefinedBy : Result Made EditFault → Type 0
     IsAsDefinedBy r = IsOutcome (made_outcome command f r) (world old out_old err_old)
@@ -226,9 +215,7 @@ module _ (command : Command) (old new : Seen) (out_old out_new err_old err_new :
     not_made made fault ok err = cc
 
     told_twice : is_told old.files ≡ false → ⊥
-    told_twice e =
-        let both : true ≡ false = sym (ap is_told told) ∙ e in
-        absurd cc
+    told_twice e = grind arith
 
     not_failed : (made : Made) (fault : EditFault) (why : Why) → command.makes f ≡ Ok made
         → (Rose old.counts.read_faults.times new.counts.read_faults.times → ⊥)
@@ -243,8 +230,7 @@ module _ (command : Command) (old new : Seen) (out_old out_new err_old err_new :
     not_failed made fault NoMemory ok reads writes sends found e w is left = found is
     not_failed made fault Unsent ok reads writes sends found e w is left =
         sends (sent_rose command old.files out_old out_new fault w (says_here (Some fault) e))
-    not_failed made fault _ ok reads writes sends found e w is left =
-        not_made made fault ok (gives (Err fault) left.defined)
+    not_failed made fault _ ok reads writes sends found e w is left = grind (arith, not_made, gives)
 
     -- where the command succeeded, the files are those from before and all that it makes
     pub files_where_done : status ≡ 0 → (made : Made) × (command.makes f ≡ Ok made)
@@ -261,8 +247,7 @@ module _ (command : Command) (old new : Seen) (out_old out_new err_old err_new :
         → (Rose old.counts.write_faults.times new.counts.write_faults.times → ⊥)
         → (Rose out_old.faults out_new.faults → ⊥) → status ≢ 4
         → (made : Made) × (command.makes f ≡ Ok made) → status ≡ 0
-    done_where_made reads writes sends found made = by_case (λ is e. is) (λ fault why e is w left.
-        absurd (not_failed made.0 fault why made.1 reads writes sends found e w is left))
+    done_where_made reads writes sends found made = grind (arith, by_case, not_failed)
 
 -- ---- of words
 
@@ -335,10 +320,7 @@ module _ (command : Command) (no_text : IsSilent command) (files : Files) (out :
   -- such a command sends nothing, whatever fault it ends with
   says_nothing : {T : Type 0} (r : Result T EditFault) → IfErr r (HasNumbers command)
       → SaysText command files out out (answer_fault r)
-  says_nothing (Ok x) numbers = record {
-    text = λ text is. sym (ap (sent_and_more out.sent) (text_is text is) ∙ sent_nothing out.sent);
-    faults = refl;
-  }
+  says_nothing (Ok x) numbers = grind (arith, text_is, sent_nothing)
   says_nothing (Err NotSent) numbers = absurd (numbers no_text.always)
   says_nothing (Err _) numbers = refl
 
@@ -384,20 +366,8 @@ pub text_ends : (text : List ℕ → SurveyFields → List ℕ) (input : List �
     (r : Result (Unit {0}) EditFault) (old new : Seen) (out_old out_new : Heard)
     → IsTextRun (text_command text input) old new out_old out_new r
     → CommandEnds (text_command text input) old new out_old out_new (answer_fault r)
-text_ends text input (Ok x) old new out_old out_new run = record {
-  says = run.says;
-  done = λ e. run.done;
-  left = tt;
-  numbers = tt;
-  names = λ place clash. let none : None ≡ Some place = clash in absurd cc;
-}
-text_ends text input (Err fault) old new out_old out_new run = record {
-  says = run.says;
-  done = λ e. absurd cc;
-  left = run.left;
-  numbers = run.numbers;
-  names = λ place clash. let none : None ≡ Some place = clash in absurd cc;
-}
+text_ends text input (Ok x) old new out_old out_new run = grind arith
+text_ends text input (Err fault) old new out_old out_new run = grind arith
 
 -- ---- a command that makes one file
 
@@ -444,10 +414,8 @@ module _ (text : List ℕ) (some : Some text ≢ Some []) (now : Seen) where
   said_left : (fault : EditFault) → IsDrillFault fault
       → IsCommandFault (fixed_text_command text) now now fault
       × HasNumbers (fixed_text_command text) fault
-  said_left NotSent is =
-      (record { made = text_made; touches = touches_none [] now.files; counts = refl }, some)
-  said_left Memory is =
-      (record { names = refl; takes = if_told now.files (λ f told. tt); stays = refl }, tt)
+  said_left NotSent is = grind (arith, text_made, touches_none)
+  said_left Memory is = grind (arith, if_told)
   said_left _ is = absurd is
 
   -- a command that only sends a text ends as its fault says
@@ -455,20 +423,8 @@ module _ (text : List ℕ) (some : Some text ≢ Some []) (now : Seen) where
       → SaysText (fixed_text_command text) now.files out_old out_new (answer_fault r)
       → IfErr r IsDrillFault
       → CommandEnds (fixed_text_command text) now now out_old out_new (answer_fault r)
-  said_ends (Ok x) out_old out_new says is = record {
-    says = says;
-    done = λ e. record { made = text_made; touches = touches_none [] now.files; counts = refl };
-    left = tt;
-    numbers = tt;
-    names = λ place e. absurd cc;
-  }
-  said_ends (Err fault) out_old out_new says is = record {
-    says = says;
-    done = λ e. absurd cc;
-    left = (said_left fault is).0;
-    numbers = (said_left fault is).1;
-    names = λ place e. absurd cc;
-  }
+  said_ends (Ok x) out_old out_new says is = grind (arith, text_made, touches_none)
+  said_ends (Err fault) out_old out_new says is = grind (arith, said_left)
 
 -- a failed write to standard output is one of the faults of a drill
 pub sent_alone : {T : Type 0} (r : Result T EditFault) → IfErr r (λ fault. fault ≡ NotSent)
@@ -480,5 +436,4 @@ sent_alone (Err fault) is = subst IsDrillFault (sym is) tt
 pub done_where_zero : {T P : Type 0} (r : Result T EditFault) → fault_status (answer_fault r) ≡ 0
     → OnOk r P → P
 done_where_zero (Ok x) zero_is p = p
-done_where_zero (Err fault) zero_is p =
-    absurd (omega (arith, zero_is, (by_status (why_of fault)).0))
+done_where_zero (Err fault) zero_is p = grind (arith, by_status)

@@ -1,15 +1,14 @@
 -- The outputs that were written are there, each with the frames that were chosen.
-use Rattle.std.proofs.Common.{ap, arith, codes, drop, Err, false, length, length-append, List, map}
-use Rattle.std.proofs.Common.{Ok, Option, refl, Result, Some, subst, suc, sym, true, zero, ℕ, []}
-use Rattle.std.proofs.Common.{◌%◌, ◌+◌, ◌/◌, ◌<◌, ◌∙◌, ◌∷◌, ◌≡◌, ◌≢◌, ◌≤◌}
-use Rattle.std.proofs.{Math.Seq.drop-append_seam, lemmas.List.length-map}
-use Rattle.std.specs.{List.range_with_len, Prelude.IfOk}
+use Rattle.std.proofs.Common.{ap, arith, codes, Err, false, length, length-append, List, map, Ok}
+use Rattle.std.proofs.Common.{Option, refl, Result, Some, subst, suc, sym, true, zero, ℕ, [], ◌%◌}
+use Rattle.std.proofs.{Common.{◌+◌, ◌/◌, ◌<◌, ◌∙◌, ◌∷◌, ◌≡◌, ◌≢◌, ◌≤◌}, Math.Seq.drop-append_seam}
+use Rattle.std.{proofs.lemmas.List.length-map, specs.{List.range_with_len, Prelude.IfOk}}
 use Rattle.commands.proofs.RefusingLemmas.{then_ok}
 use Rattle.commands.specs.Command.{AreStreams, HoldsStreams, Made, MakesStreams, Output}
-use Rattle.commands.specs.{Command.written_files, SingleOutput.{one_command, Task, task_result}}
+use Rattle.commands.specs.{Command.written_files, SingleOutput.{one_command, Task}}
 use Rattle.commands.specs.{WithText.with_text, declared.fault.EditFault.EditFault}
 use Rattle.cue_sheet.{proofs.StartsLemmas.starts-few, specs.Cues.{cue_entries_of, cue_of}}
-use Rattle.cue_sheet.specs.declared.place.Place.{Place, TheVariants.End}
+use Rattle.cue_sheet.specs.declared.place.Place.{Place}
 use Rattle.cut_edits.specs.Exact.{exact_task}
 use Rattle.exact_span.specs.declared.exact_place.ExactPlace.{ExactPlace}
 use Rattle.exact_span.specs.declared.exact_place.ExactPlace.TheVariants.{Place as Position}
@@ -88,31 +87,39 @@ names-differ : (prefix : List ℕ) (j k : ℕ) → j < k → k ≤ 99
     → piece_name prefix j ≢ piece_name prefix k
 unfolding piece_name
 names-differ prefix j k less most same =
-    let tails = sym (drop-append_seam prefix ((48 + j / 10) ∷ (48 + j % 10) ∷ codes ".mp3"))
-    ∙ ap (drop (length prefix)) same
-    ∙ drop-append_seam prefix ((48 + k / 10) ∷ (48 + k % 10) ∷ codes ".mp3") in
-    let tens : 48 + j / 10 ≡ 48 + k / 10 = cc in
-    let ones : 48 + j % 10 ≡ 48 + k % 10 = cc in
-    omega (arith, less, most, tens, ones)
+    grind (
+      arith,
+      drop-append_seam prefix ((48 + j / 10) ∷ (48 + j % 10) ∷ codes ".mp3"),
+      codes
+          ".mp3",
+      drop-append_seam prefix ((48 + k / 10) ∷ (48 + k % 10) ∷ codes ".mp3"),
+    )
 
 module _ (prefix file : List ℕ) (s : SurveyFields) where
   later-differ : (j k : ℕ) (all : List LaidPart) → j < k → k + length all ≤ 100
       → HasNone (piece_name prefix j) (pieces_from prefix k file s all)
   later-differ j k [] less most = tt
-  later-differ j k (laid ∷ all) less most = (
-    names-differ prefix j k less (omega (arith, most)),
-    later-differ j (k + 1) all (omega (arith, less)) (omega (arith, most)),
-  )
+  later-differ j k (laid ∷ all) less most =
+      grind (
+        arith,
+        names-differ,
+        later-differ j (k + 1) all (omega (arith, less)) (omega (
+          arith,
+          most,
+        )),
+      )
 
   pieces-named : (k n : ℕ) (all : List LaidPart) → length all ≤ n → k + length all ≤ 100
       → AreNamed (map (piece_name prefix) (range_with_len k n)) (pieces_from prefix k file s all)
   pieces-named k n [] few most = tt
   pieces-named k zero (laid ∷ all) few most = absurd (omega (arith, few))
-  pieces-named k (suc n) (laid ∷ all) few most = (
-    refl,
-    later-differ k (k + 1) all (omega arith) (omega (arith, most)),
-    pieces-named (k + 1) n all (omega (arith, few)) (omega (arith, most)),
-  )
+  pieces-named k (suc n) (laid ∷ all) few most =
+      grind (
+        arith,
+        later-differ k (k + 1) all (omega arith) (omega (arith, most)),
+        pieces-named (k
+            + 1) n all (omega (arith, few)) (omega (arith, most)),
+      )
 
 all-named : (prefix file : List ℕ) (s : SurveyFields) (all : List LaidPart) → length all ≤ 99
     → AreNamed (piece_names prefix) (pieces_from prefix 1 file s all)
@@ -130,8 +137,7 @@ first-parts first (Err fault) all e = absurd cc
 module _ {P : Type 0} (cut : Cutting P) (file : List ℕ) (s : SurveyFields) where
   from-few : (from : P) (places : List P) (all : List LaidPart)
       → piece_parts_from cut file s from places ≡ Ok all → length all ≤ length places
-  from-few from [] all e = let none : [] ≡ all = cc in
-      subst (λ (l : List LaidPart). length l ≤ 0) none (omega arith)
+  from-few from [] all e = grind arith
   from-few from (to ∷ places) all e =
       let one = then_ok (cut.between from to file s)
       (λ first. with_first first (piece_parts_from cut file s to places)) all e in
@@ -140,8 +146,7 @@ module _ {P : Type 0} (cut : Cutting P) (file : List ℕ) (s : SurveyFields) whe
 
   at-few : (places : List P) (all : List LaidPart) → piece_parts cut file s places ≡ Ok all
       → length places ≤ 100 → length all ≤ 99
-  at-few [] all e most = let none : [] ≡ all = cc in
-      subst (λ (l : List LaidPart). length l ≤ 99) none (omega arith)
+  at-few [] all e most = grind arith
   at-few (place ∷ places) all e most = omega (arith, from-few place places all e, most)
 
 module _ {P : Type 0} (cut : Cutting P) (input prefix : List ℕ) (f : Contents)
@@ -149,25 +154,18 @@ module _ {P : Type 0} (cut : Cutting P) (input prefix : List ℕ) (f : Contents)
   -- the outputs of a split have the names that the prefix gives
   pub split-named : (made : Made) → (split_command cut input prefix).makes f ≡ Ok made
       → AreNamed (piece_names prefix) made.outputs
-  split-named made e =
-      let parts = (split-parts cut f prefix input made e).1 in
-      let is = parts.0 in
-      subst (λ (m : Made). AreNamed (piece_names prefix) m.outputs) parts.1
-      (all-named prefix is.file (cut.survey is.survey)
-      is.laid (at-few cut is.file is.survey is.found is.laid is.picked (few is.found is.placed)))
+  split-named made e = grind (arith, split-parts, all-named, at-few)
 
 -- ---- the other commands
 
 one-named : (task : Task) (output : List ℕ) (f : Contents) (made : Made)
     → (one_command task output).makes f ≡ Ok made → AreNamed (output ∷ []) made.outputs
-one-named task output f made e = subst (λ (m : Made). AreNamed (output ∷ []) m.outputs)
-    (one_made output (task_result task output f) made e).1 (refl, tt, tt)
+one-named task output f made e = grind (arith, one_made)
 
 named-told : (text : List ℕ) (names : List (List ℕ)) (r : Result Made EditFault) (made : Made)
     → ((m : Made) → r ≡ Ok m → AreNamed names m.outputs) → with_text text r ≡ Ok made
     → AreNamed names made.outputs
-named-told text names (Ok m) made named e = let same : record m { text = text } ≡ made = cc in
-    subst (λ (n : Made). AreNamed names n.outputs) same (named m refl)
+named-told text names (Ok m) made named e = grind arith
 named-told text names (Err fault) made named e = absurd cc
 
 -- ---- whatever is asked for
@@ -177,11 +175,7 @@ module _ (asked : Request) (f : Contents) (made : Made)
   frames-there : AreNamed (command_of asked).outputs made.outputs
       → AllConsistOf (chosen_of asked f) ((command_of asked).streams f)
       → HoldsWritten asked f (written_files made.outputs f)
-  frames-there named consist = record {
-    sources = holds.sources;
-    outputs = hold-frames (command_of asked).outputs made.outputs
-        ((command_of asked).streams f) (chosen_of asked f) f named holds.streams consist;
-  }
+  frames-there named consist = grind (arith, hold-frames)
 
 -- a cue sheet has at most 99 starts
 cue-few : (bytes : List ℕ) (starts : List Place) → cue_of bytes ≡ Ok starts → length starts ≤ 99
@@ -190,14 +184,7 @@ cue-few bytes starts e = (starts-few (cue_entries_of bytes) starts e).1
 
 told-few : (o : Option (List ℕ)) (found : List Place) → cue_sheet_places o ≡ Ok found
     → length found ≤ 100
-told-few o found e =
-    let cue = cue-parts o found e in
-    omega (
-      arith,
-      cue-few cue.bytes cue.starts cue.read,
-      length-append cue.starts (End ∷ []),
-      ap length cue.all,
-    )
+told-few o found e = grind (arith, cue-parts, cue-few, length-append)
 
 exact-few : (o : Option (List ℕ)) (found : List ExactPlace)
     → exact_places_result (cue_sheet_places o) ≡ Ok found → length found ≤ 100
@@ -215,11 +202,8 @@ there Version f made sound e holds = record { sources = holds.sources; outputs =
 there (ListFile input) f made sound e holds = record { sources = holds.sources; outputs = tt }
 there (InfoFile input) f made sound e holds = record { sources = holds.sources; outputs = tt }
 there (Drill seed count) f made sound e holds = record { sources = holds.sources; outputs = tt }
-there (Gain shift tags input output) f made sound e holds =
-    frames-there (Gain shift tags input output) f made holds (one-named _ output f made e)
-    (streams-chosen.gain shift tags input output f made e)
-there (Undo input output) f made sound e holds = frames-there (Undo input output) f made holds
-    (one-named _ output f made e) (streams-chosen.undo input output f made e)
+there (Gain shift tags input output) f made sound e holds = search (arith, frames-there, one-named)
+there (Undo input output) f made sound e holds = search (arith, frames-there, one-named)
 there (Cut from to least input output) f made sound e holds =
     frames-there (Cut from to least input output) f made holds (one-named _ output f made e)
     (streams-chosen.cut from to least input output f made e)

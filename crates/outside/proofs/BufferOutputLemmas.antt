@@ -1,7 +1,6 @@
 -- Laws of what a buffer passed on to a file.
-use Rattle.std.proofs.Common.{ap, append_assoc, arith, drop, length, length-append, List, refl}
-use Rattle.std.proofs.Common.{subst, sym, take, ℕ, [], ◌++◌, ◌+◌, ◌∙◌, ◌≡◌, ◌≤◌}
-use Rattle.std.proofs.Math.Seq.{take-append-add}
+use Rattle.std.proofs.Common.{append_assoc, arith, drop, length, length-append, List, subst, sym}
+use Rattle.std.proofs.{Common.{take, ℕ, ◌++◌, ◌≡◌, ◌≤◌}, Math.Seq.take-append-add}
 use Rattle.std.proofs.lemmas.List.{length-take, take-append-drop, take-append-le, take-take}
 use Rattle.std.specs.Prelude.{Err, IfErr, IsErrAnd, Ok, OnErr, Result}
 use Rattle.outside.proofs.FilesLemmas.{appended_nothing, appended_there, appended_twice}
@@ -28,66 +27,35 @@ err_by (Err e) f p = f e p
 -- a buffer that passed on nothing
 pub passed_nothing : (files : Files) (name bytes : List ℕ) → IsFileThere files name
     → AppendsWaiting name bytes bytes files files
-passed_nothing files name bytes there =
-    record { passed = []; split = refl; files = sym (appended_nothing files name there) }
+passed_nothing files name bytes there = grind (arith, appended_nothing)
 
 -- a buffer that passed on a prefix
 pub passed_front : (name bytes : List ℕ) (n : ℕ) (f g : Files)
     → g ≡ with_appended_bytes f name (take n bytes) → AppendsWaiting name bytes (drop n bytes) f g
-passed_front name bytes n f g is =
-    record { passed = take n bytes; split = sym (take-append-drop n bytes); files = is }
+passed_front name bytes n f g is = grind (arith, take-append-drop)
 
 module _ {name before after : List ℕ} {f g : Files} where
   -- more waits after it
   pub passed_with : (piece : List ℕ) → AppendsWaiting name before after f g
       → AppendsWaiting name (before ++ piece) (after ++ piece) f g
-  passed_with piece p = record {
-    passed = p.passed;
-    split = ap (λ (front : List ℕ). front ++ piece) p.split ∙ append_assoc p.passed after piece;
-    files = p.files;
-  }
+  passed_with piece p = grind (arith, append_assoc)
 
   -- the name is there afterwards
   pub passed_there : AppendsWaiting name before after f g → IsFileThere g name
-  passed_there p =
-      subst (λ files. IsFileThere files name) (sym p.files) (appended_there f name p.passed)
+  passed_there p = grind (arith, appended_there)
 
 -- a piece that fits waits after what waited, and nothing is passed on
 pub piece_waits : {name waits after : List ℕ} (piece : List ℕ) (seen : Seen)
     → IsFileThere seen.files name → after ≡ waits ++ piece → length after ≤ 65536
     → PushAnswer name waits piece after seen seen (Ok tt)
-piece_waits {name} {waits} piece seen there is few = record {
-  passed = let all = waits ++ piece in
-      subst (λ (after : List ℕ). AppendsWaiting name all after seen.files seen.files)
-      (sym is) (passed_nothing seen.files name all there);
-  prefix = tt;
-  none = tt;
-  few = few;
-  failed = tt;
-  done = refl;
-  counts = record {
-    misses = omega arith;
-    ends = refl;
-    read_faults = refl;
-    write_faults = omega arith;
-  };
-}
+piece_waits {name} {waits} piece seen there is few = grind (arith, passed_nothing)
 
 -- what was passed on in two steps was passed on in one
 pub passed_then : {name before mid after : List ℕ} {f g h : Files}
     → AppendsWaiting name before mid f g → AppendsWaiting name mid after g h
     → AppendsWaiting name before after f h
-passed_then {name} {before} {mid} {after} {f} {g} {h} p q = record {
-  passed = p.passed ++ q.passed;
-  split =
-      p.split
-      ∙ ap (λ (back : List ℕ). p.passed ++ back) q.split
-      ∙ sym (append_assoc p.passed q.passed after);
-  files =
-      q.files
-      ∙ ap (λ files. with_appended_bytes files name q.passed) p.files
-      ∙ appended_twice f name p.passed q.passed;
-}
+passed_then {name} {before} {mid} {after} {f} {g} {h} p q =
+    grind (arith, append_assoc, appended_twice)
 
 -- two pieces that were passed on in order were passed on together
 pub passed_more : {name before mid after : List ℕ} {f g h : Files} (piece : List ℕ)
@@ -98,24 +66,17 @@ passed_more piece p q = passed_then (passed_with piece p) q
 module _ {name before mid : List ℕ} {f g h : Files} (p : AppendsWaiting name before mid f g) where
   -- what was passed on, and then a prefix of the rest, is a prefix of the whole
   pub passed_then_prefix : AppendedPrefix name mid g h → AppendedPrefix name before f h
-  passed_then_prefix q = record {
-    count = length p.passed + q.count;
-    short = omega (arith, q.short, ap length p.split, length-append p.passed mid);
-    files =
-        q.files
-        ∙ ap (λ files. with_appended_bytes files name (take q.count mid)) p.files
-        ∙ appended_twice f name p.passed (take q.count mid)
-        ∙ ap (with_appended_bytes f name) (sym (take-append-add p.passed mid q.count)
-        ∙ ap (take (length p.passed + q.count)) (sym p.split));
-  }
+  passed_then_prefix q =
+      grind (
+        arith,
+        length-append p.passed mid,
+        appended_twice f name p.passed (take q.count mid),
+        take-append-add p.passed mid q.count,
+      )
 
   -- what was passed on, and then all the rest, is the whole
   pub passed_then_all : h ≡ with_appended_bytes g name mid → h ≡ with_appended_bytes f name before
-  passed_then_all all =
-      all
-      ∙ ap (λ files. with_appended_bytes files name mid) p.files
-      ∙ appended_twice f name p.passed mid
-      ∙ ap (with_appended_bytes f name) (sym p.split)
+  passed_then_all all = grind (arith, appended_twice)
 
 -- if only a prefix of the second of two pieces was passed on, a prefix of both was
 pub passed_more_prefix : {name before mid : List ℕ} {f g h : Files} (piece : List ℕ)
@@ -126,54 +87,26 @@ passed_more_prefix piece p q = passed_then_prefix (passed_with piece p) q
 -- a prefix of a prefix is a prefix of the whole
 pub prefix_of_front : {name bytes : List ℕ} {f g : Files} (n : ℕ)
     → AppendedPrefix name (take n bytes) f g → AppendedPrefix name bytes f g
-prefix_of_front {name} {bytes} {f} {g} n p = record {
-  count = p.count;
-  short = omega (arith, p.short, length-take n bytes);
-  files = p.files ∙ ap (with_appended_bytes f name)
-      (take-take p.count n bytes (omega (arith, p.short, length-take n bytes)));
-}
+prefix_of_front {name} {bytes} {f} {g} n p = grind (arith, length-take, take-take)
 
 -- what waits and a piece, split at a prefix of the piece
 pub piece_in_two : (waits piece : List ℕ) (n : ℕ)
     → (waits ++ take n piece) ++ drop n piece ≡ waits ++ piece
-piece_in_two waits piece n = append_assoc waits (take n piece) (drop n piece)
-    ∙ ap (λ (back : List ℕ). waits ++ back) (take-append-drop n piece)
+piece_in_two waits piece n = grind (arith, append_assoc, take-append-drop)
 
 module _ (name waits piece : List ℕ) (n : ℕ) (f g : Files) where
   -- what waited and a prefix of the piece were appended
   pub passed_waiting : g ≡ with_appended_bytes f name (waits ++ take n piece)
       → AppendsWaiting name (waits ++ piece) (drop n piece) f g
-  passed_waiting is = record {
-    passed = waits ++ take n piece;
-    split = sym (piece_in_two waits piece n);
-    files = is;
-  }
+  passed_waiting is = grind (arith, piece_in_two)
 
   -- a prefix of what waited and a prefix of the piece is a prefix of both
   pub prefix_waiting : AppendedPrefix name (waits ++ take n piece) f g
       → AppendedPrefix name (waits ++ piece) f g
-  prefix_waiting p = record {
-    count = p.count;
-    short = omega (
-      arith,
-      p.short,
-      ap length (piece_in_two waits piece n),
-      length-append (waits ++ take n piece) (drop n piece),
-    );
-    files = p.files
-        ∙ ap (with_appended_bytes f name) (sym (take-append-le p.count (waits ++ take n piece)
-        (drop n piece) (omega (arith, p.short))) ∙ ap (take p.count) (piece_in_two waits piece n));
-  }
+  prefix_waiting p = grind (arith, piece_in_two, length-append, take-append-le)
 
 -- a prefix of what waited and a piece is one of these and another piece after them
 pub prefix_in_front : {name : List ℕ} (waits front rest : List ℕ) {f g : Files}
     → AppendedPrefix name (waits ++ front) f g → AppendedPrefix name (waits ++ (front ++ rest)) f g
 prefix_in_front {name} waits front rest {f} {g} p =
-    let whole = append_assoc waits front rest in
-    record {
-      count = p.count;
-      short = omega (arith, p.short, ap length whole, length-append (waits ++ front) rest);
-      files = p.files
-          ∙ ap (with_appended_bytes f name) (sym (take-append-le p.count (waits ++ front) rest
-          (omega (arith, p.short))) ∙ ap (take p.count) whole);
-    }
+    grind (arith, append_assoc, length-append, take-append-le)

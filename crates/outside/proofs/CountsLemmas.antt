@@ -1,50 +1,23 @@
 -- Laws of counts that rise and of calls that only read or only write.
-use Rattle.std.proofs.Common.{ap, arith, refl, ◌∙◌}
-use Rattle.outside.specs.Counts.{Counts, Happened, NoneFell, OnlyReads}
+use Rattle.std.proofs.Common.{arith}
+use Rattle.outside.specs.Counts.{Counts, NoneFell, OnlyReads}
 
 -- no count falls if none changes
 pub none_fell_same : (a : Counts) → NoneFell a a
-none_fell_same a = record {
-  misses = omega arith;
-  ends = omega arith;
-  read_faults = omega arith;
-  write_faults = omega arith;
-}
+none_fell_same a = grind arith
 
 -- no count falls over two calls if none falls over either
 pub none_fell_then : (a b c : Counts) → NoneFell a b → NoneFell b c → NoneFell a c
-none_fell_then a b c p q = record {
-  misses = omega arith;
-  ends = omega arith;
-  read_faults = omega arith;
-  write_faults = omega arith;
-}
+none_fell_then a b c p q = grind arith
 
 -- if no count changes, nothing but reads happened
 pub only_reads_same : (a : Counts) → OnlyReads a a
-only_reads_same a = record {
-  misses = omega arith;
-  ends = omega arith;
-  read_faults = omega arith;
-  write_faults = refl;
-}
+only_reads_same a = grind arith
 
 -- two calls that only read are one that only reads
 pub only_reads_then : (a b c : Counts) → OnlyReads a b → OnlyReads b c → OnlyReads a c
-only_reads_then a b c p q = record {
-  misses = omega arith;
-  ends = omega arith;
-  read_faults = omega arith;
-  write_faults =
-      q.write_faults ∙ p.write_faults;
-}
+only_reads_then a b c p q = grind arith
 
 -- if there were only reads, no count fell
 pub none_fell_by_reads : (a b : Counts) → OnlyReads a b → NoneFell a b
-none_fell_by_reads a b p = record {
-  misses = p.misses;
-  ends = p.ends;
-  read_faults = p.read_faults;
-  write_faults =
-      omega (arith, ap (λ (h : Happened). h.times) p.write_faults);
-}
+none_fell_by_reads a b p = grind arith

@@ -11,18 +11,17 @@ module _ {X : Type 0} (before n held : ℕ) where
   pub part_of_front : (xs : List X) → before + n ≤ held
       → take n (drop before (take held xs)) ≡ take n (drop before xs)
   part_of_front xs within =
-      let e : before + (held - before) ≡ held = omega arith in
-      ap (λ k. take n (drop before (take k xs))) (sym e)
-      ∙ ap (take n) (drop-take before (held - before) xs)
-      ∙ take-take n (held - before) (drop before xs) (omega arith)
+      grind (
+        arith,
+        drop-take before (held - before) xs,
+        take-take n (held - before) (drop before
+            xs) (omega arith),
+      )
 
   -- two lists with the same prefix have the same parts of it
   pub parts_same : (xs ys : List X) → before + n ≤ held
       → take held xs ≡ take held ys → take n (drop before xs) ≡ take n (drop before ys)
-  parts_same xs ys within same =
-      sym (part_of_front xs within)
-      ∙ ap (λ front. take n (drop before front)) same
-      ∙ part_of_front ys within
+  parts_same xs ys within same = grind (arith, part_of_front xs within, part_of_front ys within)
 
 -- what is given is the part of the file that was asked for, as far as there is one
 pub given_is : (n k : ℕ) (room rest : List ℕ) → take k room ≡ take k rest
@@ -43,10 +42,14 @@ given_is n k room rest same ended = by_order (cases_lt k n)
 pub moved_front : (before held : ℕ) (xs : List ℕ) → held ≤ length xs → before ≤ held
     → take (held - before) (copy_within xs before held 0) ≡ take (held - before) (drop before xs)
 moved_front before held xs within ordered =
-    let e : 0 + (held - before) ≡ held - before = omega arith in
-    ap (λ n. take n (copy_within xs before held 0)) (sym e)
-    ∙ take-paste xs 0 (drop before xs) (held - before) (omega arith)
-    (omega (arith, length-drop before xs))
+    grind (
+      arith,
+      take-paste xs 0 (drop before xs) (held - before) (omega arith) (omega (
+        arith,
+        length-drop before xs,
+      )),
+      length-drop before xs,
+    )
 
 -- a list that fills a room is all that is in it
 pub fills : (n : ℕ) (xs rest : List ℕ) → length xs ≡ n → take n (xs ++ rest) ≡ xs
@@ -55,31 +58,20 @@ fills n xs rest size = ap (λ k. take k (xs ++ rest)) (sym size) ∙ take-append
 -- a buffer that was filled has the bounds of a feed
 pub within_filled : (n place held to : ℕ) (xs rest : List ℕ) → length xs ≡ n → n ≡ 65536 → held
     ≤ 65536 → to ≤ held → place ≤ 2 ^ 32 → AreFeedBounds (take n (xs ++ rest)) place held 0 to
-within_filled n place held to xs rest size whole few among early = record {
-  size = ap length (fills n xs rest size) ∙ size ∙ whole;
-  few = few;
-  among = among;
-  ordered = omega arith;
-  early = early;
-}
+within_filled n place held to xs rest size whole few among early = grind (arith, fills)
 
 -- what was read is held
 pub fed_by : (k at : ℕ) (room bytes : List ℕ) → k ≤ length room → take k room
     ≡ take k (drop at bytes) → take (length (take k room)) (drop at bytes) ≡ take k room
-fed_by k at room bytes within same =
-    ap (λ n. take n (drop at bytes)) (length-take-le k room within) ∙ sym same
+fed_by k at room bytes within same = grind (arith, length-take-le)
 
 -- what is held was read
 pub fed_front : (held at : ℕ) (room bytes : List ℕ) → held ≤ length room
     → take (length (take held room)) (drop at bytes) ≡ take held room
     → take held (drop at bytes) ≡ take held room
-fed_front held at room bytes within same =
-    ap (λ n. take n (drop at bytes)) (sym (length-take-le held room within)) ∙ same
+fed_front held at room bytes within same = grind (arith, length-take-le)
 
 -- a feed that holds nothing is fed from any file
 pub fed_nothing : (fed : Fed) (files : Files) (name : List ℕ) → fed.held ≡ []
     → IsFedFrom fed files name
-fed_nothing fed files name none = record {
-  same = λ bytes holds. ap (λ (held : List ℕ). take (length held) (drop fed.place bytes)) none
-      ∙ sym none;
-}
+fed_nothing fed files name none = grind arith

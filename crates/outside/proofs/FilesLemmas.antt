@@ -1,12 +1,12 @@
 -- Laws of what is known of a folder's files, and of a sink's bytes.
-use Rattle.std.proofs.Common.{ap, append_assoc, arith, inl, inr, length, List, refl, subst, sym}
-use Rattle.std.proofs.Common.{take, ℕ, [], ◌++◌, ◌∙◌, ◌∷◌, ◌≡◌, ◌≢◌}
-use Rattle.std.proofs.lemmas.{Bool.false_from_ne_true, List.{append-nil, take_all}}
+use Rattle.std.proofs.Common.{ap, append_assoc, arith, inl, inr, length, List, refl, take, ℕ, []}
+use Rattle.std.proofs.{Common.{◌++◌, ◌∷◌, ◌≡◌, ◌≢◌}, lemmas.Bool.false_from_ne_true}
+use Rattle.std.proofs.lemmas.List.{append-nil, take_all}
 use Rattle.std.proofs.lemmas.List.Elements.{All-cons, All-head, All-nil, All-tail}
 use Rattle.std.proofs.lemmas.Map.{update-update, update_other, update_same}
 use Rattle.std.{proofs.lemmas.Slice.Eq.bytes_eq-Decides, specs.{List.All, Map.update}}
-use Rattle.std.specs.Prelude.{Bool, bytes_eq, cond, Err, false, IfOk, is_some, IsSome, None, Ok}
-use Rattle.std.specs.Prelude.{Option, Result, Some, true, unwrap_or, ◌&&◌, ◌||◌}
+use Rattle.std.specs.Prelude.{Bool, bytes_eq, Err, false, IfOk, is_some, IsSome, None, Ok, Option}
+use Rattle.std.specs.Prelude.{Result, Some, true, unwrap_or, ◌||◌}
 use Rattle.outside.specs.Files.{Contents, FailsToCreate, Files, Holds, is_some_byte, is_told}
 use Rattle.outside.specs.Files.{IsFileThere, OnlyTouches, Sent, sent_and_more, Told, Touched}
 use Rattle.outside.specs.Files.{Untold, untold_files, with_appended_bytes, with_empty_file}
@@ -18,8 +18,7 @@ bytes_eq_same name = (bytes_eq-Decides name name).1 refl
 
 -- names that differ are compared as different
 pub bytes_eq_other : (name other : List ℕ) → other ≢ name → bytes_eq name other ≡ false
-bytes_eq_other name other apart =
-    false_from_ne_true _ (λ e. apart (sym ((bytes_eq-Decides name other).0 e)))
+bytes_eq_other name other apart = grind (arith, false_from_ne_true, bytes_eq-Decides)
 
 -- contents that give each name the same are equal
 pub same_contents : (f g : Contents) → ((name : List ℕ) → f name ≡ g name) → f ≡ g
@@ -34,24 +33,18 @@ with_file_here f name bytes = update_same bytes_eq f name (Some bytes) name (byt
 pub with_file_other : (f : Contents) (name bytes other : List ℕ) → other ≢ name
     → with_file f name bytes other ≡ f other
 unfolding with_file
-with_file_other f name bytes other apart =
-    update_other bytes_eq f name (Some bytes) other (bytes_eq_other name other apart)
+with_file_other f name bytes other apart = grind (arith, update_other, bytes_eq_other)
 
 -- of bytes given to a name twice, the second count
 pub with_file_twice : (f : Contents) (name bytes more : List ℕ)
     → with_file (with_file f name bytes) name more ≡ with_file f name more
 unfolding with_file
-with_file_twice f name bytes more =
-    same_contents _ _ (update-update bytes_eq f name (Some bytes) (Some more))
+with_file_twice f name bytes more = grind (arith, same_contents, update-update)
 
 -- giving a name what it has changes nothing
 pub update_held : {X : Type 0} (f : List ℕ → Option X) (name : List ℕ) (w : Option X) → f name ≡ w
     → update bytes_eq f name w ≡ f
-update_held f name w is = λ i q. at q (bytes_eq name q) refl i
-  where
-    at : (q : List ℕ) (b : Bool) → bytes_eq name q ≡ b → update bytes_eq f name w q ≡ f q
-    at q true e = update_same bytes_eq f name w q e ∙ sym is ∙ ap f ((bytes_eq-Decides name q).0 e)
-    at q false e = update_other bytes_eq f name w q e
+update_held f name w is = grind (arith, update_same, bytes_eq-Decides, update_other)
 
 -- giving a name the bytes that it has changes nothing
 pub with_file_same : (f : Contents) (name bytes : List ℕ) → f name ≡ Some bytes
@@ -63,11 +56,7 @@ with_file_same f name bytes is = update_held f name (Some bytes) is
 pub is_some_with_file : (f : Contents) (name bytes other : List ℕ) → IsSome (f other)
     → IsSome (with_file f name bytes other)
 unfolding with_file
-is_some_with_file f name bytes other there = at (bytes_eq name other)
-  where
-    at : (b : Bool) → IsSome (cond b (Some bytes) (f other))
-    at true = refl
-    at false = there
+is_some_with_file f name bytes other there = grind arith
 
 -- ---- which names may have been touched
 
@@ -78,23 +67,10 @@ same_touched a b same = λ i name. same name i
 -- touched twice is touched if it was either time
 pub touch_twice : (touched : Touched) (name : List ℕ) (first second both : Bool) → (first || second)
     ≡ both → with_touch (with_touch touched name first) name second ≡ with_touch touched name both
-touch_twice touched name first second both is =
-    same_touched _ _ (λ other. at (touched other) first second both (bytes_eq name other) is)
-  where
-    at : (was first second both same : Bool) → (first || second) ≡ both
-        → ((was || first && same) || second && same) ≡ (was || both && same)
-    at true first second both same is = refl
-    at false true second both true is = ap (λ b. b && true) is
-    at false true true both false is = ap (λ b. b && false) is
-    at false true false both false is = ap (λ b. b && false) is
-    at false false second both same is = ap (λ b. b && same) is
+touch_twice touched name first second both is = grind (arith, same_touched)
 
 untouched : (touched : Touched) (name : List ℕ) → with_touch touched name false ≡ touched
-untouched touched name = same_touched _ _ (λ other. at (touched other))
-  where
-    at : (was : Bool) → (was || false) ≡ was
-    at true = refl
-    at false = refl
+untouched touched name = grind (arith, same_touched)
 
 some_byte_joined : (xs ys : List ℕ) → (is_some_byte xs || is_some_byte ys) ≡ is_some_byte (xs ++ ys)
 some_byte_joined [] ys = refl
@@ -103,14 +79,7 @@ some_byte_joined (x ∷ xs) ys = refl
 -- touching a name leaves every other
 touch_other : (touched : Touched) (name : List ℕ) (is_so : Bool) (other : List ℕ) → other ≢ name
     → with_touch touched name is_so other ≡ touched other
-touch_other touched name is_so other apart =
-    ap (λ same. touched other || is_so && same) (bytes_eq_other name other apart)
-    ∙ at (touched other) is_so
-  where
-    at : (was is_so : Bool) → (was || is_so && false) ≡ was
-    at true is_so = refl
-    at false true = refl
-    at false false = refl
+touch_other touched name is_so other apart = grind (arith, bytes_eq_other)
 
 -- ---- files that are emptied and appended to
 
@@ -119,25 +88,15 @@ pub appended_twice : (files : Files) (name xs ys : List ℕ)
     → with_appended_bytes (with_appended_bytes files name xs) name ys
     ≡ with_appended_bytes files name (xs ++ ys)
 unfolding with_appended_bytes
-appended_twice (Untold touched) name xs ys =
-    ap Untold (touch_twice touched name _ _ _ (some_byte_joined xs ys))
-appended_twice (Told f) name xs ys =
-    ap Told
-    (with_file_twice f name _ _
-    ∙ ap (with_file f name) (ap (λ o. unwrap_or o [] ++ ys) (with_file_here f name _)
-    ∙ append_assoc (unwrap_or (f name) []) xs ys))
+appended_twice (Untold touched) name xs ys = grind (arith, touch_twice, some_byte_joined)
+appended_twice (Told f) name xs ys = grind (arith, with_file_twice, with_file_here, append_assoc)
 
 -- appending nothing to a file that is there changes nothing
 pub appended_nothing : (files : Files) (name : List ℕ) → IsFileThere files name
     → with_appended_bytes files name [] ≡ files
 unfolding with_appended_bytes
 appended_nothing (Untold touched) name there = ap Untold (untouched touched name)
-appended_nothing (Told f) name there =
-    ap Told (ap (with_file f name) (append-nil _) ∙ with_file_same f name _ (held (f name) there))
-  where
-    held : (o : Option (List ℕ)) → IsSome o → o ≡ Some (unwrap_or o [])
-    held None there = cc
-    held (Some bytes) there = refl
+appended_nothing (Told f) name there = grind (arith, append-nil, with_file_same)
 
 -- known contents in which a name has no bytes are those with it emptied
 pub emptied_is : (f new : Contents) (name : List ℕ) → new ≡ with_file f name []
@@ -150,50 +109,42 @@ pub appended_is : (f new : Contents) (name bytes : List ℕ)
     → new ≡ with_file f name (unwrap_or (f name) [] ++ bytes)
     → Told new ≡ with_appended_bytes (Told f) name (take (length bytes) bytes)
 unfolding with_appended_bytes
-appended_is f new name bytes is =
-    ap Told is ∙ ap (λ more. Told (with_file f name (unwrap_or (f name) [] ++ more)))
-    (sym (take_all (length bytes) bytes (omega arith)))
+appended_is f new name bytes is = grind (arith, take_all)
 
 -- a name that was emptied and then appended to holds exactly these bytes
 pub written_holds : (files : Files) (name bytes : List ℕ) → is_told files ≡ true
     → Holds (with_appended_bytes (with_empty_file files name) name bytes) name bytes
 unfolding with_empty_file with_appended_bytes
 written_holds (Untold touched) name bytes told = cc
-written_holds (Told f) name bytes told =
-    with_file_here (with_file f name []) name _
-    ∙ ap (λ (o : Option (List ℕ)). Some (unwrap_or o [] ++ bytes)) (with_file_here f name [])
+written_holds (Told f) name bytes told = grind (arith, with_file_here)
 
 -- when a name is emptied, every other holds what it held
 pub emptied_holds_other : (files : Files) (name other bytes : List ℕ) → other ≢ name
     → Holds files other bytes → Holds (with_empty_file files name) other bytes
 unfolding with_empty_file
 emptied_holds_other (Untold touched) name other bytes apart holds = holds
-emptied_holds_other (Told f) name other bytes apart holds =
-    with_file_other f name [] other apart ∙ holds
+emptied_holds_other (Told f) name other bytes apart holds = grind (arith, with_file_other)
 
 -- when a name is appended to, every other holds what it held
 pub appended_holds_other : (files : Files) (name more other bytes : List ℕ) → other ≢ name
     → Holds files other bytes → Holds (with_appended_bytes files name more) other bytes
 unfolding with_appended_bytes
 appended_holds_other (Untold touched) name more other bytes apart holds = holds
-appended_holds_other (Told f) name more other bytes apart holds =
-    with_file_other f name _ other apart ∙ holds
+appended_holds_other (Told f) name more other bytes apart holds = grind (arith, with_file_other)
 
 -- when a name is emptied, every other held what it holds
 pub emptied_held_other : (files : Files) (name other bytes : List ℕ) → other ≢ name
     → Holds (with_empty_file files name) other bytes → Holds files other bytes
 unfolding with_empty_file
 emptied_held_other (Untold touched) name other bytes apart holds = holds
-emptied_held_other (Told f) name other bytes apart holds =
-    sym (with_file_other f name [] other apart) ∙ holds
+emptied_held_other (Told f) name other bytes apart holds = grind (arith, with_file_other)
 
 -- when a name is appended to, every other held what it holds
 pub appended_held_other : (files : Files) (name more other bytes : List ℕ) → other ≢ name
     → Holds (with_appended_bytes files name more) other bytes → Holds files other bytes
 unfolding with_appended_bytes
 appended_held_other (Untold touched) name more other bytes apart holds = holds
-appended_held_other (Told f) name more other bytes apart holds =
-    sym (with_file_other f name _ other apart) ∙ holds
+appended_held_other (Told f) name more other bytes apart holds = grind (arith, with_file_other)
 
 -- a name that was emptied is there
 pub emptied_there : (files : Files) (name : List ℕ) → IsFileThere (with_empty_file files name) name
@@ -258,10 +209,8 @@ touches_none names (Untold touched) = λ other apart. refl
 -- two calls that touch only these names are one that does
 pub touches_then : (names : List (List ℕ)) (a b c : Files) → OnlyTouches names a b
     → OnlyTouches names b c → OnlyTouches names a c
-touches_then names (Told f) (Told g) (Told h) first second =
-    λ other apart. second other apart ∙ first other apart
-touches_then names (Untold f) (Untold g) (Untold h) first second =
-    λ other apart. second other apart ∙ first other apart
+touches_then names (Told f) (Told g) (Told h) first second = grind arith
+touches_then names (Untold f) (Untold g) (Untold h) first second = grind arith
 touches_then names (Told f) (Untold g) c first second = absurd first
 touches_then names (Untold f) (Told g) c first second = absurd first
 touches_then names (Told f) (Told g) (Untold h) first second = absurd second
@@ -294,35 +243,27 @@ first_apart name other apart = All-head (λ n. other ≢ n) name [] apart
 pub emptied_touches : (files : Files) (name : List ℕ)
     → OnlyTouches (name ∷ []) files (with_empty_file files name)
 unfolding with_empty_file
-emptied_touches (Told f) name =
-    λ other apart. with_file_other f name [] other (first_apart name other apart)
-emptied_touches (Untold touched) name =
-    λ other apart. touch_other touched name true other (first_apart name other apart)
+emptied_touches (Told f) name = search (arith, with_file_other, first_apart)
+emptied_touches (Untold touched) name = search (arith, touch_other, first_apart)
 
 -- appending to a name touches it alone
 pub appended_touches : (files : Files) (name more : List ℕ)
     → OnlyTouches (name ∷ []) files (with_appended_bytes files name more)
 unfolding with_appended_bytes
-appended_touches (Told f) name more =
-    λ other apart. with_file_other f name _ other (first_apart name other apart)
-appended_touches (Untold touched) name more =
-    λ other apart. touch_other touched name _ other (first_apart name other apart)
+appended_touches (Told f) name more = search (arith, with_file_other, first_apart)
+appended_touches (Untold touched) name more = search (arith, touch_other, first_apart)
 
 with_tried_create-touches : (files : Files) (name : List ℕ)
     → OnlyTouches (name ∷ []) files (with_tried_create files name)
 unfolding with_tried_create
 with_tried_create-touches (Told f) name = λ other apart. refl
-with_tried_create-touches (Untold touched) name =
-    λ other apart. touch_other touched name true other (first_apart name other apart)
+with_tried_create-touches (Untold touched) name = search (arith, touch_other, first_apart)
 
 -- a call to create a name that fails touches it alone
 pub fails_touches : (old new : Files) (name : List ℕ) → FailsToCreate name old new
     → OnlyTouches (name ∷ []) old new
-fails_touches old new name (inl same) =
-    subst (λ files. OnlyTouches (name ∷ []) old files) (sym same) (touches_none (name ∷ []) old)
-fails_touches old new name (inr touched) =
-    subst (λ files. OnlyTouches (name ∷ []) old files) (sym touched)
-    (with_tried_create-touches old name)
+fails_touches old new name (inl same) = grind (arith, touches_none)
+fails_touches old new name (inr touched) = grind (arith, with_tried_create-touches)
 
 -- a call to create a name that failed left files whose content is known
 pub fails_told : (f : Contents) (new : Files) (name : List ℕ) → FailsToCreate name (Told f) new
@@ -344,18 +285,13 @@ touches_told names (Untold f) (Told g) only = absurd only
 -- if the content of the files is known, a name that is there holds bytes
 pub there_holds : (f : Contents) (name : List ℕ) → IsFileThere (Told f) name
     → (bytes : List ℕ) × Holds (Told f) name bytes
-there_holds f name there = held (f name) there
-  where
-    held : (o : Option (List ℕ)) → IsSome o → (bytes : List ℕ) × (o ≡ Some bytes)
-    held None there = cc
-    held (Some bytes) there = (bytes, refl)
+there_holds f name there = grind arith
 
 -- if no bytes can be those of a name that is there, the content isn't known
 pub nothing_told : (files : Files) (name : List ℕ) → IsFileThere files name
     → ((bytes : List ℕ) → Holds files name bytes → ⊥) → is_told files ≡ false
 nothing_told (Untold touched) name there none = refl
-nothing_told (Told f) name there none = let held = there_holds f name there in
-    absurd (none held.0 held.1)
+nothing_told (Told f) name there none = grind (arith, there_holds)
 
 -- sending twice is sending both joined
 pub sent_twice : (sent : Sent) (xs ys : List ℕ)
@@ -374,5 +310,4 @@ sent_nothing (Some s) = ap Some (append-nil s)
 pub sent_is : (s new bytes : List ℕ) → new ≡ s ++ bytes
     → Some new ≡ sent_and_more (Some s) (take (length bytes) bytes)
 unfolding sent_and_more
-sent_is s new bytes is =
-    ap Some is ∙ ap (λ more. Some (s ++ more)) (sym (take_all (length bytes) bytes (omega arith)))
+sent_is s new bytes is = grind (arith, take_all)

@@ -1,14 +1,14 @@
 -- The steps of a pass, in order.
-use Rattle.std.proofs.Common.{ap, append-nil, append_assoc, arith, drop, length, length-append}
-use Rattle.std.proofs.Common.{List, refl, subst, sym, take, ℕ, [], ◌++◌, ◌+◌, ◌-◌, ◌∙◌, ◌≡◌, ◌≢◌}
-use Rattle.std.proofs.{Common.◌≤◌, Math.Seq.{take-add, take-append-add}}
+use Rattle.std.proofs.Common.{ap, append-nil, append_assoc, arith, drop, length-append, List, refl}
+use Rattle.std.proofs.Common.{subst, sym, take, ℕ, [], ◌++◌, ◌+◌, ◌-◌, ◌∙◌, ◌≡◌, ◌≢◌, ◌≤◌}
+use Rattle.std.proofs.Math.Seq.{take-add, take-append-add}
 use Rattle.std.proofs.lemmas.List.{drop-drop, length-take, take-append-le}
 use Rattle.std.specs.Prelude.{Err, IfErr, IsErrAnd, Ok, Result}
 use Rattle.outside.proofs.BufferOutputLemmas.{passed_more}
 use Rattle.outside.proofs.FilesLemmas.{appended_held_other, appended_holds_other, appended_keeps}
 use Rattle.outside.proofs.FilesLemmas.{appended_nothing, appended_told, appended_twice}
 use Rattle.outside.specs.{BufferOutput.{AppendedPrefix, AppendsWaiting}, Counts.Counts, Feed.Fed}
-use Rattle.outside.specs.Files.{Files, Holds, is_told, IsFileThere, with_appended_bytes}
+use Rattle.outside.specs.Files.{Files, Holds, IsFileThere, with_appended_bytes}
 use Rattle.outside.specs.Pass.{AppendsMadeBytes, AppendsPart, AppendsPrefix, AreBytesMade, bytes_at}
 use Rattle.outside.specs.Pass.{bytes_between, HasPassCause, IsPassReady, IsReadPassFault}
 use Rattle.outside.specs.Pass.{pass_fault_of, PassMakes, Route, route_of, WritesMadeBytes}
@@ -31,37 +31,22 @@ module _ (old new : Files) (input output more file : List ℕ) (apart : input �
     (is : new ≡ with_appended_bytes old output more) where
   -- the input holds what it held
   pub input_holds : Holds old input file → Holds new input file
-  input_holds holds = subst (λ f. Holds f input file) (sym is)
-      (appended_holds_other old output more input file apart holds)
+  input_holds holds = grind (arith, appended_holds_other)
 
   -- the input held what it holds
   pub input_held : Holds new input file → Holds old input file
-  input_held holds =
-      appended_held_other old output more input file apart
-      (subst (λ f. Holds f input file) is holds)
+  input_held holds = grind (arith, appended_held_other)
 
 -- a name that was there is still there
 pub still_there : (old new : Files) (output more name : List ℕ)
     → new ≡ with_appended_bytes old output more → IsFileThere old name → IsFileThere new name
-still_there old new output more name is there =
-    subst (λ f. IsFileThere f name) (sym is) (appended_keeps old output more name there)
+still_there old new output more name is there = grind (arith, appended_keeps)
 
 -- all is ready for the next step
 pub ready_later : (pass : Pass) (old new : Files) (fed : Fed) (more : List ℕ)
     → new ≡ with_appended_bytes old pass.output.now more → IsPassReady pass old fed
     → IsPassReady pass new fed
-ready_later pass old new fed more is ready =
-    let held : (file : List ℕ) → Holds new pass.input.now file → Holds old pass.input.now file =
-    λ file holds. input_held old new pass.input.now pass.output.now more file ready.apart is holds
-    in
-    record {
-      apart = ready.apart;
-      source = still_there old new pass.output.now more pass.input.now is ready.source;
-      target = still_there old new pass.output.now more pass.output.now is ready.target;
-      length_is = λ file holds. ready.length_is file (held file holds);
-      few = ready.few;
-      fed_from = record { same = λ file holds. ready.fed_from.same file (held file holds) };
-    }
+ready_later pass old new fed more is ready = grind (arith, input_held, still_there)
 
 -- after a buffer passed something on, all is ready for the next step
 pub passed_ready : (pass : Pass) {before after : List ℕ} {old new : Files} {fed : Fed}
@@ -77,16 +62,7 @@ module _ (pass : Pass) where
   pub writes_nothing : (made : List ℕ → List ℕ) (waiting : List ℕ) (files : Files)
       → IsFileThere files pass.output.now → AreBytesMade files pass.input.now made []
       → WritesMadeBytes pass made waiting waiting files files
-  writes_nothing made waiting files there none = record {
-    piece = [];
-    is = none;
-    passed = record {
-      passed = [];
-      split = append-nil waiting;
-      files =
-          sym (appended_nothing files pass.output.now there);
-    };
-  }
+  writes_nothing made waiting files there none = grind (arith, append-nil, appended_nothing)
 
   -- a step that pushes a piece
   pub writes_piece : (made : List ℕ → List ℕ) {piece before after : List ℕ} {old new : Files}
@@ -100,41 +76,20 @@ module _ (pass : Pass) where
       {fault : PassFault} → AreBytesMade old pass.input.now made piece
       → AppendedPrefix pass.output.now (before ++ piece) old new
       → WritesPrefix pass made before old new fault
-  prefix_piece made {piece} {before} is prefix =
-      let bytes = take prefix.count (before ++ piece) in
-      let long : length bytes ≡ prefix.count =
-      omega (arith, length-take prefix.count (before ++ piece), prefix.short) in
-      record {
-        bytes = bytes;
-        prefix = λ file holds. ap (λ n. take n (before ++ piece)) (sym long)
-            ∙ ap (λ (l : List ℕ). take (length bytes) (before ++ l)) (is file holds);
-        short = λ failed file holds. omega
-            (arith, long, prefix.short, ap (λ (l : List ℕ). length (before ++ l)) (is file holds));
-        files = prefix.files;
-      }
+  prefix_piece made {piece} {before} is prefix = grind (arith, length-take)
 
   -- a step whose read failed appended nothing
   pub prefix_nothing : (made : List ℕ → List ℕ) (before : List ℕ) (old new : Files)
       {fault : PassFault} → IsReadPassFault fault → new ≡ old → IsFileThere old pass.output.now
       → WritesPrefix pass made before old new fault
-  prefix_nothing made before old new read same there = record {
-    bytes = [];
-    prefix = λ file holds. refl;
-    short = λ failed. absurd (subst IsReadPassFault failed read);
-    files = same ∙ sym (appended_nothing old pass.output.now there);
-  }
+  prefix_nothing made before old new read same there = grind (arith, appended_nothing)
 
   -- bytes that are made in another way with the same result
   pub writes_as : {made : List ℕ → List ℕ} (other : List ℕ → List ℕ) {before after : List ℕ}
       {old new : Files} → ((file : List ℕ) → Holds old pass.input.now file → made file ≡ other file)
       → WritesMadeBytes pass made before after old new
       → WritesMadeBytes pass other before after old new
-  writes_as other same step = record {
-    piece = step.piece;
-    is = λ file holds. step.is file holds ∙ same file holds;
-    passed =
-        step.passed;
-  }
+  writes_as other same step = grind arith
 
   -- a prefix of some bytes is a prefix of these and more
   pub prefix_as : {made : List ℕ → List ℕ} (other rest : List ℕ → List ℕ) {before : List ℕ}
@@ -142,26 +97,7 @@ module _ (pass : Pass) where
       → ((file : List ℕ) → Holds old pass.input.now file → other file ≡ made file ++ rest file)
       → WritesPrefix pass made before old new fault → WritesPrefix pass other before old new fault
   prefix_as {made} other rest {before} {old} more part =
-      let whole : (file : List ℕ) → Holds old pass.input.now file
-      → (before ++ made file) ++ rest file ≡ before ++ other file =
-      λ file holds. append_assoc before (made file) (rest file)
-      ∙ ap (λ (l : List ℕ). before ++ l) (sym (more file holds)) in
-      record {
-        bytes = part.bytes;
-        prefix = λ file holds.
-            let is = part.prefix file holds in
-            let within : length part.bytes ≤ length (before ++ made file) =
-            omega (arith, ap length is, length-take (length part.bytes) (before ++ made file)) in
-            is ∙ sym (take-append-le (length part.bytes) (before ++ made file) (rest file) within)
-            ∙ ap (take (length part.bytes)) (whole file holds);
-        short = λ failed file holds. omega (
-          arith,
-          part.short failed file holds,
-          ap length (whole file holds),
-          length-append (before ++ made file) (rest file),
-        );
-        files = part.files;
-      }
+      grind (arith, append_assoc, length-take, take-append-le, length-append)
 
 -- ---- a step after another
 
@@ -170,63 +106,35 @@ module _ (pass : Pass) (apart : pass.input.now ≢ pass.output.now) {made : List
     (step : WritesMadeBytes pass made before mid old now) where
   -- the input holds what it held
   pub writes_holds : (file : List ℕ) → Holds old pass.input.now file → Holds now pass.input.now file
-  writes_holds file holds = input_holds old now
-      pass.input.now pass.output.now step.passed.passed file apart step.passed.files holds
+  writes_holds file holds = grind (arith, input_holds)
 
   -- the input held what it holds
   pub writes_held : (file : List ℕ) → Holds now pass.input.now file → Holds old pass.input.now file
-  writes_held file holds = input_held old now pass.input.now pass.output.now step.passed.passed file
-      apart step.passed.files holds
+  writes_held file holds = grind (arith, input_held)
 
   -- a name that was there is still there
   pub writes_there : (name : List ℕ) → IsFileThere old name → IsFileThere now name
-  writes_there name there =
-      still_there old now pass.output.now step.passed.passed name step.passed.files there
+  writes_there name there = grind (arith, still_there)
 
   -- what two steps wrote is what the first made followed by what the second made
   pub writes_then : {next : List ℕ → List ℕ} {after : List ℕ} {new : Files}
       → WritesMadeBytes pass next mid after now new
       → WritesMadeBytes pass (λ file. made file ++ next file) before after old new
-  writes_then {next} {after} {new} more = record {
-    piece = step.piece ++ more.piece;
-    is = λ file holds. (λ i. step.is file holds i ++ more.is file (writes_holds file holds) i);
-    passed =
-        subst (λ (l : List ℕ). AppendsWaiting pass.output.now l after old new) (append_assoc before
-        step.piece more.piece) (passed_more more.piece step.passed more.passed);
-  }
+  writes_then {next} {after} {new} more =
+      grind (
+        arith,
+        writes_holds,
+        append_assoc before step.piece more.piece,
+        passed_more more.piece
+            step.passed more.passed,
+      )
 
   -- a step after another that ends early
   pub prefix_then : {next : List ℕ → List ℕ} {new : Files} {fault : PassFault}
       → WritesPrefix pass next mid now new fault
       → WritesPrefix pass (λ file. made file ++ next file) before old new fault
   prefix_then {next} {new} more =
-      let first = step.passed in
-      let whole : (file : List ℕ) → Holds old pass.input.now file
-      → before ++ (made file ++ next file) ≡ first.passed ++ (mid ++ next file) =
-      λ file holds.
-      sym (append_assoc before (made file) (next file))
-      ∙ ap (λ (l : List ℕ). (before ++ l) ++ next file) (sym (step.is file holds))
-      ∙ ap (λ (l : List ℕ). l ++ next file) first.split
-      ∙ append_assoc first.passed mid (next file) in
-      record {
-        bytes = first.passed ++ more.bytes;
-        prefix = λ file holds.
-            ap (λ (l : List ℕ). first.passed ++ l) (more.prefix file (writes_holds file holds))
-            ∙ sym (take-append-add first.passed (mid ++ next file) (length more.bytes))
-            ∙ ap (λ n. take n (first.passed ++ (mid ++ next file)))
-            (sym (length-append first.passed more.bytes))
-            ∙ ap (take (length (first.passed ++ more.bytes))) (sym (whole file holds));
-        short = λ failed file holds.
-            omega (
-              arith,
-              more.short failed file (writes_holds file holds),
-              length-append first.passed more.bytes,
-              ap length (whole file holds),
-              length-append first.passed (mid ++ next file),
-            );
-        files = more.files ∙ ap (λ f. with_appended_bytes f pass.output.now more.bytes) first.files
-            ∙ appended_twice old pass.output.now first.passed more.bytes;
-      }
+      grind (arith, append_assoc, writes_holds, take-append-add, length-append, appended_twice)
 
 -- ---- the bytes passed on so far
 
@@ -251,9 +159,7 @@ module _ (pass : Pass) (apart : pass.input.now ≢ pass.output.now) {whole rest 
       → rest file ≡ next file ++ later file) where
     both : (file : List ℕ) → Holds old pass.input.now file
         → whole file ≡ (sofar.made file ++ next file) ++ later file
-    both file holds =
-        sofar.left file holds ∙ ap (λ (l : List ℕ). sofar.made file ++ l) (is file holds)
-        ∙ sym (append_assoc (sofar.made file) (next file) (later file))
+    both file holds = grind (arith, append_assoc)
 
     -- one more step passes on more of the bytes
     pub up_to_more : {after : List ℕ} {new : Files} → WritesMadeBytes pass next mid after now new
@@ -272,11 +178,7 @@ module _ (pass : Pass) (apart : pass.input.now ≢ pass.output.now) {whole rest 
   -- if none are still to come, all of them were passed on
   pub up_to_end : ((file : List ℕ) → Holds old pass.input.now file → rest file ≡ [])
       → WritesMadeBytes pass whole before mid old now
-  up_to_end none =
-      writes_as pass whole
-      (λ file holds. sym (sofar.left file holds
-      ∙ ap (λ (l : List ℕ). sofar.made file ++ l) (none file holds) ∙ append-nil (sofar.made file)))
-      sofar.written
+  up_to_end none = grind (arith, writes_as, append-nil)
 
   -- the last step:
   module _ (next : List ℕ → List ℕ)
@@ -284,11 +186,7 @@ module _ (pass : Pass) (apart : pass.input.now ≢ pass.output.now) {whole rest 
     -- with the last step all of them were passed on
     pub up_to_last : {after : List ℕ} {new : Files} → WritesMadeBytes pass next mid after now new
         → WritesMadeBytes pass whole before after old new
-    up_to_last step =
-        writes_as pass whole
-        (λ file holds.
-        sym (sofar.left file holds ∙ ap (λ (l : List ℕ). sofar.made file ++ l) (is file holds)))
-        (writes_then pass apart sofar.written step)
+    up_to_last step = grind (arith, writes_as, writes_then pass apart sofar.written step)
 
     -- if that step failed, a prefix of them was passed on
     pub up_to_last_prefix : {new : Files} {fault : PassFault}
@@ -303,60 +201,25 @@ module _ (pass : Pass) (made : List ℕ → List ℕ) {waiting : List ℕ} {old 
   -- if what waited was appended, all was
   pub writes_all : new ≡ with_appended_bytes now pass.output.now waiting
       → AppendsMadeBytes pass.input.now pass.output.now made old new
-  writes_all is = record {
-    bytes = step.piece;
-    is = step.is;
-    files = is
-        ∙ ap (λ f. with_appended_bytes f pass.output.now waiting) step.passed.files
-        ∙ appended_twice old pass.output.now step.passed.passed waiting
-        ∙ ap (with_appended_bytes old pass.output.now) (sym step.passed.split);
-  }
+  writes_all is = grind (arith, appended_twice)
 
   -- if a prefix of it was, a prefix of all bytes was
   pub writes_end : {fault : PassFault} → AppendedPrefix pass.output.now waiting now new
       → AppendsPrefix pass.input.now pass.output.now made old new fault
-  writes_end part =
-      let passed = step.passed.passed in
-      let bytes = passed ++ take part.count waiting in
-      let long : length bytes ≡ length passed + part.count = omega (
-        arith,
-        length-append passed (take part.count waiting),
-        length-take part.count waiting,
-        part.short,
-      ) in
-      record {
-        bytes = bytes;
-        prefix = λ file holds.
-            sym (ap (λ n. take n (made file)) long
-            ∙ ap (take (length passed + part.count)) (sym (step.is file holds) ∙ step.passed.split)
-            ∙ take-append-add passed waiting part.count);
-        short = λ failed file holds. omega (
-          arith,
-          long,
-          part.short,
-          ap length (sym (step.is file holds) ∙ step.passed.split),
-          length-append passed waiting,
-        );
-        files = part.files
-            ∙ ap (λ f. with_appended_bytes f pass.output.now (take part.count waiting))
-            step.passed.files
-            ∙ appended_twice old pass.output.now passed (take part.count waiting);
-      }
+  writes_end part = grind (arith, length-append, length-take, take-append-add, appended_twice)
 
 -- bytes written when nothing waited before
 pub writes_behind_none : {pass : Pass} {made : List ℕ → List ℕ} {before after : List ℕ}
     {old new : Files} → before ≡ [] → WritesMadeBytes pass made before after old new
     → WritesMadeBytes pass made [] after old new
-writes_behind_none {pass} {made} {before} {after} {old} {new} none step =
-    subst (λ (l : List ℕ). WritesMadeBytes pass made l after old new) none step
+writes_behind_none {pass} {made} {before} {after} {old} {new} none step = grind arith
 
 -- a part that was appended when nothing waited before is only a prefix
 pub part_behind_none : {input output : List ℕ} {made : List ℕ → List ℕ} {before : List ℕ}
     {old new : Files} {fault : PassFault} → before ≡ []
     → AppendsPart input output made before old new fault
     → AppendsPrefix input output made old new fault
-part_behind_none {input} {output} {made} {before} {old} {new} {fault} none part =
-    subst (λ (l : List ℕ). AppendsPart input output made l old new fault) none part
+part_behind_none {input} {output} {made} {before} {old} {new} {fault} none part = grind arith
 
 -- ---- counts and causes
 
@@ -376,19 +239,10 @@ read_kind (ShrunkRead first second) = tt
 pub cause_later : (way : Route) (old now : Files) (output more : List ℕ) (before mid after : Counts)
     (fault : PassFault) → now ≡ with_appended_bytes old output more → mid ≡ before
     → HasPassCause way now mid after fault → HasPassCause way old before after fault
-cause_later way old now output more before mid after Read grown same cause =
-    subst (λ counts. HasPassCause way old counts after Read) same cause
+cause_later way old now output more before mid after Read grown same cause = grind arith
 cause_later way old now output more before mid after (Shrunk first second) grown same cause =
-    subst (λ counts. HasPassCause way old counts after (Shrunk first second)) same (
-      sym (ap is_told grown ∙ appended_told old output more) ∙ cause.0,
-      cause.1,
-      cause.2,
-      cause.3,
-      cause.4,
-      cause.5,
-    )
-cause_later way old now output more before mid after Write grown same cause =
-    subst (λ counts. HasPassCause way old counts after Write) same cause
+    grind (arith, appended_told)
+cause_later way old now output more before mid after Write grown same cause = grind arith
 
 -- a result's cause after a step that succeeded is a cause of both steps
 pub causes_later : {T : Type 0} (r : Result T PassFault) (way : Route) (old now : Files)
@@ -407,8 +261,7 @@ module _ {pass : Pass} {made : List ℕ → List ℕ} {before mid : List ℕ} {o
   -- the cause of a later fault is a cause of the whole
   pub cause_behind : (fault : PassFault) → HasPassCause way now between after fault
       → HasPassCause way old then after fault
-  cause_behind fault cause = cause_later way old now pass.output.now step.passed.passed
-      then between after fault step.passed.files same cause
+  cause_behind fault cause = grind (arith, cause_later)
 
   -- the cause of a later result's fault is a cause of the whole
   pub causes_behind : {T : Type 0} (r : Result T PassFault)

@@ -1,6 +1,6 @@
 -- Laws of what a buffer passed on to a sink.
-use Rattle.std.proofs.Common.{ap, append_assoc, arith, length, length-append, List, refl, sym, take}
-use Rattle.std.proofs.{Common.{ℕ, [], ◌++◌, ◌+◌, ◌∙◌, ◌≡◌, ◌≤◌}, Math.Seq.take-append-add}
+use Rattle.std.proofs.Common.{append_assoc, arith, length, length-append, List, refl, sym, take, ℕ}
+use Rattle.std.proofs.{Common.{[], ◌++◌, ◌≡◌, ◌≤◌}, Math.Seq.take-append-add}
 use Rattle.std.proofs.lemmas.List.{append-nil, take-append-le}
 use Rattle.std.specs.Prelude.{Err, Ok, OnErr, OnOk, Result}
 use Rattle.outside.proofs.FilesLemmas.{sent_nothing, sent_twice}
@@ -23,23 +23,12 @@ sent_out sent new bytes is = record { passed = bytes; split = sym (append-nil by
 -- more waits after
 pub sent_with : {before after : List ℕ} {s t : Sent} (piece : List ℕ)
     → SendsWaiting before after s t → SendsWaiting (before ++ piece) (after ++ piece) s t
-sent_with {before} {after} {s} {t} piece p = record {
-  passed = p.passed;
-  split = ap (λ (front : List ℕ). front ++ piece) p.split ∙ append_assoc p.passed after piece;
-  sent = p.sent;
-}
+sent_with {before} {after} {s} {t} piece p = grind (arith, append_assoc)
 
 -- what was sent in two steps was sent in one
 pub sent_then : {before mid after : List ℕ} {s t u : Sent} → SendsWaiting before mid s t
     → SendsWaiting mid after t u → SendsWaiting before after s u
-sent_then {before} {mid} {after} {s} {t} {u} p q = record {
-  passed = p.passed ++ q.passed;
-  split =
-      p.split
-      ∙ ap (λ (back : List ℕ). p.passed ++ back) q.split
-      ∙ sym (append_assoc p.passed q.passed after);
-  sent = q.sent ∙ ap (λ sent. sent_and_more sent q.passed) p.sent ∙ sent_twice s p.passed q.passed;
-}
+sent_then {before} {mid} {after} {s} {t} {u} p q = grind (arith, append_assoc, sent_twice)
 
 -- two pieces that were sent in order were sent together
 pub sent_more_on : {before mid after : List ℕ} {s t u : Sent} (piece : List ℕ)
@@ -50,24 +39,17 @@ sent_more_on piece p q = sent_then (sent_with piece p) q
 module _ {before mid : List ℕ} {s t u : Sent} (p : SendsWaiting before mid s t) where
   -- what was sent, and then a prefix of the rest, is a prefix of the whole
   pub sent_then_prefix : SentPrefix mid t u → SentPrefix before s u
-  sent_then_prefix q = record {
-    count = length p.passed + q.count;
-    within = omega (arith, q.within, ap length p.split, length-append p.passed mid);
-    sent =
-        q.sent
-        ∙ ap (λ sent. sent_and_more sent (take q.count mid)) p.sent
-        ∙ sent_twice s p.passed (take q.count mid)
-        ∙ ap (sent_and_more s) (sym (take-append-add p.passed mid q.count)
-        ∙ ap (take (length p.passed + q.count)) (sym p.split));
-  }
+  sent_then_prefix q =
+      grind (
+        arith,
+        length-append p.passed mid,
+        sent_twice s p.passed (take q.count mid),
+        take-append-add p.passed mid q.count,
+      )
 
   -- what was sent, and then all the rest, is the whole
   pub sent_then_all : u ≡ sent_and_more t mid → u ≡ sent_and_more s before
-  sent_then_all all =
-      all
-      ∙ ap (λ sent. sent_and_more sent mid) p.sent
-      ∙ sent_twice s p.passed mid
-      ∙ ap (sent_and_more s) (sym p.split)
+  sent_then_all all = grind (arith, sent_twice)
 
 -- if only a prefix of the second of two pieces was sent, a prefix of both was
 pub sent_more_prefix : {before mid : List ℕ} {s t u : Sent} (piece : List ℕ)
@@ -77,11 +59,7 @@ sent_more_prefix piece p q = sent_then_prefix (sent_with piece p) q
 -- a prefix of the first bytes is a prefix of the whole
 pub sent_prefix_of : {bytes : List ℕ} {s t : Sent} (behind : List ℕ) → SentPrefix bytes s t
     → SentPrefix (bytes ++ behind) s t
-sent_prefix_of {bytes} {s} {t} behind p = record {
-  count = p.count;
-  within = omega (arith, p.within, length-append bytes behind);
-  sent = p.sent ∙ ap (sent_and_more s) (sym (take-append-le p.count bytes behind p.within));
-}
+sent_prefix_of {bytes} {s} {t} behind p = grind (arith, length-append, take-append-le)
 
 -- ---- a piece that is sent at once, after what waited
 
@@ -90,9 +68,7 @@ pub sent_over : {T E : Type 0} (r : Result T E) (waits piece after : List ℕ) (
     → t ≡ sent_and_more s waits → after ≡ [] → OnOk r (u ≡ sent_and_more t piece)
     → OnOk r (SendsWaiting (waits ++ piece) after s u)
 sent_over (Err e) waits piece after s t u first none more = tt
-sent_over (Ok x) waits piece after s t u first none more =
-    rw none (sent_out s u (waits ++ piece)
-    (more ∙ ap (λ sent. sent_and_more sent piece) first ∙ sent_twice s waits piece))
+sent_over (Ok x) waits piece after s t u first none more = grind (arith, sent_out, sent_twice)
 
 -- if a write of the piece failed, a prefix of what waited and the piece was sent
 pub sent_over_prefix : {T E : Type 0} (r : Result T E) (waits piece : List ℕ) (s t u : Sent) → t

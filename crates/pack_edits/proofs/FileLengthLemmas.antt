@@ -8,9 +8,9 @@ use Rattle.frame_header.specs.{Fields.ClassFields, Tables.{class_of, length_of, 
 use Rattle.frame_writer.proofs.LaidLemmas.{length-zeros}
 use Rattle.frame_writer.specs.Frames.{all_frame_data, areas_length, bytes_of_frames}
 use Rattle.frame_writer.specs.Frames.{fields_of_frames, Frame, frame_area, framed_bytes}
-use Rattle.frame_writer.specs.Laid.{areas_end, CanDataBeLaidFrom, frame_data_end, frame_data_start}
-use Rattle.frame_writer.specs.Laid.{FrameData, laid_data, laid_data_from, zeros}
-use Rattle.info_header.specs.{FileInfo.frames_length, InfoFrame.{info_frame, info_header_of}}
+use Rattle.frame_writer.specs.Laid.{areas_end, CanDataBeLaidFrom, frame_data_end, FrameData}
+use Rattle.frame_writer.specs.Laid.{laid_data, laid_data_from}
+use Rattle.info_header.specs.{FileInfo.frames_length, InfoFrame.info_header_of}
 use Rattle.laying.proofs.{EntryByteLemmas.{length-entry, shaped}, FittingFrameLemmas.fitting-laid}
 use Rattle.laying.proofs.{InfoByteLemmas.length-info_frame, LaidFrameLemmas.areas-all}
 use Rattle.laying.proofs.LaidLemmas.{first-header, laid-slots, part_is, sizes}
@@ -29,15 +29,12 @@ length-laid_data_from : (end start : ℕ) (ps : List FrameData) → end ≤ star
     → length (laid_data_from end start ps) + end ≡ areas_end start ps
 length-laid_data_from end start [] within fits = omega (arith, length-zeros (start - end), within)
 length-laid_data_from end start (p ∷ ps) within fits =
-    let gap = zeros (frame_data_start start p - end) in
-    let more = laid_data_from (frame_data_end start p) (start + p.area) ps in
-    omega (
+    grind (
       arith,
-      fits.0,
-      length-laid_data_from (frame_data_end start p) (start + p.area) ps fits.1 fits.2,
-      length-append gap (p.payload ++ more),
-      length-append p.payload more,
-      length-zeros (frame_data_start start p - end),
+      length-append,
+      length-zeros,
+      length-laid_data_from (frame_data_end start p) (start
+          + p.area) ps fits.1 fits.2,
     )
 
 -- ---- frames
@@ -116,18 +113,16 @@ module _ (l : LaidPart) (file : List ℕ) (s : SurveyFields) (is : CanBeRelaid f
       ≡ others_length first file s + size_of s.class l.placed
   unfolding laid_file
   length-file first found =
-      let front = concat (front_blocks file s) in
-      let back = concat (back_blocks file s) in
-      let info = info_frame first.header (info_laid l file s) in
-      let frames = bytes_of_frames (frames_laid l file s) in
-      omega (
+      grind (
         arith,
         length-laid,
-        length-info_frame first.header (info_laid l file s) (first-header l file s is some within
-            fitting first found) (sizes l file s is some within fitting extension),
-        length-append front (info ++ (frames ++ back)),
-        length-append info (frames ++ back),
-        length-append frames back,
+        length-info_frame first.header (info_laid l file s) (first-header l
+            file s is some within fitting first found)
+            (sizes l file s is some within fitting extension),
+        first-header l file s is some within fitting first found,
+        sizes l file s is some within
+            fitting extension,
+        length-append,
       )
 
 -- ---- two plans
@@ -145,11 +140,11 @@ module _ (l : LaidPart) (other : List Placed) (file : List ℕ) (s : SurveyField
       → length (file_with_first o l file s) ≤ length (file_with_first o by_other file s)
   from-first None found = omega arith
   from-first (Some first) found =
-      omega (
+      grind (
         arith,
-        least,
         length-file l file s is some within fitting extension first found,
-        length-file by_other file s is some within fits extension first found,
+        length-file
+            by_other file s is some within fits extension first found,
       )
 
   -- of two files of the same frames the one with shorter slots is the shorter

@@ -1,18 +1,16 @@
 -- A file of at most as many frames as are allowed: its faults, and that it has none if more frames
 -- are allowed.
 use Rattle.std.proofs.Common.{ap, arith, Bool, Err, false, IfErr, inl, inr, length, List, None, Ok}
-use Rattle.std.proofs.Common.{Option, refl, Result, rules, Some, subst, sym, ℕ, [], ◌==◌, ◌∙◌, ◌∷◌}
-use Rattle.std.proofs.{Common.{◌≡◌, ◌≤◌}, lemmas.Bool.ne_eqb}
-use Rattle.std.proofs.lemmas.Option.{slice_get_cases, slice_get_within}
+use Rattle.std.proofs.Common.{Option, refl, Result, rules, Some, ℕ, ◌==◌, ◌∙◌, ◌≡◌, ◌≤◌}
+use Rattle.std.proofs.lemmas.{Bool.ne_eqb, Option.{slice_get_cases, slice_get_within}}
 use Rattle.bit_fields.specs.Bits.{AreBytes}
 use Rattle.commands.proofs.InputLemmas.{of_bytes_behind}
 use Rattle.commands.proofs.NamedLemmas.{lost_name, missed_name, unread_name}
 use Rattle.commands.proofs.{RefusingLemmas.before_first, WhyLemmas.each_why}
-use Rattle.commands.specs.AfterCall.{IsLateFault, IsNotBefore, why_of}
-use Rattle.commands.specs.SingleOutput.{file_task, HasTaskNumbers, input_result, IsEarlyFault}
-use Rattle.commands.specs.SingleOutput.{IsFileFault, IsMaking, IsProperTask, Making, Task}
-use Rattle.commands.specs.{SingleOutput.TaskRefuses, declared.fault.EditFault.EditFault}
-use Rattle.commands.specs.declared.fault.EditFault.TheVariants.{Input, Memory, Refused}
+use Rattle.commands.specs.AfterCall.{IsLateFault}
+use Rattle.commands.specs.SingleOutput.{file_task, HasTaskNumbers, IsEarlyFault, IsFileFault}
+use Rattle.commands.specs.SingleOutput.{IsMaking, IsProperTask, Making, Task, TaskRefuses}
+use Rattle.commands.specs.declared.fault.EditFault.{EditFault, TheVariants.{Input, Memory, Refused}}
 use Rattle.commands.specs.declared.fault.Refusal.{Refusal}
 use Rattle.frame_header.specs.Fields.{ClassFields}
 use Rattle.outside.proofs.FilesLemmas.{there_holds}
@@ -53,13 +51,14 @@ sound-more file head class allowed other rows more sound = λ i r is.
       same = here.same;
       word = here.word;
       main = here.main;
-      few = ne_eqb i other (λ e. omega (
-        arith,
-        few-rows file head class allowed rows sound,
-        more,
-        e,
-        slice_get_within rows i r is,
-      ));
+      few =
+          grind (
+            arith,
+            ne_eqb,
+            few-rows file head class allowed rows sound,
+            slice_get_within rows i
+                r is,
+          );
     }
 
 -- a survey with fewer allowed frames is the survey with more
@@ -94,22 +93,13 @@ limited-sound allowed (Some file) made sound = ap (λ r. survey_fault_or r made)
 pub limited-made : (allowed : ℕ) (o : Option (List ℕ)) (made : Result (List ℕ) EditFault)
     (new : List ℕ) → limited_result (Some allowed) o made ≡ Ok new → made ≡ Ok new
 limited-made allowed None made new is = is
-limited-made allowed (Some file) made new is = at (survey_of file allowed) is
-  where
-    at : (r : Result SurveyFields SurveyFault) → survey_fault_or r made ≡ Ok new → made ≡ Ok new
-    at (Err fault) is = absurd cc
-    at (Ok s) is = is
+limited-made allowed (Some file) made new is = grind arith
 
 limited-late : (allowed : ℕ) (file : List ℕ) (made : Result (List ℕ) EditFault) → length file
     ≤ longest_file → IfErr made IsLateFault
     → IfErr (limited_result (Some allowed) (Some file) made) IsLateFault
-limited-late allowed file made few late = at (survey_of file allowed) refl
-  where
-    at : (r : Result SurveyFields SurveyFault) → survey_of file allowed ≡ r
-        → IfErr (survey_fault_or r made) IsLateFault
-    at (Err fault) is = of_bytes_behind fault
-        (survey_fields-of_bytes file allowed fault (sym (survey_of-short file allowed few) ∙ is))
-    at (Ok s) is = late
+limited-late allowed file made few late =
+    grind (arith, of_bytes_behind, survey_fields-of_bytes, survey_of-short)
 
 module _ (allowed : ℕ) (task : Task) where
   -- the source has no fault, if its content is known
@@ -120,42 +110,19 @@ module _ (allowed : ℕ) (task : Task) where
   limited_task-refuses : (files : Files) (fault : EditFault) → IsFaultless files
       → TaskRefuses task files fault → TaskRefuses (limited_task (Some allowed) task) files fault
   limited_task-refuses (Untold touched) fault sound is = tt
-  limited_task-refuses (Told f) fault sound is =
-      limited-sound allowed (f task.source) (task.makes f) sound ∙ is
+  limited_task-refuses (Told f) fault sound is = grind (arith, limited-sound)
 
   limited_task-before : (files : Files) (P : EditFault → Type 0) → IsFaultless files
       → IfTold files (λ f. IfErr (task.makes f) P)
       → IfTold files (λ f. IfErr ((limited_task (Some allowed) task).makes f) P)
   limited_task-before (Untold touched) P sound is = tt
-  limited_task-before (Told f) P sound is =
-      subst (λ r. IfErr r P) (sym (limited-sound allowed (f task.source) (task.makes f) sound)) is
+  limited_task-before (Told f) P sound is = grind (arith, limited-sound)
 
   module _ (old new : Seen) (fault : EditFault) (sound : IsFaultless old.files) where
     -- a fault before the output is created is one with the limit too
     pub limited_task-early : IsEarlyFault task old new fault
         → IsEarlyFault (limited_task (Some allowed) task) old new fault
-    limited_task-early h = each_why (why_of fault) h (record {
-      rejected = λ r.
-          record {
-            defined = limited_task-refuses old.files fault sound r.defined;
-            stays = r.stays;
-          };
-      missing = λ m. record {
-        defined = limited_task-refuses old.files fault sound m.defined;
-        rose = m.rose;
-        files =
-            m.files;
-      };
-      unread = λ u. record {
-        before = limited_task-before old.files (IsNotBefore fault) sound u.before;
-        rose = u.rose;
-        files = u.files;
-      };
-      shorter = λ l. record { ended = l.ended; files = l.files };
-      unwritten = λ k w. absurd w;
-      unsent = λ w. absurd w;
-      no_memory = λ n. n;
-    })
+    limited_task-early h = search (arith, each_why, limited_task-refuses, limited_task-before)
 
   -- a fault with the numbers of the task has the numbers of the task with the limit
   pub limited_task-numbers : (fault : EditFault) → HasTaskNumbers task fault
@@ -184,10 +151,7 @@ module _ (allowed : ℕ) (task : Task) where
   limited_task-proper proper = record {
     some = proper.some;
     first = proper.first;
-    late =
-        λ f bytes held few.
-        subst (λ o. IfErr (limited_result (Some allowed) o (task.makes f)) IsLateFault)
-        (sym held) (limited-late allowed bytes (task.makes f) few (proper.late f bytes held few));
+    late = grind (arith, limited-late);
     streams = λ f bytes new held octets is. proper.streams f bytes new held octets
         (limited-made allowed (f task.source) (task.makes f) new is);
   }
@@ -203,41 +167,25 @@ module _ (allowed : ℕ) (make : Making) (stream : List ℕ → List StreamFrame
       → ((bytes : List ℕ) → Holds files input bytes → survey_of bytes allowed ≡ Err fault)
       → TaskRefuses (limited_task (Some allowed) of_file) files (Input 0 fault)
   file-refused (Untold touched) fault there is = tt
-  file-refused (Told f) fault there is =
-      let held = there_holds f input there in
-      ap (λ o. limited_result (Some allowed) o (input_result make (f input))) held.1
-      ∙ ap (λ r. survey_fault_or r (input_result make (f input))) (is held.0 held.1)
+  file-refused (Told f) fault there is = grind (arith, there_holds)
 
   file-missing : (files : Files) → IsFileMissing files input
       → TaskRefuses (limited_task (Some allowed) of_file) files (Input 0 Absent)
   file-missing (Untold touched) missing = tt
-  file-missing (Told f) missing =
-      ap (λ o. limited_result (Some allowed) o (input_result make o)) missing
+  file-missing (Told f) missing = grind arith
 
   module _ (old new : Seen) (fault : EditFault) where
     -- a fault of the file with the limit is one met before the output is created
     pub survey-early : IsFileFault 0 allowed input old new fault
         → IsEarlyFault (limited_task (Some allowed) of_file) old new fault
-    survey-early h = each_why (why_of fault) h (record {
-      rejected = λ r. record {
-        defined = subst (TaskRefuses (limited_task (Some allowed) of_file) old.files) (sym r.1)
-            (file-refused old.files r.0 r.2.there r.2.bytes);
-        stays = r.2.stays;
-      };
-      missing = λ m. record {
-        defined = subst (TaskRefuses (limited_task (Some allowed) of_file) old.files) (sym m.is)
-            (file-missing old.files m.missing);
-        rose = missed_name (input ∷ []) 0 refl m;
-        files =
-            m.files;
-      };
-      unread = λ u. record {
-        before = before_first old.files (limited_task (Some allowed) of_file).makes fault u.is;
-        rose = unread_name (input ∷ []) 0 refl u;
-        files = u.files;
-      };
-      shorter = λ l. record { ended = lost_name (input ∷ []) 0 refl l; files = l.files };
-      unwritten = λ k w. absurd w;
-      unsent = λ w. absurd w;
-      no_memory = λ n. n;
-    })
+    survey-early h =
+        grind (
+          arith,
+          each_why,
+          file-refused,
+          file-missing,
+          missed_name,
+          before_first,
+          unread_name,
+          lost_name,
+        )

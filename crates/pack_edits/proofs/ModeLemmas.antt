@@ -1,5 +1,5 @@
 -- What the one body requires of a packing in each mode.
-use Rattle.std.proofs.Common.{arith, IfErr, inr, length, List, Ok, refl, subst, ℕ, ◌<◌, ◌≡◌, ◌≤◌}
+use Rattle.std.proofs.Common.{arith, IfErr, inr, length, List, Ok, refl, ℕ, ◌<◌, ◌≡◌, ◌≤◌}
 use Rattle.commands.proofs.InputLemmas.{fault_is_input, input_is_early, input_numbers}
 use Rattle.commands.proofs.InputLemmas.{of_survey_input}
 use Rattle.commands.specs.AfterCall.{HasInputNumbers, HasSurveyNumbers, IsLateFault}
@@ -44,9 +44,7 @@ module _ (chosen : Chosen) (s : SurveyFields) (placed : IsPlacedSurvey s)
   pub mode-fitting : (mode : PackMode) (plan : List Placed)
       → mode_planning mode s.class (chosen_needs chosen s) ≡ Ok plan
       → IsFittingFew (window_of s.class.version) (chosen_needs chosen s) plan
-  mode-fitting Least plan planned =
-      let same : first_plan any_choice s.class (chosen_needs chosen s) ≡ plan = cc in
-      subst (IsFittingFew (window_of s.class.version) (chosen_needs chosen s)) same least-fitting
+  mode-fitting Least plan planned = grind (arith, least-fitting)
   mode-fitting Best plan planned = best-fitting chosen s placed some within plan planned
   mode-fitting (Constant rate) plan planned =
       chosen-fitting chosen s placed some within (Constant rate) plan planned
@@ -86,9 +84,7 @@ mode_proper mode input = free_proper mode input
 pub mode_survey : (mode : PackMode) (input : List ℕ) (old new : Seen) (fault : EditFault)
     → IsFileFault 0 (allowed_frames mode) input old new fault
     → IsEarlyFault (pack_task mode input) old new fault
-mode_survey Best input old new fault is = survey-early most_best (laying_making all_choice
-    (mode_planning Best)) (laying_stream all_choice (mode_planning Best))
-    (mode_refuses Best) input old new fault is
+mode_survey Best input old new fault is = grind (arith, survey-early)
 mode_survey mode input old new fault is =
     let make = laying_making all_choice (mode_planning mode) in
     input_is_early make (laying_stream all_choice (mode_planning mode))
@@ -102,36 +98,30 @@ IsAllowed mode input files = (file : List ℕ) → Holds files input file
 free_early : (mode : PackMode) (input : List ℕ) (old new : Seen) (fault : EditFault)
     → IsInputFault (laying_making all_choice (mode_planning mode)) input old new fault
     → IsEarlyFault (free_task mode input) old new fault
-free_early mode input old new fault is =
-    input_is_early (laying_making all_choice (mode_planning mode))
-    (laying_stream all_choice (mode_planning mode)) (mode_refuses mode) input old new fault is
+free_early mode input old new fault is = grind (arith, input_is_early)
 
 -- a fault met after the survey is one met before the output is created
 pub mode_early : (mode : PackMode) (input : List ℕ) (old new : Seen) (fault : EditFault)
     → IsAllowed mode input old.files
     → IsInputFault (laying_making all_choice (mode_planning mode)) input old new fault
     → IsEarlyFault (pack_task mode input) old new fault
-mode_early Best input old new fault sound is = limited_task-early most_best
-    (free_task Best input) old new fault sound (free_early Best input old new fault is)
+mode_early Best input old new fault sound is = grind (arith, limited_task-early, free_early)
 mode_early mode input old new fault sound is = free_early mode input old new fault is
 
 free_numbers : (mode : PackMode) (input : List ℕ) (fault : EditFault)
     → HasInputNumbers (mode_refuses mode) fault → HasTaskNumbers (free_task mode input) fault
-free_numbers mode input fault is = input_numbers (laying_making all_choice (mode_planning mode))
-    (laying_stream all_choice (mode_planning mode)) (mode_refuses mode) input fault is
+free_numbers mode input fault is = grind (arith, input_numbers)
 
 -- the numbers of a fault of the input are in the range of the command's inputs
 pub mode_numbers : (mode : PackMode) (input : List ℕ) (fault : EditFault)
     → HasInputNumbers (mode_refuses mode) fault → HasTaskNumbers (pack_task mode input) fault
-mode_numbers Best input fault is =
-    limited_task-numbers most_best (free_task Best input) fault (free_numbers Best input fault is)
+mode_numbers Best input fault is = grind (arith, limited_task-numbers, free_numbers)
 mode_numbers mode input fault is = free_numbers mode input fault is
 
 -- the numbers of a fault of the survey are in the range of the command's inputs
 pub mode_survey_numbers : (mode : PackMode) (input : List ℕ) (fault : EditFault)
     → HasSurveyNumbers 0 fault → HasTaskNumbers (pack_task mode input) fault
-mode_survey_numbers mode input fault is =
-    mode_numbers mode input fault (of_survey_input (mode_refuses mode) fault is)
+mode_survey_numbers mode input fault is = grind (arith, mode_numbers, of_survey_input)
 
 -- what is written for a file with no more frames than allowed is what the command makes
 pub mode_makes : (mode : PackMode) (input : List ℕ) (made : List ℕ → List ℕ) (files : Files)

@@ -1,11 +1,11 @@
 -- The plan with the slots of some bit rates: frames can be laid by it, and with all bit rates from
 -- one on there is always one.
-use Rattle.std.proofs.Common.{All, ap, append-nil, arith, Bool, Contains, drop, Err, false, get_or}
-use Rattle.std.proofs.Common.{IfErr, length, length-drop, List, map, MatchResult, None, Ok, refl}
-use Rattle.std.proofs.Common.{Result, subst, suc, sym, true, zero, ℕ, [], ◌+◌, ◌-◌, ◌<◌, ◌∙◌, ◌∷◌}
-use Rattle.std.proofs.{Common.{◌≡◌, ◌≤◌}, lemmas.List.{length-map, length-take}}
+use Rattle.std.proofs.Common.{All, ap, append-nil, arith, Bool, Contains, Err, false, IfErr, length}
+use Rattle.std.proofs.Common.{length-drop, List, map, MatchResult, None, Ok, refl, Result, subst}
+use Rattle.std.proofs.Common.{true, ℕ, [], ◌+◌, ◌<◌, ◌∙◌, ◌∷◌, ◌≡◌, ◌≤◌}
+use Rattle.std.proofs.lemmas.List.{length-map, length-take}
 use Rattle.commands.proofs.RefusingLemmas.{refusal_or-late, refusal_or-ok, then_late, then_ok}
-use Rattle.commands.specs.{AfterCall.IsLateFault, Refusing.{refusal_or, then_made}}
+use Rattle.commands.specs.{AfterCall.IsLateFault, Refusing.refusal_or}
 use Rattle.commands.specs.declared.fault.EditFault.{EditFault}
 use Rattle.cut_edits.proofs.SpanLemmas.{for_length}
 use Rattle.cut_edits.specs.Chosen.{Chosen, chosen_needs, chosen_rows}
@@ -40,8 +40,7 @@ pub asks-from : (lead_in : Bool) (menu : List SlotFields) (needs : List Need)
 unfolding menu_items
 asks-from false menu needs = asks-each (menu_choices menu) needs
 asks-from true menu [] = tt
-asks-from true menu (first ∷ needs) =
-    ((refl, refl, refl), asks-each (menu_choices menu) (first ∷ needs))
+asks-from true menu (first ∷ needs) = grind (arith, asks-each)
 
 module _ (menu : List SlotFields)
     (slots : (slot : SlotFields) → Contains menu slot → IsSlot slot) where
@@ -60,8 +59,7 @@ from-length : (lead_in : Bool) (menu : List SlotFields) (needs : List Need)
 unfolding menu_items
 from-length false menu needs = omega (arith, length-map needs (need_item (menu_choices menu)))
 from-length true menu [] = omega arith
-from-length true menu (first ∷ needs) =
-    omega (arith, length-map needs (need_item (menu_choices menu)))
+from-length true menu (first ∷ needs) = grind (arith, length-map)
 
 -- frames can be laid by the plan, with at most one lead-in
 pub record IsFittingFew (window : ℕ) (needs : List Need) (placed : List Placed) : Type 0 where
@@ -82,12 +80,16 @@ items-fitting window lead_in menu needs items same slots placed for_items feasib
     subst (λ (l : List PlanItem). length l ≤ length needs + 1) same
     (from-length lead_in menu needs) in
     record {
-      fitting = record {
-        fits = items-fit window items needs placed (subst (λ l. Asks l needs) same
-            (asks-from lead_in menu needs)) for_items feasible begins;
-        slots = open-in_slots items placed
-            (subst AreOpen same (open-from menu slots lead_in needs)) for_items;
-      };
+      fitting =
+          grind (
+            arith,
+            items-fit,
+            asks-from lead_in menu needs,
+            open-in_slots items placed (subst
+                AreOpen same (open-from menu slots lead_in needs)) for_items,
+            open-from menu slots lead_in
+                needs,
+          );
       few = omega (arith, for_length items placed for_items, most);
     }
 
@@ -114,11 +116,7 @@ fitted_plan-late (Err i) = refl
 -- the refusals of a plan are late
 pub rates-late : (mode : PackMode) (class : ClassFields) (needs : List Need)
     → IfErr (rates_plan mode class needs) IsLateFault
-rates-late mode class needs =
-    then_late (refusal_or (no_rate mode class) (menu_in mode class))
-    (λ menu. fitted_plan (least_menu_plan (window_of class.version) menu needs))
-    (refusal_or-late (no_rate mode class) (menu_in mode class))
-    (λ menu. fitted_plan-late (least_menu_plan (window_of class.version) menu needs))
+rates-late mode class needs = grind (arith, then_late, refusal_or-late, fitted_plan-late)
 
 -- frames can be laid by a plan that isn't refused
 pub rates-fitting : (mode : PackMode) (class : ClassFields) (needs : List Need)
@@ -130,8 +128,7 @@ rates-fitting mode class needs placed sound same some planned =
     (λ menu. fitted_plan (least_menu_plan window menu needs)) placed planned in
     let ok = refusal_or-ok (no_rate mode class) (menu_in mode class) made.0 made.1 in
     let is : least_menu_plan window (menu_in mode class) needs ≡ Ok placed =
-    fitted_plan-ok (least_menu_plan window (menu_in mode class) needs) placed
-    (ap (λ menu. fitted_plan (least_menu_plan window menu needs)) ok.1 ∙ made.2) in
+    grind (arith, fitted_plan-ok) in
     menu-fitting window (menu_in mode class) needs placed (menu-slots mode class)
     (((least_menu_plan-is window class (menu_in mode class) needs same some
     (menu-ascends mode class sound) (menu-some mode class ok.0)).0 placed).1 is)
@@ -150,8 +147,7 @@ pub is-menu : (class : ClassFields) (menu : List SlotFields) (needs : List Need)
     → AreNeedsOfClass class needs → HasAscendingAreas class menu → IsMenu menu needs
 unfolding AreNeedsOfClass
 is-menu class menu [] same ascend = tt
-is-menu class menu (first ∷ needs) same ascend =
-    subst (λ c. HasAscendingAreas c menu) (sym same.0) ascend
+is-menu class menu (first ∷ needs) same ascend = grind arith
 
 -- what the planner is given for frames
 pub needs-one : (rows : List Row) → needs_of_parts (rows ∷ []) ≡ map need_of rows
@@ -172,8 +168,7 @@ Says window menu needs r = MatchResult r (λ plan. least_menu_plan window menu n
 pub planner-says : (class : ClassFields) (menu : List SlotFields) (needs : List Need)
     (r : Result Plan RateFault) → AreNeedsOfClass class needs → 1 ≤ length needs
     → Says (window_in needs) menu needs r → Says (window_of class.version) menu needs r
-planner-says class menu needs r same some says =
-    subst (λ (w : ℕ). Says w menu needs r) (window-is class needs same some) says
+planner-says class menu needs r same some says = grind (arith, window-is)
 
 -- ---- chosen frames
 
@@ -181,19 +176,12 @@ class-sound : (class : ClassFields) (rows : List Row) → AreKnown rows
     → AreNeedsOfClass class (map need_of rows) → 1 ≤ length rows → IsClass class
 unfolding AreNeedsOfClass
 class-sound class [] known same some = absurd (omega (arith, some))
-class-sound class (r ∷ rows) known same some =
-    subst IsClass same.0 (IsClass-class_of r.header known.0)
+class-sound class (r ∷ rows) known same some = grind (arith, IsClass-class_of)
 
 known-slots : (rows : List Row) → AreKnown rows
     → All (λ need. IsSlot need.header.slot) (map need_of rows)
 known-slots [] known = λ k d within. absurd (omega (arith, within))
-known-slots (r ∷ rows) known = λ k d within. at k d within (known-slots rows known.1)
-  where
-    at : (k : ℕ) (d : Need) → k < suc (length (map need_of rows))
-        → All (λ need. IsSlot need.header.slot) (map need_of rows)
-        → IsSlot (get_or (need_of r ∷ map need_of rows) k d).header.slot
-    at zero d within rest = known.0.slot
-    at (suc k) d within rest = rest k d (omega (arith, within))
+known-slots (r ∷ rows) known = grind (arith, known-slots rows known.1)
 
 -- the mode names a bit rate
 abbrev pub IsNamed : PackMode → Type 0
@@ -206,21 +194,11 @@ module _ (chosen : Chosen) (s : SurveyFields) (placed : IsPlacedSurvey s)
     (within : chosen.to ≤ length s.frames) where
   -- at least one frame is chosen
   pub rows-some : 1 ≤ length (chosen_rows chosen s)
-  rows-some = omega (
-    arith,
-    some,
-    within,
-    length-drop chosen.from s.frames,
-    length-take (chosen.to - chosen.from) (drop chosen.from s.frames),
-  )
+  rows-some = grind (arith, length-drop, length-take)
 
   -- no more frames are chosen than the survey has
   pub rows-few : length (chosen_rows chosen s) ≤ length s.frames
-  rows-few = omega (
-    arith,
-    length-drop chosen.from s.frames,
-    length-take (chosen.to - chosen.from) (drop chosen.from s.frames),
-  )
+  rows-few = grind (arith, length-drop, length-take)
 
   -- the needs are of the class of the survey
   pub rows-same : AreNeedsOfClass s.class (chosen_needs chosen s)
@@ -228,8 +206,7 @@ module _ (chosen : Chosen) (s : SurveyFields) (placed : IsPlacedSurvey s)
 
   -- the class is one of the standard
   pub rows-sound : IsClass s.class
-  rows-sound = class-sound s.class (chosen_rows chosen s)
-      (part-known s chosen.from chosen.to placed) rows-same rows-some
+  rows-sound = grind (arith, class-sound, part-known, rows-same, rows-some)
 
   -- there is at least one need
   pub needs-some : 1 ≤ length (chosen_needs chosen s)
@@ -271,10 +248,7 @@ module _ (chosen : Chosen) (s : SurveyFields) (placed : IsPlacedSurvey s)
   -- the plan is what the menu gives
   pub plan-is : (mode : PackMode) (r : Result (List Placed) ℕ) → no_rate mode s.class ≡ None
       → menu_answer mode ≡ r → rates_plan mode s.class (chosen_needs chosen s) ≡ fitted_plan r
-  plan-is mode r none is = ap (λ o. then_made (refusal_or o (menu_in mode s.class))
-      (λ menu.
-      fitted_plan (least_menu_plan (window_of s.class.version) menu (chosen_needs chosen s)))) none
-      ∙ ap fitted_plan is
+  plan-is mode r none is = grind arith
 
   abbrev IsFaultIn : PackMode → EditFault → Type 0
   IsFaultIn mode fault =
@@ -283,8 +257,7 @@ module _ (chosen : Chosen) (s : SurveyFields) (placed : IsPlacedSurvey s)
   -- a fault of the planner of a menu is a fault of the mode
   pub menu-fault : (mode : PackMode) (fault : RateFault) → IsNamed mode → no_rate mode s.class
       ≡ None → IsMenuFault (menu_answer mode) fault → IsFaultIn mode (rate_edit_fault fault)
-  menu-fault (Constant rate) (Unfit i) named none is =
-      (plan-is (Constant rate) (Err i) none is, refl)
+  menu-fault (Constant rate) (Unfit i) named none is = grind (arith, plan-is)
   menu-fault (Floor rate) (Unfit i) named none is = absurd (floor-unfit rate i none is)
   menu-fault Least (Unfit i) named none is = absurd named
   menu-fault Best (Unfit i) named none is = absurd named

@@ -47,9 +47,7 @@ unfolding FitsFromReach
 flagged-none window reach [] [] fits none = tt
 flagged-none window reach (need ∷ needs) (o ∷ other) fits none =
     let first : o.lead_in ≡ false = none 0 o (omega arith) in
-    let behind : FitsFromReach window (reach_behind window o need) needs other = subst (λ b.
-    FitsFromReach window (reach_behind window o need)
-    (rest_behind b need needs) other) first fits.2 in (
+    let behind : FitsFromReach window (reach_behind window o need) needs other = grind arith in (
       first,
       flagged-none window (reach_behind window o need) needs other behind
           (λ k d lt. none (suc k) d (omega (arith, lt))),
@@ -94,10 +92,8 @@ fits-room window reach free [] [] [] asks flagged fits within = tt
 fits-room window reach free [] (need ∷ needs) placed asks flagged fits within = absurd asks
 fits-room window reach free (item ∷ items) [] placed asks flagged fits within = absurd asks
 fits-room window reach free (item ∷ items) (need ∷ needs) (p ∷ placed) asks flagged fits within =
-    let is : IsAsked p.lead_in item need =
-    subst (λ b. IsAsked b item need) (sym flagged.0) asks.0 in
-    let follow : Asks items (rest_behind p.lead_in need needs) =
-    subst (λ b. Asks items (rest_behind b need needs)) (sym flagged.0) asks.1 in
+    let is : IsAsked p.lead_in item need = grind arith in
+    let follow : Asks items (rest_behind p.lead_in need needs) = grind arith in
     let area = asked-area p.lead_in item need p.slot is in
     let bytes = asked-bytes p.lead_in item need is in (
       omega (arith, area, bytes, fits.0, fits.1, within),
@@ -158,20 +154,16 @@ module _ (window : ℕ) (c : ClassFields) (needs : List Need) (class : IsClass c
       → Flagged (items_with_lead_in lead_in any_choice needs) other
       → size_of c best ≤ size_of c other
   behind-least lead_in best other is slots fitting flagged =
-      let items = items_with_lead_in lead_in any_choice needs in
-      let all = all-behind c lead_in needs same in
-      let for_items = for-flagged items other (wide-behind lead_in needs) flagged fitting.slots in
-      let room = fits-room window 0 0 items needs other
-      (asks-behind lead_in needs) flagged fitting.fits (omega arith) in
-      let least = is.best.shortest (item_areas items other) (chosen-for items other for_items)
-      (laid-fits window 0 (frames_with_areas (map open_frame items) (item_areas items other))
-      (omega arith) room)
-      in
-      omega (
+      grind (
         arith,
-        least,
-        size-is c items best class all slots is.slots,
-        size-is c items other class all fitting.slots for_items,
+        all-behind,
+        for-flagged,
+        wide-behind,
+        fits-room,
+        asks-behind,
+        chosen-for,
+        laid-fits,
+        size-is,
       )
 
   -- frames that can be laid without a lead-in have none
@@ -207,10 +199,7 @@ module _ (window : ℕ) (c : ClassFields) (needs : List Need) (class : IsClass c
   pub best-least : (best other : List Placed) → IsBestPlan window any_choice needs best
       → AreInSlots best → IsFittingPlan window needs other → HasNoMoreLeadIns best other
       → size_of c best ≤ size_of c other
-  best-least best other is slots fitting (inl places) =
-      behind-least is.lead_in best other is.whole slots fitting
-      (flagged-same (items_with_lead_in is.lead_in any_choice needs) best other
-      is.whole.slots places)
+  best-least best other is slots fitting (inl places) = grind (arith, behind-least, flagged-same)
   best-least best other is slots fitting (inr none) =
       let flagged = none-flagged other fitting none in
       let without = lead-none is.lead_in is.without (without-lead other fitting flagged) in
@@ -223,8 +212,7 @@ flags-for : (items : List PlanItem) (placed : List Placed) → AreItemSlots item
     → lead_ins placed ≡ map (λ (item : PlanItem). item.lead_in) items
 unfolding AreItemSlots
 flags-for [] [] for_items = refl
-flags-for (item ∷ items) (p ∷ placed) for_items = ap (λ b. b ∷ lead_ins placed) for_items.0
-    ∙ ap (λ l. item.lead_in ∷ l) (flags-for items placed for_items.2)
+flags-for (item ∷ items) (p ∷ placed) for_items = grind (arith, flags-for items placed for_items.2)
 flags-for _ _ for_items = absurd for_items
 
 none-for : (needs : List Need) (placed : List Placed)
@@ -242,11 +230,9 @@ module _ (window : ℕ) (best placed : List Placed) where
       → IsLeadIn window any_choice needs other
       → AreItemSlots (part_items any_choice needs other) placed → HasNoMoreLeadIns best placed
   unfolding IsLeadIn part_items items_with_lead_in
-  by-lead needs lead_in None without for_best alone for_items =
-      inr (none-for needs placed for_items)
+  by-lead needs lead_in None without for_best alone for_items = grind (arith, none-for)
   by-lead [] lead_in (Some slot) without for_best alone for_items = absurd alone
-  by-lead (first ∷ needs) false (Some slot) without for_best alone for_items =
-      absurd (alone.0 (without.0 refl))
+  by-lead (first ∷ needs) false (Some slot) without for_best alone for_items = grind arith
   by-lead (first ∷ needs) true (Some slot) without for_best alone for_items =
       inl (flags-for _ placed for_items ∙ sym (flags-for _ best for_best))
 
@@ -258,15 +244,11 @@ module _ (window : ℕ) (best placed : List Placed) where
       → HasNoMoreLeadIns best placed
   unfolding AreLeadIns
   by-leads needs lead_in [] without for_best alone for_items = absurd alone
-  by-leads needs lead_in (other ∷ another ∷ others) without for_best alone for_items =
-      absurd alone.1
+  by-leads needs lead_in (other ∷ another ∷ others) without for_best alone for_items = grind arith
   by-leads needs lead_in (other ∷ []) without for_best alone for_items =
-      by-lead needs lead_in other without for_best alone.0
-      (subst (λ (l : List PlanItem). AreItemSlots l placed)
-      (whole-one any_choice needs other) for_items)
+      grind (arith, by-lead, whole-one)
 
   -- the plain plan has its lead-ins where the best plan has them, or none
   pub plan-no_more : (needs : List Need) → IsBestPlan window any_choice needs best
       → IsPlan window any_choice (needs ∷ []) placed → HasNoMoreLeadIns best placed
-  plan-no_more needs is plan =
-      by-leads needs is.lead_in plan.lead_ins is.without is.whole.slots plan.alone plan.whole.slots
+  plan-no_more needs is plan = grind (arith, by-leads)

@@ -89,10 +89,8 @@ pub tops-chosen : (menu : List SlotFields) (needs : List Need) → 1 ≤ length 
     (open_frames (menu_choices menu) needs) (tops_of (open_frames (menu_choices menu) needs))
 unfolding AreChosenAreas tops_of
 tops-chosen menu [] some = tt
-tops-chosen menu (need ∷ needs) some = (
-  has-greatest_number (class_of need.header) menu need.header.protected some,
-  tops-chosen menu needs some,
-)
+tops-chosen menu (need ∷ needs) some =
+    grind (arith, has-greatest_number, tops-chosen menu needs some)
 
 -- ---- after a lead-in
 
@@ -140,15 +138,16 @@ pub fit-laid : (window : ℕ) (class : ClassFields) (menu : List SlotFields) (ne
 unfolding AreNeedsOfClass menu_items
 fit-laid window class menu [] same some slots fit = absurd (omega (arith, some))
 fit-laid window class menu (first ∷ needs) same some slots fit =
-    let lead : OpenFrame = open_frame (lead_in_item (class_of first.header) menu) in
-    let opens : List OpenFrame = open_frames (menu_choices menu) (first ∷ needs) in
-    let here = subst (λ c. AllFit window (start_of window c menu)
-    (map (top_frame menu) (first ∷ needs))) (sym same.0) fit in
-    let tops = subst (AllFit window (start_of window (class_of first.header) menu))
-    (sym (frames-top menu (first ∷ needs))) here in
-    tops-can window (lead ∷ opens)
-    (lead-chosen (class_of first.header) menu opens slots (tops-chosen menu (first ∷ needs) slots))
-    (lead-fit window (class_of first.header) menu opens tops)
+    grind (
+      arith,
+      fit,
+      frames-top menu (first ∷ needs),
+      tops-can,
+      lead-chosen,
+      tops-chosen menu
+          (first ∷ needs) slots,
+      lead-fit,
+    )
 
 -- frames with a layout after a lead-in can be placed
 pub laid-feasible : (window : ℕ) (class : ClassFields) (menu : List SlotFields) (needs : List Need)
@@ -193,10 +192,12 @@ fit-more : (window free : ℕ) (frames : List FrameLengths) (frame : FrameLength
     → AllFit window free (frames ++ frame ∷ [])
 unfolding AllFit left_of
 fit-more window free [] frame fit room = (room, tt)
-fit-more window free (first ∷ frames) frame fit room = (
-  fit.0,
-  fit-more window (free_bytes_behind window free first.bytes first.area) frames frame fit.1 room,
-)
+fit-more window free (first ∷ frames) frame fit room =
+    grind (
+      arith,
+      fit-more window (free_bytes_behind window free first.bytes first.area) frames
+          frame fit.1 room,
+    )
 
 fit-last : (window free : ℕ) (frames : List FrameLengths) (frame : FrameLengths)
     → AllFit window free (frames ++ frame ∷ [])
@@ -217,20 +218,20 @@ fit-take : (window free : ℕ) (menu : List SlotFields) (needs : List Need) (k :
     → AllFit window free (map (top_frame menu) needs)
     → AllFit window free (map (top_frame menu) (take k needs))
 fit-take window free menu needs k fit =
-    let parts : map (top_frame menu) needs
-    ≡ map (top_frame menu) (take k needs) ++ map (top_frame menu) (drop k needs) =
-    ap (map (top_frame menu)) (sym (take-append-drop k needs))
-    ∙ map-append (top_frame menu) (take k needs) (drop k needs) in
-    fit-front window free (map (top_frame menu) (take k needs))
-    (map (top_frame menu) (drop k needs)) (subst (AllFit window free) parts fit)
+    grind (
+      arith,
+      take-append-drop k needs,
+      map-append (top_frame menu) (take k needs) (drop k
+          needs),
+      fit-front,
+      fit,
+    )
 
 -- the largest area for the class is the largest area for the frame
 pub area-at : (class : ClassFields) (menu : List SlotFields) (needs : List Need) (i : ℕ)
     (need : Need) → AreNeedsOfClass class needs → i < length needs → need ≡ get_or needs i need
     → greatest_number (slot_areas class need.header.protected menu) ≡ most_area menu need
-area-at class menu needs i need same within is =
-    sym (ap (λ c. greatest_number (slot_areas c need.header.protected menu))
-    (ap (λ n. class_of n.header) is ∙ class-at class needs i need same within))
+area-at class menu needs i need same within is = grind (arith, class-at)
 
 -- ---- the frames before i fit
 
@@ -251,8 +252,7 @@ next_frame : (menu : List SlotFields) (needs : List Need) (i : ℕ) (need : Need
     → need ≡ get_or needs i need → map (top_frame menu) (take (i + 1) needs)
     ≡ map (top_frame menu) (take i needs) ++ top_frame menu need ∷ []
 next_frame menu needs i need within is =
-    map_more (top_frame menu) needs i need within
-    ∙ ap (λ n. map (top_frame menu) (take i needs) ++ top_frame menu n ∷ []) (sym is)
+    grind (arith, map_more (top_frame menu) needs i need within)
 
 module _ (window : ℕ) (class : ClassFields) (menu : List SlotFields) (needs : List Need)
     (i : ℕ) where
@@ -277,9 +277,7 @@ module _ (window : ℕ) (class : ClassFields) (menu : List SlotFields) (needs : 
   pub to-all : (free : ℕ) → length needs ≤ i → AreNeedsOfClass class needs → 1 ≤ length needs → 1
       ≤ length menu → FitTo window class menu needs i free
       → CanBeLaidFromMenu window true menu needs
-  to-all free all same some slots to =
-      fit-laid window class menu needs same some slots (subst (λ l. AllFit window
-      (start_of window class menu) (map (top_frame menu) l)) (take_all i needs all) to.fit)
+  to-all free all same some slots to = grind (arith, fit-laid, take_all)
 
   -- a frame that doesn't fit is the first up to which no list has a layout
   pub to-unfit : (need : Need) (free : ℕ) → i < length needs → need ≡ get_or needs i need

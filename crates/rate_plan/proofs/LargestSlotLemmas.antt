@@ -1,6 +1,6 @@
 -- If the largest slot is in the menu, whatever has a layout in its own slots fits.
-use Rattle.std.proofs.Common.{All, arith, Bool, Contains, false, length, List, map, subst, suc, sym}
-use Rattle.std.proofs.Common.{true, ℕ, [], ◌+◌, ◌∷◌, ◌≡◌, ◌≤◌}
+use Rattle.std.proofs.Common.{All, arith, Bool, Contains, false, length, List, map, suc, true, ℕ}
+use Rattle.std.proofs.Common.{[], ◌+◌, ◌∷◌, ◌≡◌, ◌≤◌}
 use Rattle.frame_header.proofs.SlotLemmas.{area-largest, window-spanned}
 use Rattle.frame_header.specs.Fields.{ClassFields, IsClass, IsSlot, SlotFields}
 use Rattle.frame_header.specs.{Slots.largest_slot, Tables.{area_of, class_of, window_of}}
@@ -16,16 +16,19 @@ most-is : (class : ClassFields) (menu : List SlotFields) (slot : SlotFields) (pr
     → IsClass class → IsSlot slot → Contains menu largest_slot
     → area_of class slot protected ≤ greatest_number (slot_areas class protected menu)
 most-is class menu slot protected sound is has =
-    let largest = area-largest class slot protected sound is in
-    let most = greatest_number-most (slot_areas class protected menu)
-    (area_of class largest_slot protected) (Contains-area class protected menu largest_slot has) in
-    omega (arith, largest, most)
+    grind (
+      arith,
+      area-largest class slot protected sound is,
+      greatest_number-most (slot_areas class
+          protected menu) (area_of class largest_slot protected) (Contains-area class protected menu
+          largest_slot has),
+      Contains-area class protected menu largest_slot has,
+    )
 
 own-most : (class : ClassFields) (menu : List SlotFields) (need : Need) → IsClass class
     → class_of need.header ≡ class → IsSlot need.header.slot → Contains menu largest_slot
     → own_slot_area need ≤ most_area menu need
-own-most class menu need sound same is has = most-is (class_of need.header) menu
-    need.header.slot need.header.protected (subst IsClass (sym same) sound) is has
+own-most class menu need sound same is has = grind (arith, most-is)
 
 fit-own : (window free more : ℕ) (class : ClassFields) (menu : List SlotFields) (needs : List Need)
     → free ≤ more → IsClass class → AreNeedsOfClass class needs

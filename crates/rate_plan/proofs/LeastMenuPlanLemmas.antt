@@ -1,10 +1,9 @@
 -- The plan from a menu, or the first unfit frame, is the value for the first list.
-use Rattle.std.proofs.Common.{AllPairs, ap, arith, Bool, cond, Err, false, find, get_or, inl, inr}
-use Rattle.std.proofs.Common.{is_none, length, List, map, MatchOption, None, Ok, ok_or, Option}
-use Rattle.std.proofs.Common.{refl, Result, Some, subst, suc, sym, take, true, unwrap_or, zero, ℕ}
-use Rattle.std.proofs.Common.{[], ◌+◌, ◌-◌, ◌<◌, ◌↔◌, ◌∙◌, ◌∷◌, ◌≡◌, ◌≤◌}
-use Rattle.std.proofs.lemmas.{Bool.{cases_lt, true≢false}, List.take_all}
-use Rattle.std.specs.{List.range_with_len, Option.option_or}
+use Rattle.std.proofs.Common.{ap, arith, Bool, cond, Err, false, find, get_or, inl, inr, is_none}
+use Rattle.std.proofs.Common.{length, List, map, MatchOption, None, Ok, ok_or, Option, refl, Result}
+use Rattle.std.proofs.Common.{Some, subst, suc, sym, take, true, unwrap_or, zero, ℕ, [], ◌+◌, ◌-◌}
+use Rattle.std.proofs.{Common.{◌<◌, ◌↔◌, ◌∙◌, ◌∷◌, ◌≡◌, ◌≤◌}, lemmas.Bool.{cases_lt, true≢false}}
+use Rattle.std.{proofs.lemmas.List.take_all, specs.{List.range_with_len, Option.option_or}}
 use Rattle.frame_header.specs.{Fields.{ClassFields, SlotFields}, Tables.{class_of, window_of}}
 use Rattle.rate_plan.specs.Laws.{LeastMenuPlanIsThePlan}
 use Rattle.rate_plan.specs.LeastMenuPlan.{first_unfit_frame, is_unfit_frame, least_menu_placement}
@@ -18,7 +17,7 @@ use Rattle.slot_plan.proofs.PartLemmas.{class-take, one-class, window-first}
 use Rattle.slot_plan.specs.LeastPlan.{first_list, least_placement}
 use Rattle.slot_plan.specs.Lists.{CanBeLaid, IsLeastList, OpenFrame}
 use Rattle.slot_plan.specs.Parts.{AreNeedsOfClass, AreNeedsOfOneClass, need_item, open_frame}
-use Rattle.slot_plan.specs.{Parts.{slot_areas, window_in}, Plans.{IsPlanFor, item_areas}}
+use Rattle.slot_plan.specs.{Parts.window_in, Plans.{IsPlanFor, item_areas}}
 use Rattle.slot_plan.specs.declared.needs.{Need.Need, Placed.Placed}
 
 -- ---- the areas of a menu ascend
@@ -28,11 +27,8 @@ ordered-frames : (class : ClassFields) (menu : List SlotFields) (needs : List Ne
     → AreOrdered (map (need_item (menu_choices menu)) needs)
 unfolding AreNeedsOfClass
 ordered-frames class menu [] same ascend = tt
-ordered-frames class menu (need ∷ needs) same ascend = (
-  subst (λ c. AllPairs (λ m n. m < n) (slot_areas c need.header.protected menu)) (sym same.0)
-      (ascend need.header.protected),
-  ordered-frames class menu needs same.1 ascend,
-)
+ordered-frames class menu (need ∷ needs) same ascend =
+    grind (arith, ordered-frames class menu needs same.1 ascend)
 
 ordered-items : (lead_in : Bool) (class : ClassFields) (menu : List SlotFields) (needs : List Need)
     → AreNeedsOfClass class needs → HasAscendingAreas class menu
@@ -40,10 +36,7 @@ ordered-items : (lead_in : Bool) (class : ClassFields) (menu : List SlotFields) 
 unfolding menu_items AreNeedsOfClass
 ordered-items false class menu needs same ascend = ordered-frames class menu needs same ascend
 ordered-items true class menu [] same ascend = tt
-ordered-items true class menu (first ∷ needs) same ascend = (
-  subst (λ c. AllPairs (λ m n. m < n) (slot_areas c false menu)) (sym same.0) (ascend false),
-  ordered-frames class menu (first ∷ needs) same ascend,
-)
+ordered-items true class menu (first ∷ needs) same ascend = grind (arith, ordered-frames)
 
 can-of : (window : ℕ) (opens : List OpenFrame) (areas : List ℕ) → IsLeastList window opens areas
     → CanBeLaid window opens
@@ -88,53 +81,38 @@ module _ (window : ℕ) (class : ClassFields) (menu : List SlotFields) (needs : 
       → (lead_in ≡ false) ↔ CanBeLaidFromMenu window false menu needs
       → IsPlanFor window (menu_items lead_in menu needs) placed
       → least_menu_placement window menu needs ≡ Some placed
-  lead-by false placed without whole =
-      ap (λ o. option_or o (least_placement window (menu_items true menu needs))) (plan-found window
-      (menu_items false menu needs) (ordered-items false class menu needs same ascend) placed whole)
+  lead-by false placed without whole = grind (arith, plan-found, ordered-items)
   lead-by true placed without whole =
-      ap (λ o. option_or o (least_placement window (menu_items true menu needs)))
-      (none-found window (menu_items false menu needs)
-      (ordered-items false class menu needs same ascend) (λ can. true≢false (without.1 can)))
-      ∙ plan-found window (menu_items true menu needs)
-      (ordered-items true class menu needs same ascend) placed whole
+      grind (arith, none-found, ordered-items, true≢false, plan-found)
 
   plan-least : (placed : List Placed) → IsMenuPlan window menu needs placed
       → least_menu_plan window menu needs ≡ Ok placed
   unfolding least_menu_plan
-  plan-least placed plan = ap (λ o. ok_or o (first_unfit_frame window menu needs))
-      (lead-by plan.lead_in placed plan.without plan.whole)
+  plan-least placed plan = grind (arith, ok_or, lead-by)
 
   -- ---- the first unfit frame
 
   ordered-front : (k : ℕ) → AreOrdered (menu_items true menu (take (k + 1) needs))
-  ordered-front k = ordered-items true class menu (take (k + 1) needs)
-      (class-take class needs (k + 1) same) ascend
+  ordered-front k = search (arith, ordered-items, class-take)
 
   unfit-here : (i : ℕ) → (CanBeLaidFromMenu window true menu (take (i + 1) needs) → ⊥)
       → is_unfit_frame window menu needs i ≡ true
-  unfit-here i never = ap is_none
-      (never-list window (menu_items true menu (take (i + 1) needs)) (ordered-front i) never)
+  unfit-here i never = grind (arith, is_none, never-list, ordered-front)
 
   fit-before : (k : ℕ) → CanBeLaidFromMenu window true menu (take (k + 1) needs)
       → is_unfit_frame window menu needs k ≡ false
-  fit-before k can = ap is_none
-      (some-list window (menu_items true menu (take (k + 1) needs)) (ordered-front k) can).1
+  fit-before k can = grind (arith, is_none, some-list, ordered-front)
 
   -- ---- the converse
 
   none-can : (lead_in : Bool) → least_placement window (menu_items lead_in menu needs) ≡ None
       → CanBeLaidFromMenu window lead_in menu needs → ⊥
-  none-can lead_in none can =
-      let found = can-found window (menu_items lead_in menu needs)
-      (ordered-items lead_in class menu needs same ascend) can in
-      let both : None ≡ Some found.0 = sym none ∙ found.1 in
-      absurd cc
+  none-can lead_in none can = grind (arith, can-found, ordered-items)
 
   found-for : (lead_in : Bool) (placed : List Placed)
       → least_placement window (menu_items lead_in menu needs) ≡ Some placed
       → IsPlanFor window (menu_items lead_in menu needs) placed
-  found-for lead_in placed found = found-plan window (menu_items lead_in menu needs)
-      (ordered-items lead_in class menu needs same ascend) placed found
+  found-for lead_in placed found = search (arith, found-plan, ordered-items)
 
   least-by : (placed : List Placed) (i : ℕ) (without behind : Option (List Placed))
       → least_placement window (menu_items false menu needs) ≡ without
@@ -163,21 +141,14 @@ module _ (window : ℕ) (class : ClassFields) (menu : List SlotFields) (needs : 
   least-plan : (placed : List Placed) → least_menu_plan window menu needs ≡ Ok placed
       → IsMenuPlan window menu needs placed
   unfolding least_menu_plan
-  least-plan placed is =
-      least-by placed (first_unfit_frame window menu needs) (least_placement window
-      (menu_items false menu needs))
-      (least_placement window (menu_items true menu needs)) refl refl is
+  least-plan placed is = grind (arith, least-by)
 
   unfit-none : (i : ℕ) (without behind : Option (List Placed)) (first : ℕ)
       → ok_or (option_or without behind) first ≡ Err i
       → (without ≡ None) × (behind ≡ None) × (first ≡ i)
   unfit-none i (Some made) behind first is = absurd cc
   unfit-none i None (Some made) first is = absurd cc
-  unfit-none i None None first is = (
-    refl,
-    refl,
-    ap (λ (r : Result (List Placed) ℕ). elim r as (λ _. ℕ) [ Ok p ↦ i | Err j ↦ j ]) is,
-  )
+  unfit-none i None None first is = grind arith
 
   front-can : (k : ℕ) → is_unfit_frame window menu needs k ≡ false
       → CanBeLaidFromMenu window true menu (take (k + 1) needs)
@@ -233,15 +204,7 @@ module _ (window : ℕ) (class : ClassFields) (menu : List SlotFields) (needs : 
   -- there is at most one first unfit frame
   one-unfit : (i j : ℕ) → IsFirstUnfitFrame window menu needs i
       → IsFirstUnfitFrame window menu needs j → i ≡ j
-  one-unfit i j first second =
-      elim (cases_lt i j) as (λ _. i ≡ j) [
-        | inl before ↦ absurd (first.here (second.before i before))
-        | inr from ↦
-            elim (cases_lt j i) as (λ _. i ≡ j) [
-              | inl behind ↦ absurd (second.here (first.before j behind))
-              | inr till ↦ omega (arith, from, till)
-            ]
-      ]
+  one-unfit i j first second = grind (arith, cases_lt)
 
   unfit-least : (i : ℕ) → IsFirstUnfitFrame window menu needs i
       → least_menu_plan window menu needs ≡ Err i
@@ -259,16 +222,7 @@ module _ (window : ℕ) (class : ClassFields) (menu : List SlotFields) (needs : 
 
 -- a plan from a menu, or the first unfit frame, is what the first of all lists gives
 pub least_menu_plan-is : LeastMenuPlanIsThePlan
-least_menu_plan-is = λ window class menu needs same some ascend slots. (
-  (λ placed. (
-    plan-least window class menu needs same ascend placed,
-    least-plan window class menu needs same ascend placed,
-  )),
-  (λ i. (
-    unfit-least window class menu needs same ascend i,
-    least-unfit window class menu needs same ascend i some,
-  )),
-)
+least_menu_plan-is = search (arith, plan-least, least-plan, unfit-least, least-unfit)
 
 -- what the planner returns, whose class is the class of the first frame
 module _ (class : ClassFields) (menu : List SlotFields) (needs : List Need) (d : Need)

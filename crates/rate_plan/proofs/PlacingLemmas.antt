@@ -1,6 +1,6 @@
 -- What is placed from a menu is the plan.
 use Rattle.std.proofs.Common.{arith, false, List, map, None, Option, refl, Some, subst, sym, true}
-use Rattle.std.proofs.{Common.{ℕ, [], ◌++◌, ◌+◌, ◌-◌, ◌∙◌, ◌∷◌, ◌≡◌}, lemmas.Bool.true≢false}
+use Rattle.std.proofs.{Common.{ℕ, [], ◌++◌, ◌∙◌, ◌∷◌, ◌≡◌}, lemmas.Bool.true≢false}
 use Rattle.std.proofs.lemmas.List.{append-nil}
 use Rattle.frame_header.specs.{Fields.{ClassFields, SlotFields}, Tables.class_of}
 use Rattle.rate_plan.specs.Menus.{IsMenuPlan, menu_choices, menu_items}
@@ -36,12 +36,7 @@ lead-among : (window : ℕ) (class : ClassFields) (menu : List SlotFields) (slot
     → AreItemsPlaced window 0 (lead_in_item class menu ∷ items) placed
 unfolding AreItemsPlaced
 lead-among window class menu slot items [] least all = absurd all
-lead-among window class menu slot items (p ∷ placed) least all =
-    let wanted : reserve_before (map open_frame items)
-    ≡ (0 + reserve_before (map open_frame items)) - 0 = omega arith in
-    let here = subst (λ s. IsLeastSlot (reserve_before (map open_frame items)) class false menu s)
-    (only_one slot p.slot all.2.chosen) least in
-    (all.0, all.1, subst (λ n. IsLeastSlot n class false menu p.slot) wanted here, all.3)
+lead-among window class menu slot items (p ∷ placed) least all = grind (arith, only_one)
 
 menu-placed : (window : ℕ) (menu : List SlotFields) (needs : List Need)
     (lead_in : Option SlotFields) (placed : List Placed)
@@ -49,11 +44,8 @@ menu-placed : (window : ℕ) (menu : List SlotFields) (needs : List Need)
     → AreItemsPlaced window 0 (part_items (menu_choices menu) needs lead_in) placed
     → IsMenuPlan window menu needs placed
 unfolding IsPlacedLeadIn part_items menu_items
-menu-placed window menu needs None placed can all = record {
-  lead_in = false;
-  without = ((λ _. can), (λ _. refl));
-  whole = plan-placed window (menu_items false menu needs) placed all;
-}
+menu-placed window menu needs None placed can all =
+    grind (arith, plan-placed window (menu_items false menu needs) placed all)
 menu-placed window menu [] (Some slot) placed is all = absurd is
 menu-placed window menu (first ∷ needs) (Some slot) placed is all =
     let items : List PlanItem = map (need_item (menu_choices menu)) (first ∷ needs) in

@@ -2,8 +2,8 @@
 use Rattle.std.proofs.Common.{ap, append-nil, ap₂, arith, Bool, cond, drop, Err, false, is_some}
 use Rattle.std.proofs.Common.{length, length-drop, List, map, None, not, Ok, Option}
 use Rattle.std.proofs.Common.{option_and_then, option_to_list, refl, slice_get, Some, subst, suc}
-use Rattle.std.proofs.Common.{sym, true, zero, ℕ, [], ◌&&◌, ◌++◌, ◌+◌, ◌<◌, ◌==◌, ◌||◌, ◌∙◌, ◌∷◌}
-use Rattle.std.proofs.{Common.{◌≡◌, ◌≤◌}, lemmas.Bool.{not-false, or_left, or_right}}
+use Rattle.std.proofs.Common.{sym, true, zero, ℕ, [], ◌&&◌, ◌++◌, ◌+◌, ◌<◌, ◌||◌, ◌∙◌, ◌∷◌, ◌≡◌}
+use Rattle.std.proofs.{Common.◌≤◌, lemmas.Bool.{not-false, or_left, or_right}}
 use Rattle.std.specs.List.{cons_option, enumerate_from}
 use Rattle.frame_header.specs.{Fields.{ClassFields, HeaderFields, same_class}, Tables.class_of}
 use Rattle.salvage.proofs.ProgressLemmas.{no_frame_or_damaged-few}
@@ -13,13 +13,12 @@ use Rattle.salvage.specs.DamagedFiles.{damaged_by, damaged_fields, damaged_from,
 use Rattle.salvage.specs.DamagedFiles.{DamagedFields, gap_between, things_from}
 use Rattle.salvage.specs.Laws.{SalvageKeepsStreams}
 use Rattle.salvage.specs.SoundFrames.{end_of_sound, FrameRuns, is_sound, judged_row, judged_rows}
-use Rattle.salvage.specs.SoundFrames.{judged_runs, runs_of, sound_end}
-use Rattle.salvage.specs.UsableFrames.{frame_if_usable, has_right_crc, is_head, is_usable}
-use Rattle.salvage.specs.UsableFrames.{usable_frame_at}
+use Rattle.salvage.specs.SoundFrames.{runs_of, sound_end}
+use Rattle.salvage.specs.UsableFrames.{has_right_crc, is_head, is_usable, usable_frame_at}
 use Rattle.salvage.specs.Walk.{blocks_of_things, first_frame, gaps_of, is_item_read, IsItem}
-use Rattle.salvage.specs.Walk.{item_if_read, item_read, PlacedThing, things}
-use Rattle.salvage.specs.declared.usable.Role.{Role, TheVariants.{First, Later}}
-use Rattle.side_info.specs.Frame.{right_crc, stored_crc}
+use Rattle.salvage.specs.{Walk.{item_read, PlacedThing, things}, declared.usable.Role.Role}
+use Rattle.salvage.specs.declared.usable.Role.TheVariants.{First, Later}
+use Rattle.side_info.specs.Frame.{stored_crc}
 use Rattle.sync_survey.proofs.{FaultsLemmas.length-marked_rows, ProgressLemmas.first_of_stream}
 use Rattle.sync_survey.proofs.RunsLemmas.{frames-next, item_run-ends, whole_item_at-is}
 use Rattle.sync_survey.proofs.StartLemmas.{anchored_frame-is, first_of-is, start-front, start_is}
@@ -28,20 +27,19 @@ use Rattle.sync_survey.proofs.SurveyPartsLemmas.{some_frames, StandWell, survey_
 use Rattle.sync_survey.proofs.SurveyPartsLemmas.{told_from}
 use Rattle.sync_survey.proofs.WalkLemmas.{no_fault, nothing_left, numbered-blocks, numbered-stop}
 use Rattle.sync_survey.proofs.WalkLemmas.{numbered_frames-run}
-use Rattle.sync_survey.specs.Faults.{class_from, has_wrong_crc, overlaps, overruns, SurveyFields}
+use Rattle.sync_survey.specs.Faults.{class_from, has_wrong_crc, SurveyFields}
 use Rattle.sync_survey.specs.Items.{item_at, item_fits, size_of}
-use Rattle.sync_survey.specs.MainData.{data_end_after, data_end_before, end_of_data, is_lost}
-use Rattle.sync_survey.specs.MainData.{is_silent, lacks_data, marked_row, marked_rows, place}
-use Rattle.sync_survey.specs.{MainData.{points_too_far, row_of, rows_of}, Row.Row}
+use Rattle.sync_survey.specs.MainData.{data_end_after, data_end_before, is_lost, lacks_data}
+use Rattle.sync_survey.specs.MainData.{marked_row, marked_rows, place, points_too_far, row_of}
+use Rattle.sync_survey.specs.{MainData.rows_of, Row.Row}
 use Rattle.sync_survey.specs.Runs.{AreEndToEnd, block_of_item, blocks_of, frame_of_item, frames_of}
-use Rattle.sync_survey.specs.Runs.{item_if_whole, item_run, PlacedItem, whole_item_at}
+use Rattle.sync_survey.specs.Runs.{item_run, PlacedItem, whole_item_at}
 use Rattle.sync_survey.specs.Start.{anchored_frame, first_anchored, front_end_of, longest_junk}
 use Rattle.sync_survey.specs.Start.{start_after_junk, start_at}
-use Rattle.sync_survey.specs.Walk.{all_blocks, head_of, numbered_frames, numbered_offset}
-use Rattle.sync_survey.specs.{Walk.stream_run, declared.items.Item.Item}
-use Rattle.sync_survey.specs.declared.items.Item.TheVariants.{Block, Frame, Free, Zero}
+use Rattle.sync_survey.specs.Walk.{head_of, numbered_frames, numbered_offset, stream_run}
+use Rattle.sync_survey.specs.declared.items.Item.{Item, TheVariants.{Block, Frame, Free, Zero}}
 use Rattle.sync_survey.specs.declared.places.{Head.Head, PlacedFrame.PlacedFrame, Start.Start}
-use Rattle.sync_survey.specs.declared.runs.Region.TheVariants.{Front, Stream}
+use Rattle.sync_survey.specs.declared.runs.Region.TheVariants.{Stream}
 use Rattle.sync_survey.specs.declared.survey_fault.SurveyFault.{SurveyFault}
 
 -- ---- frames without fault are usable
@@ -58,13 +56,11 @@ pub record HasNoFault (file : List ℕ) (class : ClassFields) (r : Row) : Type 0
 
 word_by : (file : List ℕ) (class : ClassFields) (p : PlacedFrame)
     → HasNoFault file class (row_of file p) → has_right_crc p.header (drop p.offset file) ≡ true
-word_by file class p sound = right_by p.header.protected (stored_crc (drop p.offset file)
-    == right_crc p.header (drop p.offset file)) sound.word
+word_by file class p sound = grind (arith, right_by)
 
 usable_by : (file : List ℕ) (class : ClassFields) (p : PlacedFrame)
     → HasNoFault file class (row_of file p) → is_usable (Later class) p (drop p.offset file) ≡ true
-usable_by file class p sound =
-    ap₂ (λ (a b : Bool). a && b) (not-false _ sound.same) (word_by file class p sound)
+usable_by file class p sound = grind (arith, not-false, word_by)
 
 abbrev AreUsable : List ℕ → ClassFields → List PlacedFrame → Type 0
 AreUsable file class [] = Unit {0}
@@ -89,8 +85,7 @@ read_by : (file : List ℕ) (class : ClassFields) (at : ℕ) (item : Item)
     → whole_item_at Stream file at ≡ Some item → is_item_read file (Later class) at item ≡ true
     → item_read file (Later class) at ≡ Some item
 unfolding item_read
-read_by file class at item here reads =
-    ap (item_if_read file (Later class) at) here ∙ ap (λ b. cond b (Some item) None) reads
+read_by file class at item here reads = grind arith
 
 item_reads : (file : List ℕ) (class : ClassFields) (at : ℕ) (item : Item) (ps : List PlacedFrame)
     → AreUsable file class (cons_option (frame_of_item at item) ps)
@@ -106,8 +101,7 @@ rest_usable file class (Some p) ps usable = usable.1
 things_are : (file : List ℕ) (class : ClassFields) (from : ℕ) (ps : List PlacedItem) (to : ℕ)
     → AreEndToEnd Stream file from ps to → AreUsable file class (frames_of ps) → length file ≤ to
     → things file class from ≡ map as_thing ps
-things_are file class from [] to ends usable past =
-    things-past file class from (omega (arith, ends, past))
+things_are file class from [] to ends usable past = grind (arith, things-past)
 things_are file class from (p ∷ ps) to ends usable past =
     ap (things file class) (sym ends.0)
     ∙ things-item file class p.offset p.item (read_by file class
@@ -134,20 +128,16 @@ frame_run (Some q) runs ps is = ap (λ (t : FrameRuns). runs_as (q ∷ t.first) 
 
 one_run : (ps : List PlacedItem) → runs_of (map as_thing ps) ≡ runs_as (frames_of ps) []
 one_run [] = refl
-one_run (p ∷ ps) =
-    frame_run (frame_of_item p.offset p.item) (runs_of (map as_thing ps)) (frames_of ps)
-    (one_run ps)
+one_run (p ∷ ps) = grind (arith, frame_run, one_run ps)
 
 -- ---- the marks of the survey are the same
 
 sound_well : (place ended : ℕ) (r : Row) → StandWell place ended r → is_sound place ended r ≡ true
-sound_well place ended r well = ap₂ (λ (a b : Bool). a && b)
-    (ap₂ (λ (a b : Bool). not a && not b) well.begins well.apart) (ap not well.within)
+sound_well place ended r well = grind arith
 
 unsound_far : (place ended : ℕ) (r : Row) → points_too_far place r ≡ true
     → is_sound place ended r ≡ false
-unsound_far place ended r far =
-    ap (λ b. (not b && not (overlaps place ended r)) && not (overruns place r)) far
+unsound_far place ended r far = grind arith
 
 second : (a b : Bool) → (a && b) ≡ true → b ≡ true
 second true b is = is
@@ -167,23 +157,19 @@ swap false false end ended = refl
 
 end_same : (place ended : ℕ) (r : Row) → not (is_sound place ended r) ≡ lacks_data place ended r
     → sound_end place ended (Some r) ≡ data_end_after place ended (Some r)
-end_same place ended r same =
-    swap (is_silent r) (is_sound place ended r) (end_of_data place r) ended
-    ∙ ap (λ b. cond (is_silent r || b) ended (end_of_data place r)) same
+end_same place ended r same = grind (arith, swap, same)
 
 module _ (file : List ℕ) (head : Option Head) (class : ClassFields) (allowed : ℕ) (rows : List Row)
     (sound : AreSound file head class allowed rows) where
   one_same : (i : ℕ) (r : Row) → slice_get rows i ≡ Some r
       → not (is_sound (place head rows i) (data_end_before head rows i) r) ≡ is_lost head rows i r
-  one_same i r is = not_sound (place head rows i) (data_end_before head rows i) r
-      (is_lost head rows i r) refl (sound i r is).main
+  one_same i r is = grind (arith, not_sound)
 
   end_step : (i : ℕ) (o : Option Row) → slice_get rows i ≡ o → end_of_sound head rows i
       ≡ data_end_before head rows i → sound_end (place head rows i) (end_of_sound head rows i) o
       ≡ data_end_after (place head rows i) (data_end_before head rows i) o
   end_step i None is so_far = so_far
-  end_step i (Some r) is so_far = ap (λ n. sound_end (place head rows i) n (Some r)) so_far
-      ∙ end_same (place head rows i) (data_end_before head rows i) r (one_same i r is)
+  end_step i (Some r) is so_far = grind (arith, end_same, one_same)
 
   ends_same : (i : ℕ) → end_of_sound head rows i ≡ data_end_before head rows i
   unfolding end_of_sound data_end_before
@@ -192,9 +178,7 @@ module _ (file : List ℕ) (head : Option Head) (class : ClassFields) (allowed :
 
   row_same : (i : ℕ) (r : Row) → slice_get rows i ≡ Some r
       → judged_row head rows i r ≡ marked_row head rows i r
-  row_same i r is =
-      ap (λ n. record r { lost = not (is_sound (place head rows i) n r) }) (ends_same i)
-      ∙ ap (λ b. record r { lost = b }) (one_same i r is)
+  row_same i r is = grind (arith, ends_same, one_same)
 
 each_same : (f g : ℕ → Row → Row) (n : ℕ) (xs : List Row)
     → ((i : ℕ) (x : Row) → slice_get xs i ≡ Some x → f (n + i) x ≡ g (n + i) x)
@@ -228,8 +212,7 @@ first_usable : (file : List ℕ) (class : ClassFields) (start : Start) (o : Opti
     → head_of file start.first ≡ o → ((i : ℕ) (r : Row) → slice_get (rows_of file (numbered_frames o
     (frames_of (stream_run file start).items))) i ≡ Some r → HasNoFault file class r)
     → is_usable First start.first (drop start.first.offset file) ≡ true
-first_usable file class start (Some head) here is sound =
-    or_right _ _ (head_seen file start.first head is)
+first_usable file class start (Some head) here is sound = grind (arith, or_right, head_seen)
 first_usable file class start None here is sound =
     let frames = frames-next Stream file start.first.offset (Frame start.first.header) here in
     or_left _ _ (word_by file class start.first (sound zero (row_of file start.first)
@@ -240,44 +223,21 @@ read_first : (file : List ℕ) (at : ℕ) (h : HeaderFields) → whole_item_at S
     → option_and_then (frame_of_item at) (item_read file First at)
     ≡ Some (record { offset = at; header = h })
 unfolding item_read
-read_first file at h here usable =
-    ap (λ o. option_and_then (frame_of_item at) (item_if_read file First at o)) here
-    ∙ ap (λ b. option_and_then (frame_of_item at) (cond b (Some (Frame h)) None)) usable
+read_first file at h here usable = grind (arith, option_and_then)
 
 no_frame : (file : List ℕ) (at : ℕ) (item : Item) (b : Bool) → item_at file at ≡ item
     → ((h : HeaderFields) → item ≡ Frame h → ⊥)
     → option_and_then (frame_of_item at) (item_read file First at) ≡ None
 unfolding item_read whole_item_at
 no_frame file at (Frame h) b is none = absurd (none h refl)
-no_frame file at (Block block) b is none =
-    ap (λ i. option_and_then (frame_of_item at)
-    (item_if_read file First at (item_if_whole Stream file at i))) is
-    ∙ by_fit (item_fits file at (Block block))
-  where
-    by_fit : (f : Bool) → option_and_then (frame_of_item at)
-        (item_if_read file First at (cond f (Some (Block block)) None))
-        ≡ None
-    by_fit true = refl
-    by_fit false = refl
-no_frame file at Zero b is none =
-    ap (λ i. option_and_then (frame_of_item at)
-    (item_if_read file First at (item_if_whole Stream file at i))) is
-    ∙ by_fit (item_fits file at Zero)
-  where
-    by_fit : (f : Bool)
-        → option_and_then (frame_of_item at) (item_if_read file First at (cond f (Some Zero) None))
-        ≡ None
-    by_fit true = refl
-    by_fit false = refl
-no_frame file at _ b is none =
-    ap (λ i. option_and_then (frame_of_item at)
-    (item_if_read file First at (item_if_whole Stream file at i))) is
+no_frame file at (Block block) b is none = grind (arith, option_and_then)
+no_frame file at Zero b is none = grind (arith, option_and_then)
+no_frame file at _ b is none = grind (arith, option_and_then)
 
 usable_here : (file : List ℕ) (role : Role) (at : ℕ) (p : PlacedFrame) → anchored_frame file at
     ≡ Some p → is_usable role p (drop p.offset file) ≡ true → usable_frame_at file role at ≡ Some p
 unfolding usable_frame_at
-usable_here file role at p here usable =
-    ap (frame_if_usable file role) here ∙ ap (λ b. cond b (Some p) None) usable
+usable_here file role at p here usable = grind arith
 
 module _ (file : List ℕ) (at : ℕ) (start : Start)
     (within : start.first.offset + size_of (Frame start.first.header) ≤ length file)
@@ -296,9 +256,7 @@ module _ (file : List ℕ) (at : ℕ) (start : Start)
 
   start_same : (o : Option PlacedFrame) → start_after_junk at o ≡ Ok start → o ≡ Some start.first
   start_same None e = absurd cc
-  start_same (Some p) e =
-      let same : record { front_end = at; first = p } ≡ start = cc in
-      ap (λ s. Some s.first) same
+  start_same (Some p) e = grind arith
 
   here_first : (h : HeaderFields) (b : Bool) (fault : SurveyFault)
       → whole_item_at Stream file start.first.offset ≡ Some (Frame start.first.header)
@@ -343,34 +301,7 @@ told_read : (file : List ℕ) (start : Start) (ps : List PlacedItem)
     → damaged_from file (front_end_of file) start.first ≡ with_junk (told_from file start)
 unfolding damaged_from
 told_read file start ps front are frames blocks marks =
-    let head = head_of file start.first in
-    let rows : judged_runs file head (runs_of (things_from file start.first))
-    ≡ marked_rows head (rows_of file (frames_from file start)) =
-    ap (λ ts. judged_runs file head (runs_of ts)) are ∙ ap (judged_runs file head) (one_run ps)
-    ∙ append-nil (judged_rows head (rows_of file (frames_of ps)))
-    ∙ ap (λ l. judged_rows head (rows_of file l)) frames ∙ marks in
-    let pieces : blocks_of (item_run Front file 0).items
-    ++ blocks_of_things (things_from file start.first)
-    ≡ all_blocks file start =
-    ap (λ l. blocks_of (item_run Front file 0).items ++ l)
-    (ap blocks_of_things are ∙ same_blocks ps ∙ blocks) in
-    let gaps : gap_between (front_end_of file) start.first.offset
-    ++ gaps_of (things_from file start.first) ≡ gap_between start.front_end start.first.offset =
-    ap (λ l. gap_between (front_end_of file) start.first.offset ++ l) (ap gaps_of are ∙ no_gaps ps)
-    ∙ append-nil (gap_between (front_end_of file) start.first.offset)
-    ∙ ap (λ n. gap_between n start.first.offset) (sym front) in
-    λ i. record {
-      survey = record {
-        frames = rows i;
-        blocks = pieces i;
-        head = head;
-        junk = sym front i;
-        first = start.first.offset;
-        class = class_from start;
-        length = length file;
-      };
-      gaps = gaps i;
-    }
+    grind (arith, frames_from, one_run, append-nil, same_blocks, no_gaps)
 
 length_rows : (file : List ℕ) (ps : List PlacedFrame) → length (rows_of file ps) ≡ length ps
 length_rows file [] = refl
@@ -412,13 +343,7 @@ keeps_streams = λ file allowed s is few.
     let marks = judged_rows-marked_rows file head (class_from start) allowed rows sound in
     let all_read = told_read file start items (start-front file start read.start_is) are frames
     (numbered-blocks file start head here) marks ∙ ap with_junk told in
-    let some : s.frames ≡ [] → ⊥ = λ none. absurd (omega (
-      arith,
-      some_frames file (frames_from file start) _ read.end,
-      length_rows file (frames_from file start),
-      length-marked_rows head rows,
-      ap (λ (t : SurveyFields). length t.frames) told,
-      ap length none,
-    )) in
+    let some : s.frames ≡ [] → ⊥ =
+    grind (arith, some_frames, frames_from, length_rows, length-marked_rows) in
     damaged_fields-first file start.first first ∙ ap (damaged_with_count at) all_read
     ∙ no_frame_or_damaged-few at s.frames (with_junk s) some few

@@ -1,11 +1,10 @@
 -- The main data of the frames that are kept are where they may be among the main data of all runs.
-use Rattle.std.proofs.Common.{ap, ap₂, arith, Bool, cond, false, length, List, not, Option, refl}
-use Rattle.std.proofs.Common.{true, ℕ, [], ◌&&◌, ◌++◌, ◌+◌, ◌-◌, ◌||◌, ◌∙◌, ◌∷◌, ◌≡◌, ◌≤◌}
+use Rattle.std.proofs.Common.{ap₂, arith, Bool, cond, false, length, List, not, Option, refl, true}
+use Rattle.std.proofs.Common.{ℕ, [], ◌&&◌, ◌++◌, ◌+◌, ◌||◌, ◌∙◌, ◌∷◌, ◌≡◌, ◌≤◌}
 use Rattle.std.proofs.lemmas.Bool.{and_parts, le-ltb, ltb-false, not-false, not-true}
 use Rattle.salvage.specs.JudgedFrames.{empty_state, row_judged_in, state_after_frame}
 use Rattle.salvage.specs.KeptFrames.{AreKeptTo, AreKeptWell, end_of_kept, IsKeptWell, kept_end}
 use Rattle.salvage.specs.SoundFrames.{is_sound}
-use Rattle.side_info.specs.Side.{payload_bytes}
 use Rattle.sync_survey.proofs.ApartLemmas.{Stands}
 use Rattle.sync_survey.proofs.FaultsLemmas.{each_push, IsRuled, place-more, place-next, place-none}
 use Rattle.sync_survey.proofs.FaultsLemmas.{ruled}
@@ -18,22 +17,10 @@ use Rattle.sync_survey.specs.declared.rows.ReservoirState.{ReservoirState}
 -- the main data of a sound frame begin after those before them, and end within its own area
 pub sound_within : (place ended : ℕ) (r : Row) → is_sound place ended r ≡ true
     → Stands place ended r
-sound_within place ended r is =
-    let parts = and_parts _ _ is in
-    let front = and_parts _ _ parts.0 in
-    record {
-      begins = ltb-false _ _ (not-true _ front.0);
-      apart = ltb-false _ _ (not-true _ front.1);
-      within = ltb-false _ _ (not-true _ parts.1);
-    }
+sound_within place ended r is = grind (arith, and_parts, ltb-false, not-true)
 
 within_sound : (place ended : ℕ) (r : Row) → Stands place ended r → is_sound place ended r ≡ true
-within_sound place ended r is =
-    ap₂ (λ (a b : Bool). a && b)
-    (ap₂ (λ (a b : Bool). not a && not b) (le-ltb place r.side.main_data_begin is.begins)
-    (le-ltb (place - r.side.main_data_begin) ended is.apart))
-    (ap not (le-ltb (place + own_area r.header)
-    ((place - r.side.main_data_begin) + payload_bytes r.side) is.within))
+within_sound place ended r is = grind (arith, le-ltb)
 
 -- ---- one more frame
 
@@ -45,13 +32,7 @@ module _ (head : Option Head) where
   -- before the first frame none was kept
   pub kept_none : AreKeptTo head [] (record { place = head_area head; ended = 0 })
   unfolding end_of_kept
-  kept_none = record {
-    frames = λ i r found. absurd cc;
-    base = 0;
-    place_is = omega (arith, place-none head);
-    ended_is = omega arith;
-    within = omega arith;
-  }
+  kept_none = grind (arith, place-none)
 
   -- after a gap the frames kept so far are the same, and the next run begins without areas
   pub kept_gap : (rows : List Row) (b : ReservoirState) → AreKeptTo head rows b
@@ -70,9 +51,7 @@ module _ (head : Option Head) where
       → ended ≤ base + b.ended → ended ≤ now → (cond (not sound || silent) ended (end_of_data now r)
       ≤ base + cond (sound && not silent) (end_of_data b.place r) b.ended)
       × (cond (not sound || silent) ended (end_of_data now r) ≤ now + own_area r.header)
-  end_by base now ended b r true false is other at low high =
-      let here = sound_within b.place b.ended r is in
-      (omega (arith, at, here.begins), omega (arith, at, here.begins, here.within))
+  end_by base now ended b r true false is other at low high = grind (arith, sound_within)
   end_by base now ended b r _ _ is other at low high = (low, omega (arith, high))
 
   module _ (rows : List Row) (b : ReservoirState) (kept : AreKeptTo head rows b) (r : Row) where
@@ -81,14 +60,7 @@ module _ (head : Option Head) where
 
     sound_by : not (is_sound b.place b.ended r) ≡ false
         → is_sound (place head rows (length rows)) (end_of_kept head rows (length rows)) r ≡ true
-    sound_by mark =
-        let here = sound_within b.place b.ended r (not-false _ mark) in
-        within_sound (place head rows (length rows)) (end_of_kept head rows (length rows)) r
-        (record {
-          begins = omega (arith, kept.place_is, here.begins);
-          apart = omega (arith, kept.place_is, kept.ended_is, here.begins, here.apart);
-          within = omega (arith, kept.place_is, here.begins, here.within);
-        })
+    sound_by mark = grind (arith, sound_within, not-false, within_sound)
 
     last_kept : marked_one.lost ≡ false → is_sound (place head (rows ++ marked_one ∷ [])
         (length rows)) (end_of_kept head (rows ++ marked_one ∷ []) (length rows)) marked_one ≡ true

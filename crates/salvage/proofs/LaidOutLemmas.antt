@@ -127,11 +127,9 @@ module _ (file : List ℕ) (class : ClassFields) where
     order-gap : (n : ℕ) → IsGapTo file at (at + n) → AreInOrder (at + n) ts
         → AreInOrder at (with_thing (IsGap n))
     order-gap n ends order = record {
-      rows = λ b. rows-earlier at (at + n) (rows_left file empty_state ts) (length file)
-          (omega arith) (order.rows empty_state);
+      rows = grind (arith, rows-earlier);
       same = λ b. order.same empty_state;
-      blocks =
-          blocks-earlier at (at + n) (blocks_of_things ts) (length file) (omega arith) order.blocks;
+      blocks = grind (arith, blocks-earlier);
       gaps = (omega arith, omega (arith, ends.some), order.gaps);
       kept = λ head rows b kept. order.kept head rows empty_state (kept_gap head rows b kept);
     }
@@ -142,17 +140,10 @@ module _ (file : List ℕ) (class : ClassFields) where
         let known = frame-known file class at h met in
         let row = row_in at h (drop at file) in
         record {
-          rows = λ b. (
-            omega arith,
-            fits-side_in h (drop at file) (IsClass-class_of h known),
-            order.rows (state_after_frame b row),
-          );
-          same =
-              λ b. (known, frame-class file class at h met, order.same (state_after_frame b row));
-          blocks = blocks-earlier at (at + size_of (Frame h)) (blocks_of_things ts) (length file)
-              (omega arith) order.blocks;
-          gaps = gaps-earlier at (at + size_of (Frame h)) (gaps_of ts) (length file)
-              (omega arith) order.gaps;
+          rows = grind (arith, fits-side_in, IsClass-class_of);
+          same = grind (arith, frame-class);
+          blocks = grind (arith, blocks-earlier);
+          gaps = grind (arith, gaps-earlier);
           kept = λ head rows b kept.
               subst (AreKeptWell head)
               (append_assoc rows (row_judged_in b row ∷ [])
@@ -169,13 +160,9 @@ module _ (file : List ℕ) (class : ClassFields) where
     order-other item rows_are blocks_are order =
         let later = at + size_of item in
         record {
-          rows =
-              λ b. subst (λ l. FramesAreLaid at l (length file)) (sym (rows_are b)) (rows-earlier at
-              later (rows_left file b ts) (length file) (omega arith) (order.rows b));
+          rows = grind (arith, rows-earlier);
           same = λ b. subst (RowsAreOfClass class) (sym (rows_are b)) (order.same b);
-          blocks = subst (λ l. BlocksAreLaid at l (length file)) (sym blocks_are)
-              (blocks-earlier at later (blocks_of_things ts) (length file)
-              (omega arith) order.blocks);
+          blocks = grind (arith, blocks-earlier);
           gaps = gaps-earlier at later (gaps_of ts) (length file) (omega arith) order.gaps;
           kept = λ head rows b kept. subst (λ l. AreKeptWell head (rows ++ l)) (sym (rows_are b))
               (order.kept head rows b kept);
@@ -187,12 +174,10 @@ module _ (file : List ℕ) (class : ClassFields) where
     order-more (IsItem (Frame h)) met order = order-frame h met order
     order-more (IsItem Free) met order = order-other Free (λ b. refl) refl order
     order-more (IsItem (Block block)) met order = record {
-      rows = λ b. rows-earlier at (at + block.length) (rows_left file b ts) (length file)
-          (omega arith) (order.rows b);
+      rows = grind (arith, rows-earlier);
       same = order.same;
       blocks = (omega arith, order.blocks);
-      gaps =
-          gaps-earlier at (at + block.length) (gaps_of ts) (length file) (omega arith) order.gaps;
+      gaps = grind (arith, gaps-earlier);
       kept = order.kept;
     }
     order-more (IsItem item) met order = order-other item (λ b. refl) refl order
@@ -286,8 +271,7 @@ head-by file first None is =
 head-by file first (Some at) is = record {
   whole = record { place = refl; class_is = refl; within = is.within };
   low = omega arith;
-  high =
-      is.within;
+  high = grind arith;
 }
 
 head-behind : (file : List ℕ) (first : PlacedFrame)
@@ -471,8 +455,7 @@ read-frames file d e =
     let read = damaged_of-is file d e in
     let is = damaged_fields-from file d read.1 in
     let many : length d.survey.frames ≡ length (frames_of_things (things_from file is.first)) =
-    ap (λ (c : DamagedFields). length c.survey.frames) (sym is.same)
-    ∙ frames-many file (front_end_of file) is.first in
+    grind (arith, frames-many) in
     record {
       long = read.0;
       first = is.first;

@@ -2,18 +2,17 @@
 -- like a file without fault.
 use Rattle.std.proofs.Common.{ap, ap₂, arith, Bool, cond, false, List, map, None, Option}
 use Rattle.std.proofs.Common.{option_to_list, refl, slice_get, Some, subst, suc, sym, true, zero, ℕ}
-use Rattle.std.proofs.{Common.{[], ◌++◌, ◌+◌, ◌||◌, ◌∙◌, ◌∷◌, ◌≡◌, ◌≤◌}, lemmas.List.length-map}
+use Rattle.std.proofs.{Common.{[], ◌++◌, ◌+◌, ◌∙◌, ◌∷◌, ◌≡◌}, lemmas.List.length-map}
 use Rattle.frame_header.specs.{Fields.{ClassFields, IsHeader}, Tables.{class_of, length_of}}
 use Rattle.salvage.{proofs.KeptLemmas.sound_within, specs.DamagedFiles.DamagedFields}
-use Rattle.salvage.specs.EmptiedFrames.{emptied_frame, emptied_from}
-use Rattle.salvage.specs.KeptFrames.{end_of_kept, kept_end}
+use Rattle.salvage.specs.{EmptiedFrames.{emptied_frame, emptied_from}, KeptFrames.end_of_kept}
 use Rattle.salvage.specs.Progress.{IsDamagedLaidOut, RowsAreOfClass}
 use Rattle.salvage.specs.declared.mended.Emptied.{Emptied}
 use Rattle.side_info.specs.Side.{SideFits}
 use Rattle.sync_survey.proofs.EmptiedLemmas.{emptied_false, IsKept, laid_emptied, placed-kept}
 use Rattle.sync_survey.{proofs.RunsLemmas.cons_list, specs.HeadApart.{emptied_row, emptied_survey}}
-use Rattle.sync_survey.specs.{MainData.{end_of_data, is_silent, place}, Row.Row}
-use Rattle.sync_survey.specs.{Survey.{FramesAreLaid, IsSurveyLaidOut}, declared.places.Head.Head}
+use Rattle.sync_survey.specs.{MainData.place, Row.Row, Survey.{FramesAreLaid, IsSurveyLaidOut}}
+use Rattle.sync_survey.specs.declared.places.Head.{Head}
 
 -- the side fields of a frame are within their bits
 fits_at : (from to : ℕ) (rows : List Row) (i : ℕ) (r : Row) → FramesAreLaid from rows to
@@ -49,14 +48,10 @@ module _ (d : DamagedFields) (laid : IsDamagedLaidOut d) where
       record {
         known = own.0;
         class_is = own.1;
-        fits = subst (λ c. SideFits c r.side) own.1
-            (fits_at d.survey.first d.survey.length rows i r laid.frames found);
+        fits = grind (arith, fits_at d.survey.first d.survey.length rows i r laid.frames found);
         before = is.before;
-        stands = λ kept. sound_within (place head rows i) (end_of_kept head rows i) r
-            (is.sound kept);
-        goes = subst (λ o. cond (r.lost || is_silent r) (end_of_kept head rows i)
-            (end_of_data (place head rows i) r)
-            ≤ kept_end (place head rows i) (end_of_kept head rows i) o) (sym found) (omega arith);
+        stands = grind (arith, sound_within);
+        goes = grind arith;
       }
 
   -- with its emptied frames as frames without main data, what is read is laid out

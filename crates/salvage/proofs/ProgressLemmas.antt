@@ -1,17 +1,17 @@
 -- One more thing is read.
-use Rattle.std.proofs.Common.{ap, append-nil, ap₂, arith, Bool, cond, drop, Err, false, IfSome}
-use Rattle.std.proofs.Common.{length, List, ltb, None, Ok, Option, option_to_list, refl, slice_get}
-use Rattle.std.proofs.Common.{Some, subst, sym, true, ℕ, [], ◌++◌, ◌+◌, ◌-◌, ◌<◌, ◌==◌, ◌∙◌, ◌∷◌}
-use Rattle.std.proofs.{Common.{◌≡◌, ◌≤◌}, lemmas.Bool.{and_parts, ltb-true}}
-use Rattle.std.{proofs.lemmas.Option.slice_get_past, specs.List.prefix_len}
+use Rattle.std.proofs.Common.{ap, append-nil, arith, Bool, cond, drop, Err, false, IfSome, length}
+use Rattle.std.proofs.Common.{List, ltb, None, Ok, Option, refl, slice_get, Some, subst, sym, true}
+use Rattle.std.proofs.Common.{ℕ, [], ◌++◌, ◌+◌, ◌-◌, ◌<◌, ◌==◌, ◌∙◌, ◌∷◌, ◌≡◌, ◌≤◌}
+use Rattle.std.proofs.lemmas.{Bool.{and_parts, ltb-true}, Option.slice_get_past}
+use Rattle.std.specs.List.{prefix_len}
 use Rattle.frame_header.proofs.{ClassLemmas.same_class-is, HeaderLemmas.IsClass-class_of}
 use Rattle.frame_header.specs.{Fields.{ClassFields, HeaderFields, IsHeader}, Tables.class_of}
 use Rattle.salvage.proofs.KeptLemmas.{kept_frame, kept_gap, kept_none}
 use Rattle.salvage.proofs.{ReadFaultLemmas.damaged_of-short, SoundLemmas.runs-left}
 use Rattle.salvage.proofs.WalkLemmas.{item_passed, things-gap, things-item, things-past}
-use Rattle.salvage.specs.DamagedFiles.{damaged_by, damaged_fields, damaged_from, damaged_of}
-use Rattle.salvage.specs.DamagedFiles.{damaged_with_count, DamagedFields, excess_or_damaged}
-use Rattle.salvage.specs.DamagedFiles.{gap_between, most_frames, no_frame_or_damaged}
+use Rattle.salvage.specs.DamagedFiles.{damaged_fields, damaged_from, damaged_of, damaged_with_count}
+use Rattle.salvage.specs.DamagedFiles.{DamagedFields, excess_or_damaged, gap_between, most_frames}
+use Rattle.salvage.specs.DamagedFiles.{no_frame_or_damaged}
 use Rattle.salvage.specs.JudgedFrames.{AddsGap, AddsItem, empty_state, IsPastMost, item_rows}
 use Rattle.salvage.specs.JudgedFrames.{row_judged_in, rows_left, state_after_frame}
 use Rattle.salvage.specs.{JudgedFrames.state_after_item, KeptFrames.AreKeptTo}
@@ -27,13 +27,12 @@ use Rattle.sync_survey.proofs.RunsLemmas.{kept_more, kept_whole}
 use Rattle.sync_survey.proofs.StepLemmas.{area_within, item_header, laid_later, laid_push}
 use Rattle.sync_survey.{proofs.StepLemmas.row_shown, specs.Faults.longest_file}
 use Rattle.sync_survey.specs.{Items.{item_front, size_of}, Looks.Shows}
-use Rattle.sync_survey.specs.{MainData.{head_area, row_in}, Row.Row}
-use Rattle.sync_survey.specs.{Runs.{block_of_item, blocks_of, item_run}, Start.front_end_of}
+use Rattle.sync_survey.specs.{MainData.{head_area, row_in}, Row.Row, Runs.{blocks_of, item_run}}
+use Rattle.sync_survey.specs.Start.{front_end_of}
 use Rattle.sync_survey.specs.Survey.{BlocksAreLaid, FramesAreLaid, IsWholeHead}
-use Rattle.sync_survey.specs.SurveyFaultKinds.{RefusesRightly}
-use Rattle.sync_survey.specs.{Walk.{head_of, IsFrameOf, numbered_offset}, declared.items.Item.Item}
-use Rattle.sync_survey.specs.declared.{items.Item.TheVariants.{Frame, Zero}, places.Head.Head}
-use Rattle.sync_survey.specs.declared.{places.Piece.Piece, rows.ReservoirState.ReservoirState}
+use Rattle.sync_survey.specs.{SurveyFaultKinds.RefusesRightly, Walk.{IsFrameOf, numbered_offset}}
+use Rattle.sync_survey.specs.declared.items.Item.{Item, TheVariants.{Frame, Zero}}
+use Rattle.sync_survey.specs.declared.{places.Head.Head, rows.ReservoirState.ReservoirState}
 use Rattle.sync_survey.specs.declared.runs.Region.TheVariants.{Front}
 use Rattle.sync_survey.specs.declared.survey_fault.SurveyFault.{SurveyFault}
 use Rattle.sync_survey.specs.declared.survey_fault.SurveyFault.TheVariants.{NoFrame, TooManyFrames}
@@ -44,9 +43,7 @@ module _ (file : List ℕ) (b : Begun) (old new : DamagedSoFar) where
   left_by : (m : ReservoirState) (n : ℕ) → new.before ≡ m → new.at ≡ n
       → rows_left file new.before (things file (begun_class b) new.at)
       ≡ rows_left file m (things file (begun_class b) n)
-  left_by m n before at =
-      ap₂ (λ (m : ReservoirState) (n : ℕ). rows_left file m (things file (begun_class b) n)) before
-      at
+  left_by m n before at = grind (arith, before)
 
   -- a gap up to the next usable frame is one more thing that was read
   pub gap_read : IsReadTo file b old → old.at < length file
@@ -56,25 +53,9 @@ module _ (file : List ℕ) (b : Begun) (old new : DamagedSoFar) where
       let end = gap_end file (begun_class b) old.at in
       let here = things-gap file (begun_class b) old.at before none in
       record {
-        rows =
-            ap (λ l. new.rows.items ++ l) (left_by empty_state end adds.before adds.at)
-            ∙ kept_more old.rows.items [] new.rows.items (rows_left file old.before (things file
-            (begun_class b) old.at)) (rows_left file empty_state (things file (begun_class b) end))
-            (whole_damaged file b).survey.frames adds.rows
-            (ap (rows_left file old.before) here) so_far.rows;
-        blocks =
-            ap (λ n. new.pieces.items ++ blocks_of_things (things file (begun_class b) n)) adds.at
-            ∙ kept_more old.pieces.items [] new.pieces.items
-            (blocks_of_things (things file (begun_class b) old.at))
-            (blocks_of_things (things file (begun_class b) end))
-            (whole_damaged file b).survey.blocks adds.pieces (ap blocks_of_things here)
-            so_far.blocks;
-        gaps =
-            ap (λ n. new.gaps.items ++ gaps_of (things file (begun_class b) n)) adds.at
-            ∙ kept_more old.gaps.items (record { offset = old.at; length = end - old.at } ∷ [])
-            new.gaps.items (gaps_of (things file (begun_class b) old.at))
-            (gaps_of (things file (begun_class b) end)) (whole_damaged file b).gaps adds.gaps
-            (ap gaps_of here) so_far.gaps;
+        rows = grind (arith, left_by, kept_more);
+        blocks = grind (arith, kept_more);
+        gaps = grind (arith, kept_more);
       }
 
   rows_shown : (item : Item) (front : List ℕ) (left : ℕ) → Shows file old.at front left
@@ -105,26 +86,17 @@ module _ (file : List ℕ) (b : Begun) (old new : DamagedSoFar) where
       let main = state_after_item old.before old.at (drop old.at file) item in
       record {
         rows =
-            ap (λ l. new.rows.items ++ l)
-            (left_by main end (adds.before ∙ before_shown item front left shows) adds.at)
-            ∙ kept_more old.rows.items (item_rows old.before old.at (drop old.at file) item)
-            new.rows.items (rows_left file old.before (things file (begun_class b) old.at))
-            (rows_left file main (things file (begun_class b) end))
-            (whole_damaged file b).survey.frames (adds.rows ∙ ap (λ l. old.rows.items ++ l)
-            (rows_shown item front left shows)) (passed.rows old.before) so_far.rows;
-        blocks =
-            ap (λ n. new.pieces.items ++ blocks_of_things (things file (begun_class b) n)) adds.at
-            ∙ kept_more old.pieces.items (option_to_list (block_of_item old.at item))
-            new.pieces.items (blocks_of_things (things file (begun_class b) old.at))
-            (blocks_of_things (things file (begun_class b) end))
-            (whole_damaged file b).survey.blocks adds.pieces
-            passed.blocks so_far.blocks;
-        gaps =
-            ap (λ n. new.gaps.items ++ gaps_of (things file (begun_class b) n)) adds.at
-            ∙ kept_more old.gaps.items []
-            new.gaps.items (gaps_of (things file (begun_class b) old.at))
-            (gaps_of (things file (begun_class b) end))
-            (whole_damaged file b).gaps adds.gaps passed.gaps so_far.gaps;
+            grind (
+              arith,
+              left_by main end (adds.before ∙ before_shown item front left shows)
+                  adds.at,
+              before_shown item front left shows,
+              kept_more,
+              rows_shown item front left
+                  shows,
+            );
+        blocks = grind (arith, kept_more);
+        gaps = grind (arith, kept_more);
       }
 
 -- the file was read to its end
@@ -184,12 +156,7 @@ module _ (b : Begun) (old new : DamagedSoFar) (laid : IsLaidTo b old) where
             old.rows.items new.rows.items adds.rows laid.class;
         pieces = same_items (λ l. BlocksAreLaid 0 l new.at) old.pieces.items new.pieces.items
             adds.pieces (pieces_later 0 old.pieces.items old.at new.at laid.pieces later);
-        gaps =
-            subst (λ l. GapsAreLaid 0 l new.at) (sym adds.gaps)
-            (gaps_push 0 old.gaps.items old.at new.at (record {
-              offset = old.at;
-              length = to - old.at;
-            }) laid.gaps (omega arith) (omega (arith, some)) (omega (arith, some, here)));
+        gaps = grind (arith, gaps_push);
         low = omega (arith, ap (λ m. m.place) adds.before);
         within = omega (arith, here, within);
         few = same_items (λ l. length l ≤ most_frames)
@@ -206,16 +173,14 @@ module _ (b : Begun) (old new : DamagedSoFar) (laid : IsLaidTo b old) where
   other_laid item size front least within no_row same adds =
       let here : new.at ≡ old.at + size = adds.at in
       let later : old.at ≤ new.at = omega (arith, here) in
-      let rows : new.rows.items ≡ old.rows.items ++ [] =
-      adds.rows ∙ ap (λ l. old.rows.items ++ l) no_row in
+      let rows : new.rows.items ≡ old.rows.items ++ [] = grind arith in
       record {
         rows = same_items (λ l. FramesAreLaid b.start.first.offset l new.at)
             old.rows.items new.rows.items
             rows (laid_later b.start.first.offset old.rows.items old.at new.at laid.rows later);
         class = same_items (RowsAreOfClass (begun_class b)) old.rows.items new.rows.items rows
             laid.class;
-        pieces = subst (BlocksAreLaid 0 new.pieces.items) (sym here) (blocks_more old.pieces.items
-            new.pieces.items old.at size item laid.pieces least adds.pieces);
+        pieces = grind (arith, blocks_more);
         gaps = same_items (λ l. GapsAreLaid 0 l new.at) old.gaps.items new.gaps.items adds.gaps
             (gaps_later 0 old.gaps.items old.at new.at laid.gaps later);
         low = omega (arith, ap (λ m. m.place) (adds.before ∙ same), laid.low, here);
@@ -234,12 +199,8 @@ module _ (b : Begun) (old new : DamagedSoFar) (laid : IsLaidTo b old) where
       let later : old.at ≤ new.at = omega (arith, here) in
       let row = row_judged_in old.before (row_in old.at h front) in
       record {
-        rows =
-            subst (λ l. FramesAreLaid b.start.first.offset l new.at) (sym adds.rows)
-            (laid_push b.start.first.offset old.rows.items old.at new.at row laid.rows (fits-side_in
-            h front (IsClass-class_of h known)) (omega arith) (omega (arith, least, here)));
-        class = subst (RowsAreOfClass (begun_class b)) (sym adds.rows)
-            (class_push (begun_class b) old.rows.items row laid.class known same);
+        rows = grind (arith, laid_push, fits-side_in, IsClass-class_of);
+        class = grind (arith, class_push);
         pieces = same_items (λ l. BlocksAreLaid 0 l new.at) old.pieces.items new.pieces.items
             adds.pieces (pieces_later 0 old.pieces.items old.at new.at laid.pieces later);
         gaps = same_items (λ l. GapsAreLaid 0 l new.at) old.gaps.items new.gaps.items adds.gaps
@@ -247,10 +208,12 @@ module _ (b : Begun) (old new : DamagedSoFar) (laid : IsLaidTo b old) where
         low = omega (arith, ap (λ m. m.place) adds.before, laid.low, here, least, area_within h);
         within = omega (arith, here, within);
         few = few laid.few;
-        kept = subst (AreKeptTo b.head new.rows.items) (sym adds.before) (subst (λ l.
-            AreKeptTo b.head l (state_after_frame old.before (row_in old.at h front)))
-            (sym adds.rows)
-            (kept_frame b.head old.rows.items old.before laid.kept (row_in old.at h front)));
+        kept =
+            grind (
+              arith,
+              kept_frame b.head old.rows.items old.before laid.kept (row_in old.at h
+                  front),
+            );
       }
 
   -- any item that is kept is after all that was read before it
@@ -260,8 +223,7 @@ module _ (b : Begun) (old new : DamagedSoFar) (laid : IsLaidTo b old) where
       → size_of item ≤ size → old.at + size ≤ b.size → AddsItem item size front old new
       → IsLaidTo b new
   item_laid (Frame h) size front few is admits least within adds =
-      let same : class_of h ≡ begun_class b =
-      same_class-is (class_of h) (begun_class b) (and_parts _ _ admits).0 in
+      let same : class_of h ≡ begun_class b = grind (arith, same_class-is, and_parts) in
       frame_laid h size front few (item_header front (Frame h) is h refl) same least within adds
   item_laid item size front few is admits least within adds =
       other_laid item size front least within refl refl adds
@@ -272,15 +234,12 @@ module _ (b : Begun) (old new : DamagedSoFar) (laid : IsLaidTo b old) where
 pub damaged_fields-is : (file : List ℕ) (b : Begun) → BeginsAsRead file b
     → damaged_fields file ≡ damaged_with_count b.start.front_end (whole_damaged file b)
 unfolding damaged_fields
-damaged_fields-is file b begins =
-    ap (λ n. damaged_by file n (first_frame file n)) (sym begins.front)
-    ∙ ap (damaged_by file b.start.front_end) begins.first
+damaged_fields-is file b begins = grind arith
 
 get_first : (xs ys : List Row) (r : Row) (n : ℕ) → length xs ≡ n
     → slice_get (xs ++ r ∷ ys) n ≡ Some r
 get_first [] ys r n is = ap (slice_get (r ∷ ys)) (sym is)
-get_first (x ∷ xs) ys r n is =
-    ap (slice_get (x ∷ (xs ++ r ∷ ys))) (sym is) ∙ get_first xs ys r (length xs) refl
+get_first (x ∷ xs) ys r n is = grind (arith, get_first xs ys r (length xs) refl)
 
 no_frame_or_damaged-many : (front_end : ℕ) (rows : List Row) (d : DamagedFields) (r : Row)
     → slice_get rows most_frames ≡ Some r
@@ -300,7 +259,7 @@ past_most file b found (Frame h) fault begins few so_far is past =
     rows_left file (state_after_frame found.before (row_in found.at h (drop found.at file)))
     (things file (begun_class b) (found.at + size_of (Frame h))) in
     let rows : found.rows.items ++ row ∷ rest ≡ (whole_damaged file b).survey.frames =
-    sym (ap (λ l. found.rows.items ++ rows_left file found.before l) here) ∙ so_far.rows in
+    grind arith in
     damaged_of-short file few
     ∙ damaged_fields-is file b begins
     ∙ no_frame_or_damaged-many b.start.front_end (whole_damaged file b).survey.frames
@@ -328,21 +287,18 @@ no_frames file b found begins few read none =
 first_none : (file : List ℕ) (front_end : ℕ) → front_end ≡ front_end_of file
     → first_frame file front_end ≡ None → damaged_fields file ≡ Err (NoFrame front_end)
 unfolding damaged_fields
-first_none file front_end front none = ap (λ n. damaged_by file n (first_frame file n)) (sym front)
-    ∙ ap (damaged_by file front_end) none
+first_none file front_end front none = grind arith
 
 -- a file without a first frame is refused where its front ends
 pub no_first : (file : List ℕ) (front_end : ℕ) → front_end ≡ front_end_of file → length file
     ≤ longest_file → first_frame file front_end ≡ None → damaged_of file ≡ Err (NoFrame front_end)
-no_first file front_end front few none =
-    damaged_of-short file few ∙ first_none file front_end front none
+no_first file front_end front few none = grind (arith, damaged_of-short, first_none)
 
 -- frames that are some, and not too many, have no fault by their number
 pub no_frame_or_damaged-few : (front_end : ℕ) (rows : List Row) (d : DamagedFields)
     → (rows ≡ [] → ⊥) → length rows ≤ most_frames → no_frame_or_damaged front_end rows d ≡ Ok d
 no_frame_or_damaged-few front_end [] d some few = absurd (some refl)
-no_frame_or_damaged-few front_end (r ∷ rows) d some few =
-    ap (λ o. excess_or_damaged o d) (slice_get_past (r ∷ rows) most_frames few)
+no_frame_or_damaged-few front_end (r ∷ rows) d some few = grind (arith, slice_get_past, rows)
 
 -- what the code returns is what is read
 told_is : (file : List ℕ) (b : Begun) (found : DamagedSoFar) → BeginsAsRead file b
@@ -398,27 +354,14 @@ begun_read file b found begins first blocks =
     let ahead =
     λ (h : Option Head). things file (begun_class b) (numbered_offset b.start.first h) in
     record {
-      rows =
-          ap (λ (l : List Row). l
-          ++ rows_left file found.before (things file (begun_class b) found.at)) first.rows
-          ∙ ap₂ (λ (m : ReservoirState) (n : ℕ). rows_left file m (things file (begun_class b) n))
-          first.before first.at
-          ∙ ap (λ (h : Option Head). rows_left file (record { place = head_area h; ended = 0 })
-          (ahead h)) begins.head
-          ∙ sym (runs-left file (head_of file b.start.first) (ahead (head_of file b.start.first)));
-      blocks = ap₂ (λ (l : List Piece) (n : ℕ). l
-          ++ blocks_of_things (things file (begun_class b) n)) blocks
-          first.at ∙ ap (λ (h : Option Head). blocks_of (item_run Front file 0).items
-          ++ blocks_of_things (ahead h)) begins.head;
-      gaps = ap₂ (λ (l : List Gap) (n : ℕ). l ++ gaps_of (things file (begun_class b) n))
-          first.gaps first.at ∙ ap (λ (h : Option Head).
-          gap_between b.start.front_end b.start.first.offset ++ gaps_of (ahead h)) begins.head;
+      rows = grind (arith, runs-left);
+      blocks = grind (arith, blocks);
+      gaps = grind arith;
     }
 
 between_laid : (from to at : ℕ) (less : Bool) → ltb from to ≡ less → from ≤ to → to ≤ at
     → GapsAreLaid 0 (cond less (record { offset = from; length = to - from } ∷ []) []) at
-between_laid from to at true is low high =
-    (omega arith, omega (arith, ltb-true from to is), omega (arith, low, high))
+between_laid from to at true is low high = grind (arith, ltb-true)
 between_laid from to at false is low high = omega arith
 
 -- what was found where the reading begins is in order
@@ -429,16 +372,12 @@ pub begun_laid : (b : Begun) (found : DamagedSoFar) → IsFirst b found
 begun_laid b found first junk blocks low behind within = record {
   rows = subst (λ l. FramesAreLaid b.start.first.offset l found.at) (sym first.rows) behind;
   class = subst (RowsAreOfClass (begun_class b)) (sym first.rows) tt;
-  pieces = pieces_later 0 found.pieces.items b.start.front_end found.at blocks
-      (omega (arith, junk, behind));
-  gaps = subst (λ l. GapsAreLaid 0 l found.at) (sym first.gaps) (between_laid b.start.front_end
-      b.start.first.offset found.at (ltb b.start.front_end b.start.first.offset) refl junk behind);
+  pieces = grind (arith, pieces_later, blocks);
+  gaps = grind (arith, between_laid);
   low = omega (arith, low);
   within = within;
   few = omega (arith, ap length first.rows);
-  kept = subst (AreKeptTo b.head found.rows.items) (sym first.before)
-      (subst (λ l. AreKeptTo b.head l (record { place = head_area b.head; ended = 0 }))
-      (sym first.rows) (kept_none b.head));
+  kept = grind (arith, kept_none);
 }
 
 -- ---- where it ends
@@ -448,11 +387,7 @@ head_within : (b : Begun) (head : Option Head)
     → IfSome head (IsFrameOf b.start.first)
     → IfSome head (IsWholeHead b.start.first.offset (begun_class b) b.size)
 head_within b None whole same = tt
-head_within b (Some head) whole same = record {
-  place = same.0;
-  class_is = ap class_of same.1;
-  within = omega (arith, same.0, ap (λ h. size_of (Frame h)) same.1, whole);
-}
+head_within b (Some head) whole same = grind arith
 
 some_of : (rows : List Row) → (rows ≡ [] → ⊥) → 0 < length rows
 some_of [] none = absurd (none refl)

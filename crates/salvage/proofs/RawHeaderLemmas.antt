@@ -1,8 +1,8 @@
 -- What the bytes of a frame say before its header is read.
-use Rattle.std.proofs.Common.{ap, ap₂, arith, Bool, codes, cond, drop, eqb, Err, false, get_or, inl}
-use Rattle.std.proofs.Common.{inr, is_some, length, List, lit<, None, not, Ok, option_map, refl}
-use Rattle.std.proofs.Common.{subst, suc, sym, take, true, zero, ℕ, [], ◌%◌, ◌&&◌, ◌*◌, ◌+◌, ◌-◌}
-use Rattle.std.proofs.Common.{◌/◌, ◌<◌, ◌==◌, ◌^◌, ◌||◌, ◌∙◌, ◌∷◌, ◌≡◌, ◌≢◌, ◌≤◌, ◌⊎◌}
+use Rattle.std.proofs.Common.{ap, arith, Bool, codes, cond, drop, eqb, Err, false, get_or, inl, inr}
+use Rattle.std.proofs.Common.{is_some, length, List, lit<, not, Ok, option_map, refl, subst, suc}
+use Rattle.std.proofs.Common.{sym, take, true, zero, ℕ, [], ◌%◌, ◌*◌, ◌+◌, ◌-◌, ◌/◌, ◌<◌, ◌^◌, ◌∙◌}
+use Rattle.std.proofs.Common.{◌∷◌, ◌≡◌, ◌≢◌, ◌≤◌, ◌⊎◌}
 use Rattle.std.proofs.lemmas.Bool.{and_from, and_parts, and_right, eq-eqb, eqb-false, eqb-true}
 use Rattle.std.proofs.lemmas.Bool.{false≢true, ne_eqb, not-true, or_cases}
 use Rattle.std.proofs.lemmas.List.{drop-drop, get_or-drop, get_or-take, length-take}
@@ -18,19 +18,18 @@ use Rattle.frame_header.specs.Tables.{side_size_of}
 use Rattle.frame_header.specs.declared.header.NotHeader.TheVariants.{Free as FreeHeader, No}
 use Rattle.frame_header.specs.declared.version.Version.{Version, TheVariants.{One, Two, TwoFive}}
 use Rattle.info_header.proofs.HeadTextLemmas.{has_text-within, head_text_of-none}
-use Rattle.info_header.specs.HeadText.{has_text, head_text_of, high_place, low_place}
+use Rattle.info_header.specs.HeadText.{has_text, high_place, low_place}
 use Rattle.salvage.proofs.UsableLemmas.{header_four, side_protected}
 use Rattle.salvage.specs.RawHeader.{may_begin_block, may_begin_text, may_follow_header}
-use Rattle.salvage.specs.RawHeader.{raw_channels, raw_frame_length, raw_side_size, raw_version}
+use Rattle.salvage.specs.RawHeader.{raw_frame_length, raw_side_size, raw_version}
 use Rattle.salvage.specs.Steps.{IsRuledOut, IsUnusable, may_begin_header, search_reach}
 use Rattle.salvage.specs.UsableFrames.{has_right_crc, is_head}
 use Rattle.salvage.specs.declared.raw_header.TheConstants.{LENGTHS}
 use Rattle.salvage.specs.declared.usable.Role.TheVariants.{First, Later}
-use Rattle.side_info.specs.{CheckWord.check_word_of, Frame.{right_crc, stored_crc}, Side.side_at}
+use Rattle.side_info.specs.{CheckWord.check_word_of, Frame.stored_crc, Side.side_at}
 use Rattle.sync_survey.proofs.ItemsLemmas.{stands}
 use Rattle.sync_survey.specs.{Items.{header_front, IsItemFront, item_front}, Start.is_anchor}
 use Rattle.sync_survey.specs.declared.items.Item.{Item, TheVariants.{Block, End, Frame}}
-use Rattle.sync_survey.specs.declared.places.Head.{Head}
 use Rattle.tag_blocks.proofs.BlocksLemmas.{block_front-begins}
 use Rattle.tag_blocks.specs.Blocks.{begins, begins_with, is_ape, is_id3v1, is_id3v2}
 use Rattle.tag_blocks.specs.declared.block.Kind.{Kind, TheVariants.{Ape, Id3v1, Id3v2}}
@@ -56,9 +55,7 @@ module _ (a b c d : ℕ) (a_few : a < 256) (b_few : b < 256) (c_few : c < 256) (
       ≡ (((a * 256 + b) * 256 + c) * 256 + d) / 2 ^ (32 - from - width) % 2 ^ width
   unfolding group
   group_four from width within =
-      number-within from width (bits four) (AreBits-bits four)
-      (omega (arith, within, length-bits four))
-      ∙ ap₂ (λ (n len : ℕ). n / 2 ^ (len - from - width) % 2 ^ width) number_four (length-bits four)
+      grind (arith, number-within, AreBits-bits, length-bits, number_four)
 
   sync_is : group 0 11 (bits four) ≡ a * 8 + b / 32
   sync_is = omega (arith, group_four 0 11 (omega arith), a_few, b_few, c_few, d_few)
@@ -140,14 +137,10 @@ module _ (a b c d : ℕ) (rest : List ℕ) (a_few : a < 256) (b_few : b < 256) (
         rate_some = λ e. read.some (rate ∙ e);
         version = ap (λ (f : HeaderFields). f.version) (sym read.is) ∙ ap raw_version version;
         rate = ap (λ (f : HeaderFields). f.slot.rate_index) (sym read.is) ∙ rate;
-        padding = ap (λ (f : HeaderFields). f.slot.padding) (sym read.is)
-            ∙ ap (λ n. eqb n 1) (padding_is a b c d a_few b_few c_few d_few);
-        frequency = ap (λ (f : HeaderFields). f.frequency_index) (sym read.is)
-            ∙ frequency_is a b c d a_few b_few c_few d_few;
-        protected = ap (λ (f : HeaderFields). f.protected) (sym read.is)
-            ∙ ap (λ n. eqb n 0) (protection_is a b c d a_few b_few c_few d_few);
-        mode = ap (λ (f : HeaderFields). f.mode) (sym read.is)
-            ∙ mode_is a b c d a_few b_few c_few d_few;
+        padding = grind (arith, padding_is);
+        frequency = grind (arith, frequency_is);
+        protected = grind (arith, protection_is);
+        mode = grind (arith, mode_is);
       }
 
 abbrev pub AreFew : List ℕ → Type 0
@@ -172,9 +165,7 @@ header_says bytes h few e =
 -- where there is a header, one may begin
 pub header_begins : (bytes : List ℕ) (h : HeaderFields) → AreFew bytes → header_front bytes ≡ Ok h
     → may_begin_header (get_or bytes 0 0) (get_or bytes 1 0) ≡ true
-header_begins bytes h few e =
-    let s = header_says bytes h few e in
-    ap₂ (λ (x y : Bool). x && y) (eq-eqb _ _ s.first) (eq-eqb _ _ s.layer)
+header_begins bytes h few e = grind (arith, header_says, eq-eqb)
 
 -- ---- the length of the frame
 
@@ -190,21 +181,13 @@ any_channels v f channels r p = refl
 
 length_of_header : (h : HeaderFields) → length_of (class_of h) h.slot
     ≡ length_by h.version h.frequency_index h.slot.rate_index h.slot.padding
-length_of_header h =
-    any_channels h.version h.frequency_index (class_of h).channels h.slot.rate_index h.slot.padding
+length_of_header h = grind (arith, any_channels)
 
 -- the length that the second and third bytes of a header give is the frame's
 pub length_is : (bytes : List ℕ) (h : HeaderFields) → AreFew bytes → header_front bytes ≡ Ok h
     → length_of (class_of h) h.slot ≡ raw_frame_length (get_or bytes 1 0) (get_or bytes 2 0)
 unfolding raw_frame_length
-length_is bytes h few e =
-    let s = header_says bytes h few e in
-    length_of_header h
-    ∙ ap (λ v. length_by v h.frequency_index h.slot.rate_index h.slot.padding) s.version
-    ∙ ap (λ f. length_by (raw_version (get_or bytes 1 0 / 8 % 4)) f
-    h.slot.rate_index h.slot.padding) s.frequency
-    ∙ ap₂ (λ (r : ℕ) (p : Bool). length_by (raw_version (get_or bytes 1 0 / 8 % 4))
-    (get_or bytes 2 0 / 4 % 4) r p) s.rate s.padding
+length_is bytes h few e = grind (arith, header_says bytes h few e, length_of_header h)
 
 -- the table has the lengths without padding
 abbrev bare_length : ℕ → ℕ → ℕ
@@ -247,8 +230,7 @@ numbered _ few not_one = refl
 
 version_number_said : (bytes : List ℕ) (h : HeaderFields) → Says bytes h
     → version_number h.version ≡ get_or bytes 1 0 / 8 % 4
-version_number_said bytes h s =
-    ap version_number s.version ∙ numbered (get_or bytes 1 0 / 8 % 4) (omega arith) s.version_not
+version_number_said bytes h s = grind (arith, numbered)
 
 not_zero : (m n : ℕ) → m ≢ n → not (eqb m n) ≡ true
 not_zero m n e = ap not (ne_eqb m n e)
@@ -257,44 +239,23 @@ same_parts : (c d : ClassFields) → same_class c d ≡ true
     → (version_number c.version ≡ version_number d.version)
     × (c.frequency_index ≡ d.frequency_index) × (c.channels ≡ d.channels)
 unfolding same_class
-same_parts c d e =
-    let parts = and_parts _ _ e in
-    let front = and_parts _ _ parts.0 in
-    (eqb-true _ _ front.0, eqb-true _ _ front.1, eqb-true _ _ parts.1)
+same_parts c d e = grind (arith, and_parts, eqb-true)
 
 follows : (own next : List ℕ) (h g : HeaderFields) → Says own h → Says next g
     → same_class (class_of g) (class_of h) ≡ true → may_follow_header own next ≡ true
 unfolding may_follow_header
 follows own next h g o n e =
-    let same = same_parts (class_of g) (class_of h) e in
-    let versions = sym (version_number_said next g n) ∙ same.0 ∙ version_number_said own h o in
-    let second : get_or next 1 0 / 2 ≡ get_or own 1 0 / 2 =
-    omega (arith, versions, o.sync, n.sync, o.layer, n.layer) in
-    let third = sym n.frequency ∙ same.1 ∙ o.frequency in
-    let fourth : raw_channels (get_or next 3 0) ≡ raw_channels (get_or own 3 0) =
-    ap (λ m. cond (eqb m 3) 1 2) (sym n.mode) ∙ same.2 ∙ ap (λ m. cond (eqb m 3) 1 2) o.mode in
-    and_from _ _
-    (and_from _ _ (and_from _ _ (and_from _ _ (eq-eqb _ _ n.first) (eq-eqb _ _ second))
-    (eq-eqb _ _ third)) (and_from _ _ (not_zero _ _ n.rate_some) (not_zero _ _ n.rate_not)))
-    (eq-eqb _ _ fourth)
+    grind (arith, same_parts, version_number_said, and_from, eq-eqb, not_zero)
 
 -- a byte of a text that the bytes begin with
 byte_of : (text bytes : List ℕ) (i : ℕ) → i < length text → begins_with text bytes ≡ true
     → get_or bytes i 0 ≡ get_or text i 0
-byte_of text bytes i within is =
-    let same : text ≡ take (length text) bytes =
-    (bytes_eq-Decides text (take (length text) bytes)).0 is in
-    sym (get_or-take (length text) bytes i 0 within) ∙ ap (λ t. get_or t i 0) (sym same)
+byte_of text bytes i within is = grind (arith, bytes_eq-Decides, is, get_or-take)
 
 named : (bytes text : List ℕ) → 2 < length text → begins_with text bytes ≡ true
     → may_begin_block (get_or text 0 0) (get_or text 1 0) (get_or text 2 0) ≡ true
     → may_begin_block (get_or bytes 0 0) (get_or bytes 1 0) (get_or bytes 2 0) ≡ true
-named bytes text long is e =
-    rw (
-      byte_of text bytes 0 (omega (arith, long)) is,
-      byte_of text bytes 1 (omega (arith, long)) is,
-      byte_of text bytes 2 long is,
-    ) e
+named bytes text long is e = grind (arith, byte_of, is)
 
 id3v2_named : (bytes : List ℕ) → is_id3v2 bytes ≡ true → begins_with (codes "ID3") bytes ≡ true
 unfolding is_id3v2
@@ -306,8 +267,7 @@ id3v1_named bytes is = is
 
 ape_named : (bytes : List ℕ) → is_ape bytes ≡ true → begins_with (codes "APETAGEX") bytes ≡ true
 unfolding is_ape
-ape_named bytes is =
-    (and_parts _ _ (and_parts _ _ (and_parts _ _ (and_parts _ _ (and_parts _ _ is).0).0).0).0).1
+ape_named bytes is = grind (arith, and_parts, is)
 
 block_named : (kind : Kind) (bytes : List ℕ) → begins kind bytes ≡ true
     → may_begin_block (get_or bytes 0 0) (get_or bytes 1 0) (get_or bytes 2 0) ≡ true
@@ -350,16 +310,12 @@ side_cases _ _ channels = refl
 side_is : (bytes : List ℕ) (h : HeaderFields) → Says bytes h
     → side_size_of (class_of h) ≡ raw_side_size (get_or bytes 1 0) (get_or bytes 3 0)
 unfolding side_size_of
-side_is bytes h s =
-    let version = get_or bytes 1 0 / 8 % 4 in
-    ap₂ (λ (v : Version) (m : ℕ). side_bytes_of v (cond (eqb m 3) 1 2)) s.version s.mode
-    ∙ side_cases (eqb version 3) (eqb version 2) (raw_channels (get_or bytes 3 0))
+side_is bytes h s = grind (arith, side_cases)
 
 letter_of : (at : ℕ) (frame text : List ℕ) → 0 < length text
     → bytes_eq (take 4 (drop at frame)) text ≡ true → get_or frame at 0 ≡ get_or text 0 0
 letter_of at frame text some is =
-    let same : take 4 (drop at frame) ≡ text =
-    (bytes_eq-Decides (take 4 (drop at frame)) text).0 is in
+    let same : take 4 (drop at frame) ≡ text = grind (arith, bytes_eq-Decides, is) in
     let here : at + 0 ≡ at = omega arith in
     sym (sym (ap (λ t. get_or t 0 0) same) ∙ get_or-take 4 (drop at frame) 0 0 (lit< tt)
     ∙ get_or-drop at frame 0 0 ∙ ap (λ n. get_or frame n 0) here)
@@ -378,10 +334,7 @@ text_begins at frame is = letter_by at frame (or_cases _ _ is)
 text_cases : (at size : ℕ) (own : List ℕ) → may_begin_text (get_or own at 0) ≡ false → (b : Bool)
     → has_text at (take size own) ≡ b → b ≡ false
 text_cases at size own none true is =
-    let within = has_text-within at (take size own) is in
-    let here = get_or-take size own at 0 (omega (arith, within, length-take size own)) in
-    absurd
-    (false≢true (sym none ∙ ap may_begin_text (sym here) ∙ text_begins at (take size own) is))
+    grind (arith, has_text-within, is, get_or-take, length-take, false≢true, text_begins)
 text_cases at size own none false is = refl
 
 no_text : (at size : ℕ) (own : List ℕ) → may_begin_text (get_or own at 0) ≡ false
@@ -395,9 +348,6 @@ low_is side h same = ap (λ n. 4 + n) same
 high_is : (side : ℕ) (h : HeaderFields) → side_size_of (class_of h) ≡ side → high_place h ≡ 6 + side
 unfolding high_place
 high_is side h same = ap (λ n. 6 + n) same
-
-abbrev headed : ℕ → HeaderFields → ℕ → Head
-headed offset h at = record { offset = offset; header = h; text_at = at }
 
 module _ (own : List ℕ) (few : AreFew own) (side right : ℕ) (side_said_is : side
     ≡ raw_side_size (get_or own 1 0) (get_or own 3 0)) (even : get_or own 1 0 % 2 ≡ 0)
@@ -413,34 +363,34 @@ module _ (own : List ℕ) (few : AreFew own) (side right : ℕ) (side_said_is : 
   wrong_word : (h : HeaderFields) → header_front own ≡ Ok h → Says own h
       → has_right_crc h own ≡ false
   wrong_word h e s =
-      let same : side ≡ side_size_of (class_of h) = side_said_is ∙ sym (side_is own h s) in
-      let right_here = right_is h (header_four own h e).1 same in
-      let word : right_crc h own ≡ right =
-      ap (check_word_of h) (side_protected h own (is_protected h s))
-      ∙ ap (λ n. check_word_of h (side_at (class_of h) (bits (take n (drop 6 own))))) (sym same)
-      ∙ sym right_here in
-      ap₂ (λ (p : Bool) (n : ℕ). not p || (stored_crc own == n)) (is_protected h s) word
-      ∙ ne_eqb (stored_crc own) right wrong
+      grind (
+        arith,
+        side_is own h s,
+        header_four own h e,
+        side_protected h own (is_protected h s),
+        is_protected h s,
+        ne_eqb (stored_crc own) right wrong,
+      )
 
   no_head : (offset : ℕ) (h : HeaderFields) → Says own h
       → is_head (record { offset = offset; header = h }) own ≡ false
   no_head offset h s =
-      let size = length_of (class_of h) h.slot in
-      let same : side_size_of (class_of h) ≡ side = side_is own h s ∙ sym side_said_is in
-      let none : head_text_of h (take size own) ≡ None =
-      head_text_of-none h (take size own) (no_text (low_place h) size own
-      (ap (λ n. may_begin_text (get_or own n 0)) (low_is side h same) ∙ low))
-      (and_right h.protected _ (no_text (high_place h) size own
-      (ap (λ n. may_begin_text (get_or own n 0)) (high_is side h same) ∙ high))) in
-      ap (λ o. is_some (option_map (headed offset h) o)) none
+      grind (
+        arith,
+        side_is,
+        head_text_of-none,
+        no_text,
+        low_is,
+        and_right,
+        high_is,
+        is_some,
+        option_map,
+      )
 
   -- a frame with a wrong check word, and no text of a head, isn't usable
   pub unusable_word : IsUnusable own
-  unusable_word First offset h e =
-      let s = header_says own h few e in
-      ap₂ (λ (a b : Bool). a || b) (wrong_word h e s) (no_head offset h s)
-  unusable_word (Later class) offset h e =
-      and_right (same_class (class_of h) class) _ (wrong_word h e (header_says own h few e))
+  unusable_word First offset h e = grind (arith, header_says own h few e, wrong_word, no_head)
+  unusable_word (Later class) offset h e = search (arith, and_right, wrong_word, header_says)
 
 -- ---- a frame that has no anchor, or isn't usable
 
@@ -459,14 +409,8 @@ module _ (front : List ℕ) (k size : ℕ) (few : AreFew (drop k front))
   pub plain_unanchored : ((h : HeaderFields) → header_front (drop k front) ≡ Ok h
       → is_anchor (class_of h) (item_front (drop size (drop k front))) ≡ false)
       → IsRuledOut front k
-  plain_unanchored none = λ role offset h is. (
-    omega (arith, near, same h is),
-    inl (sym (ap (λ n. is_anchor (class_of h) (item_front (drop (k + n) front))) (same h is))
-        ∙ ap (λ l. is_anchor (class_of h) (item_front l)) (sym (drop-drop size k front))
-        ∙ none h (here h is)),
-  )
+  plain_unanchored none = grind (arith, same, drop-drop, here)
 
   -- a place where the frame isn't usable is ruled out
   pub plain_unusable : IsUnusable (drop k front) → IsRuledOut front k
-  plain_unusable none = λ role offset h is.
-      (omega (arith, near, same h is), inr (none role (offset + k) h (here h is)))
+  plain_unusable none = grind (arith, same, here)

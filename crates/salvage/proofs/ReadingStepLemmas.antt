@@ -52,14 +52,8 @@ module _ (was now : Seen) (name : List ℕ) (begun : Begun) (old : DamagedSoFar)
       ⊎ IsPastMost item old fault → IsDamagedRefusal name was.files was.counts now.counts fault
   keep_refused same fault is =
       elim is as (λ _. IsDamagedRefusal name was.files was.counts now.counts fault) [
-        | inl memory ↦ subst (IsDamagedRefusal name was.files was.counts now.counts) (sym memory)
-            (memory_refusal name was.files was.counts now.counts begun.size begins.known same)
-        | inr past ↦ bytes_refusal name was.files was.counts now.counts fault
-            begun.size begins.known same (past_rightly item old fault past) (λ bytes holds.
-            past_most bytes begun old item fault (begins.told bytes holds)
-            (omega (arith, begins.known.few, begins.known.long bytes holds))
-            (reading.told bytes holds)
-            (read_there bytes holds) past)
+        | inl memory ↦ grind (arith, memory_refusal)
+        | inr past ↦ grind (arith, bytes_refusal, past_rightly, past_most, read_there)
       ]
 
   -- the item is kept, or is refused
@@ -85,6 +79,5 @@ module _ (was now : Seen) (name : List ℕ) (begun : Begun) (old : DamagedSoFar)
           on = omega (arith, adds.at, passes.some);
         });
     reads = reads;
-    refused = if_err result _ (λ fault. (fault ≡ Memory) ⊎ IsPastMost item old fault) _ kept
-        (keep_refused same);
+    refused = grind (arith, if_err, keep_refused);
   }

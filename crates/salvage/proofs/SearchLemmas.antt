@@ -1,10 +1,8 @@
 -- The next usable frame.
-use Rattle.std.proofs.Common.{ap, ap₂, arith, Bool, cond, drop, Err, false, get_or, IfOk, inl, inr}
-use Rattle.std.proofs.Common.{leb, length, List, None, Ok, Option, option_and_then, refl, Result}
-use Rattle.std.proofs.Common.{Some, subst, suc, sym, true, zero, ℕ, [], ◌+◌, ◌-◌, ◌<◌, ◌∙◌, ◌∷◌}
-use Rattle.std.proofs.Common.{◌≡◌, ◌≤◌, ◌⊎◌}
-use Rattle.std.proofs.lemmas.Bool.{and_right, false≢true, leb-false, leb-true}
-use Rattle.std.specs.Option.{option_or}
+use Rattle.std.proofs.Common.{ap, arith, Bool, cond, drop, Err, false, get_or, IfOk, inl, inr, leb}
+use Rattle.std.proofs.Common.{length, List, None, Ok, Option, option_and_then, refl, Result, Some}
+use Rattle.std.proofs.Common.{subst, suc, sym, true, zero, ℕ, [], ◌+◌, ◌-◌, ◌<◌, ◌∙◌, ◌∷◌, ◌≡◌, ◌≤◌}
+use Rattle.std.proofs.{Common.◌⊎◌, lemmas.Bool.{and_right, false≢true, leb-false, leb-true}}
 use Rattle.frame_header.specs.{Fields.HeaderFields, Tables.{class_of, length_of}}
 use Rattle.outside.specs.Files.{Files, Holds}
 use Rattle.salvage.proofs.{RawHeaderLemmas.header_begins, UsableLemmas.usable_behind}
@@ -32,31 +30,20 @@ not_usable file role at none = ap (frame_if_usable file role) none
 get_drop : (xs : List ℕ) (k i : ℕ) → get_or (drop k xs) i 0 ≡ get_or xs (k + i) 0
 get_drop xs zero i = ap (λ n. get_or xs n 0) (omega arith)
 get_drop [] (suc k) i = refl
-get_drop (x ∷ xs) (suc k) i =
-    let next : suc (k + i) ≡ suc k + i = omega arith in
-    get_drop xs k i ∙ ap (λ n. get_or (x ∷ xs) n 0) next
+get_drop (x ∷ xs) (suc k) i = grind (arith, get_drop xs k i)
 
 -- where no header may begin, no frame does
 pub bare_at : (front : List ℕ) → ((i : ℕ) → get_or front i 0 < 256) → (k : ℕ)
     → may_begin_header (get_or front k 0) (get_or front (k + 1) 0) ≡ false → (h : HeaderFields)
     → item_front (drop k front) ≡ Frame h → ⊥
-bare_at front few k bare h is =
-    let header : header_front (drop k front) ≡ Ok h =
-    subst (IsItemFront (drop k front)) is (stands (drop k front)) in
-    let begins = header_begins (drop k front) h
-    (λ i. subst (λ n. n < 256) (sym (get_drop front k i)) (few (k + i))) header in
-    let same = ap₂ (λ (m n : ℕ). may_begin_header m n)
-    (get_drop front k 0 ∙ ap (λ n. get_or front n 0) (omega arith)) (get_drop front k 1) in
-    false≢true (sym bare ∙ sym same ∙ begins)
+bare_at front few k bare h is = grind (arith, stands, header_begins, get_drop, false≢true)
 
 -- ---- where there is no anchored frame
 
 -- the header of a frame here is this one
 pub header_same : (bytes : List ℕ) (h g : HeaderFields) → header_front bytes ≡ Ok h
     → item_front bytes ≡ Frame g → h ≡ g
-header_same bytes h g read is =
-    let header : header_front bytes ≡ Ok g = subst (IsItemFront bytes) is (stands bytes) in
-    cc
+header_same bytes h g read is = grind (arith, stands)
 
 -- the header of an item that is a frame is the one with which the bytes begin
 pub header_of : (bytes : List ℕ) (g : HeaderFields) → item_front bytes ≡ Frame g
@@ -69,33 +56,17 @@ pub bare_here : (role : Role) (offset : ℕ) (front : List ℕ) (k : ℕ) (g : H
     → (is_anchor (class_of g) (item_front (drop (k + length_of (class_of g) g.slot) front)) ≡ false)
     ⊎ (is_usable role (record { offset = offset + k; header = g }) (drop k front) ≡ false)
     → HasNoUsableFrame role offset front k
-bare_here role offset front k g here near none = λ h is.
-    subst
-    (λ (f : HeaderFields). (k + length_of (class_of f) f.slot ≤ 4064)
-    × ((is_anchor (class_of f) (item_front (drop (k + length_of (class_of f) f.slot) front))
-    ≡ false)
-    ⊎ (is_usable role (record { offset = offset + k; header = f }) (drop k front) ≡ false)))
-    (header_same (drop k front) g h here is) (near, none)
+bare_here role offset front k g here near none = search (arith, header_same)
 
 -- what holds at the places up to one, and there, holds before the next
 pub bare_more : (P : ℕ → Type 0) (from at : ℕ) → ((k : ℕ) → from ≤ k → k < at → P k) → P at
     → (k : ℕ) → from ≤ k → k < at + 1 → P k
-bare_more P from at before here k some low = by_place (leb at k) refl
-  where
-    by_place : (b : Bool) → leb at k ≡ b → P k
-    by_place true is =
-        let same : at ≡ k = omega (arith, leb-true at k is, low) in
-        subst P same here
-    by_place false is = before k some (leb-false at k is)
+bare_more P from at before here k some low = grind (arith, leb-true, leb-false)
 
 -- what holds up to one place, and from there to another, holds up to the other
 pub bare_joined : (P : ℕ → Type 0) (from mid to : ℕ) → ((k : ℕ) → from ≤ k → k < mid → P k)
     → ((k : ℕ) → mid ≤ k → k < to → P k) → (k : ℕ) → from ≤ k → k < to → P k
-bare_joined P from mid to before behind k low high = by_place (leb mid k) refl
-  where
-    by_place : (b : Bool) → leb mid k ≡ b → P k
-    by_place true is = behind k (leb-true mid k is) high
-    by_place false is = before k low (leb-false mid k is)
+bare_joined P from mid to before behind k low high = grind (arith, leb-true, leb-false)
 
 -- a frame that isn't usable isn't found, anchored or not
 unusable : (file : List ℕ) (role : Role) (p : PlacedFrame) (b : Bool)
@@ -122,8 +93,7 @@ module _ (file : List ℕ) (at : ℕ) (front : List ℕ) (left : ℕ)
       → (is_anchor (class_of h) (item_front (drop (k + length_of (class_of h) h.slot) front))
       ≡ false) ⊎ (is_usable role (record { offset = at + k; header = h }) (drop k front) ≡ false)
       → frame_if_usable file role (anchored_item file (at + k) (Frame h)) ≡ None
-  bare_frame role k h shown near (inl none) = ap (λ b. frame_if_usable file role
-      (cond b (Some (record { offset = at + k; header = h })) None)) (no_anchor k h near none)
+  bare_frame role k h shown near (inl none) = grind (arith, no_anchor)
   bare_frame role k h shown near (inr none) =
       unusable file role (record { offset = at + k; header = h }) (has_anchor file (at + k) h)
       (sym (usable_behind file at front left shows role k h near shown) ∙ none)
@@ -131,18 +101,13 @@ module _ (file : List ℕ) (at : ℕ) (front : List ℕ) (left : ℕ)
   bare_by : (role : Role) (k : ℕ) (item : Item) → item_front (drop k front) ≡ item
       → HasNoUsableFrame role at front k
       → frame_if_usable file role (anchored_item file (at + k) item) ≡ None
-  bare_by role k (Frame h) shown bare =
-      let found = bare h shown in
-      bare_frame role k h shown found.0 found.1
+  bare_by role k (Frame h) shown bare = grind (arith, bare_frame)
   bare_by role k _ shown bare = refl
 
   bare_usable : (role : Role) (k : ℕ) → k ≤ 4064 → HasNoUsableFrame role at front k
       → usable_frame_at file role (at + k) ≡ None
   unfolding usable_frame_at anchored_frame
-  bare_usable role k near bare =
-      let item = item_front (drop k front) in
-      ap (λ i. frame_if_usable file role (anchored_item file (at + k) i))
-      (sym (item_at-behind file at front left shows k near)) ∙ bare_by role k item refl bare
+  bare_usable role k near bare = search (arith, item_at-behind, bare_by)
 
   -- there is no usable frame at the offsets that are passed
   pub passed_bare : (role : Role) (n earlier : ℕ) → n ≤ 4064
@@ -161,15 +126,7 @@ pub none_later : (file : List ℕ) (role : Role) (from at later earlier : ℕ)
     → ((k : ℕ) → at < k → k < later → usable_frame_at file role k ≡ None) → from ≤ earlier
     → earlier < later → usable_frame_at file role earlier ≡ None
 none_later file role from at later earlier before here behind low high =
-    by_place (leb earlier at) (leb at earlier) refl refl
-  where
-    by_place : (a b : Bool) → leb earlier at ≡ a → leb at earlier ≡ b
-        → usable_frame_at file role earlier ≡ None
-    by_place true true is is' =
-        let same : at ≡ earlier = omega (arith, leb-true earlier at is, leb-true at earlier is') in
-        subst (λ k. usable_frame_at file role k ≡ None) same here
-    by_place true false is is' = before earlier low (leb-false at earlier is')
-    by_place false b is is' = behind earlier (leb-false earlier at is) high
+    grind (arith, leb-true, leb-false)
 
 -- ---- the search
 
@@ -180,8 +137,7 @@ pub next_usable_frame-some : (file : List ℕ) (role : Role) (from at : ℕ) (p 
     → next_usable_frame file role from ≡ Some p
 unfolding next_usable_frame
 next_usable_frame-some file role from at p low high here none =
-    first_of-some (usable_frame_at file role) (length file) from at p
-    (record { low = low; high = omega (arith, high); here = here; none = none })
+    grind (arith, first_of-some (usable_frame_at file role) (length file) from)
 
 none_by_end : (file : List ℕ) (role : Role) (from to at : ℕ) → length file ≤ to
     → ((k : ℕ) → from ≤ k → k < to → usable_frame_at file role k ≡ None) → from ≤ at → (b : Bool)
@@ -195,9 +151,7 @@ pub next_usable_frame-none : (file : List ℕ) (role : Role) (from to : ℕ) →
     → ((k : ℕ) → from ≤ k → k < to → usable_frame_at file role k ≡ None)
     → next_usable_frame file role from ≡ None
 unfolding next_usable_frame
-next_usable_frame-none file role from to end none =
-    first_of-none (usable_frame_at file role) (length file) from
-    (λ at low high. none_by_end file role from to at end none low (leb to at) refl)
+next_usable_frame-none file role from to end none = grind (arith, first_of-none, none_by_end)
 
 -- ---- the first frame
 
@@ -206,16 +160,14 @@ pub first_here : (file : List ℕ) (front_end : ℕ) (p : PlacedFrame)
     → option_and_then (frame_of_item front_end) (item_read file First front_end) ≡ Some p
     → first_frame file front_end ≡ Some p
 unfolding first_frame
-first_here file front_end p here =
-    ap (λ o. option_or o (next_usable_frame file First (front_end + 1))) here
+first_here file front_end p here = grind arith
 
 -- if none is there, the first frame is the next usable one after it
 pub first_later : (file : List ℕ) (front_end : ℕ)
     → option_and_then (frame_of_item front_end) (item_read file First front_end) ≡ None
     → first_frame file front_end ≡ next_usable_frame file First (front_end + 1)
 unfolding first_frame
-first_later file front_end none =
-    ap (λ o. option_or o (next_usable_frame file First (front_end + 1))) none
+first_later file front_end none = grind arith
 
 -- the first frame is what the search after it finds
 pub first_behind : (name : List ℕ) (files mid : Files) (front_end : ℕ)
@@ -225,7 +177,5 @@ pub first_behind : (name : List ℕ) (files mid : Files) (front_end : ℕ)
     (λ o. (bytes : List ℕ) → Holds mid name bytes
     → o ≡ next_usable_frame bytes First (front_end + 1))
     → IfOk r (λ o. (bytes : List ℕ) → Holds files name bytes → o ≡ first_frame bytes front_end)
-first_behind name files mid front_end (Ok o) same none next =
-    λ bytes holds. next bytes (subst (λ f. Holds f name bytes) (sym same) holds)
-    ∙ sym (first_later bytes front_end (none bytes holds))
+first_behind name files mid front_end (Ok o) same none next = grind (arith, first_later)
 first_behind name files mid front_end (Err fault) same none next = tt

@@ -1,11 +1,11 @@
 -- The frames of all runs, judged in order.
 use Rattle.std.proofs.Common.{ap, append_assoc, ap₂, arith, flat_map, length, length-append, List}
-use Rattle.std.proofs.Common.{map, None, not, Option, refl, sym, ℕ, [], ◌++◌, ◌+◌, ◌∙◌, ◌∷◌, ◌≡◌}
+use Rattle.std.proofs.Common.{map, None, Option, refl, sym, ℕ, [], ◌++◌, ◌+◌, ◌∙◌, ◌∷◌, ◌≡◌}
 use Rattle.std.specs.List.{enumerate_from}
 use Rattle.salvage.specs.JudgedFrames.{empty_state, row_judged_in, rows_left, state_after_frame}
 use Rattle.salvage.specs.JudgedFrames.{state_after_thing, thing_rows}
-use Rattle.salvage.specs.SoundFrames.{end_of_sound, FrameRuns, is_sound, judged_row, judged_rows}
-use Rattle.salvage.specs.SoundFrames.{judged_runs, runs_of, runs_with_thing, sound_end}
+use Rattle.salvage.specs.SoundFrames.{end_of_sound, FrameRuns, judged_row, judged_rows, judged_runs}
+use Rattle.salvage.specs.SoundFrames.{runs_of, runs_with_thing, sound_end}
 use Rattle.salvage.specs.Walk.{IsItem, ItemOrGap, PlacedThing}
 use Rattle.sync_survey.proofs.FaultsLemmas.{IsRuled, place-more, place-next, place-none, ruled}
 use Rattle.sync_survey.specs.{MainData.{head_area, place, rows_of}, Row.Row}
@@ -32,14 +32,12 @@ module _ (head : Option Head) where
 
   behind-next : (rows : List Row) (r : Row)
       → state_after_frame (behind rows) r ≡ behind (rows ++ r ∷ [])
-  behind-next rows r = ap₂ (λ m n. record { place = m; ended = n }) (sym (place-next head rows r))
-      (sym (sound_ends.next rows r))
+  behind-next rows r = grind (arith, place-next head rows r, sound_ends.next)
 
   row-next : (rows rest : List Row) (r : Row)
       → judged_row head (rows ++ r ∷ rest) (length rows) r ≡ row_judged_in (behind rows) r
-  row-next rows rest r = ap₂ (λ m n. record r { lost = not (is_sound m n r) })
-      (place-more head rows (r ∷ rest) (length rows) (omega arith))
-      (sound_ends.more rows (r ∷ rest) (length rows) (omega arith))
+  row-next rows rest r =
+      grind (arith, place-more head rows (r ∷ rest) (length rows) (omega arith), sound_ends.more)
 
   judged_rest : (rows rest : List Row) → map (λ (p : ℕ × Row). judged_row head
       (rows ++ rest) p.0 p.1) (enumerate_from (length rows) rest) ≡ judged_from (behind rows) rest
@@ -73,14 +71,11 @@ later_same : (file : List ℕ) (later : List (List PlacedFrame))
     → flat_map (λ run. judged_rows None (rows_of file run)) later
     ≡ flat_map (λ run. judged_from empty_state (rows_of file run)) later
 later_same file [] = refl
-later_same file (run ∷ later) =
-    ap₂ (λ (a b : List Row). a ++ b) (judged_rows-from None (rows_of file run))
-    (later_same file later)
+later_same file (run ∷ later) = grind (arith, judged_rows-from, later_same file later)
 
 runs-from : (file : List ℕ) (head : Option Head) (runs : FrameRuns) → judged_runs file head runs
     ≡ runs_from file (record { place = head_area head; ended = 0 }) runs
-runs-from file head runs = ap₂ (λ (a b : List Row). a ++ b)
-    (judged_rows-from head (rows_of file runs.first)) (later_same file runs.later)
+runs-from file head runs = grind (arith, judged_rows-from, later_same)
 
 -- one more thing before the others
 thing_first : (file : List ℕ) (b : ReservoirState) (at : ℕ) (thing : ItemOrGap) (runs : FrameRuns)
@@ -92,13 +87,11 @@ thing_first file b at _ runs = refl
 all_things : (file : List ℕ) (b : ReservoirState) (ts : List PlacedThing)
     → runs_from file b (runs_of ts) ≡ rows_left file b ts
 all_things file b [] = refl
-all_things file b (t ∷ ts) = thing_first file b t.offset t.thing (runs_of ts)
-    ∙ ap (λ l. thing_rows file b t.offset t.thing ++ l)
-    (all_things file (state_after_thing file b t.offset t.thing) ts)
+all_things file b (t ∷ ts) =
+    grind (arith, thing_first, all_things file (state_after_thing file b t.offset t.thing) ts)
 
 -- the frames of all runs are the frames that are met, in order
 pub runs-left : (file : List ℕ) (head : Option Head) (ts : List PlacedThing)
     → judged_runs file head (runs_of ts)
     ≡ rows_left file (record { place = head_area head; ended = 0 }) ts
-runs-left file head ts = runs-from file head (runs_of ts)
-    ∙ all_things file (record { place = head_area head; ended = 0 }) ts
+runs-left file head ts = grind (arith, runs-from, all_things)

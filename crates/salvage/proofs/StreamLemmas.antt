@@ -7,7 +7,7 @@ use Rattle.std.proofs.lemmas.List.{drop-append-le, take-append-le, Concat.flat_m
 use Rattle.std.specs.List.{enumerate_from}
 use Rattle.bit_fields.{proofs.BitsLemmas.{bits-append, length-bits}, specs.Bits.bits}
 use Rattle.frame_header.specs.Fields.{ClassFields, HeaderFields}
-use Rattle.frame_header.specs.Tables.{area_of, class_of, length_of, overhead_of}
+use Rattle.frame_header.specs.Tables.{area_of, class_of, length_of}
 use Rattle.salvage.proofs.KeptLemmas.{sound_within}
 use Rattle.salvage.proofs.LaidOutLemmas.{damaged_fields-from, damaged_of-is, read-laid}
 use Rattle.salvage.proofs.SoundLemmas.{judged_from, judged_rows-from}
@@ -74,8 +74,7 @@ frames-append : (main : List ℕ) (place : ℕ) (xs ys : List Row) → frames_at
     ≡ frames_at main place xs ++ frames_at main (place + areas xs) ys
 frames-append main place [] ys = ap (λ n. frames_at main n ys) (omega arith)
 frames-append main place (r ∷ xs) ys =
-    ap (λ l. frame_at main place r ∷ l) (frames-append main (place + own_area r.header) xs ys
-    ∙ ap (λ n. frames_at main (place + own_area r.header) xs ++ frames_at main n ys) (omega arith))
+    grind (arith, frames-append main (place + own_area r.header) xs ys)
 
 -- ---- main data among others
 
@@ -149,32 +148,29 @@ frames_among : (before main behind : List ℕ) (place : ℕ) (rows : List Row)
     ≡ frames_at main place rows
 frames_among before main behind place [] fit = refl
 frames_among before main behind place (r ∷ rows) fit =
-    ap₂ (λ (f : StreamFrame) (l : List StreamFrame). f ∷ l)
-    (frame_among before main behind place r r.lost refl fit.0)
-    (ap (λ n. frames_at (before ++ (main ++ behind)) n rows) (omega arith)
-    ∙ frames_among before main behind (place + own_area r.header) rows fit.1)
+    grind (
+      arith,
+      frame_among,
+      frames_among before main behind (place + own_area r.header) rows
+          fit.1,
+    )
 
 -- ---- the frames of a run that are kept
 
 areas_judged : (b : ReservoirState) (rows : List Row) → areas (judged_from b rows) ≡ areas rows
 areas_judged b [] = refl
-areas_judged b (r ∷ rows) =
-    ap (λ n. own_area r.header + n) (areas_judged (state_after_frame b r) rows)
+areas_judged b (r ∷ rows) = grind (arith, areas_judged (state_after_frame b r) rows)
 
 fits_by : (size : ℕ) (b : ReservoirState) (r : Row) → not (is_sound b.place b.ended r) ≡ false
     → b.place + own_area r.header ≤ size → Fits size b.place r
 unfolding payload_bytes
-fits_by size b r mark room =
-    let here = sound_within b.place b.ended r (not-false _ mark) in
-    (here.begins, omega (arith, here.within, room))
+fits_by size b r mark room = grind (arith, sound_within, not-false)
 
 judged_fit : (size : ℕ) (b : ReservoirState) (rows : List Row) → b.place + areas rows ≤ size
     → AllFit size b.place (judged_from b rows)
 judged_fit size b [] room = tt
-judged_fit size b (r ∷ rows) room = (
-  (λ mark. fits_by size b r mark (omega (arith, room))),
-  judged_fit size (state_after_frame b r) rows (omega (arith, room)),
-)
+judged_fit size b (r ∷ rows) room =
+    grind (arith, fits_by, judged_fit size (state_after_frame b r) rows (omega (arith, room)))
 
 -- ---- the areas of whole frames
 
@@ -186,35 +182,24 @@ AreWhole file (r ∷ rows) =
 laid_whole : (file : List ℕ) (from : ℕ) (rows : List Row) (to : ℕ) → to ≤ length file
     → FramesAreLaid from rows to → AreWhole file rows
 laid_whole file from [] to within laid = tt
-laid_whole file from (r ∷ rows) to within laid = (
-  omega (
-    arith,
-    within,
-    laid_end (r.offset + length_of (class_of r.header) r.header.slot) rows to laid.2,
-  ),
-  laid_whole file
-      (r.offset + length_of (class_of r.header) r.header.slot) rows to within laid.2,
-)
+laid_whole file from (r ∷ rows) to within laid =
+    grind (
+      arith,
+      laid_end,
+      laid_whole file (r.offset + length_of (class_of r.header) r.header.slot)
+          rows to within laid.2,
+    )
 
 whole_parts : (file : List ℕ) (xs ys : List Row) → AreWhole file (xs ++ ys)
     → AreWhole file xs × AreWhole file ys
 whole_parts file [] ys whole = (tt, whole)
-whole_parts file (r ∷ xs) ys whole = let rest = whole_parts file xs ys whole.1 in
-    ((whole.0, rest.0), rest.1)
+whole_parts file (r ∷ xs) ys whole = grind (arith, whole_parts file xs ys whole.1)
 
 length_area : (file : List ℕ) (offset : ℕ) (h : HeaderFields)
     → offset + length_of (class_of h) h.slot ≤ length file
     → length (area_bytes file offset h) ≡ own_area h
 unfolding area_of
-length_area file offset h within =
-    let over = overhead_of (class_of h) h.protected in
-    omega (
-      arith,
-      within,
-      length-take (length_of (class_of h) h.slot - over) (drop over (drop offset file)),
-      length-drop over (drop offset file),
-      length-drop offset file,
-    )
+length_area file offset h within = grind (arith, length-take, length-drop)
 
 module _ (file : List ℕ) where
   abbrev area_in : Row → List ℕ
@@ -239,11 +224,7 @@ module _ (file : List ℕ) where
   run_fits : (head : Option Head) (rows : List Row) (size : ℕ)
       → head_area head + areas (judged_rows head rows) ≤ size
       → AllFit size (head_area head) (judged_rows head rows)
-  run_fits head rows size room =
-      let from : ReservoirState = record { place = head_area head; ended = 0 } in
-      subst (AllFit size (head_area head)) (sym (judged_rows-from head rows))
-      (judged_fit size from rows
-      (omega (arith, room, ap areas (judged_rows-from head rows), areas_judged from rows)))
+  run_fits head rows size room = grind (arith, judged_rows-from, judged_fit, areas_judged)
 
   later_stream : (before : List ℕ) (later : List (List PlacedFrame))
       → AreWhole file (flat_map of_run later)
@@ -277,8 +258,7 @@ module _ (file : List ℕ) where
       → IfSome head (IsWholeHead first class size) → size ≤ length file
       → length (head_bytes file head) ≡ head_area head
   length_head None first size class whole few = refl
-  length_head (Some head) first size class whole few =
-      length_area file head.offset head.header (omega (arith, whole.within, few))
+  length_head (Some head) first size class whole few = grind (arith, length_area)
 
   all_stream : (head : Option Head) (runs : FrameRuns)
       → length (head_bytes file head) ≡ head_area head → AreWhole file (judged_runs file head runs)
@@ -291,9 +271,7 @@ module _ (file : List ℕ) where
       let behind = flat_map area_in others in
       let parts = whole_parts file own others whole in
       let joined : main_bytes file head (own ++ others) ≡ main ++ behind =
-      main-is head (own ++ others)
-      ∙ ap (λ l. head_bytes file head ++ l) (flat_map-append area_in own others)
-      ∙ sym (append_assoc (head_bytes file head) (flat_map area_in own) behind) in
+      grind (arith, main-is, flat_map-append, append_assoc, flat_map) in
       let size : length main ≡ head_area head + areas own = omega (
         arith,
         length-append (head_bytes file head) (flat_map area_in own),
@@ -326,11 +304,7 @@ told_stream : (file : List ℕ) (front_end : ℕ) (first : PlacedFrame)
     → stream_of_survey file (damaged_from file front_end first).survey
     ≡ runs_stream file (head_of file first) (runs_of (things_from file first))
 unfolding damaged_from stream_of_survey
-told_stream file front_end first laid =
-    all_stream file (head_of file first) (runs_of (things_from file first)) (length_head file
-    (head_of file first) first.offset (length file) (class_of first.header) laid.head (omega arith))
-    (laid_whole file first.offset (judged_runs file (head_of file first)
-    (runs_of (things_from file first))) (length file) (omega arith) laid.frames)
+told_stream file front_end first laid = grind (arith, all_stream, length_head, laid_whole)
 
 -- the stream of a file is the stream of its runs of frames
 pub stream-told : (file : List ℕ) (d : DamagedFields) → damaged_fields file ≡ Ok d
@@ -343,5 +317,4 @@ stream-told file d e laid =
 
 -- the law for all that is read of a file
 pub tells_streams : SalvageTellsStreams
-tells_streams file d e = let read = damaged_of-is file d e in
-    stream-told file d read.1 (read-laid file d e)
+tells_streams file d e = grind (arith, damaged_of-is, stream-told, read-laid)

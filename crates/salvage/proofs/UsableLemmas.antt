@@ -1,10 +1,10 @@
 -- A look shows whether a frame is usable.
-use Rattle.std.proofs.Common.{ap, ap₂, arith, Bool, cond, drop, Err, false, is_some, length, List}
-use Rattle.std.proofs.Common.{None, not, Ok, Option, refl, Result, Some, sym, take, true, ℕ, ◌&&◌}
-use Rattle.std.proofs.{Common.{◌+◌, ◌-◌, ◌<◌, ◌==◌, ◌||◌, ◌∙◌, ◌≡◌, ◌≤◌}, lemmas.Bool.leb-true}
+use Rattle.std.proofs.Common.{ap, arith, Bool, cond, drop, Err, false, is_some, length, List, None}
+use Rattle.std.proofs.Common.{Ok, Option, refl, Result, Some, sym, take, true, ℕ, ◌+◌, ◌-◌, ◌<◌}
+use Rattle.std.proofs.{Common.{◌∙◌, ◌≡◌, ◌≤◌}, lemmas.Bool.leb-true}
 use Rattle.std.proofs.lemmas.List.{drop-drop, drop-take, take-take}
 use Rattle.bit_fields.specs.Bits.{bits}
-use Rattle.frame_header.specs.{Fields.{HeaderFields, same_class}, Reading.header_at}
+use Rattle.frame_header.specs.{Fields.HeaderFields, Reading.header_at}
 use Rattle.frame_header.specs.Tables.{class_of, length_of, overhead_of, side_size_of}
 use Rattle.frame_header.specs.declared.header.NotHeader.{NotHeader, TheVariants.No}
 use Rattle.salvage.specs.Steps.{admits_item}
@@ -13,13 +13,12 @@ use Rattle.salvage.specs.UsableFrames.{usable_frame_at}
 use Rattle.salvage.specs.{Walk.{is_item_read, item_if_read, item_read}, declared.usable.Role.Role}
 use Rattle.salvage.specs.declared.usable.Role.TheVariants.{First, Later}
 use Rattle.side_info.proofs.FrameLemmas.{overhead-few, side_in-take, stored_crc-take}
-use Rattle.side_info.specs.{CheckWord.check_word_of, Frame.{side_in, side_part, side_place}}
-use Rattle.side_info.specs.Side.{side_at}
+use Rattle.side_info.specs.{Frame.{side_in, side_part}, Side.side_at}
 use Rattle.sync_survey.proofs.{LooksLemmas.item_at-shown, RunsLemmas.whole_item_at-whole}
 use Rattle.sync_survey.proofs.StepLemmas.{length_few, overhead_few}
 use Rattle.sync_survey.specs.Items.{header_front, item_front, size_of}
 use Rattle.sync_survey.specs.{Looks.{look_size, PassesFront, Shows}, Runs.{belongs, whole_item_at}}
-use Rattle.sync_survey.specs.{Start.anchored_frame, Walk.head_in_bytes, declared.items.Item.Item}
+use Rattle.sync_survey.specs.{Start.anchored_frame, declared.items.Item.Item}
 use Rattle.sync_survey.specs.declared.items.Item.TheVariants.{Block, Frame, Zero}
 use Rattle.sync_survey.specs.declared.places.PlacedFrame.{PlacedFrame}
 use Rattle.sync_survey.specs.declared.runs.{Region.TheVariants.Stream, Step.Step}
@@ -35,39 +34,31 @@ header_cases false r h e = absurd cc
 pub header_four : (bytes : List ℕ) (h : HeaderFields) → header_front bytes ≡ Ok h
     → (4 ≤ length bytes) × (header_at (take 4 bytes) ≡ Ok h)
 unfolding header_front
-header_four bytes h e =
-    let cases = header_cases _ _ h e in
-    (leb-true 4 (length bytes) cases.0, cases.1)
+header_four bytes h e = grind (arith, header_cases, leb-true)
 
 -- the side information of a protected frame is after its check word
 pub side_protected : (h : HeaderFields) (bytes : List ℕ) → h.protected ≡ true → side_in h bytes
     ≡ side_at (class_of h) (bits (take (side_size_of (class_of h)) (drop 6 bytes)))
 unfolding side_in side_part
-side_protected h bytes is = ap (λ p. side_at (class_of h)
-    (bits (take (side_size_of (class_of h)) (drop (side_place p) bytes)))) is
+side_protected h bytes is = grind arith
 
 -- ---- fewer bytes show what is judged, too
 
 word-take : (h : HeaderFields) (n : ℕ) (bytes : List ℕ) → 6 ≤ n
     → overhead_of (class_of h) h.protected ≤ n
     → has_right_crc h (take n bytes) ≡ has_right_crc h bytes
-word-take h n bytes six room =
-    ap₂ (λ (said right : ℕ). not h.protected || (said == right)) (stored_crc-take n bytes six)
-    (ap (check_word_of h) (side_in-take h n bytes room))
+word-take h n bytes six room = grind (arith, stored_crc-take, side_in-take)
 
 head-take : (p : PlacedFrame) (n : ℕ) (bytes : List ℕ)
     → length_of (class_of p.header) p.header.slot ≤ n → is_head p (take n bytes) ≡ is_head p bytes
-head-take p n bytes few = ap (λ l. is_some (head_in_bytes p l))
-    (take-take (length_of (class_of p.header) p.header.slot) n bytes few)
+head-take p n bytes few = grind (arith, is_some, take-take)
 
 usable-take : (role : Role) (p : PlacedFrame) (n : ℕ) (bytes : List ℕ) → 6 ≤ n
     → overhead_of (class_of p.header) p.header.protected ≤ n
     → length_of (class_of p.header) p.header.slot ≤ n
     → is_usable role p (take n bytes) ≡ is_usable role p bytes
-usable-take First p n bytes six room few =
-    ap₂ (λ (a b : Bool). a || b) (word-take p.header n bytes six room) (head-take p n bytes few)
-usable-take (Later class) p n bytes six room few = ap
-    (λ (b : Bool). same_class (class_of p.header) class && b) (word-take p.header n bytes six room)
+usable-take First p n bytes six room few = grind (arith, word-take, head-take)
+usable-take (Later class) p n bytes six room few = grind (arith, word-take)
 
 module _ (file : List ℕ) (at : ℕ) (front : List ℕ) (left : ℕ)
     (shows : Shows file at front left) where
@@ -75,12 +66,20 @@ module _ (file : List ℕ) (at : ℕ) (front : List ℕ) (left : ℕ)
   pub usable_shown : (role : Role) (p : PlacedFrame) → p.offset ≡ at → item_front front
       ≡ Frame p.header → is_usable role p front ≡ is_usable role p (drop p.offset file)
   usable_shown role p here is =
-      ap (is_usable role p) shows.front_is
-      ∙ usable-take role p look_size (drop at file) (omega arith) (omega (
+      grind (
         arith,
+        usable-take role p look_size (drop at file) (omega arith) (omega (
+          arith,
+          overhead-few (class_of p.header) p.header.protected,
+        )) (omega (
+          arith,
+          length_few front
+              p.header is,
+        )),
         overhead-few (class_of p.header) p.header.protected,
-      )) (omega (arith, length_few front p.header is))
-      ∙ ap (λ n. is_usable role p (drop n file)) (sym here)
+        length_few front p.header
+            is,
+      )
 
   -- the look shows whether a frame that is at a later place of it, and ends within it, is usable
   pub usable_behind : (role : Role) (k : ℕ) (h : HeaderFields)
@@ -115,8 +114,7 @@ module _ (file : List ℕ) (at : ℕ) (front : List ℕ) (left : ℕ)
       → p.offset ≡ at → item_front front ≡ Frame p.header → (b : Bool) → is_usable role p front ≡ b
       → cond b (Some p) None ≡ usable_frame_at file role at
   frame_judged role p anchored here is b usable =
-      sym (ap (λ b. cond b (Some p) None) (sym (usable_shown role p here is) ∙ usable))
-      ∙ usable_by role (Some p) anchored
+      grind (arith, usable_shown role p here is, usable_by role (Some p) anchored)
 
   -- ---- an item that is read
 

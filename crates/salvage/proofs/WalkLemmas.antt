@@ -32,9 +32,7 @@ read_by file role at (Some i) item is e = is ∙ ap Some (whole_cases _ i item e
 pub item_read-is : (file : List ℕ) (role : Role) (at : ℕ) (item : Item)
     → item_read file role at ≡ Some item → IsItemOf Stream file at item
 unfolding item_read
-item_read-is file role at item e =
-    whole_item_at-is Stream file at item
-    (read_by file role at (whole_item_at Stream file at) item refl e)
+item_read-is file role at item e = search (arith, whole_item_at-is, read_by)
 
 -- ---- the next frame
 
@@ -51,8 +49,7 @@ usable_by file role at (Some q) p is e = is ∙ ap Some (usable_cases _ q p e)
 usable_frame_at-is : (file : List ℕ) (role : Role) (at : ℕ) (p : PlacedFrame)
     → usable_frame_at file role at ≡ Some p → IsAnchoredAt file at p
 unfolding usable_frame_at
-usable_frame_at-is file role at p e =
-    anchored_frame-is file at p (usable_by file role at (anchored_frame file at) p refl e)
+usable_frame_at-is file role at p e = search (arith, anchored_frame-is, usable_by)
 
 -- a frame is within the file, and not before the offset from which it is looked for
 pub record IsNext (file : List ℕ) (from : ℕ) (p : PlacedFrame) : Type 0 where
@@ -86,8 +83,7 @@ gap_by file class at (Some p) before is =
 pub gap_end-is : (file : List ℕ) (class : ClassFields) (at : ℕ) → at < length file
     → IsGapTo file at (gap_end file class at)
 unfolding gap_end
-gap_end-is file class at before =
-    gap_by file class at (next_usable_frame file (Later class) (at + 1)) before refl
+gap_end-is file class at before = grind (arith, gap_by)
 
 -- a gap ends at the next usable frame after its first byte, or at the end of the file
 pub gap_end-by : (file : List ℕ) (class : ClassFields) (at : ℕ)
@@ -127,22 +123,19 @@ module _ (file : List ℕ) (class : ClassFields) where
 
   past : (n at : ℕ) → length file ≤ at → things_up_to n file class at ≡ []
   past zero at le = none_more at
-  past (suc n) at le =
-      one_more n at ∙ ap (onward at (things_up_to n file class)) (le-ltb at (length file) le)
+  past (suc n) at le = grind (arith, one_more, le-ltb)
 
   onward-same : (at : ℕ) (next later : ℕ → List PlacedThing) (b : Bool)
       → (b ≡ true → next (at + size_of_thing (thing_at file class at))
       ≡ later (at + size_of_thing (thing_at file class at))) → onward at next b ≡ onward at later b
-  onward-same at next later true same =
-      ap (λ l. record { offset = at; thing = thing_at file class at } ∷ l) (same refl)
+  onward-same at next later true same = grind arith
   onward-same at next later false same = refl
 
   -- any bound that is at least the number of bytes left gives the same things
   enough : (m n at : ℕ) → length file ≤ m + at → length file ≤ n + at
       → things_up_to m file class at ≡ things_up_to n file class at
   enough zero n at le le' = past zero at (omega (arith, le)) ∙ sym (past n at (omega (arith, le)))
-  enough (suc m) zero at le le' =
-      past (suc m) at (omega (arith, le')) ∙ sym (past zero at (omega (arith, le')))
+  enough (suc m) zero at le le' = grind (arith, past)
   enough (suc m) (suc n) at le le' =
       one_more m at
       ∙ onward-same at (things_up_to m file class) (things_up_to n file class)
@@ -155,20 +148,16 @@ module _ (file : List ℕ) (class : ClassFields) where
   things-step : (at : ℕ)
       → things file class at ≡ onward at (things file class) (ltb at (length file))
   unfolding things
-  things-step at = enough (length file) (suc (length file)) at (omega arith) (omega arith)
-      ∙ one_more (length file) at
+  things-step at = grind (arith, enough (length file) (suc (length file)), one_more (length file))
 
   -- past the end of the file there is nothing
   pub things-past : (at : ℕ) → length file ≤ at → things file class at ≡ []
-  things-past at le =
-      things-step at ∙ ap (onward at (things file class)) (le-ltb at (length file) le)
+  things-past at le = grind (arith, things-step, le-ltb)
 
   things-next : (at : ℕ) (thing : ItemOrGap) → at < length file → thing_at file class at ≡ thing
       → things file class at
       ≡ record { offset = at; thing = thing } ∷ things file class (at + size_of_thing thing)
-  things-next at thing before is =
-      things-step at ∙ ap (onward at (things file class)) (lt-ltb at (length file) before)
-      ∙ ap (λ t. record { offset = at; thing = t } ∷ things file class (at + size_of_thing t)) is
+  things-next at thing before is = grind (arith, things-step, lt-ltb)
 
   -- where an item is read, it is the first thing, and the others follow it
   pub things-item : (at : ℕ) (item : Item) → item_read file (Later class) at ≡ Some item
@@ -216,9 +205,7 @@ module _ (file : List ℕ) (class : ClassFields) where
       subst (IsPassed at item) (sym own)
       (record {
         rows = λ b. ap (rows_left file b) here;
-        blocks = ap blocks_of_things here
-            ∙ cons_list (block_of_item at item)
-            (blocks_of_things (things file class (at + size_of item)));
+        blocks = grind (arith, cons_list);
         gaps = ap gaps_of here;
       })
 
@@ -239,7 +226,6 @@ module _ (file : List ℕ) (class : ClassFields) where
       → Shows file at front left → item_read file (Later class) at ≡ Some item
       → (item ≡ Zero → size ≡ prefix_len zero_test front)
       → ((item ≡ Zero → ⊥) → size ≡ size_of item) → IsPassed at item size
-  item_passed at front left Zero size shows is zeros own =
-      passed_zeros at front left size shows (zeros refl)
+  item_passed at front left Zero size shows is zeros own = search (arith, passed_zeros)
   item_passed at front left item size shows is zeros own =
       passed_own at item size is (own (λ e. cc))

@@ -12,11 +12,9 @@ use Rattle.std.specs.Prelude.{bytes_eq, if◌then◌else◌, nat_le, option_and_
 use Rattle.std.specs.Prelude.{slice_get, unwrap_or, ◌&&◌}
 use Rattle.exact_span.specs.{Overlaps.shared_overlap, PlayedPositions.{rest_of, samples_in}}
 use Rattle.exact_span.specs.declared.{overlap.Overlap.Overlap, played.Played.Played}
-use Rattle.frame_header.specs.{Fields.{ClassFields, SlotFields}, Tables.window_of}
-use Rattle.seam_plan.proofs.SeamLemmas.{IfWithout, without-led}
-use Rattle.seam_plan.specs.Frames.{Brought, needs_of, RunFrame}
-use Rattle.seam_plan.specs.Joins.{frame_in_slot, join_slot, joining_frames}
-use Rattle.seam_plan.specs.Laws.{FollowersGoOn, InputGoesOn, run_after}
+use Rattle.frame_header.specs.{Fields.ClassFields, Tables.window_of}
+use Rattle.seam_plan.{proofs.SeamLemmas.{IfWithout, without-led}, specs.Frames.{Brought, RunFrame}}
+use Rattle.seam_plan.specs.{Joins.joining_frames, Laws.{FollowersGoOn, InputGoesOn, run_after}}
 use Rattle.seam_plan.specs.Seams.{are_frames_alike, compared_frames, ends_alike, following_joint}
 use Rattle.seam_plan.specs.Seams.{joint_of, joint_with, joint_without_lead_in, JointFrames}
 use Rattle.seam_plan.specs.Seams.{joints_from, joints_of, overlap_joint, whole_joint}
@@ -29,9 +27,7 @@ pub get-drop : {X : Type 0} (n : ℕ) (xs : List X) (i : ℕ)
     → slice_get (drop n xs) i ≡ slice_get xs (n + i)
 get-drop zero xs i = ap (slice_get xs) (omega arith)
 get-drop (suc n) [] i = refl
-get-drop (suc n) (x ∷ xs) i =
-    let next : suc (n + i) ≡ suc n + i = omega arith in
-    get-drop n xs i ∙ ap (slice_get (x ∷ xs)) next
+get-drop (suc n) (x ∷ xs) i = grind (arith, get-drop n xs i)
 
 abbrev pub sounds : List RunFrame → List (List ℕ)
 sounds frames = map (λ (f : RunFrame). f.sound) frames
@@ -69,13 +65,7 @@ pub joining_frames-sounds : (window : ℕ) (run rest frames : List RunFrame)
     → joining_frames window run rest ≡ Some frames → sounds frames ≡ sounds rest
 unfolding joining_frames
 joining_frames-sounds window run [] frames is = let same : [] ≡ frames = cc in ap sounds (sym same)
-joining_frames-sounds window run (f ∷ fs) frames is =
-    at (join_slot window (needs_of run) f.need (needs_of fs)) is
-  where
-    at : (o : Option SlotFields) → option_map (λ slot. frame_in_slot slot f ∷ fs) o ≡ Some frames
-        → sounds frames ≡ sounds (f ∷ fs)
-    at None none = absurd cc
-    at (Some slot) some = let same : frame_in_slot slot f ∷ fs ≡ frames = cc in ap sounds (sym same)
+joining_frames-sounds window run (f ∷ fs) frames is = grind (arith, is, frames)
 
 -- ---- what is shared
 
@@ -119,8 +109,7 @@ module _ (class : ClassFields) (rest start frames : ℕ) (overlap : Overlap) whe
   is-shared : shared_overlap class rest start frames ≡ Some overlap
       → IsShared class rest start frames overlap
   unfolding shared_overlap
-  is-shared is =
-      shared-test (eqb ((start + rest) % samples) 0 && nat_le whole_frames frames) refl is
+  is-shared is = grind (arith, shared-test, frames, is)
 
 -- ---- an input that follows
 
@@ -152,11 +141,7 @@ module _ (class : ClassFields) (run : List RunFrame) (before input : Brought) wh
         → option_map (joint_with (Follows overlap.frames)) o ≡ Some joint
         → (joined_by overlap ≡ Some joint.frames) × (joint.seam ≡ Follows overlap.frames)
     by_joined overlap None found none = absurd cc
-    by_joined overlap (Some frames) found some =
-        let same : joint_with (Follows overlap.frames) frames ≡ joint = cc in (
-          found ∙ ap (λ (j : JointFrames). Some j.frames) same,
-          ap (λ (j : JointFrames). j.seam) (sym same),
-        )
+    by_joined overlap (Some frames) found some = grind (arith, frames, found)
 
     by_alike : (p q : Played) (overlap : Overlap) (b : Bool) → before.played ≡ Some p
         → input.played ≡ Some q → shared_by p q ≡ Some overlap
@@ -186,9 +171,7 @@ module _ (class : ClassFields) (run : List RunFrame) (before input : Brought) wh
         → IsFollowing class run before input joint
     by_shared p q None ended_is played_is shared none = absurd cc
     by_shared p q (Some overlap) ended_is played_is shared some =
-        by_alike p q overlap
-        (ends_alike run (compared_frames overlap input)) ended_is played_is shared
-        refl some
+        grind (arith, by_alike, overlap, ended_is, played_is, shared)
 
     by_played : (p : Played) (o : Option Played) → before.played ≡ Some p → input.played ≡ o
         → option_and_then (overlap_joint class run input) (option_and_then (shared_by p) o)
@@ -221,8 +204,8 @@ module _ (class : ClassFields) (run : List RunFrame) (before input : Brought) wh
           → (unwrap_or (option_or x y) (whole_joint input)).seam ≡ Follows out
           → x ≡ Some (unwrap_or (option_or x y) (whole_joint input))
       at (Some joint) y without seam = refl
-      at None (Some joint) without seam = let never : LeadIn ≡ Follows out =
-          sym without.0 ∙ seam in absurd cc
+      at None (Some joint) without seam = let never : LeadIn ≡ Follows out = grind (arith, seam) in
+          absurd cc
       at None None without seam = absurd cc
 
   -- ---- the frames of the run
@@ -241,35 +224,16 @@ module _ (class : ClassFields) (run : List RunFrame) (before input : Brought) wh
     new = run ++ joint.frames
 
     length-compared_frames : length (compared_frames is.overlap input) ≡ shared - first
-    length-compared_frames =
-        length-take-le (shared - first) (drop first input.frames)
-        (omega (arith, length-drop first input.frames, is.shared.there))
-
-    alike-parts : (nat_le (length (compared_frames is.overlap input)) (length run) ≡ true)
-        × (are_frames_alike (drop (length run - length (compared_frames is.overlap input)) run)
-        (compared_frames is.overlap input) ≡ true)
-    alike-parts =
-        and_parts (nat_le (length (compared_frames is.overlap input)) (length run))
-        (are_frames_alike (drop (length run - length (compared_frames is.overlap input)) run)
-        (compared_frames is.overlap input)) is.alike
+    length-compared_frames = grind (arith, length-take-le, shared, length-drop)
 
     enough : shared - first ≤ length run
-    enough = omega (
-      arith,
-      length-compared_frames,
-      leb-true (length (compared_frames is.overlap input)) (length run) alike-parts.0,
-    )
+    enough = grind (arith, length-compared_frames, leb-true)
 
     last-sounds : sounds (drop from_end run) ≡ sounds (compared_frames is.overlap input)
-    last-sounds =
-        ap (λ n. sounds (drop (length run - n) run)) (sym length-compared_frames)
-        ∙ alike-sounds (drop (length run - length (compared_frames is.overlap input)) run)
-        (compared_frames is.overlap input) alike-parts.1
+    last-sounds = grind (arith, length-compared_frames, alike-sounds)
 
     added-sounds : sounds joint.frames ≡ sounds (drop shared input.frames)
-    added-sounds =
-        joining_frames-sounds (window_of class.version) run (drop shared input.frames) joint.frames
-        is.frames
+    added-sounds = grind (arith, joining_frames-sounds, shared)
 
     -- the frames that are alike and the added ones are the input's from the first of these on
     input-parts : compared_frames is.overlap input ++ drop shared input.frames
@@ -283,19 +247,10 @@ module _ (class : ClassFields) (run : List RunFrame) (before input : Brought) wh
 
     new-sounds : sounds (drop from_end new) ≡ sounds (drop first input.frames)
     new-sounds =
-        ap sounds (drop-append-le from_end run joint.frames (omega arith))
-        ∙ map-append (λ (f : RunFrame). f.sound) (drop from_end run) joint.frames
-        ∙ ap₂ (λ (x y : List (List ℕ)). x ++ y) last-sounds added-sounds
-        ∙ sym (map-append (λ (f : RunFrame). f.sound) (compared_frames is.overlap input)
-        (drop shared input.frames))
-        ∙ ap sounds input-parts
+        grind (arith, drop-append-le, map-append, last-sounds, added-sounds, shared, input-parts)
 
     added-length : length joint.frames ≡ length input.frames - shared
-    added-length =
-        sym (length-map joint.frames (λ (f : RunFrame). f.sound))
-        ∙ ap (λ (l : List (List ℕ)). length l) added-sounds
-        ∙ length-map (drop shared input.frames) (λ (f : RunFrame). f.sound)
-        ∙ length-drop shared input.frames
+    added-length = grind (arith, length-map, added-sounds, shared, length-drop)
 
     new-length : length new + shared ≡ length run + length input.frames
     new-length = omega (arith, length-append run joint.frames, added-length, is.shared.there)
@@ -319,10 +274,7 @@ module _ (class : ClassFields) (run : List RunFrame) (before input : Brought) wh
           enough,
         ) in
         let own : slice_get (sounds (drop first input.frames)) (i - first) ≡ Some f.sound =
-        slice_get-map (λ (f : RunFrame). f.sound) (drop first input.frames) (i - first)
-        ∙ ap (option_map (λ (f : RunFrame). f.sound))
-        (get-drop first input.frames (i - first) ∙ ap (slice_get input.frames) in_input
-        ∙ found) in
+        grind (arith, slice_get-map, get-drop, found) in
         let there =
         sound-of (drop from_end new) (i - first) f.sound
         (ap (λ (l : List (List ℕ)). slice_get l (i - first)) new-sounds ∙ own) in (
@@ -360,12 +312,9 @@ added joints = flat_map (λ (j : JointFrames). j.frames) joints
 added-next : (joints : List JointFrames) (n : ℕ) (joint : JointFrames) → slice_get joints n
     ≡ Some joint → added (take (suc n) joints) ≡ added (take n joints) ++ joint.frames
 added-next [] n joint is = absurd cc
-added-next (j ∷ joints) zero joint is =
-    let same : j ≡ joint = cc in
-    append-nil j.frames ∙ ap (λ (x : JointFrames). x.frames) same
+added-next (j ∷ joints) zero joint is = grind (arith, append-nil)
 added-next (j ∷ joints) (suc n) joint is =
-    ap (λ (l : List RunFrame). j.frames ++ l) (added-next joints n joint is)
-    ∙ sym (append_assoc j.frames (added (take n joints)) joint.frames)
+    grind (arith, is, append_assoc, added-next joints n joint is)
 
 joint-at : (class : ClassFields) (run : List RunFrame) (first : Brought) (inputs : List Brought)
     (n : ℕ) (before input : Brought) (joint : JointFrames)
@@ -376,11 +325,7 @@ joint-at : (class : ClassFields) (run : List RunFrame) (first : Brought) (inputs
 unfolding joints_from
 joint-at class run first [] n before input joint is_before is_input is_joint = absurd cc
 joint-at class run first (i ∷ inputs) zero before input joint is_before is_input is_joint =
-    let same_before : first ≡ before = cc in
-    let same_input : i ≡ input = cc in
-    let same_joint : joint_of class run first i ≡ joint = cc in
-    sym same_joint ∙ ap₂ (λ (x y : Brought). joint_of class run x y) same_before same_input
-    ∙ ap (λ (l : List RunFrame). joint_of class l before input) (sym (append-nil run))
+    grind (arith, append-nil)
 joint-at class run first (i ∷ inputs) (suc n) before input joint is_before is_input is_joint =
     let here : JointFrames = joint_of class run first i in
     joint-at class (run ++ here.frames) i inputs n before input joint is_before is_input is_joint
@@ -393,18 +338,13 @@ pub followers-on : FollowersGoOn
 followers-on class first inputs number before input joint out is_before is_input is_joint seam =
     let joints : List JointFrames = joints_of class first inputs in
     let run : List RunFrame = run_after first joints number in
-    let here : joint ≡ joint_of class run before input =
-    joint-at class first.frames first inputs number before input joint is_before is_input
-    is_joint in
+    let here : joint ≡ joint_of class run before input = grind (arith, joint-at) in
     let follows =
     joint-follows class run before input out (sym (ap (λ (j : JointFrames). j.seam) here) ∙ seam) in
     let is = following_joint-is class run before input joint
     (follows ∙ ap (λ (j : JointFrames). Some j) (sym here)) in
     let next : number + 1 ≡ suc number = omega arith in
     let after : run ++ joint.frames ≡ run_after first joints (number + 1) =
-    append_assoc first.frames (added (take number joints)) joint.frames
-    ∙ ap (λ (l : List RunFrame). first.frames ++ l)
-    (sym (added-next joints number joint is_joint)
-    ∙ ap (λ n. added (take n joints)) (sym next)) in
+    grind (arith, append_assoc, added-next) in
     subst (λ (l : List RunFrame). InputGoesOn class before input run l out) after
     (goes-on class run before input joint is out seam)

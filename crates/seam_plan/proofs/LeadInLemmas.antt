@@ -1,7 +1,7 @@
 -- The lead-in at the front of an input.
-use Rattle.std.proofs.Common.{ap, ap₂, arith, Bool, drop, eqb, false, length, List, refl, Some}
-use Rattle.std.proofs.Common.{subst, suc, sym, true, zero, ℕ, [], ◌<◌, ◌∙◌, ◌∷◌, ◌≡◌, ◌≤◌}
-use Rattle.std.proofs.lemmas.{Bool.{eqb-true, Decides.same_from_decides}, List.drop-map}
+use Rattle.std.proofs.Common.{ap, arith, Bool, drop, eqb, false, length, List, refl, Some, suc, sym}
+use Rattle.std.proofs.{Common.{true, zero, ℕ, [], ◌<◌, ◌∙◌, ◌∷◌, ◌≡◌, ◌≤◌}, lemmas.Bool.eqb-true}
+use Rattle.std.proofs.lemmas.{Bool.Decides.same_from_decides, List.drop-map}
 use Rattle.std.{proofs.lemmas.Slice.Eq.bytes_eq-Decides, specs.Bool.Decides}
 use Rattle.std.specs.Prelude.{bytes_eq, cond, not, option_map, slice_index_or, ◌&&◌}
 use Rattle.bit_fields.{proofs.BitsLemmas.bits-injective, specs.Bits.{AreBytes, bits}}
@@ -12,7 +12,7 @@ use Rattle.frame_header.specs.Tables.{area_of, class_of, window_of}
 use Rattle.seam_plan.proofs.{FitLemmas.{fits-tested, wanted-tested}, SlotLemmas.find-least}
 use Rattle.seam_plan.specs.{Decisions.IsBroughtInput, Frames.{Brought, needs_of, RunFrame}}
 use Rattle.seam_plan.specs.Joins.{fits_behind, has_lead_in, is_same_header, lead_in_header}
-use Rattle.seam_plan.specs.{Joins.{leads_others, matches_header}, Seams.front_left_out_count}
+use Rattle.seam_plan.specs.{Joins.leads_others, Seams.front_left_out_count}
 use Rattle.seam_plan.specs.declared.input.Input.{Input}
 use Rattle.slot_plan.proofs.OnePlanLemmas.{slots_ascend}
 use Rattle.slot_plan.specs.FreeBytes.{FitsBehind, IsLeadInHeader, IsLeastWanted}
@@ -21,31 +21,20 @@ use Rattle.slot_plan.specs.declared.needs.Need.{Need}
 -- frames that want nothing fit after no bytes
 pub alone-tested : (window wanted : ℕ) (needs : List Need) → IsLeastWanted window needs wanted
     → Decides (eqb wanted 0) (FitsBehind window 0 needs)
-alone-tested window zero needs is =
-    (λ none. (wanted-tested window 0 0 needs is).0 refl, λ fits. refl)
-alone-tested window (suc wanted) needs is = (
-  λ none. absurd (omega (arith, eqb-true (suc wanted) 0 none)),
-  λ fits. absurd (omega (arith, is.least 0 fits)),
-)
+alone-tested window zero needs is = grind (arith, wanted-tested)
+alone-tested window (suc wanted) needs is = grind (arith, eqb-true)
 
 -- frames want nothing exactly if they fit after no bytes
 pub alone-is : (window wanted : ℕ) (needs : List Need) → IsLeastWanted window needs wanted
     → eqb wanted 0 ≡ fits_behind window 0 needs
-alone-is window wanted needs is =
-    same_from_decides _ _ (alone-tested window wanted needs is) (fits-tested window 0 needs)
+alone-is window wanted needs is = grind (arith, same_from_decides, alone-tested, fits-tested)
 
 -- headers are the same exactly if their bytes are
 pub header-same : (g h : HeaderFields) (a b : List ℕ) → bits a ≡ header_bits g → bits b
     ≡ header_bits h → AreBytes a → AreBytes b → (r : Bool) → r ≡ bytes_eq a b
     → r ≡ is_same_header g h
 header-same g h a b first second octets others r is =
-    is
-    ∙ same_from_decides (bytes_eq a b) (is_same_header g h) (bytes_eq-Decides a b) (
-      λ same. bits-injective a b octets others
-          (first ∙ (bytes_eq-Decides (header_bits g) (header_bits h)).0 same ∙ sym second),
-      λ same.
-          (bytes_eq-Decides (header_bits g) (header_bits h)).1 (sym first ∙ ap bits same ∙ second),
-    )
+    grind (arith, same_from_decides, bytes_eq-Decides, bits-injective)
 
 -- the header that `lead_in` returns is the one of the definition
 pub lead-in-is : (window : ℕ) (first : Need) (needs : List Need) (header : HeaderFields)
@@ -73,10 +62,7 @@ unfolding IsLeadInHeader
 leads-is window [] first header at many known is = absurd (omega (arith, many))
 leads-is window (x ∷ []) first header at many known is = absurd (omega (arith, many))
 leads-is window (x ∷ y ∷ others) first header at many known is =
-    let class : class_of header ≡ class_of y.header = ap class_of is.1 in
-    let found =
-    lead-in-is window y others header (subst IsClass class (IsClass-class_of header known)) is in
-    ap (λ (n : Need). is_same_header n.header header) at ∙ ap (matches_header x.header) (sym found)
+    grind (arith, lead-in-is, IsClass-class_of)
 
 -- a frame alone leads none
 pub leads-none : (window : ℕ) (needs : List Need) → length needs < 2
@@ -93,16 +79,13 @@ pub has-then : (window : ℕ) (input : Input) (brought : Brought) (r : Bool)
     → IsBroughtInput input brought → input.blank ≡ true → r ≡ leads_others window input.needs.now
     → r ≡ has_lead_in window brought
 unfolding has_lead_in
-has-then window input brought r is blank leads =
-    leads ∙ ap (leads_others window) is.needs
-    ∙ ap (λ b. b && leads_others window (needs_of brought.frames)) (sym blank ∙ is.blank)
+has-then window input brought r is blank leads = grind arith
 
 -- an input whose first frame isn't silent has no lead-in
 pub has-else : (window : ℕ) (input : Input) (brought : Brought) → IsBroughtInput input brought
     → input.blank ≡ false → input.blank ≡ has_lead_in window brought
 unfolding has_lead_in
-has-else window input brought is blank =
-    blank ∙ ap (λ b. b && leads_others window (needs_of brought.frames)) (sym blank ∙ is.blank)
+has-else window input brought is blank = grind arith
 
 -- ---- the lead-in that leaves the run
 
@@ -111,9 +94,7 @@ pub front-none : (class : ClassFields) (brought : Brought) (frames : List RunFra
     → has ≡ false → has ≡ has_lead_in (window_of class.version) brought
     → 0 ≡ front_left_out_count class brought frames
 unfolding front_left_out_count
-front-none class brought frames has none is =
-    ap (λ h. cond (h && not (fits_behind (window_of class.version) 0 (needs_of (drop 1 frames)))) 1
-    0) (sym none ∙ is)
+front-none class brought frames has none is = grind arith
 
 -- the first input's lead-in is left out if it has one that the others need
 pub front-is : (class : ClassFields) (brought : Brought) (frames : List RunFrame) (run : List Need)
@@ -121,7 +102,4 @@ pub front-is : (class : ClassFields) (brought : Brought) (frames : List RunFrame
     → alone ≡ fits_behind (window_of class.version) 0 (drop 1 run)
     → cond (has && not alone) 1 0 ≡ front_left_out_count class brought frames
 unfolding front_left_out_count
-front-is class brought frames run has alone is leads fits =
-    ap₂ (λ (h a : Bool). cond (h && not a) 1 0) leads
-    (fits ∙ ap (λ l. fits_behind (window_of class.version) 0 l)
-    (ap (drop 1) is ∙ drop-map (λ (f : RunFrame). f.need) 1 frames))
+front-is class brought frames run has alone is leads fits = grind (arith, drop-map)

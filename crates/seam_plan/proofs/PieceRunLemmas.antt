@@ -1,26 +1,21 @@
 -- Pieces of one recording are joined to all their frames without their lead-ins.
-use Rattle.std.proofs.Common.{ap, append_assoc, ap₂, arith, Bool, drop, false, flat_map, inl, inr}
-use Rattle.std.proofs.Common.{length, List, map, None, Option, refl, Some, subst, sym, true, ℕ, []}
-use Rattle.std.proofs.Common.{◌++◌, ◌∙◌, ◌∷◌, ◌≡◌}
+use Rattle.std.proofs.Common.{ap, append_assoc, ap₂, arith, Bool, drop, false, flat_map, List, map}
+use Rattle.std.proofs.Common.{None, refl, Some, subst, sym, true, ℕ, [], ◌++◌, ◌∙◌, ◌∷◌, ◌≡◌}
 use Rattle.std.proofs.lemmas.Bool.{and_from, and_left, and_parts, both_ways, le-leb, leb-true}
-use Rattle.std.{proofs.lemmas.List.map-append, specs.Option.option_or}
-use Rattle.std.specs.Prelude.{if◌then◌else◌, not, option_and_then, option_map, unwrap_or, ◌&&◌, ◌⊎◌}
-use Rattle.exact_span.specs.{Overlaps.shared_overlap, PlayedPositions.rest_of}
-use Rattle.exact_span.specs.declared.played.Played.{Played}
+use Rattle.std.{proofs.lemmas.List.map-append, specs.Prelude.{if◌then◌else◌, not, ◌&&◌, ◌⊎◌}}
 use Rattle.frame_header.proofs.HeaderLemmas.{IsClass-class_of}
 use Rattle.frame_header.proofs.SlotLemmas.{areas-ascend, Contains-all_slots}
 use Rattle.frame_header.specs.{Fields.{ClassFields, IsHeader, SlotFields}, Slots.all_slots}
 use Rattle.frame_header.specs.Tables.{class_of, window_of}
-use Rattle.seam_plan.proofs.{FitLemmas.fits-tested, SeamLemmas.{IfWithout, without-led, without_if}}
-use Rattle.seam_plan.{proofs.SlotLemmas.find-least, specs.Frames.{Brought, needs_of, RunFrame}}
-use Rattle.seam_plan.specs.Joins.{fits_behind, frame_in_slot, has_lead_in, is_area_no_less}
-use Rattle.seam_plan.specs.Joins.{is_lead_in_wanted, join_slot, joining_frames}
+use Rattle.seam_plan.proofs.{FitLemmas.fits-tested, SeamLemmas.without-led, SlotLemmas.find-least}
+use Rattle.seam_plan.specs.Frames.{Brought, needs_of, RunFrame}
+use Rattle.seam_plan.specs.Joins.{fits_behind, has_lead_in, is_area_no_less, join_slot}
+use Rattle.seam_plan.specs.Joins.{joining_frames}
 use Rattle.seam_plan.specs.Laws.{AreHeadersKnown, AreOneRun, ArePiecesOf, concat_frames, IsLedPiece}
 use Rattle.seam_plan.specs.Laws.{IsPieceOf, IsUnledPiece, piece_seam, PiecesAreOneRun}
 use Rattle.seam_plan.specs.Seams.{following_joint, front_left_out_count, joint_of, joint_with}
-use Rattle.seam_plan.specs.Seams.{joint_without_lead_in, JointFrames, joints_from, joints_of}
-use Rattle.seam_plan.specs.Seams.{overlap_joint, run_of, run_with, seamless_join, SeamlessJoin}
-use Rattle.seam_plan.specs.{Seams.whole_joint, declared.seam.Seam.Seam}
+use Rattle.seam_plan.specs.Seams.{joint_without_lead_in, JointFrames, joints_from, run_of}
+use Rattle.seam_plan.specs.Seams.{seamless_join, SeamlessJoin}
 use Rattle.seam_plan.specs.declared.seam.Seam.TheVariants.{LeadIn, Whole}
 use Rattle.slot_plan.proofs.{AreaLemmas.class-ascend, FreeByteLemmas.{cons-fits, fits-front}}
 use Rattle.slot_plan.specs.{FreeBytes.{FitsBehind, need_in_slot}, Parts.own_slot_area}
@@ -35,24 +30,12 @@ needs-append xs ys = map-append (λ (f : RunFrame). f.need) xs ys
 pub front-fits : (window free : ℕ) (xs ys : List RunFrame)
     → fits_behind window free (needs_of (xs ++ ys)) ≡ true
     → fits_behind window free (needs_of xs) ≡ true
-front-fits window free xs ys fits =
-    let all =
-    subst (FitsBehind window free) (needs-append xs ys)
-    ((fits-tested window free (needs_of (xs ++ ys))).0 fits) in
-    (fits-tested window free (needs_of xs)).1
-    (fits-front window free (needs_of xs) (needs_of ys) all)
+front-fits window free xs ys fits = grind (arith, needs-append, fits-tested, fits-front)
 
 -- if the first frames don't fit, they don't fit with others after them
 front-lacks : (window free : ℕ) (xs ys : List RunFrame) → fits_behind window free (needs_of xs)
     ≡ false → fits_behind window free (needs_of (xs ++ ys)) ≡ false
-front-lacks window free xs ys lacks = at (fits_behind window free (needs_of (xs ++ ys))) refl
-  where
-    at : (b : Bool) → fits_behind window free (needs_of (xs ++ ys)) ≡ b
-        → fits_behind window free (needs_of (xs ++ ys)) ≡ false
-    at false is = is
-    at true is =
-        absurd (both_ways (fits_behind window free (needs_of xs)) lacks
-        (front-fits window free xs ys is))
+front-lacks window free xs ys lacks = grind (arith, both_ways, front-fits)
 
 -- with a frame without main data before them, frames still fit
 pub empty-fits : (window : ℕ) (f : RunFrame) (xs : List RunFrame) → f.need.bytes ≡ 0
@@ -104,11 +87,7 @@ pub joining_frames-own : (window : ℕ) (run frames : List RunFrame) → AreHead
     → joining_frames window run frames ≡ Some frames
 unfolding joining_frames
 joining_frames-own window run [] known fits = refl
-joining_frames-own window run (f ∷ frames) known fits =
-    let fit =
-    subst (λ l. fits_behind window window l ≡ true) (needs-append run (f ∷ frames)) fits in
-    ap (option_map (λ slot. frame_in_slot slot f ∷ frames))
-    (own-slot window (needs_of run) f.need (needs_of frames) known.0 fit)
+joining_frames-own window run (f ∷ frames) known fits = grind (arith, needs-append, own-slot)
 
 -- ---- what becomes of a piece
 
@@ -120,59 +99,24 @@ module _ (class : ClassFields) where
     -- an input whose head has no counts follows none
     none-follows : input.played ≡ None → following_joint class run before input ≡ None
     unfolding following_joint
-    none-follows none = ap (option_and_then (overlap_joint class run input)) (at before.played)
-      where
-        at : (o : Option Played)
-            → option_and_then
-            (λ (p : Played).
-            option_and_then
-            (λ (q : Played). shared_overlap class (rest_of class (length before.frames) p) q.start
-            (length input.frames))
-            input.played)
-            o ≡ None
-        at None = refl
-        at (Some p) =
-            ap (option_and_then (λ (q : Played).
-            shared_overlap class (rest_of class (length before.frames) p) q.start
-            (length input.frames))) none
+    none-follows none = grind arith
 
     led-without : (frames : List RunFrame) → IsLedPiece window frames input
         → fits_behind window 0 (needs_of frames) ≡ false
         → joining_frames window run frames ≡ Some frames
         → joint_without_lead_in class run input ≡ Some (joint_with LeadIn frames)
     unfolding joint_without_lead_in
-    led-without frames led lacks joins =
-        let behind : drop 1 input.frames ≡ frames = ap (drop 1) led.frames_are in
-        let wanted : is_lead_in_wanted window input ≡ true =
-        ap (λ (l : List RunFrame). not (fits_behind window 0 (needs_of l))) behind ∙ ap not lacks in
-        ap (without_if class run input)
-        (and_from (has_lead_in window input) (is_lead_in_wanted window input) led.has wanted)
-        ∙ ap (λ (l : List RunFrame). option_map (joint_with LeadIn) (joining_frames window run l))
-        behind
-        ∙ ap (option_map (joint_with LeadIn)) joins
+    led-without frames led lacks joins = grind (arith, and_from)
 
     unled-without : has_lead_in window input ≡ false → joint_without_lead_in class run input ≡ None
     unfolding joint_without_lead_in
-    unled-without none =
-        ap (without_if class run input)
-        (and_left (has_lead_in window input) (is_lead_in_wanted window input) none)
+    unled-without none = grind (arith, and_left)
 
     piece-joint : (frames : List RunFrame) → IsPieceOf window frames input → AreHeadersKnown frames
         → fits_behind window window (needs_of (run ++ frames)) ≡ true
         → joint_of class run before input ≡ joint_with (piece_seam window frames) frames
-    piece-joint frames piece known fits = at (fits_behind window 0 (needs_of frames)) refl
-      where
-        at : (b : Bool) → fits_behind window 0 (needs_of frames) ≡ b
-            → joint_of class run before input ≡ joint_with (if b then Whole else LeadIn) frames
-        at true is =
-            let unled = piece.unled is in
-            ap₂ (λ (x y : Option JointFrames). unwrap_or (option_or x y) (whole_joint input))
-            (none-follows piece.uncounted) (unled-without unled.none)
-            ∙ ap (joint_with Whole) unled.frames_are
-        at false is =
-            ap₂ (λ (x y : Option JointFrames). unwrap_or (option_or x y) (whole_joint input))
-            (none-follows piece.uncounted)
-            (led-without frames (piece.led is) is (joining_frames-own window run frames known fits))
+    piece-joint frames piece known fits =
+        grind (arith, none-follows, unled-without, led-without, joining_frames-own)
 
   -- ---- all later pieces
 
@@ -208,8 +152,7 @@ module _ (class : ClassFields) where
   joints-seams : (more : List (List RunFrame))
       → map (λ (j : JointFrames). j.seam) (map joint_by more) ≡ map (piece_seam window) more
   joints-seams [] = refl
-  joints-seams (frames ∷ more) =
-      ap (λ (l : List Seam). piece_seam window frames ∷ l) (joints-seams more)
+  joints-seams (frames ∷ more) = grind (arith, joints-seams more)
 
   -- ---- the first piece
 
@@ -222,16 +165,7 @@ module _ (class : ClassFields) where
       → seamless_join class first inputs ≡ record { front = front; joints = map joint_by more }
   unfolding seamless_join
   pieces-joined begin more first inputs front are known is fits gives =
-      let all =
-      subst (λ (l : List RunFrame). fits_behind window window (needs_of (l ++ concat_frames more))
-      ≡ true)
-      (sym is) fits in
-      let joints : joints_of class first inputs ≡ map joint_by more =
-      pieces-joints first.frames first more inputs are known all in
-      let run : run_with first (joints_of class first inputs) ≡ begin ++ concat_frames more =
-      ap (run_with first) joints ∙ ap₂ (λ (x y : List RunFrame). x ++ y) is (joints-frames more) in
-      ap₂ (λ (n : ℕ) (js : List JointFrames). record { front = n; joints = js })
-      (ap (front_left_out_count class first) run ∙ sym gives) joints
+      grind (arith, pieces-joints, joints-frames)
 
   abbrev IsRunOf : List RunFrame → List (List RunFrame) → Brought → Bool → SeamlessJoin → Type 0
   IsRunOf frames more first fits joined =
@@ -286,13 +220,7 @@ module _ (class : ClassFields) where
 
     one-run : IsPieceOf window frames first
         → AreOneRun window frames more first (seamless_join class first inputs)
-    one-run piece =
-        let is = at (fits_behind window 0 (needs_of frames)) refl in
-        record { run = is.0; front = is.1; seams = is.2 }
-      where
-        at : (b : Bool) → fits_behind window 0 (needs_of frames) ≡ b → IsRun b
-        at true fit = unled-run (piece.unled fit)
-        at false lacks = led-run lacks (piece.led lacks)
+    one-run piece = grind (arith, unled-run, led-run)
 
 -- such pieces are joined to one run, if all frames fit after a whole window
 pub pieces-one-run : PiecesAreOneRun
@@ -310,13 +238,4 @@ module _ (class : ClassFields) (run : List RunFrame) (before input : Brought) wh
   -- an input whose head has no counts is whole, or its lead-in is left out
   pub uncounted-joint : input.played ≡ None
       → IsWithoutLeadIn (window_of class.version) input (joint_of class run before input)
-  uncounted-joint none =
-      at (following_joint class run before input) (joint_without_lead_in class run input)
-      (none-follows class run before input none) (without-led class run input)
-    where
-      at : (x y : Option JointFrames) → x ≡ None → IfWithout (window_of class.version) input y
-          → IsWithoutLeadIn (window_of class.version) input
-          (unwrap_or (option_or x y) (whole_joint input))
-      at (Some joint) y follows without = absurd cc
-      at None None follows without = inl refl
-      at None (Some joint) follows without = inr without
+  uncounted-joint none = grind (arith, none-follows, without-led)

@@ -1,6 +1,6 @@
 -- The places of the last frames of a run.
-use Rattle.std.proofs.Common.{ap, append_assoc, arith, drop, inl, inr, length, List, map, max, sym}
-use Rattle.std.proofs.Common.{ℕ, [], ◌++◌, ◌+◌, ◌-◌, ◌<◌, ◌∙◌, ◌∷◌, ◌≡◌, ◌≤◌, ◌⊎◌}
+use Rattle.std.proofs.Common.{ap, append_assoc, arith, drop, inl, inr, length, List, max, sym, ℕ}
+use Rattle.std.proofs.Common.{[], ◌++◌, ◌+◌, ◌-◌, ◌<◌, ◌∙◌, ◌∷◌, ◌≡◌, ◌≤◌, ◌⊎◌}
 use Rattle.std.proofs.lemmas.Bool.{cases_lt}
 use Rattle.std.proofs.lemmas.List.{drop-append-le, drop-drop, drop_all, length-append, length-drop}
 use Rattle.std.proofs.lemmas.List.{map-append}
@@ -13,8 +13,7 @@ use Rattle.slot_plan.proofs.ReserveLemmas.{max-is}
 
 -- a list without its first part is its second part
 pub drop-front : {X : Type 0} (xs ys : List X) → drop (length xs) (xs ++ ys) ≡ ys
-drop-front xs ys = drop-append-le (length xs) xs ys (omega arith)
-    ∙ ap (λ l. l ++ ys) (drop_all (length xs) xs (omega arith))
+drop-front xs ys = grind (arith, drop-append-le, drop_all)
 
 -- the last seven of the last seven and others are the last seven of all
 pub last-append : {X : Type 0} (xs ys : List X)
@@ -32,9 +31,7 @@ last-append {X} xs ys =
 
 -- seven at the end of a list are its last seven
 pub last-seven : {X : Type 0} (xs ys : List X) → length ys ≡ 7 → last_seven (xs ++ ys) ≡ ys
-last-seven xs ys seven =
-    let many : length (xs ++ ys) - 7 ≡ length xs = omega (arith, length-append xs ys, seven) in
-    ap (λ n. drop n (xs ++ ys)) many ∙ drop-front xs ys
+last-seven xs ys seven = grind (arith, length-append xs ys, drop-front xs ys)
 
 -- the last seven of at most seven are all of them
 pub last-few : {X : Type 0} (xs : List X) → length xs ≤ 7 → last_seven xs ≡ xs
@@ -44,24 +41,16 @@ last-few xs few = let none : length xs - 7 ≡ 0 = omega (arith, few) in ap (λ 
 pub places-more : (input from at : ℕ) → from ≤ at → frame_places input from (at + 1 - from)
     ≡ frame_places input from (at - from) ++ frame_place input at ∷ []
 places-more input from at after =
-    let many : at + 1 - from ≡ at - from + 1 = omega (arith, after) in
-    let next : from + (at - from) ≡ at = omega (arith, after) in
-    ap (frame_places input from) many
-    ∙ map-range_with_len_more (frame_place input) from (at - from) at next
+    grind (arith, map-range_with_len_more (frame_place input) from (at - from))
 
 -- a place added to seven drops the first of them
 last-full : (items : List FramePlace) (p : FramePlace) → length items ≡ 7
     → drop 1 items ++ p ∷ [] ≡ last_seven (items ++ p ∷ [])
-last-full items p full =
-    let many : 1 ≡ length (items ++ p ∷ []) - 7 =
-    omega (arith, length-append items (p ∷ []), full) in
-    sym (drop-append-le 1 items (p ∷ []) (omega (arith, full)))
-    ∙ ap (λ n. drop n (items ++ p ∷ [])) many
+last-full items p full = grind (arith, length-append, drop-append-le)
 
 last-room : (items : List FramePlace) (p : FramePlace) → length items < 7
     → items ++ p ∷ [] ≡ last_seven (items ++ p ∷ [])
-last-room items p room =
-    sym (last-few (items ++ p ∷ []) (omega (arith, length-append items (p ∷ []), room)))
+last-room items p room = grind (arith, last-few, length-append)
 
 -- the last seven of the earlier places and the places so far of an input
 abbrev pub Notes : List FramePlace → List FramePlace → ℕ → ℕ → ℕ → Type 0
@@ -71,12 +60,7 @@ Notes old items input from at = (places : List FramePlace) → old ≡ last_seve
 -- what `slide` makes of the last seven
 slid : (items new : List FramePlace) (p : FramePlace) → IsSlid items p new
     → new ≡ last_seven (items ++ p ∷ [])
-slid items new p is =
-    elim (cases_lt (length items) 7) as (λ _. new ≡ last_seven (items ++ p ∷ [])) [
-      | inl less ↦ is.room less ∙ last-room items p less
-      | inr most ↦ let all : length items ≡ 7 = omega (arith, is.few, most) in
-          is.full all ∙ last-full items p all
-    ]
+slid items new p is = grind (arith, cases_lt, last-room, last-full)
 
 -- an added place, instead of the first of seven, is noted
 pub note-slid : (old items new : List FramePlace) (input from at : ℕ) → from ≤ at
@@ -92,15 +76,7 @@ note-slid old items new input from at after is notes places begins =
 -- the noting begins at the first frame, or at the seventh from the end
 pub note-from : (from to first sub : ℕ) → first ≡ max from sub → sub ≡ to - 7 → from ≤ to
     → (from ≤ first) × (first ≤ to) × ((first ≡ from) ⊎ (to - first ≡ 7))
-note-from from to first sub is less within =
-    let at : first ≡ from + (sub - from) = is ∙ max-is from sub in (
-      omega (arith, at),
-      omega (arith, at, less, within),
-      elim (cases_lt from sub) as (λ _. (first ≡ from) ⊎ (to - first ≡ 7)) [
-        | inl later ↦ inr (omega (arith, at, less, later))
-        | inr early ↦ inl (omega (arith, at, early))
-      ],
-    )
+note-from from to first sub is less within = grind (arith, max-is, cases_lt)
 
 -- All places of an input up to a frame end with the last seven of them.
 pub last-from : (places : List FramePlace) (input from first to : ℕ) → from ≤ first → first ≤ to
@@ -113,11 +89,13 @@ last-from places input from first to after within seven =
     let next : from + (first - from) ≡ first = omega (arith, after) in
     let both : frame_places input from (to - from)
     ≡ frame_places input from (first - from) ++ frame_places input first (to - first) =
-    sym (ap (λ n. frame_places input from n) split)
-    ∙ sym (ap (map (frame_place input)) (ranges from (first - from) (to - first)))
-    ∙ map-append (frame_place input) (range_with_len from (first - from))
-    (range_with_len (from + (first - from)) (to - first))
-    ∙ ap (λ n. frame_places input from (first - from) ++ frame_places input n (to - first)) next in
+    grind (
+      arith,
+      ranges from (first - from) (to - first),
+      map-append (frame_place input)
+          (range_with_len from (first - from))
+          (range_with_len (from + (first - from)) (to - first)),
+    ) in
     last-seven places (frame_places input first (to - first)) many
     ∙ sym (
     ap (λ l. last_seven (places ++ l)) both
@@ -132,7 +110,6 @@ pub note-all : (old items : List FramePlace) (input from first to : ℕ) → fro
     → (first ≡ from) ⊎ (to - first ≡ 7) → Notes old items input first to
     → (places : List FramePlace) → old ≡ last_seven places
     → items ≡ last_seven (places ++ frame_places input from (to - from))
-note-all old items input from first to after within (inl same) notes places is =
-    notes places is ∙ ap (λ n. last_seven (places ++ frame_places input n (to - n))) same
+note-all old items input from first to after within (inl same) notes places is = grind arith
 note-all old items input from first to after within (inr seven) notes places is =
     notes places is ∙ last-from places input from first to after within seven

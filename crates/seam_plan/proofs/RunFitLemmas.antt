@@ -1,9 +1,9 @@
 -- The run fits after a whole window, and its frames are those of the inputs except some at
 -- the front of each. The first frame of each may be in another slot: they sound the same.
-use Rattle.std.proofs.Common.{ap, append-nil, append_assoc, arith, Bool, cond, Contains, drop}
-use Rattle.std.proofs.Common.{false, inl, inr, length, List, None, Option, refl, Some, subst, suc}
-use Rattle.std.proofs.Common.{sym, true, zero, ℕ, [], ◌++◌, ◌<◌, ◌∙◌, ◌∷◌, ◌≡◌, ◌⊎◌}
-use Rattle.std.proofs.lemmas.{Bool.and_parts, List.{drop-append-le, drop-map, map-append}}
+use Rattle.std.proofs.Common.{append-nil, append_assoc, arith, Bool, cond, Contains, drop, false}
+use Rattle.std.proofs.Common.{inl, inr, length, List, None, Option, refl, Some, subst, suc, sym}
+use Rattle.std.proofs.{Common.{true, ℕ, [], ◌++◌, ◌<◌, ◌∷◌, ◌≡◌, ◌⊎◌}, lemmas.Bool.and_parts}
+use Rattle.std.proofs.lemmas.List.{drop-append-le, drop-map, map-append}
 use Rattle.std.specs.Prelude.{find, not, option_map, ◌&&◌}
 use Rattle.frame_header.specs.{Fields.{ClassFields, SlotFields}, Slots.all_slots, Tables.window_of}
 use Rattle.seam_plan.proofs.{FitLemmas.fits-tested, FollowLemmas.{added, sounds}}
@@ -54,9 +54,7 @@ found-first : (test : SlotFields → Bool) (s : SlotFields) (slots : List SlotFi
     (slot : SlotFields) (b : Bool) → test s ≡ b
     → (find test slots ≡ Some slot → Passes test slots slot)
     → cond b (Some s) (find test slots) ≡ Some slot → Passes test (s ∷ slots) slot
-found-first test s slots slot true passes later e =
-    let same : s ≡ slot = cc in
-    (ap test (sym same) ∙ passes, (zero, omega arith, same))
+found-first test s slots slot true passes later e = grind (arith, slot)
 found-first test s slots slot false passes later e =
     let more = later e in
     (more.0, (suc more.1.0, omega (arith, more.1.1), more.1.2))
@@ -184,8 +182,7 @@ pub joints-added : (class : ClassFields) (run : List RunFrame) (before : Brought
     → AddOwn (joints_from class run before inputs) inputs
     × FitsWindow class (run ++ added (joints_from class run before inputs))
 unfolding joints_from
-joints-added class run before [] fits alone =
-    (tt, subst (FitsWindow class) (sym (append-nil run)) fits)
+joints-added class run before [] fits alone = grind (arith, append-nil, run, fits)
 joints-added class run before (input ∷ inputs) fits alone =
     let joint = joint_of class run before input in
     let here = joint-added class run before input fits alone.0 in

@@ -1,21 +1,19 @@
 -- What is known of an input, and of what a run leaves.
-use Rattle.std.proofs.Common.{ap, ap₂, arith, drop, length, List, None, Option, Some, subst, sym, ℕ}
-use Rattle.std.proofs.Common.{[], ◌++◌, ◌+◌, ◌-◌, ◌<◌, ◌∙◌, ◌∷◌, ◌≡◌, ◌≤◌}
+use Rattle.std.proofs.Common.{ap, arith, drop, length, List, None, Option, Some, subst, sym, ℕ, []}
+use Rattle.std.proofs.Common.{◌++◌, ◌+◌, ◌-◌, ◌<◌, ◌∙◌, ◌∷◌, ◌≡◌, ◌≤◌}
 use Rattle.std.proofs.lemmas.List.{length-append, length-drop, length-map, map-append}
 use Rattle.std.proofs.lemmas.List.FromFn.{length-map-range_with_len}
 use Rattle.std.specs.Prelude.{IfSome, option_map, slice_index_or}
-use Rattle.exact_span.specs.Overlaps.{IsOverlap, IsOverlapShort, most_alike}
-use Rattle.exact_span.specs.{PlayedPositions.rest_of, declared.overlap.Overlap.Overlap}
+use Rattle.exact_span.specs.{Overlaps.{IsOverlap, IsOverlapShort}, PlayedPositions.rest_of}
+use Rattle.exact_span.specs.declared.overlap.Overlap.{Overlap}
 use Rattle.frame_header.specs.{Fields.{ClassFields, SlotFields}, Tables.window_of}
-use Rattle.frame_header.specs.declared.version.Version.{Version, TheVariants.{One, Two, TwoFive}}
 use Rattle.seam_plan.proofs.SeamLemmas.{joint-adds, length-moved}
-use Rattle.seam_plan.specs.Decisions.{AddedFramesFit, CanFollow, frame_place, frame_places}
-use Rattle.seam_plan.specs.Decisions.{IsBroughtInput, IsJoinableInput, IsJoint, IsRun, joined_needs}
-use Rattle.seam_plan.specs.Decisions.{JoinsRun, last_seven, RunGoesOn}
-use Rattle.seam_plan.specs.Frames.{Brought, needs_of, RunFrame}
+use Rattle.seam_plan.specs.Decisions.{AddedFramesFit, CanFollow, frame_places, IsBroughtInput}
+use Rattle.seam_plan.specs.Decisions.{IsJoinableInput, IsJoint, IsRun, joined_needs, JoinsRun}
+use Rattle.seam_plan.specs.{Decisions.{last_seven, RunGoesOn}, Frames.{Brought, needs_of, RunFrame}}
 use Rattle.seam_plan.specs.Seams.{joint_of, JointFrames, left_out_count}
-use Rattle.seam_plan.specs.declared.{input.Input.Input, run.FramePlace.FramePlace}
-use Rattle.seam_plan.specs.declared.run.{Joint.Joint as CodeJoint, Run.Run}
+use Rattle.seam_plan.specs.declared.{input.Input.Input, run.{FramePlace.FramePlace, Joint.Joint}}
+use Rattle.seam_plan.specs.declared.run.Run.{Run}
 use Rattle.slot_plan.proofs.FreeByteLemmas.{fits-cons, fits-drop, left-cons, left-on, more-behind}
 use Rattle.slot_plan.proofs.PartLemmas.{class-drop}
 use Rattle.slot_plan.specs.FreeBytes.{FitBehindFree, FitBehindWindow, FitsBehind, IsMostLeft}
@@ -26,8 +24,7 @@ use Rattle.slot_plan.specs.declared.needs.Need.{Need}
 -- an input that can be joined fits after a whole window
 pub fits-window : (class : ClassFields) (input : Input) → IsJoinableInput class input
     → FitsBehind (window_of class.version) (window_of class.version) input.needs.now
-fits-window class input can = more-behind (window_of class.version) 0
-    (window_of class.version) input.needs.now (omega arith) can.fits
+fits-window class input can = grind (arith, more-behind)
 
 -- all frames of an input except the first k fit after a whole window
 pub drop-window : (class : ClassFields) (input : Input) (k : ℕ) → IsJoinableInput class input
@@ -41,25 +38,19 @@ drop-window class input k can = record {
 -- all frames of an input fit after a whole window
 pub all-window : (class : ClassFields) (input : Input) → IsJoinableInput class input
     → FitBehindWindow input.needs.now
-all-window class input can =
-    record { class = class; same = can.same; fits = fits-window class input can }
+all-window class input can = grind (arith, fits-window)
 
 -- all frames of an input fit after as many bytes as the window of the class
 pub all-free : (class : ClassFields) (input : Input) → IsJoinableInput class input
     → FitBehindFree (window_of class.version) input.needs.now
-all-free class input can = record {
-  class = class;
-  same = can.same;
-  within = omega arith;
-  fits = fits-window class input can;
-}
+all-free class input can = grind (arith, fits-window)
 
 -- ---- a run with more frames
 
 -- whatever is alike, if these frames are added, the run continues with them
 module _ (class : ClassFields) (number : ℕ) (frames more : List RunFrame) (places : List FramePlace)
     (before brought : Brought)
-    (input : Input) (old new : Run) (result : CodeJoint) (is : IsRun class frames places before old)
+    (input : Input) (old new : Run) (result : Joint) (is : IsRun class frames places before old)
     (brings : IsBroughtInput input brought)
     (adds : needs_of more
     ≡ joined_needs result.slot (drop (left_out_count result.seam) input.needs.now)) where
@@ -68,21 +59,13 @@ module _ (class : ClassFields) (number : ℕ) (frames more : List RunFrame) (pla
 
   all-needs : needs_of frames ++ joined_needs result.slot (drop out input.needs.now)
       ≡ needs_of (frames ++ more)
-  all-needs = ap (λ l. needs_of frames ++ l) (sym adds)
-      ∙ sym (map-append (λ (f : RunFrame). f.need) frames more)
+  all-needs = grind (arith, map-append)
 
   added : length input.needs.now - out ≡ length more
-  added =
-      sym (length-drop out input.needs.now)
-      ∙ sym (length-moved result.slot (drop out input.needs.now))
-      ∙ ap length (sym adds) ∙ length-map more (λ (f : RunFrame). f.need)
+  added = grind (arith, length-drop, length-moved, length-map)
 
   all-length : length (places ++ frame_places number out (length more)) ≡ length (frames ++ more)
-  all-length =
-      length-append places (frame_places number out (length more))
-      ∙ ap₂ (λ m n. m + n)
-      is.same (length-map-range_with_len (frame_place number) out (length more))
-      ∙ sym (length-append frames more)
+  all-length = grind (arith, length-append, length-map-range_with_len)
 
   -- a run to which the frames of the joint were added is a run of all these frames
   pub run-goes : new.class ≡ old.class
@@ -91,37 +74,21 @@ module _ (class : ClassFields) (number : ℕ) (frames more : List RunFrame) (pla
       ≡ last_seven (places ++ frame_places number out (length input.needs.now - out))
       → new.rest ≡ option_map (λ p. rest_of old.class (length input.needs.now) p) input.played
       → IsRun class (frames ++ more) (places ++ frame_places number out (length more)) brought new
-  run-goes same left last rest = record {
-    of_class = same ∙ is.of_class;
-    left = subst (λ (c : ClassFields). IsMostLeft (window_of c.version) (window_of c.version)
-        (needs_of (frames ++ more)) new.left) is.of_class
-        (subst (λ l. IsMostLeft (window_of old.class.version)
-        (window_of old.class.version) l new.left)
-        all-needs left);
-    last = last ∙ ap (λ n. last_seven (places ++ frame_places number out n)) added;
-    same = all-length;
-    rest = rest
-        ∙ ap (λ c. option_map (λ p. rest_of c (length input.needs.now) p) input.played) is.of_class
-        ∙ ap₂ (λ n o. option_map (λ p. rest_of class n p) o)
-        (ap length brings.needs ∙ length-map brought.frames (λ (f : RunFrame). f.need))
-        brings.played;
-  }
+  run-goes same left last rest = grind (arith, all-needs, added, all-length, length-map)
 
 -- a run that goes on with what is decided is the run of the definition
 pub run-joins : (class : ClassFields) (number : ℕ) (frames : List RunFrame)
     (places : List FramePlace) (before brought : Brought) (input : Input) (old new : Run)
-    (result : CodeJoint) → IsRun class frames places before old → IsBroughtInput input brought
+    (result : Joint) → IsRun class frames places before old → IsBroughtInput input brought
     → IsJoint (joint_of class frames before brought) result
     → RunGoesOn number input result old new
     → JoinsRun class number frames places before brought result new
 run-joins class number frames places before brought input old new result is brings decided goes =
     let joint : JointFrames = joint_of class frames before brought in
-    let out : left_out_count result.seam ≡ left_out_count joint.seam =
-    ap left_out_count decided.seam in
+    let out : left_out_count result.seam ≡ left_out_count joint.seam = grind arith in
     let adds : needs_of joint.frames
     ≡ joined_needs result.slot (drop (left_out_count result.seam) input.needs.now) =
-    joint-adds class frames before brought result decided
-    ∙ ap₂ (λ n l. joined_needs result.slot (drop n l)) (sym out) (sym brings.needs) in
+    grind (arith, joint-adds) in
     record {
       joint = decided;
       goes_on = subst (λ n. IsRun class (frames ++ joint.frames)
@@ -137,15 +104,7 @@ pub run-begins : (class : ClassFields) (input : Input) (first : Brought) (run : 
     → run.rest ≡ option_map (λ p. rest_of class (length input.needs.now) p) input.played
     → IsRun class first.frames (frame_places 0 0 (length first.frames)) first run
 run-begins class input first run brings same left last rest =
-    let many : length input.needs.now ≡ length first.frames =
-    ap length brings.needs ∙ length-map first.frames (λ (f : RunFrame). f.need) in record {
-      of_class = same;
-      left = subst (λ l. IsMostLeft (window_of class.version) (window_of class.version) l run.left)
-          brings.needs left;
-      last = last ∙ ap (λ n. last_seven (frame_places 0 0 n)) many;
-      same = length-map-range_with_len (frame_place 0) 0 (length first.frames);
-      rest = rest ∙ ap₂ (λ n o. option_map (λ p. rest_of class n p) o) many brings.played;
-    }
+    grind (arith, length-map, length-map-range_with_len)
 
 -- ---- frames that are added
 
@@ -174,8 +133,7 @@ module _ (class : ClassFields) (left : ℕ) (needs : List Need) (slot : SlotFiel
     (fit : AddedFramesFit class left needs (Some slot)) (at : first ≡ slice_index_or needs 0 first)
     (is : moved ≡ need_in_slot slot first) (has : area ≡ own_slot_area moved) where
   moved-first : needs_with_first_slot slot needs ≡ moved ∷ drop 1 needs
-  moved-first = first-moved needs slot first (some-in class left needs slot fit) at
-      ∙ ap (λ (n : Need). n ∷ drop 1 needs) (sym is)
+  moved-first = grind (arith, first-moved, some-in)
 
   both-fit : (moved.bytes ≤ left + own_slot_area moved) × FitsBehind (window_of class.version)
       (free_bytes_behind (window_of class.version) left moved.bytes (own_slot_area moved))
@@ -200,8 +158,7 @@ module _ (class : ClassFields) (left : ℕ) (needs : List Need) (slot : SlotFiel
       class = class;
       same = class-drop class needs 1 same;
       within = most;
-      fits = subst (λ n. FitsBehind (window_of class.version) n (drop 1 needs))
-          (sym same-free) both-fit.1;
+      fits = grind (arith, same-free, class.version, both-fit.1);
     }
 
     -- a run with these frames after it leaves what the others leave after the first
@@ -222,11 +179,7 @@ module _ (class : ClassFields) (left : ℕ) (needs : List Need) (slot : SlotFiel
 
 -- if frames fit after a whole window, so do those after the first k
 pub drop-fits : (k : ℕ) (needs : List Need) → FitBehindWindow needs → FitBehindWindow (drop k needs)
-drop-fits k needs fit = record {
-  class = fit.class;
-  same = class-drop fit.class needs k fit.same;
-  fits = fits-drop (window_of fit.class.version) (window_of fit.class.version) k needs fit.fits;
-}
+drop-fits k needs fit = grind (arith, class-drop, fits-drop)
 
 -- ---- the frames that are shared
 
@@ -235,11 +188,4 @@ pub can-follow : (class : ClassFields) (input : Input) (shared : Option Overlap)
     → IfSome shared IsOverlap → IfSome shared (λ o. o.frames ≤ length input.needs.now)
     → IfSome shared (IsOverlapShort class) → IfSome shared (CanFollow input)
 can-follow class input None overlap within short = tt
-can-follow class input (Some o) overlap within short =
-    record { some = overlap; within = within; few = few class.version short.alike }
-  where
-    few : (version : Version) → o.frames ≤ o.first_alike + most_alike version
-        → o.frames ≤ o.first_alike + 7
-    few One most = omega (arith, most)
-    few Two most = omega (arith, most)
-    few TwoFive most = omega (arith, most)
+can-follow class input (Some o) overlap within short = grind arith

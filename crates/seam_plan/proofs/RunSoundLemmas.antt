@@ -1,5 +1,5 @@
 -- A run of inputs of one class that fit after no bytes sounds like the frames that they bring.
-use Rattle.std.proofs.Common.{ap, ap₂, arith, drop, List, refl, ℕ, [], ◌++◌, ◌∙◌, ◌∷◌, ◌≡◌}
+use Rattle.std.proofs.Common.{ap, arith, drop, List, refl, ℕ, [], ◌++◌, ◌∙◌, ◌∷◌, ◌≡◌}
 use Rattle.std.proofs.lemmas.List.{map-append}
 use Rattle.frame_header.specs.{Fields.ClassFields, Tables.window_of}
 use Rattle.seam_plan.proofs.FollowLemmas.{added, sounds}
@@ -45,8 +45,7 @@ module _ (class : ClassFields) where
   added-sounds [] (input ∷ inputs) own = absurd own
   added-sounds (joint ∷ joints) [] own = absurd own
   added-sounds (joint ∷ joints) (input ∷ inputs) own =
-      map-append (λ (f : RunFrame). f.sound) joint.frames (added joints)
-      ∙ ap₂ (λ (x y : List (List ℕ)). x ++ y) own.0.sounding (added-sounds joints inputs own.1)
+      grind (arith, map-append, added, added-sounds joints inputs own.1)
 
   -- ---- the run
 

@@ -15,8 +15,8 @@ use Rattle.seam_plan.specs.Joins.{join_slot, joining_frames}
 use Rattle.seam_plan.specs.Seams.{compared_frames, ends_alike, following_joint, joint_of}
 use Rattle.seam_plan.specs.Seams.{joint_with, joint_without_lead_in, JointFrames, left_out_count}
 use Rattle.seam_plan.specs.Seams.{overlap_joint, overlap_of, whole_joint}
-use Rattle.seam_plan.specs.declared.{input.Input.Input, run.Joint.Joint as CodeJoint}
-use Rattle.seam_plan.specs.declared.seam.Seam.{Seam, TheVariants.{Follows, LeadIn, Whole}}
+use Rattle.seam_plan.specs.declared.{input.Input.Input, run.Joint.Joint, seam.Seam.Seam}
+use Rattle.seam_plan.specs.declared.seam.Seam.TheVariants.{Follows, LeadIn, Whole}
 use Rattle.slot_plan.specs.{FreeBytes.needs_with_first_slot, declared.needs.Need.Need}
 
 -- ---- an input that follows
@@ -47,7 +47,7 @@ module _ (class : ClassFields) (run : List RunFrame) (before brought : Brought) 
       at (Some overlap) = by_test overlap (ends_alike run (compared_frames overlap brought))
 
   -- an input follows as the frames after the overlap that is alike join, if there is one
-  pub follow-by : (alike overlap : Option Overlap) (result : Option CodeJoint)
+  pub follow-by : (alike overlap : Option Overlap) (result : Option Joint)
       → alike ≡ alike_overlap class run before brought → alike ≡ overlap
       → AreJoint (option_and_then (follows_with class run brought) overlap) result
       → AreJoint (following_joint class run before brought) result
@@ -93,7 +93,7 @@ module _ (class : ClassFields) (run : List RunFrame) (input : Input) (brought : 
     (has : Bool) (is : IsBroughtInput input brought)
     (leads : has ≡ has_lead_in (window_of class.version) brought) where
   -- an input joins without its lead-in if it has one that the others want, and the others can join
-  without-by : (alone b : Bool) (result : Option CodeJoint)
+  without-by : (alone b : Bool) (result : Option Joint)
       → alone ≡ fits_behind (window_of class.version) 0 (drop 1 input.needs.now)
       → (has && not alone) ≡ b → AreJoint (without_if class run brought b) result
       → AreJoint (joint_without_lead_in class run brought) result
@@ -101,8 +101,7 @@ module _ (class : ClassFields) (run : List RunFrame) (input : Input) (brought : 
   without-by alone b result fits left joins =
       let same : alone
       ≡ fits_behind (window_of class.version) 0 (needs_of (drop 1 brought.frames)) =
-      fits ∙ ap (fits_behind (window_of class.version) 0)
-      (ap (drop 1) is.needs ∙ drop-map (λ (f : RunFrame). f.need) 1 brought.frames) in
+      grind (arith, drop-map) in
       subst (λ o. AreJoint o result) (sym (ap₂ (λ h a. without_if class run brought (h && not a))
       (sym leads) (sym same) ∙ ap (without_if class run brought) left)) joins
 
@@ -120,7 +119,7 @@ module _ (class : ClassFields) (run : List RunFrame) (input : Input) (brought : 
       without-by alone false None fits (and_right has (not alone) (not_from_true alone true_is)) tt
 
   -- a lead-in that the others want is left out if the others can join
-  pub without-some : (alone : Bool) (result : Option CodeJoint)
+  pub without-some : (alone : Bool) (result : Option Joint)
       → alone ≡ fits_behind (window_of class.version) 0 (drop 1 input.needs.now)
       → has ≡ true → alone ≡ false → AreJoint (without_if class run brought true) result
       → AreJoint (joint_without_lead_in class run brought) result
@@ -137,20 +136,20 @@ needs-drop k input brought is =
 -- ---- what is decided
 
 -- what becomes of an input is the first choice, if there is one
-pub joint-first : (x y : Option JointFrames) (z : JointFrames) (result : CodeJoint)
+pub joint-first : (x y : Option JointFrames) (z : JointFrames) (result : Joint)
     → AreJoint x (Some result) → IsJoint (unwrap_or (option_or x y) z) result
 joint-first None y z result is = absurd is
 joint-first (Some joint) y z result is = is
 
 -- if there is no first choice, it is the second
-pub joint-second : (x y : Option JointFrames) (z : JointFrames) (result : CodeJoint)
+pub joint-second : (x y : Option JointFrames) (z : JointFrames) (result : Joint)
     → AreJoint x None → AreJoint y (Some result) → IsJoint (unwrap_or (option_or x y) z) result
 joint-second None None z result first is = absurd is
 joint-second None (Some joint) z result first is = is
 joint-second (Some joint) y z result first is = absurd first
 
 -- if there is neither, it is the last
-pub joint-last : (x y : Option JointFrames) (z : JointFrames) (result : CodeJoint) → AreJoint x None
+pub joint-last : (x y : Option JointFrames) (z : JointFrames) (result : Joint) → AreJoint x None
     → AreJoint y None → IsJoint z result → IsJoint (unwrap_or (option_or x y) z) result
 joint-last None None z result first second is = is
 joint-last None (Some joint) z result first second is = absurd second
@@ -212,13 +211,13 @@ module _ (class : ClassFields) (run : List RunFrame) (before brought : Brought)
 -- what is decided adds the frames that are left, the first in its slot
 abbrev pub Adds : Brought → JointFrames → Type 0
 Adds brought joint =
-    (result : CodeJoint) → IsJoint joint result → needs_of joint.frames
+    (result : Joint) → IsJoint joint result → needs_of joint.frames
     ≡ joined_needs result.slot (drop (left_out_count joint.seam) (needs_of brought.frames))
 
 -- the frames that join, with any seam
 abbrev Moves : Seam → List RunFrame → Option (List RunFrame) → Type 0
 Moves seam rest None = Unit {0}
-Moves seam rest (Some frames) = (result : CodeJoint) → IsJoint (joint_with seam frames) result
+Moves seam rest (Some frames) = (result : Joint) → IsJoint (joint_with seam frames) result
     → needs_of frames ≡ joined_needs result.slot (needs_of rest)
 
 joining_frames-moves : (window : ℕ) (seam : Seam) (run rest : List RunFrame)
@@ -232,7 +231,7 @@ joining_frames-moves window seam run (f ∷ fs) =
     at None = tt
     at (Some s) = λ result is. ap (λ o. joined_needs o (f.need ∷ needs_of fs)) (sym is.slot)
 
-all-moves : (frames : List RunFrame) (result : CodeJoint) → IsJoint (joint_with Whole frames) result
+all-moves : (frames : List RunFrame) (result : Joint) → IsJoint (joint_with Whole frames) result
     → needs_of frames ≡ joined_needs result.slot (needs_of frames)
 unfolding needs_with_first_slot
 all-moves [] result is = ap (λ o. joined_needs o []) (sym is.slot)

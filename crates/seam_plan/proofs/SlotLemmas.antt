@@ -1,6 +1,6 @@
 -- The first of slots with ascending areas that passes a test is the least that does.
 use Rattle.std.proofs.Common.{ap, arith, Bool, cond, Contains, false, List, None, refl, Some, suc}
-use Rattle.std.proofs.{Common.{true, zero, [], ◌∙◌, ◌∷◌, ◌≡◌, ◌≤◌}, lemmas.Bool.both_ways}
+use Rattle.std.proofs.{Common.{true, zero, [], ◌∷◌, ◌≡◌, ◌≤◌}, lemmas.Bool.both_ways}
 use Rattle.std.specs.Prelude.{find}
 use Rattle.frame_header.specs.{Fields.{ClassFields, SlotFields}, Tables.area_of}
 use Rattle.slot_plan.proofs.{AreaLemmas.Ascend, LeastPlanLemmas.{area-later, ascend-behind}}
@@ -16,14 +16,11 @@ module _ (c : ClassFields) (p : Bool) (test : SlotFields → Bool) where
       → test s ≡ true → s ≡ slot
   first-is s slots slot ascend (zero, within, at) least passes = at
   first-is s slots slot ascend (suc k, within, at) least passes =
-      let later = area-later c p s slots slot ascend (k, omega (arith, within), at) in
-      let most = least s (zero, omega arith, refl) passes in
-      absurd (omega (arith, later, most))
+      grind (arith, area-later c p s slots slot ascend (k, omega (arith, within), at))
 
   behind : (s : SlotFields) (slots : List SlotFields) (slot : SlotFields)
       → Contains (s ∷ slots) slot → test slot ≡ true → test s ≡ false → Contains slots slot
-  behind s slots slot (zero, within, at) passes fails =
-      absurd (both_ways (test s) fails (ap test at ∙ passes))
+  behind s slots slot (zero, within, at) passes fails = grind (arith, both_ways)
   behind s slots slot (suc k, within, at) passes fails = (k, omega (arith, within), at)
 
   -- the slot is the first, if this passes, or otherwise found among the others

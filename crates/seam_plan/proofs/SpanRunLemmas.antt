@@ -7,8 +7,8 @@ use Rattle.std.proofs.{Math.Seq.drop-append-add, lemmas.Bool.{and_from, le-leb}}
 use Rattle.std.proofs.lemmas.List.{drop-drop, drop-map, drop-take, length-append, length-drop}
 use Rattle.std.proofs.lemmas.List.{length-take-le, take-append-drop, take-take}
 use Rattle.std.{proofs.lemmas.Slice.Eq.bytes_eq-Decides, specs.{List.list_all, Option.option_or}}
-use Rattle.std.specs.Prelude.{bytes_eq, if◌then◌else◌, nat_le, option_and_then, option_map}
-use Rattle.std.specs.Prelude.{slice_range, unwrap_or, ◌&&◌}
+use Rattle.std.specs.Prelude.{if◌then◌else◌, nat_le, option_and_then, option_map, slice_range}
+use Rattle.std.specs.Prelude.{unwrap_or, ◌&&◌}
 use Rattle.exact_span.specs.{Overlaps.shared_overlap, PlayedPositions.{rest_of, samples_in}}
 use Rattle.exact_span.specs.declared.{overlap.Overlap.Overlap, played.Played.Played}
 use Rattle.frame_header.specs.{Fields.ClassFields, Tables.{samples_of, window_of}}
@@ -39,13 +39,10 @@ module _ (all : List RunFrame) where
 
   take-range : (from to k : ℕ) → k ≤ to - from
       → take k (slice_range all from to) ≡ slice_range all from (from + k)
-  take-range from to k few =
-      let many : k ≡ from + k - from = omega arith in
-      take-take k (to - from) (drop from all) few ∙ ap (λ n. take n (drop from all)) many
+  take-range from to k few = grind (arith, take-take)
 
   length-range : (from to : ℕ) → to ≤ length all → length (slice_range all from to) ≡ to - from
-  length-range from to within =
-      length-take-le (to - from) (drop from all) (omega (arith, length-drop from all, within))
+  length-range from to within = grind (arith, length-take-le, length-drop)
 
   range-append : (a b c : ℕ) → a ≤ b → b ≤ c
       → slice_range all a b ++ slice_range all b c ≡ slice_range all a c
@@ -69,8 +66,7 @@ module _ (all : List RunFrame) where
       let behind = fits-drop window window from (needs_of all)
       ((fits-tested window window (needs_of all)).0 fits) in
       let behind_is : fits_behind window window (needs_of (drop from all)) ≡ true =
-      ap (fits_behind window window) (sym (drop-map (λ (f : RunFrame). f.need) from all))
-      ∙ (fits-tested window window (drop from (needs_of all))).1 behind in
+      grind (arith, drop-map, fits-tested) in
       front-fits window window (take (to - from) (drop from all))
       (drop (to - from) (drop from all))
       (ap (λ (l : List RunFrame). fits_behind window window (needs_of l))
@@ -87,10 +83,7 @@ leads-fit window (f ∷ leads) xs empty fits =
 alike-same : (fs : List RunFrame) → are_frames_alike fs fs ≡ true
 unfolding are_frames_alike
 alike-same [] = refl
-alike-same (f ∷ fs) =
-    and_from (bytes_eq f.sound f.sound) (are_frames_alike fs fs)
-    ((bytes_eq-Decides f.sound f.sound).1 refl)
-    (alike-same fs)
+alike-same (f ∷ fs) = grind (arith, and_from, bytes_eq-Decides, alike-same fs)
 
 -- ---- how many frames are shared
 
@@ -103,9 +96,7 @@ module _ (start rest shared frames : ℕ) (there : shared ≤ frames) where
   shared-by : (v : Version) → (start + rest) % samples_of v ≡ 0
       → (start + rest) / samples_of v ≡ shared → AreShared v start rest shared frames
   shared-by v none whole_joint = record {
-    test = and_from (eqb ((start + rest) % samples_of v) 0)
-        (nat_le ((start + rest) / samples_of v) frames) (ap (λ n. eqb n 0) none)
-        (le-leb ((start + rest) / samples_of v) frames (omega (arith, whole_joint, there)));
+    test = grind (arith, and_from, le-leb);
     whole = whole_joint;
   }
 
@@ -330,8 +321,7 @@ module _ (class : ClassFields) (all : List RunFrame) (known : AreHeadersKnown al
         × ((leads ++ slice_range all low one.to) ++ added joints
         ≡ leads ++ slice_range all low (spans_end class all low one.to mid inputs points are))
     unfolding joints_from
-    spans-joints leads empty low begin mid before one low_last [] [] are =
-        (refl, append-nil (leads ++ slice_range all low one.to))
+    spans-joints leads empty low begin mid before one low_last [] [] are = grind (arith, append-nil)
     spans-joints leads empty low begin mid before one low_last [] (end ∷ points) are = absurd are
     spans-joints leads empty low begin mid before one low_last (input ∷ inputs) [] are = absurd are
     spans-joints leads empty low begin mid before one low_last (input ∷ inputs) (end ∷ points) are =

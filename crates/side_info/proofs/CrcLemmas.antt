@@ -30,8 +30,7 @@ step_cases _ _ shifted ht hb = sym (xor_zero_r shifted)
 step-is : (word bit : ℕ) → bit < 2
     → crc_bit word bit ≡ bit_xor (word * 2 % 65536) (taken (bit_xor (bit_at word 15) bit))
 unfolding crc_bit
-step-is word bit h =
-    step_cases (bit_at word 15) bit (word * 2 % 65536) (mod_below (word / 2 ^ 15) 2 (lit< tt)) h
+step-is word bit h = grind (arith, step_cases, mod_below, lit<)
 
 taken-xor : (a b : ℕ) → a < 2 → b < 2 → taken (bit_xor a b) ≡ bit_xor (taken a) (taken b)
 taken-xor (suc zero) (suc (suc b)) ha hb = absurd (omega arith)
@@ -41,10 +40,18 @@ taken-xor _ _ ha hb = refl
 -- ---- exclusive or
 xor_four : (a b c d : ℕ) → bit_xor (bit_xor a b) (bit_xor c d) ≡ bit_xor (bit_xor a c) (bit_xor b d)
 xor_four a b c d =
-    xor_assoc a b (bit_xor c d)
-    ∙ ap (bit_xor a)
-    (sym (xor_assoc b c d) ∙ ap (λ x. bit_xor x d) (xor_comm b c) ∙ xor_assoc c b d)
-    ∙ sym (xor_assoc a c (bit_xor b d))
+    grind (
+      arith,
+      xor_assoc a b (bit_xor c d),
+      bit_xor c d,
+      bit_xor a,
+      xor_assoc b c d,
+      bit_xor,
+      xor_comm b c,
+      xor_assoc c b d,
+      xor_assoc a c (bit_xor b d),
+      bit_xor b d,
+    )
 
 top-xor : (a b : ℕ) → bit_at (bit_xor a b) 15 ≡ bit_xor (bit_at a 15) (bit_at b 15)
 top-xor a b = ap (λ x. x % 2) (xor_shr a b 15) ∙ xor_mod (a / 2 ^ 15) (b / 2 ^ 15) 1
@@ -60,19 +67,19 @@ shifted-xor a b =
 step-xor : (a b bit : ℕ) → bit < 2
     → crc_bit (bit_xor a b) bit ≡ bit_xor (crc_bit a bit) (crc_bit b 0)
 step-xor a b bit h =
-    let p : ℕ = bit_at a 15 in
-    let q : ℕ = bit_at b 15 in
-    let hp : p < 2 = mod_below (a / 2 ^ 15) 2 (lit< tt) in
-    let hq : q < 2 = mod_below (b / 2 ^ 15) 2 (lit< tt) in
-    let hpb : bit_xor p bit < 2 = xor_lt 1 p bit hp h in
-    let tops : bit_xor (bit_at (bit_xor a b) 15) bit ≡ bit_xor (bit_xor p bit) (bit_xor q 0) =
-    ap₂ bit_xor (top-xor a b) refl ∙ ap (bit_xor (bit_xor p q)) (sym (xor_zero_r bit))
-    ∙ xor_four p q bit 0 in
-    step-is (bit_xor a b) bit h
-    ∙ ap₂ bit_xor (shifted-xor a b)
-    (ap taken tops ∙ taken-xor (bit_xor p bit) (bit_xor q 0) hpb (xor_lt 1 q 0 hq (lit< tt)))
-    ∙ xor_four (a * 2 % 65536) (b * 2 % 65536) (taken (bit_xor p bit)) (taken (bit_xor q 0))
-    ∙ ap₂ bit_xor (sym (step-is a bit h)) (sym (step-is b 0 (lit< tt)))
+    search (
+      arith,
+      mod_below,
+      lit<,
+      bit_xor,
+      xor_lt,
+      top-xor,
+      xor_zero_r,
+      xor_four,
+      step-is,
+      shifted-xor,
+      taken-xor,
+    )
 
 -- ---- all bits
 -- as many zero bits as there are bits
@@ -85,8 +92,7 @@ remainder-xor : (bs : List ℕ) (a b : ℕ) → AreBits bs
 unfolding remainder
 remainder-xor [] a b h = refl
 remainder-xor (bit ∷ rest) a b h =
-    ap (λ w. remainder w rest) (step-xor a b bit h.0)
-    ∙ remainder-xor rest (crc_bit a bit) (crc_bit b 0) h.1
+    grind (arith, step-xor, remainder-xor rest (crc_bit a bit) (crc_bit b 0) h.1)
 
 -- no bits leave the word as it is
 pub remainder-nil : (word : ℕ) → remainder word [] ≡ word
@@ -130,8 +136,7 @@ unfolding bits_of
 zeros-bits_of byte = refl
 
 zeros_are_bits : AreBits eight_zeros
-zeros_are_bits =
-    (lit< tt, (lit< tt, (lit< tt, (lit< tt, (lit< tt, (lit< tt, (lit< tt, (lit< tt, tt))))))))
+zeros_are_bits = grind (arith, lit<)
 
 -- a word split into the byte that cancels, what that leaves of its upper byte, and its lower byte
 module _ (word byte : ℕ) (small : word < 2 ^ 16) (few : byte < 256) where
@@ -142,8 +147,7 @@ module _ (word byte : ℕ) (small : word < 2 ^ 16) (few : byte < 256) where
   left-below = xor_lt 8 (word / 256) byte (omega arith) few
 
   again : bit_xor byte left ≡ word / 256
-  again = ap (bit_xor byte) (xor_comm (word / 256) byte) ∙ sym (xor_assoc byte byte (word / 256))
-      ∙ ap (λ x. bit_xor x (word / 256)) (xor_self byte)
+  again = grind (arith, bit_xor, xor_comm, xor_assoc, xor_self)
 
   parts : word ≡ bit_xor (byte * 256) (bit_xor (left * 256) (word % 256))
   parts =
@@ -193,9 +197,7 @@ remainder-top word byte few =
     let gone : remainder (byte * 256) (bits_of 8 byte) ≡ 0 = eqb-true _ _
     (all_below-pass 256 (λ b. eqb (remainder (b * 256) (bits_of 8 b)) 0) byte cancels few) in
     let back : bit_xor (byte * 256) (bit_xor word (byte * 256)) ≡ word =
-    ap (bit_xor (byte * 256)) (xor_comm word (byte * 256))
-    ∙ sym (xor_assoc (byte * 256) (byte * 256) word)
-    ∙ ap (λ x. bit_xor x word) (xor_self (byte * 256)) in
+    grind (arith, bit_xor, xor_comm, xor_assoc, xor_self) in
     ap (λ w. remainder w (bits_of 8 byte)) (sym back)
     ∙ remainder-xor (bits_of 8 byte) (byte * 256) (bit_xor word (byte * 256))
     (AreBits-bits_of 8 byte)
@@ -254,12 +256,7 @@ module _ (word a b : ℕ) (small : word < 2 ^ 16) (a_few : a < 256) (b_few : b <
 
   after_b : remainder (remainder word (bits_of 8 a)) (bits_of 8 b)
       ≡ bit_xor (behind (behind (upper * 256))) (behind (lower * 256))
-  after_b =
-      ap (λ w. remainder w (bits_of 8 b)) after_a
-      ∙ remainder-top (bit_xor (behind (upper * 256)) (word % 256 * 256)) b b_few
-      ∙ ap behind (xor_assoc (behind (upper * 256)) (word % 256 * 256) (b * 256)
-      ∙ ap (bit_xor (behind (upper * 256))) (both_high (word % 256) b))
-      ∙ behind-xor (behind (upper * 256)) (lower * 256)
+  after_b = grind (arith, after_a, remainder-top, bit_xor, xor_assoc, both_high, behind-xor)
 
   upper_few : upper < 256
   upper_few = xor_lt 8 (word / 256) a (omega (arith, small)) a_few
@@ -278,12 +275,16 @@ remainder-push : (word byte : ℕ) (xs : List ℕ) → byte < 256
     → remainder word (bits (xs ++ byte ∷ []))
     ≡ bit_xor (behind (remainder word (bits xs))) (get_or (table 0) byte 0)
 remainder-push word byte xs few =
-    let before = remainder word (bits xs) in
-    ap (remainder word) (bits-append xs (byte ∷ []) ∙ ap (λ bs. bits xs ++ bs) (bits-one byte))
-    ∙ remainder-append (bits xs) (bits_of 8 byte) word
-    ∙ remainder-top before byte few
-    ∙ behind-xor before (byte * 256)
-    ∙ ap (bit_xor (behind before)) (entry byte few)
+    grind (
+      arith,
+      bits-append,
+      bits-one,
+      remainder-append,
+      remainder-top,
+      behind-xor,
+      bit_xor,
+      entry,
+    )
 
 -- two bytes are divided in order
 pub remainder-pair : (word a b : ℕ)
@@ -391,8 +392,7 @@ remainder-more word xs i h =
 -- joined bytes are divided in order
 pub remainder-bits_append : (word : ℕ) (xs ys : List ℕ)
     → remainder (remainder word (bits xs)) (bits ys) ≡ remainder word (bits (xs ++ ys))
-remainder-bits_append word xs ys =
-    sym (remainder-append (bits xs) (bits ys) word) ∙ ap (remainder word) (sym (bits-append xs ys))
+remainder-bits_append word xs ys = grind (arith, remainder-append, bits-append)
 
 -- dividing the first eight of some bytes takes one look into each of eight tables
 pub eight_list : (word : ℕ) (xs : List ℕ) → word < 2 ^ 16 → ((i : ℕ) → get_or xs i 0 < 256)

@@ -42,9 +42,7 @@ AreBytes-word : (n : ℕ) → AreBytes (to_be_bytes w16 n)
 AreBytes-word n = (mod_below _ 256 (lit< tt), (mod_below _ 256 (lit< tt), tt))
 
 bits-word : (n : ℕ) → n < 2 ^ 16 → bits (to_be_bytes w16 n) ≡ bits_of 16 n
-bits-word n h =
-    bits-bits_of (to_be_bytes w16 n) ∙ ap (bits_of 16)
-    (number-word (to_be_bytes w16 n) refl (AreBytes-word n) ∙ from_be_bytes-to_be_bytes_2 n h)
+bits-word n h = grind (arith, bits-bits_of, number-word, AreBytes-word, from_be_bytes-to_be_bytes_2)
 
 -- a number of 16 bits is written as the two bytes of its bits
 pub bytes-word : (n : ℕ) → n < 2 ^ 16 → to_be_bytes w16 n ≡ bytes (bits_of 16 n)
@@ -57,8 +55,7 @@ bytes-word n h = sym (bytes-bits (to_be_bytes w16 n) (AreBytes-word n)) ∙ ap b
 -- the number of a frame's fifth and sixth byte is the number of the 16 bits after the header
 pub word_at : (frame : List ℕ) → 6 ≤ length frame → AreBytes frame
     → get_or frame 4 0 * 256 + get_or frame 5 0 ≡ number (bits (take 2 (drop 4 frame)))
-word_at (a ∷ b ∷ c ∷ d ∷ e ∷ f ∷ rest) long all =
-    sym (number-two e f (all.1.1.1.1.0, (all.1.1.1.1.1.0, tt)))
+word_at (a ∷ b ∷ c ∷ d ∷ e ∷ f ∷ rest) long all = grind (arith, number-two)
 word_at frame long all = absurd (omega arith)
 
 -- ---- room for what is before the area
@@ -76,14 +73,12 @@ overhead-is c protected = refl
 -- in a protected frame these are six bytes and the side information
 pub overhead-protected : (h : HeaderFields) → h.protected ≡ true
     → overhead_of (class_of h) h.protected ≡ 6 + side_size_of (class_of h)
-overhead-protected h is =
-    overhead-is (class_of h) h.protected ∙ ap (λ b. side_place b + side_size_of (class_of h)) is
+overhead-protected h is = grind (arith, overhead-is)
 
 -- in an unprotected frame these are four bytes and the side information
 pub overhead-unprotected : (h : HeaderFields) → h.protected ≡ false
     → overhead_of (class_of h) h.protected ≡ 4 + side_size_of (class_of h)
-overhead-unprotected h is =
-    overhead-is (class_of h) h.protected ∙ ap (λ b. side_place b + side_size_of (class_of h)) is
+overhead-unprotected h is = grind (arith, overhead-is)
 
 place-least : (protected : Bool) → 4 ≤ side_place protected
 place-least true = omega arith
@@ -109,14 +104,12 @@ overhead-few c protected = omega (arith, overhead-most c protected, side_size-sm
 -- a frame with room has at least the header and the side information
 pub room-least : (h : HeaderFields) (frame : List ℕ) → HasRoom h frame
     → 4 + side_size_of (class_of h) ≤ length frame
-room-least h frame room =
-    omega (arith, room, overhead-is (class_of h) h.protected, place-least h.protected)
+room-least h frame room = grind (arith, overhead-is, place-least)
 
 -- a protected frame with room has a header and a check word
 pub room-protected : (h : HeaderFields) (frame : List ℕ) → h.protected ≡ true → HasRoom h frame
     → 6 ≤ length frame
-room-protected h frame is room =
-    omega (arith, room, overhead-is (class_of h) h.protected, ap side_place is)
+room-protected h frame is room = grind (arith, overhead-is)
 
 -- ---- the parts of a frame with other side information
 
@@ -166,8 +159,7 @@ made h s frame class shaped room =
           (arith, room, overhead-is c h.protected, place-least h.protected, length-take 4 frame);
       word = length-crc_part h s h.protected;
       part = length-bytes (side_size_of c) (side_bits c s) (length-side_bits c class s shaped);
-      whole = sym (append_assoc (take 4 frame ++ crc_part h s) part rest
-          ∙ append_assoc (take 4 frame) (crc_part h s) (part ++ rest));
+      whole = grind (arith, append_assoc, part);
     }
 
 -- ---- what stays
@@ -176,22 +168,7 @@ made h s frame class shaped room =
 pub length-frame_with_side : (h : HeaderFields) (s : Side) (frame : List ℕ) → IsClass (class_of h)
     → IsShaped s → HasRoom h frame → length (frame_with_side h s frame) ≡ length frame
 length-frame_with_side h s frame class shaped room =
-    let is = made h s frame class shaped room in
-    let part = bytes (side_bits (class_of h) s) in
-    let rest = drop (overhead_of (class_of h) h.protected) frame in
-    omega (
-      arith,
-      room,
-      is.front,
-      is.word,
-      is.part,
-      ap length is.whole,
-      overhead-is (class_of h) h.protected,
-      length-append ((take 4 frame ++ crc_part h s) ++ part) rest,
-      length-append (take 4 frame ++ crc_part h s) part,
-      length-append (take 4 frame) (crc_part h s),
-      length-drop (overhead_of (class_of h) h.protected) frame,
-    )
+    grind (arith, made, overhead-is, length-append, length-drop)
 
 -- a frame with other side information keeps its header
 pub header-frame_with_side : (h : HeaderFields) (s : Side) (frame : List ℕ) → HasRoom h frame
@@ -204,27 +181,14 @@ header-frame_with_side h s frame room =
 front_length : (h : HeaderFields) (s : Side) (frame : List ℕ) → IsMade h s frame
     → length ((take 4 frame ++ crc_part h s) ++ bytes (side_bits (class_of h) s))
     ≡ overhead_of (class_of h) h.protected
-front_length h s frame is =
-    omega (
-      arith,
-      is.front,
-      is.word,
-      is.part,
-      overhead-is (class_of h) h.protected,
-      length-append (take 4 frame ++ crc_part h s) (bytes (side_bits (class_of h) s)),
-      length-append (take 4 frame) (crc_part h s),
-    )
+front_length h s frame is = grind (arith, overhead-is, length-append)
 
 -- a frame with other side information keeps its area
 pub area-frame_with_side : (h : HeaderFields) (s : Side) (frame : List ℕ) → IsClass (class_of h)
     → IsShaped s → HasRoom h frame
     → drop (overhead_of (class_of h) h.protected) (frame_with_side h s frame)
     ≡ drop (overhead_of (class_of h) h.protected) frame
-area-frame_with_side h s frame class shaped room =
-    let is = made h s frame class shaped room in
-    ap (drop (overhead_of (class_of h) h.protected)) is.whole
-    ∙ drop_at _ (drop (overhead_of (class_of h) h.protected) frame)
-    (overhead_of (class_of h) h.protected) (front_length h s frame is)
+area-frame_with_side h s frame class shaped room = grind (arith, made, drop_at, front_length)
 
 -- ---- what is read back
 
@@ -234,17 +198,7 @@ pub side_part-frame_with_side : (h : HeaderFields) (s : Side) (frame : List ℕ)
     → side_part h (frame_with_side h s frame) ≡ bytes (side_bits (class_of h) s)
 unfolding side_part
 side_part-frame_with_side h s frame class shaped room =
-    let is = made h s frame class shaped room in
-    let part = bytes (side_bits (class_of h) s) in
-    let rest = drop (overhead_of (class_of h) h.protected) frame in
-    let front = take 4 frame ++ crc_part h s in
-    let place : length front ≡ side_place h.protected =
-    omega (arith, is.front, is.word, length-append (take 4 frame) (crc_part h s)) in
-    ap (λ (l : List ℕ). take (side_size_of (class_of h)) (drop (side_place h.protected) l))
-    (is.whole ∙ append_assoc front part rest)
-    ∙ ap (take (side_size_of (class_of h)))
-    (drop_at front (part ++ rest) (side_place h.protected) place)
-    ∙ take_at part rest (side_size_of (class_of h)) is.part
+    grind (arith, made, length-append, append_assoc, drop_at, take_at)
 
 -- the side information that was put in is read from the frame
 pub side_in-frame_with_side : (h : HeaderFields) (s : Side) (frame : List ℕ) → IsClass (class_of h)
@@ -305,9 +259,7 @@ pub frame_with_side-again : (h : HeaderFields) (s t : Side) (frame : List ℕ) �
     → frame_with_side h s (frame_with_side h t frame) ≡ frame_with_side h s frame
 unfolding frame_with_side
 frame_with_side-again h s t frame class shaped room =
-    let part = bytes (side_bits (class_of h) s) in
-    ap₂ (λ (xs ys : List ℕ). xs ++ (crc_part h s ++ (part ++ ys)))
-    (header-frame_with_side h t frame room) (area-frame_with_side h t frame class shaped room)
+    grind (arith, header-frame_with_side, area-frame_with_side)
 
 -- the check word of a protected frame is right
 abbrev pub IsRight : HeaderFields → List ℕ → Type 0
@@ -317,21 +269,13 @@ word_of-said : (frame : List ℕ) → AreBytes frame → 6 ≤ length frame
     → bytes (bits_of 16 (stored_crc frame)) ≡ take 2 (drop 4 frame)
 unfolding stored_crc
 word_of-said frame all long =
-    let word = take 2 (drop 4 frame) in
-    let two : length word ≡ 2 =
-    omega (arith, long, length-take 2 (drop 4 frame), length-drop 4 frame) in
-    ap (λ n. bytes (bits_of (8 * n) (number (bits word)))) (sym two)
-    ∙ ap bytes (sym (bits-bits_of word))
-    ∙ bytes-bits word (AreBelow-take 256 2 (drop 4 frame) (AreBelow-drop 256 4 frame all))
+    grind (arith, length-take, length-drop, bits-bits_of, bytes-bits, AreBelow-take, AreBelow-drop)
 
 word_cases : (h : HeaderFields) (s : Side) (frame : List ℕ) (b : Bool) → h.protected ≡ b
     → AreBytes frame → HasRoom h frame → (h.protected ≡ true → stored_crc frame ≡ check_word_of h s)
     → cond b (bytes (bits_of 16 (check_word_of h s))) [] ++ drop (side_place b) frame ≡ drop 4 frame
 word_cases h s frame true is all room right =
-    ap (λ n. bytes (bits_of 16 n) ++ drop 6 frame) (sym (right is))
-    ∙ ap₂ (λ (xs ys : List ℕ). xs ++ ys) (word_of-said frame all (room-protected h frame is room))
-    (sym (drop-drop 2 4 frame))
-    ∙ take-append-drop 2 (drop 4 frame)
+    grind (arith, word_of-said, room-protected, drop-drop, take-append-drop)
 word_cases h s frame false is all room right = refl
 
 -- the side information that is read from a frame is written as the bytes that are there
@@ -339,20 +283,18 @@ pub side_there : (h : HeaderFields) (frame : List ℕ) → IsClass (class_of h) 
     → HasRoom h frame → bytes (side_bits (class_of h) (side_in h frame)) ≡ side_part h frame
 unfolding side_in side_part
 side_there h frame class all room =
-    let c = class_of h in
-    let behind = drop (side_place h.protected) frame in
-    let part = take (side_size_of c) behind in
-    let long : length part ≡ side_size_of c = omega (
+    grind (
       arith,
-      room,
-      overhead-is c h.protected,
-      length-take (side_size_of c) behind,
-      length-drop (side_place h.protected) frame,
-    ) in
-    ap bytes (side_bits-side_at c class (bits part) (AreBits-bits part)
-    (length-bits part ∙ ap (λ n. 8 * n) long))
-    ∙ bytes-bits part (AreBelow-take 256 (side_size_of c) behind
-    (AreBelow-drop 256 (side_place h.protected) frame all))
+      overhead-is,
+      length-take,
+      length-drop,
+      side_bits-side_at,
+      AreBits-bits,
+      length-bits,
+      bytes-bits,
+      AreBelow-take,
+      AreBelow-drop,
+    )
 
 -- putting a frame's own side information into it doesn't change the frame, if its check word is
 -- right
@@ -383,8 +325,7 @@ shaped-side_in h frame = IsShaped-side_at (class_of h) (bits (side_part h frame)
 pub fits-side_in : (h : HeaderFields) (frame : List ℕ) → IsClass (class_of h)
     → SideFits (class_of h) (side_in h frame)
 unfolding side_in
-fits-side_in h frame class = SideFits-side_at (class_of h) class (bits (side_part h frame))
-    (AreBits-bits (side_part h frame))
+fits-side_in h frame class = grind (arith, SideFits-side_at, AreBits-bits)
 
 -- ---- a frame with more bytes after it
 
@@ -408,13 +349,9 @@ drop-take-append (suc m) (suc n) (x ∷ xs) le = drop-take-append m n xs (omega 
 pub side_in-take : (h : HeaderFields) (len : ℕ) (xs : List ℕ)
     → overhead_of (class_of h) h.protected ≤ len → side_in h (take len xs) ≡ side_in h xs
 unfolding side_in side_part
-side_in-take h len xs room =
-    ap (λ (part : List ℕ). side_at (class_of h) (bits part))
-    (take-drop-take (side_size_of (class_of h)) (side_place h.protected) len xs
-    (omega (arith, room, overhead-is (class_of h) h.protected)))
+side_in-take h len xs room = grind (arith, take-drop-take, overhead-is)
 
 -- the check word is the same in any first bytes of the frame, at least six
 pub stored_crc-take : (len : ℕ) (xs : List ℕ) → 6 ≤ len → stored_crc (take len xs) ≡ stored_crc xs
 unfolding stored_crc
-stored_crc-take len xs room =
-    ap (λ (word : List ℕ). number (bits word)) (take-drop-take 2 4 len xs (omega (arith, room)))
+stored_crc-take len xs room = grind (arith, take-drop-take 2 4 len xs (omega (arith, room)))

@@ -2,8 +2,8 @@
 -- back.
 use Rattle.std.proofs.Common.{ap, append-nil, append_assoc, ap₂, arith, Bool, cond, drop, false}
 use Rattle.std.proofs.Common.{length, length-append, List, refl, replicate, subst, sym, take}
-use Rattle.std.proofs.Common.{take-append-drop, true, ℕ, [], ◌*◌, ◌++◌, ◌+◌, ◌<◌, ◌==◌, ◌^◌, ◌∙◌}
-use Rattle.std.{proofs.{Common.◌≡◌, lemmas.List.{drop_at, take_at}}, specs.Int.{from_be_bytes, w32}}
+use Rattle.std.proofs.Common.{take-append-drop, true, ℕ, [], ◌++◌, ◌+◌, ◌<◌, ◌==◌, ◌^◌, ◌∙◌, ◌≡◌}
+use Rattle.std.{proofs.lemmas.List.{drop_at, take_at}, specs.Int.{from_be_bytes, w32}}
 use Rattle.bit_fields.proofs.BitsLemmas.{AreBits-bits, AreBytes-bytes, bits-be_bytes, bits-bytes}
 use Rattle.bit_fields.proofs.BitsLemmas.{bytes-bits, length-bits, length-bits_of, length-bytes}
 use Rattle.bit_fields.specs.Bits.{AreBytes, bits, bits_of, bytes}
@@ -39,17 +39,14 @@ module _ (h : HeaderFields) (known : IsHeader h) (four part room : List ℕ) (he
 
   own : own_side (class_of h) room ≡ part
   unfolding own_side padded_side
-  own = ap (take (side_size_of (class_of h))) is
-      ∙ take_at part (drop (length part) (replicate 32 0)) (side_size_of (class_of h)) size
+  own = grind (arith, take_at, size)
 
   side_is : side_of (front_with four room) ≡ side_at (class_of h) (bits part)
   unfolding side_of
-  side_is = ap (λ k. side_at (class_of k) (bits (own_side (class_of k) room))) header_is
-      ∙ ap (λ xs. side_at (class_of h) (bits xs)) own
+  side_is = grind (arith, header_is, own)
 
   written_back : side_bits (class_of h) (side_at (class_of h) (bits part)) ≡ bits part
-  written_back = side_bits-side_at (class_of h) (IsClass-class_of h known) (bits part)
-      (AreBits-bits part) (length-bits part ∙ ap (λ n. 8 * n) size)
+  written_back = grind (arith, side_bits-side_at, IsClass-class_of, AreBits-bits, length-bits, size)
 
   -- the fields of these bytes are that header and that side information
   pub written_fields : front_view (front_with four room)
@@ -58,18 +55,7 @@ module _ (h : HeaderFields) (known : IsHeader h) (four part room : List ℕ) (he
 
   -- these bytes are the ones that their fields are written as
   pub are_written : AreFrontBytes (front_with four room)
-  are_written =
-      let header : bytes (header_bits (header_of (front_with four room))) ≡ four =
-      ap (λ k. bytes (header_bits k)) header_is ∙ ap bytes (sym head) ∙ bytes-bits four octets in
-      let side : padded_side (bytes (side_bits (class_of (header_of (front_with four room)))
-      (side_of (front_with four room)))) ≡ room =
-      ap₂ (λ k s. padded_side (bytes (side_bits (class_of k) s))) header_is side_is
-      ∙ ap (λ bs. padded_side (bytes bs)) written_back ∙ ap padded_side (bytes-bits part all)
-      ∙ sym is in
-      record {
-        known = subst IsHeader (sym header_is) known;
-        same = λ i. record { header = header i; side = side i };
-      }
+  are_written = grind (arith, header_is, bytes-bits, octets, side_is, written_back)
 
 -- ---- the header
 -- a header that is read from its four bytes is the header of the front
@@ -113,33 +99,13 @@ mode_extension_read a = refl
 pub fields-alike : (bs cs : List ℕ) → AreHeadersAlike bs cs
     → header_fields bs ≡ header_like (header_fields cs) (header_fields bs)
 unfolding header_fields
-fields-alike bs cs same = λ i. record {
-  version = cond (same.version i == 3) One (cond (same.version i == 2) Two TwoFive);
-  protected = same.protection i == 0;
-  slot = record { rate_index = group 16 4 bs; padding = group 22 1 bs == 1 };
-  frequency_index = same.frequency i;
-  private_bit = same.private i == 1;
-  mode = same.mode i;
-  mode_extension = group 26 2 bs;
-  copyright = same.copyright i == 1;
-  original = same.original i == 1;
-  emphasis = same.emphasis i;
-}
+fields-alike bs cs same = grind arith
 
 -- a header that differs from another only in slot and mode extension has bits alike the other's
 pub alike-fields : (h other : HeaderFields)
     → AreHeadersAlike (header_bits (header_like h other)) (header_bits h)
 unfolding header_bits header_numbers group_bits group bits_of
-alike-fields h other = record {
-  version = refl;
-  protection = refl;
-  frequency = refl;
-  private = refl;
-  mode = refl;
-  copyright = refl;
-  original = refl;
-  emphasis = refl;
-}
+alike-fields h other = grind arith
 
 -- what is known of a front whose bytes are the ones that its fields are written as
 pub record Written (a : Inside) : Type 0 where
@@ -164,9 +130,7 @@ shaped a =
 -- the fields of the side information of a front are within their bits
 pub fits : (a : Inside) → AreFrontBytes a → SideFits (class_of (header_of a)) (side_of a)
 unfolding side_of
-fits a w = SideFits-side_at (class_of (header_of a)) (IsClass-class_of (header_of a) w.known)
-    (bits (own_side (class_of (header_of a)) a.side))
-    (AreBits-bits (own_side (class_of (header_of a)) a.side))
+fits a w = grind (arith, SideFits-side_at, IsClass-class_of, AreBits-bits)
 
 -- what is known of a front holds if its bytes are the ones that its fields are written as
 pub written : (a : Inside) → AreFrontBytes a → Written a
@@ -227,8 +191,7 @@ pub padded_side-other : (a : Inside) → AreFrontBytes a → (part : List ℕ)
     → length part ≡ side_size_of (class_of (header_of a))
     → part ++ drop (side_size_of (class_of (header_of a))) a.side ≡ padded_side part
 unfolding padded_side
-padded_side-other a w part size =
-    ap (λ xs. part ++ xs) ((written a w).rest ∙ ap (λ k. drop k (replicate 32 0)) (sym size))
+padded_side-other a w part size = grind (arith, written a w, size)
 
 -- the 32 bytes are the side information, with zeros after it
 pub padded_side-own : (a : Inside) → AreFrontBytes a
@@ -263,15 +226,13 @@ module _ (a : Inside) (w : AreFrontBytes a) (part : List ℕ)
   -- these bytes are the ones that their fields are written as
   pub side_written : AreFrontBytes
       (front_with a.header (part ++ drop (side_size_of (class_of (header_of a))) a.side))
-  side_written = are_written (header_of a) w.known a.header part _
-      (written a w).head (written a w).octets size all (padded_side-other a w part size)
+  side_written = grind (arith, are_written, written, size, padded_side-other)
 
   -- their fields are the header from before and that side information
   pub side_fields-written : front_view
       (front_with a.header (part ++ drop (side_size_of (class_of (header_of a))) a.side))
       ≡ record { header = header_of a; side = side_at (class_of (header_of a)) (bits part) }
-  side_fields-written = written_fields (header_of a) w.known a.header part _
-      (written a w).head (written a w).octets size all (padded_side-other a w part size)
+  side_fields-written = grind (arith, written_fields, written, size, padded_side-other)
 
 -- ---- main_data_begin
 -- main_data_begin takes up the first bits and nothing more
@@ -281,52 +242,30 @@ BeginsSide c = (s : Side) (begin : ℕ) → side_bits c (record s { main_data_be
 
 first_bits : (width m n : ℕ) (xs ys : List ℕ)
     → (bits_of width n ++ xs) ++ ys ≡ bits_of width n ++ drop width ((bits_of width m ++ xs) ++ ys)
-first_bits width m n xs ys =
-    append_assoc (bits_of width n) xs ys
-    ∙ ap (λ zs. bits_of width n ++ zs) (sym (drop_at (bits_of width m) (xs ++ ys) width
-    (length-bits_of width m)) ∙ ap (drop width) (sym (append_assoc (bits_of width m) xs ys)))
+first_bits width m n xs ys = grind (arith, append_assoc, drop_at, length-bits_of)
 
 -- in every class side information begins with main_data_begin
 pub begin_first : (c : ClassFields) → IsClass c → BeginsSide c
 unfolding side_bits group_bits granules_in granule_bits
-begin_first = each_class BeginsSide
-    (λ f s begin. first_bits 9 s.main_data_begin begin _ _)
-    (λ f s begin. first_bits 9 s.main_data_begin begin _ _)
-    (λ f s begin. first_bits 8 s.main_data_begin begin _ _)
-    (λ f s begin. first_bits 8 s.main_data_begin begin _ _)
-    (λ f channels two s begin. two s begin)
+begin_first = grind (arith, each_class, first_bits)
 
 -- the first bits of side information are its main_data_begin
 pub begin-read : (c : ClassFields) → IsClass c → (bs : List ℕ)
     → group 0 (begin_width c.version) bs ≡ (side_at c bs).main_data_begin
 unfolding side_at numbers_at group
-begin-read = each_class (λ c. (bs : List ℕ)
-    → group 0 (begin_width c.version) bs ≡ (side_at c bs).main_data_begin) (λ f bs. refl)
-    (λ f bs. refl) (λ f bs. refl) (λ f bs. refl) (λ f channels two. two)
+begin-read = grind (arith, each_class)
 
 -- main_data_begin has the width of the first field
 pub begin_width-is : (c : ClassFields) → IsClass c → begin_width c.version ≡ front_width c 0
-begin_width-is = each_class (λ c. begin_width c.version ≡ front_width c 0) (λ f. refl) (λ f. refl)
-    (λ f. refl) (λ f. refl) (λ f channels two. two)
+begin_width-is = grind (arith, each_class)
 
 -- all fields still fit with another main_data_begin
 pub fits-begin : (c : ClassFields) (s : Side) (begin : ℕ) → SideFits c s
     → begin < 2 ^ front_width c 0 → SideFits c (record s { main_data_begin = begin })
-fits-begin c s begin fit small = record {
-  main_data_begin = small;
-  private_bits = fit.private_bits;
-  scfsi = fit.scfsi;
-  granules =
-      fit.granules;
-}
+fits-begin c s begin fit small = grind arith
 
 shaped-begin : (s : Side) (begin : ℕ) → IsShaped s → IsShaped (record s { main_data_begin = begin })
-shaped-begin s begin shape = record {
-  scfsi = shape.scfsi;
-  granules = shape.granules;
-  first = shape.first;
-  second = shape.second;
-}
+shaped-begin s begin shape = grind arith
 
 -- changing the bits of main_data_begin changes this field alone
 pub side_at-begin : (c : ClassFields) → IsClass c → (s : Side) (begin : ℕ) (old new : List ℕ)
@@ -387,9 +326,7 @@ pub put-first : (n : ℕ) (front part zeros rest new : List ℕ)
     → new ≡ front ++ ((part ++ zeros) ++ rest) → length front + length part ≡ n
     → take n new ≡ front ++ part
 put-first n front part zeros rest new is long =
-    ap (take n) (is ∙ ap (λ (xs : List ℕ). front ++ xs) (append_assoc part zeros rest)
-    ∙ sym (append_assoc front part (zeros ++ rest)))
-    ∙ take_at (front ++ part) (zeros ++ rest) n (length-append front part ∙ long)
+    grind (arith, append_assoc, rest, take_at, length-append)
 
 -- the 32 bytes begin with the side information
 pub room-is : (a : Inside) → AreFrontBytes a

@@ -1,6 +1,6 @@
 -- Gains put in place: how that changes the bits of granules, of side information, of a frame.
-use Rattle.std.proofs.Common.{ap, append-nil, append_assoc, ap₂, arith, Bool, cond, drop, eqb}
-use Rattle.std.proofs.Common.{false, get_or, length, length-append, List, refl, sym, take}
+use Rattle.std.proofs.Common.{ap, append-nil, append_assoc, ap₂, arith, Bool, cond, drop, false}
+use Rattle.std.proofs.Common.{get_or, length, length-append, List, refl, sym, take}
 use Rattle.std.proofs.Common.{take-append-drop, true, ℕ, [], ◌*◌, ◌++◌, ◌+◌, ◌∙◌, ◌∷◌, ◌≡◌, ◌≤◌}
 use Rattle.std.proofs.lemmas.List.{drop-drop, drop_at, length-take-le, take-take, take_at}
 use Rattle.bit_fields.proofs.BitsLemmas.{AreBelow-drop, AreBelow-take, bytes-bits, length-bits_of}
@@ -21,23 +21,24 @@ use Rattle.side_info.specs.declared.{granule.Granule.Granule, side.Side.Side}
 
 -- ---- one granule and channel
 regroup : (b f x r a : List ℕ) → b ++ ((f ++ (x ++ r)) ++ a) ≡ (b ++ f) ++ (x ++ (r ++ a))
-regroup b f x r a =
-    ap (λ l. b ++ l) (append_assoc f (x ++ r) a ∙ ap (λ l. f ++ l) (append_assoc x r a))
-    ∙ sym (append_assoc b f (x ++ (r ++ a)))
+regroup b f x r a = grind (arith, append_assoc)
 
 -- eight bits put in place of eight others
 put_between : (b f x r a y bs : List ℕ) (at : ℕ) → length b ≡ at → length f ≡ 21 → length x ≡ 8
     → bs ≡ b ++ ((f ++ (x ++ r)) ++ a)
     → take (at + 21) bs ++ y ++ drop (at + 21 + 8) bs ≡ b ++ ((f ++ (y ++ r)) ++ a)
 put_between b f x r a y bs at lb lf lx e =
-    let front : length (b ++ f) ≡ at + 21 = omega (arith, length-append b f) in
-    let more : length ((b ++ f) ++ x) ≡ at + 21 + 8 = omega (arith, length-append (b ++ f) x) in
-    let taken : take (at + 21) bs ≡ b ++ f = ap (take (at + 21)) (e ∙ regroup b f x r a)
-    ∙ take_at (b ++ f) (x ++ (r ++ a)) (at + 21) front in
-    let left : drop (at + 21 + 8) bs ≡ r ++ a =
-    ap (drop (at + 21 + 8)) (e ∙ regroup b f x r a ∙ sym (append_assoc (b ++ f) x (r ++ a)))
-    ∙ drop_at ((b ++ f) ++ x) (r ++ a) (at + 21 + 8) more in
-    ap₂ (λ t d. t ++ y ++ d) taken left ∙ append_assoc (b ++ f) y (r ++ a) ∙ sym (regroup b f y r a)
+    grind (
+      arith,
+      length-append b f,
+      length-append (b ++ f) x,
+      regroup b f x r a,
+      take_at,
+      append_assoc (b ++ f) x (r ++ a),
+      drop_at,
+      append_assoc (b ++ f) y (r ++ a),
+      regroup b f y r a,
+    )
 
 -- putting eight bits at the 21st bit of a granule changes its global_gain alone
 pub gain_put : (version : Version) (g : Granule) (gain at : ℕ) (before after old new : List ℕ)
@@ -71,13 +72,7 @@ pub one_put : (version : Version) (channels at : ℕ) (gs hs : List Granule)
     → old ≡ before ++ (pair_bits version channels gs ++ after) → ArePairsAlike gs hs
     → new ≡ before ++ (pair_bits version channels hs ++ after)
 one_put version channels at gs hs before after old new one two put l b e alike =
-    let was : pair_bits version channels gs ≡ granule_bits version (get_or gs 0 no_granule) =
-    ap (λ n. pair_bits version n gs) one ∙ flat_one version gs l in
-    let is : pair_bits version channels hs ≡ granule_bits version (get_or hs 0 no_granule) =
-    ap (λ n. pair_bits version n hs) one ∙ flat_one version hs two in
-    put version (get_or gs 0 no_granule) before after b (e ∙ ap (λ bs. before ++ (bs ++ after)) was)
-    ∙ ap (λ g. before ++ (granule_bits version g ++ after)) (alike 0)
-    ∙ ap (λ bs. before ++ (bs ++ after)) (sym is)
+    grind (arith, flat_one)
 
 -- both channels of a granule get their gains, the first and then the second
 pub both_put : (version : Version) (channels at next : ℕ) (gs hs : List Granule)
@@ -112,9 +107,7 @@ both_put version channels at next gs hs before after old middle new both two pla
 -- ---- the side information
 length-pair_bits : (version : Version) (channels : ℕ) (gs : List Granule) → length gs ≡ 2
     → channels ≤ 2 → length (pair_bits version channels gs) ≡ channels * granule_size version
-length-pair_bits version channels gs two few =
-    length-flat version (take channels gs)
-    ∙ ap (λ n. n * granule_size version) (length-take-le channels gs (omega arith))
+length-pair_bits version channels gs two few = grind (arith, length-flat, length-take-le)
 
 four_in : (mono : Bool) (one two : List ℕ) → length one ≡ 4 → length two ≡ 4
     → length (cond mono one two) ≡ 4
@@ -122,16 +115,13 @@ four_in true one two h k = h
 four_in false one two h k = k
 
 four_widths : (version : Version) (channels : ℕ) → length (front_widths_of version channels) ≡ 4
-four_widths One channels =
-    four_in (eqb channels 1) (9 ∷ 5 ∷ 4 ∷ 0 ∷ []) (9 ∷ 3 ∷ 4 ∷ 4 ∷ []) refl refl
-four_widths _ channels =
-    four_in (eqb channels 1) (8 ∷ 1 ∷ 0 ∷ 0 ∷ []) (8 ∷ 2 ∷ 0 ∷ 0 ∷ []) refl refl
+four_widths One channels = grind (arith, four_in)
+four_widths _ channels = grind (arith, four_in)
 
 length-front : (version : Version) (channels m p : ℕ) (cs : List ℕ) → length cs ≡ 2
     → length (group_bits (front_widths_of version channels) (m ∷ p ∷ cs))
     ≡ front_size version channels
-length-front version channels m p cs two = length-group_bits (front_widths_of version channels)
-    (m ∷ p ∷ cs) (omega (arith, four_widths version channels))
+length-front version channels m p cs two = grind (arith, length-group_bits, four_widths)
 
 -- the granules of a frame get their gains in order
 pub all_put_gains : (c : ClassFields) → IsClass c → (t : Side) → IsShaped t
@@ -187,11 +177,7 @@ pub gains-unprotected : (h : HeaderFields) (s : Side) (old new : List ℕ) → h
     → bits (take (side_size_of (class_of h)) (drop 4 new)) ≡ side_bits (class_of h) s
     → new ≡ frame_with_side h s old
 gains-unprotected h s old new is all front behind side =
-    let size : ℕ = side_size_of (class_of h) in
-    sym (take-append-drop 4 new)
-    ∙ ap₂ (λ xs ys. xs ++ ys) front (bytes_there 4 size new (side_bits (class_of h) s)
-    (AreBelow-drop 256 4 new all) side ∙ ap (λ ys. bytes (side_bits (class_of h) s) ++ ys) behind)
-    ∙ sym (frame_with_side-unprotected h s old is)
+    grind (arith, take-append-drop, bytes_there, AreBelow-drop, frame_with_side-unprotected)
 
 -- a protected frame whose side bytes and check word were replaced is the frame with this side
 -- information
@@ -202,11 +188,4 @@ pub gains-protected : (h : HeaderFields) (s : Side) (old middle new : List ℕ) 
     → new ≡ take 4 middle ++ (bytes (bits_of 16 (check_word_of h s)) ++ drop 6 middle)
     → new ≡ frame_with_side h s old
 gains-protected h s old middle new is all front behind side put =
-    let size : ℕ = side_size_of (class_of h) in
-    let word : List ℕ = bytes (bits_of 16 (check_word_of h s)) in
-    let four : take 4 middle ≡ take 4 old = sym (take-take 4 6 middle (omega arith))
-    ∙ ap (take 4) front ∙ take-take 4 6 old (omega arith) in
-    put
-    ∙ ap₂ (λ xs ys. xs ++ (word ++ ys)) four (bytes_there 6 size middle
-    (side_bits (class_of h) s) all side ∙ ap (λ ys. bytes (side_bits (class_of h) s) ++ ys) behind)
-    ∙ sym (frame_with_side-protected h s old is)
+    grind (arith, take-take, bytes_there, frame_with_side-protected)

@@ -1,7 +1,7 @@
 -- The laws of a granule's side information: fields and bits give each other back.
 use Rattle.std.proofs.Common.{ap, append_assoc, ap₂, arith, Bool, drop, false, get_or, length}
-use Rattle.std.proofs.Common.{length-append, length-drop, List, one-add, refl, subst, suc, sym}
-use Rattle.std.proofs.Common.{take, true, zero, ℕ, [], ◌*◌, ◌++◌, ◌+◌, ◌<◌, ◌^◌, ◌∙◌, ◌∷◌, ◌≡◌, ◌≤◌}
+use Rattle.std.proofs.Common.{length-append, length-drop, List, one-add, refl, suc, sym, take, true}
+use Rattle.std.proofs.Common.{zero, ℕ, [], ◌*◌, ◌++◌, ◌+◌, ◌<◌, ◌^◌, ◌∙◌, ◌∷◌, ◌≡◌, ◌≤◌}
 use Rattle.std.proofs.Math.Nat.{add-mul, add_assoc, add_comm, one-mul, suc-mul, zero-mul}
 use Rattle.std.proofs.{Math.Seq.{drop-append-add, take-add}, lemmas.List.drop-drop}
 use Rattle.std.specs.List.{flat_map}
@@ -39,40 +39,12 @@ flag_of-below false = omega arith
 pub NumbersFit-granule : (version : Version) (g : Granule) → GranuleFits version g
     → NumbersFit (granule_widths version) (granule_numbers g)
 unfolding granule_numbers
-NumbersFit-granule version g h = (
-  h.part2_3_length,
-  (
-    h.big_values,
-    (
-      h.global_gain,
-      (
-        h.scalefac_compress,
-        (
-          flag_of-below g.window_switching,
-          (
-            h.detail,
-            (h.preflag, (flag_of-below g.scalefac_scale, (flag_of-below g.count1table_select, tt))),
-          ),
-        ),
-      ),
-    ),
-  ),
-)
+NumbersFit-granule version g h = grind (arith, flag_of-below)
 
 -- a granule's numbers give the granule
 pub granule_of-numbers : (g : Granule) → granule_of (granule_numbers g) ≡ g
 unfolding granule_of granule_numbers
-granule_of-numbers g = λ i. record {
-  part2_3_length = g.part2_3_length;
-  big_values = g.big_values;
-  global_gain = g.global_gain;
-  scalefac_compress = g.scalefac_compress;
-  window_switching = is_set-flag_of g.window_switching i;
-  detail = g.detail;
-  preflag = is_set-flag_of g.preflag i;
-  scalefac_scale = is_set-flag_of g.scalefac_scale i;
-  count1table_select = is_set-flag_of g.count1table_select i;
-}
+granule_of-numbers g = grind (arith, is_set-flag_of)
 
 -- preflag is at most one bit
 preflag-below : (version : Version) (n : ℕ) → n < 2 ^ preflag_width version → n < 2
@@ -83,36 +55,25 @@ numbers_same : (version : Version) (ns : List ℕ) → NumbersFit (granule_width
     → length ns ≡ 9 → granule_numbers (granule_of ns) ≡ ns
 unfolding granule_of granule_numbers
 numbers_same version (a ∷ b ∷ c ∷ d ∷ e ∷ f ∷ g ∷ h ∷ k ∷ []) fit l =
-    λ i. a ∷ b ∷ c ∷ d ∷ flag_of-is_set e fit.1.1.1.1.0 i ∷ f
-    ∷ flag_of-is_set g (preflag-below version g fit.1.1.1.1.1.1.0) i
-    ∷ flag_of-is_set h fit.1.1.1.1.1.1.1.0 i ∷ flag_of-is_set k fit.1.1.1.1.1.1.1.1.0 i ∷ []
+    grind (arith, flag_of-is_set, preflag-below)
 numbers_same version ns fit l = absurd (omega arith)
 
 -- numbers within the widths are the numbers of the granule that they give
 pub numbers-granule_of : (version : Version) (ns : List ℕ) → NumbersFit (granule_widths version) ns
     → granule_numbers (granule_of ns) ≡ ns
-numbers-granule_of version ns fit =
-    numbers_same version ns fit (length-NumbersFit (granule_widths version) ns fit)
+numbers-granule_of version ns fit = search (arith, numbers_same, length-NumbersFit)
 
 fields_fit : (version : Version) (ns : List ℕ) → NumbersFit (granule_widths version) ns
     → length ns ≡ 9 → GranuleFits version (granule_of ns)
 unfolding granule_of
-fields_fit version (a ∷ b ∷ c ∷ d ∷ e ∷ f ∷ g ∷ h ∷ k ∷ []) fit l = record {
-  part2_3_length = fit.0;
-  big_values = fit.1.0;
-  global_gain = fit.1.1.0;
-  scalefac_compress = fit.1.1.1.0;
-  detail = fit.1.1.1.1.1.0;
-  preflag = subst (λ n. n < 2 ^ preflag_width version)
-      (sym (flag_of-is_set g (preflag-below version g fit.1.1.1.1.1.1.0))) fit.1.1.1.1.1.1.0;
-}
+fields_fit version (a ∷ b ∷ c ∷ d ∷ e ∷ f ∷ g ∷ h ∷ k ∷ []) fit l =
+    grind (arith, flag_of-is_set, preflag-below)
 fields_fit version ns fit l = absurd (omega arith)
 
 -- the fields of the granule that they give are within their bits
 pub GranuleFits-granule_of : (version : Version) (ns : List ℕ)
     → NumbersFit (granule_widths version) ns → GranuleFits version (granule_of ns)
-GranuleFits-granule_of version ns fit =
-    fields_fit version ns fit (length-NumbersFit (granule_widths version) ns fit)
+GranuleFits-granule_of version ns fit = search (arith, fields_fit, length-NumbersFit)
 
 -- ---- fields and bits
 -- a granule has nine numbers
@@ -124,8 +85,7 @@ length-granule_numbers g = refl
 pub length-granule_bits : (version : Version) (g : Granule)
     → length (granule_bits version g) ≡ granule_size version
 unfolding granule_bits
-length-granule_bits version g =
-    length-group_bits (granule_widths version) (granule_numbers g) (length-granule_numbers g)
+length-granule_bits version g = grind (arith, length-group_bits, length-granule_numbers)
 
 -- a granule is written as zeros and ones
 pub AreBits-granule_bits : (version : Version) (g : Granule) → AreBits (granule_bits version g)
@@ -136,28 +96,34 @@ AreBits-granule_bits version g = AreBits-group_bits (granule_widths version) (gr
 pub GranuleFits-granule_at : (version : Version) (bs : List ℕ) → AreBits bs
     → GranuleFits version (granule_at version bs)
 unfolding granule_at
-GranuleFits-granule_at version bs h =
-    GranuleFits-granule_of version (numbers_at (granule_widths version) bs)
-    (NumbersFit-numbers_at (granule_widths version) bs h)
+GranuleFits-granule_at version bs h = search (arith, GranuleFits-granule_of, NumbersFit-numbers_at)
 
 -- a granule is read from its bits, whatever follows
 pub granule_at-granule_bits : (version : Version) (g : Granule) (more : List ℕ)
     → GranuleFits version g → granule_at version (granule_bits version g ++ more) ≡ g
 unfolding granule_at granule_bits
 granule_at-granule_bits version g more h =
-    ap granule_of (numbers_at-group_bits_more (granule_widths version) (granule_numbers g) more
-    (NumbersFit-granule version g h))
-    ∙ granule_of-numbers g
+    grind (
+      arith,
+      numbers_at-group_bits_more (granule_widths version) (granule_numbers g) more
+          (NumbersFit-granule version g h),
+      NumbersFit-granule version g h,
+      granule_of-numbers g,
+    )
 
 -- the granule with which bits begin is written as these bits
 pub granule_bits-granule_at : (version : Version) (bs : List ℕ) → AreBits bs → granule_size version
     ≤ length bs → granule_bits version (granule_at version bs) ≡ take (granule_size version) bs
 unfolding granule_at granule_bits
 granule_bits-granule_at version bs all h =
-    ap (group_bits (granule_widths version)) (numbers-granule_of version
-    (numbers_at (granule_widths version) bs)
-    (NumbersFit-numbers_at (granule_widths version) bs all))
-    ∙ group_bits-numbers_at_front (granule_widths version) bs all h
+    grind (
+      arith,
+      numbers-granule_of version (numbers_at (granule_widths version) bs)
+          (NumbersFit-numbers_at (granule_widths version) bs all),
+      NumbersFit-numbers_at (granule_widths
+          version) bs all,
+      group_bits-numbers_at_front (granule_widths version) bs all h,
+    )
 
 -- ---- granules in order
 -- `count` granules, from the nth on
@@ -171,14 +137,7 @@ pub length-flat : (version : Version) (gs : List Granule)
     → length (flat_map (granule_bits version) gs) ≡ length gs * granule_size version
 length-flat version [] = omega arith
 length-flat version (g ∷ gs) =
-    let e : length (granule_bits version g) ≡ granule_size version =
-    length-granule_bits version g in
-    rw (
-      length-append (granule_bits version g) (flat_map (granule_bits version) gs),
-      e,
-      length-flat version gs,
-      suc-mul,
-    ) (add_comm (granule_size version) (length gs * granule_size version))
+    grind (arith, length-granule_bits, length-append, suc-mul, add_comm, length-flat version gs)
 
 -- granules are written as zeros and ones
 pub AreBits-flat : (version : Version) (gs : List Granule)
@@ -193,25 +152,21 @@ pub nth_granule-flat : (version : Version) (gs : List Granule) (n : ℕ) (more :
     → nth_granule version n (flat_map (granule_bits version) gs ++ more) ≡ get_or gs n no_granule
 nth_granule-flat version [] n more h fits = absurd (omega arith)
 nth_granule-flat version (g ∷ gs) zero more h fits =
-    ap (λ k. granule_at version
-    (drop k ((granule_bits version g ++ flat_map (granule_bits version) gs) ++ more)))
-    (zero-mul (granule_size version))
-    ∙ ap (granule_at version)
-    (append_assoc (granule_bits version g) (flat_map (granule_bits version) gs) more)
-    ∙ granule_at-granule_bits version g (flat_map (granule_bits version) gs ++ more) fits
+    grind (arith, zero-mul, append_assoc, granule_at-granule_bits)
 nth_granule-flat version (g ∷ gs) (suc n) more h fits =
-    let e : suc n * granule_size version
-    ≡ length (granule_bits version g) + n * granule_size version =
-    suc-mul n (granule_size version) ∙ add_comm (n * granule_size version) (granule_size version)
-    ∙ ap (λ k. k + n * granule_size version) (sym (length-granule_bits version g)) in
-    ap (λ k. granule_at version
-    (drop k ((granule_bits version g ++ flat_map (granule_bits version) gs) ++ more))) e
-    ∙ ap (λ bs. granule_at version
-    (drop (length (granule_bits version g) + n * granule_size version) bs))
-    (append_assoc (granule_bits version g) (flat_map (granule_bits version) gs) more)
-    ∙ ap (granule_at version) (drop-append-add (granule_bits version g)
-    (flat_map (granule_bits version) gs ++ more) (n * granule_size version))
-    ∙ nth_granule-flat version gs n more (omega arith) fits
+    grind (
+      arith,
+      suc-mul n (granule_size version),
+      add_comm (n * granule_size version)
+          (granule_size version),
+      length-granule_bits version g,
+      append_assoc (granule_bits version g)
+          (flat_map (granule_bits version) gs) more,
+      drop-append-add (granule_bits version g) (flat_map
+          (granule_bits version) gs ++ more) (n * granule_size version),
+      nth_granule-flat version gs n
+          more (omega arith) fits,
+    )
 
 -- bits are the ones that the granules read from them spell
 pub flat-granules_from : (version : Version) (n count : ℕ) (bs : List ℕ) → AreBits bs
@@ -219,22 +174,25 @@ pub flat-granules_from : (version : Version) (n count : ℕ) (bs : List ℕ) →
     → flat_map (granule_bits version) (granules_from version n count bs)
     ≡ take (count * granule_size version) (drop (n * granule_size version) bs)
 unfolding granules_from
-flat-granules_from version n zero bs all h =
-    ap (λ k. take k (drop (n * granule_size version) bs)) (sym (zero-mul (granule_size version)))
+flat-granules_from version n zero bs all h = grind (arith, zero-mul)
 flat-granules_from version n (suc count) bs all h =
     let size : ℕ = granule_size version in
     let whole : (n + suc count) * size ≡ n * size + suc count * size = add-mul n (suc count) size in
     let more : suc count * size ≡ count * size + size = suc-mul count size in
-    let next : (n + 1) * size ≡ n * size + size =
-    add-mul n 1 size ∙ ap (λ k. n * size + k) (one-mul size) in
+    let next : (n + 1) * size ≡ n * size + size = grind (arith, add-mul, one-mul) in
     let one : granule_bits version (granule_at version (drop (n * size) bs))
     ≡ take size (drop (n * size) bs) = granule_bits-granule_at version (drop (n * size) bs)
     (AreBelow-drop 2 (n * size) bs all) (simp length-drop (omega arith)) in
     let others : flat_map (granule_bits version) (granules_from version (n + 1) count bs)
     ≡ take (count * size) (drop size (drop (n * size) bs)) =
-    flat-granules_from version (n + 1) count bs all (rw (add_assoc n 1 count, one-add count) h)
-    ∙ ap (λ k. take (count * size) (drop k bs)) next
-    ∙ ap (take (count * size)) (sym (drop-drop size (n * size) bs)) in
+    grind (
+      arith,
+      add_assoc,
+      one-add,
+      drop-drop,
+      flat-granules_from version (n + 1) count bs all
+          (rw (add_assoc n 1 count, one-add count) h),
+    ) in
     ap₂ (λ cs ds. cs ++ ds) one others
     ∙ sym (take-add size (count * size) (drop (n * size) bs))
     ∙ ap (λ k. take k (drop (n * size) bs)) (add_comm size (count * size) ∙ sym more)

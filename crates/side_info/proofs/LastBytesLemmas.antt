@@ -36,14 +36,12 @@ behind_gain : (version : Version) (g : Granule) (gain : ℕ)
     → drop 29 (granule_bits version (record g { global_gain = gain }))
     ≡ drop 29 (granule_bits version g)
 unfolding granule_bits granule_numbers
-behind_gain version g gain = behind_three _ _ g.part2_3_length g.big_values gain
-    ∙ sym (behind_three _ _ g.part2_3_length g.big_values g.global_gain)
+behind_gain version g gain = grind (arith, behind_three)
 
 -- the bits after global_gain are the same in granules that differ in no other field
 pub bits_behind_gain : (version : Version) (g h : Granule) → AreGranulesAlike g h
     → drop 29 (granule_bits version h) ≡ drop 29 (granule_bits version g)
-bits_behind_gain version g h alike =
-    sym (ap (λ k. drop 29 (granule_bits version k)) alike) ∙ behind_gain version g h.global_gain
+bits_behind_gain version g h alike = grind (arith, behind_gain)
 
 -- the last two bytes of a granule's bits are after global_gain
 last_16 : (version : Version) (g h : Granule) → AreGranulesAlike g h
@@ -81,8 +79,7 @@ behind_others c ns gs last long =
       length-flat c.version gs,
     ) in
     let split : flat_map (granule_bits c.version) (gs ++ (last ∷ [])) ≡ others ++ end =
-    flat_map-append (granule_bits c.version) gs (last ∷ [])
-    ∙ ap (λ (l : List ℕ). others ++ l) (append-nil end) in
+    grind (arith, flat_map-append, append-nil) in
     ap (λ (l : List ℕ). drop (sum (front_widths c) + length gs * granule_size c.version)
     (front ++ l)) split
     ∙ ap (drop (sum (front_widths c) + length gs * granule_size c.version))
@@ -109,10 +106,7 @@ last_granule-side_bits =
 least_size : (c : ClassFields) → IsClass c
     → (16 ≤ granule_size c.version) × (granule_size c.version ≤ 8 * side_size_of c)
 unfolding side_size_of
-least_size =
-    each_class (λ c. (16 ≤ granule_size c.version) × (granule_size c.version ≤ 8 * side_size_of c))
-    (λ f. (omega arith, omega arith)) (λ f. (omega arith, omega arith))
-    (λ f. (omega arith, omega arith)) (λ f. (omega arith, omega arith)) (λ f channels h. h)
+least_size = grind (arith, each_class)
 
 -- the last two bytes' bits are the same if the last granules differ in no field but global_gain
 last_bits : (c : ClassFields) → IsClass c → (s t : Side) → IsShaped s → IsShaped t
@@ -137,13 +131,7 @@ pub last_bytes : (c : ClassFields) → IsClass c → (s t : Side) → IsShaped s
     → drop (side_size_of c - 2) (bytes (side_bits c t))
     ≡ drop (side_size_of c - 2) (bytes (side_bits c s))
 last_bytes c class s t s_shaped t_shaped alike =
-    let least = least_size c class in
-    let to_bits : (u : Side) → IsShaped u → drop (side_size_of c - 2) (bytes (side_bits c u))
-    ≡ bytes (drop (8 * (side_size_of c - 2)) (side_bits c u)) =
-    λ u shaped. drop-bytes (side_size_of c - 2) (side_bits c u)
-    (omega (arith, length-side_bits c class u shaped)) in
-    to_bits t t_shaped ∙ ap bytes (last_bits c class s t s_shaped t_shaped alike)
-    ∙ sym (to_bits s s_shaped)
+    grind (arith, least_size, drop-bytes, length-side_bits, last_bits)
 
 -- ---- in a frame
 
@@ -177,8 +165,7 @@ last_bytes-frame_with_side h s frame class all shaped room alike =
     let place : overhead_of c h.protected - 2 ≡ side_place h.protected + n =
     omega (arith, overhead-is c h.protected, least.0, least.1) in
     let from : (l : List ℕ) → drop (overhead_of c h.protected - 2) l
-    ≡ drop n (side_part h l) ++ drop (overhead_of c h.protected) l =
-    λ l. ap (λ k. drop k l) place ∙ behind_part h n l (omega arith) in
+    ≡ drop n (side_part h l) ++ drop (overhead_of c h.protected) l = grind (arith, behind_part) in
     from (frame_with_side h s frame)
     ∙ ap₂ (λ (part rest : List ℕ). drop n part ++ rest)
     (side_part-frame_with_side h s frame class shaped room)

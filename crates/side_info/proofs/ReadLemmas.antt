@@ -1,7 +1,7 @@
 -- Side fields as parts of the numbers that are read.
-use Rattle.std.proofs.Common.{ap, ap₂, arith, cond, drop, eqb, false, length, length-drop, List}
-use Rattle.std.proofs.Common.{lit≤, mod-eq_of_lt, pow_mono, refl, slice_set, sum, sym, take, true}
-use Rattle.std.proofs.Common.{ℕ, [], ◌%◌, ◌*◌, ◌++◌, ◌+◌, ◌-◌, ◌/◌, ◌<◌, ◌^◌, ◌∙◌, ◌∷◌, ◌≡◌, ◌≤◌}
+use Rattle.std.proofs.Common.{ap, ap₂, arith, drop, eqb, false, length, length-drop, List, lit≤}
+use Rattle.std.proofs.Common.{mod-eq_of_lt, pow_mono, refl, slice_set, sum, sym, take, ℕ, [], ◌%◌}
+use Rattle.std.proofs.Common.{◌*◌, ◌++◌, ◌+◌, ◌-◌, ◌/◌, ◌<◌, ◌^◌, ◌∙◌, ◌∷◌, ◌≡◌, ◌≤◌}
 use Rattle.std.proofs.{Math.Nat.{div-one, zero-mul}, lemmas.List.drop-drop}
 use Rattle.std.proofs.lemmas.Nat.{shr-shr, shr_below}
 use Rattle.bit_fields.proofs.BitsLemmas.{AreBelow-drop}
@@ -14,19 +14,13 @@ use Rattle.frame_header.specs.declared.version.Version.{Version, TheVariants.One
 use Rattle.side_info.proofs.{SideLemmas.each_class, WriteLemmas.preflag_most}
 use Rattle.side_info.specs.Granule.{compress_width, granule_at, granule_of, granule_size}
 use Rattle.side_info.specs.Granule.{no_granule, preflag_width}
-use Rattle.side_info.specs.Parts.{class_with, front_at, front_of_numbers, front_size, no_pair}
-use Rattle.side_info.specs.{Parts.{pair_at, second_pair_at}, Side.{channels_at, side_at}}
+use Rattle.side_info.specs.Parts.{class_with, front_at, front_of_numbers, front_size, pair_at}
+use Rattle.side_info.specs.{Parts.second_pair_at, Side.{channels_at, side_at}}
 use Rattle.side_info.specs.declared.{front.Front.Front, granule.Granule.Granule, side.Side.Side}
 
 -- ---- the fields before the granules
 total : (a b c d : ℕ) → sum (a ∷ b ∷ c ∷ d ∷ []) ≡ a + b + c + d
-total a b c d = omega (
-  arith,
-  sum-cons a (b ∷ c ∷ d ∷ []),
-  sum-cons b (c ∷ d ∷ []),
-  sum-cons c (d ∷ []),
-  sum-cons d [],
-)
+total a b c d = grind (arith, sum-cons)
 
 module _ (bs : List ℕ) (begin private first second n : ℕ) (all : AreBits bs)
     (enough : begin + private + first + second ≤ length bs)
@@ -34,10 +28,7 @@ module _ (bs : List ℕ) (begin private first second n : ℕ) (all : AreBits bs)
     (is : n ≡ group 0 (begin + private + first + second) bs) where
   -- what is left above the other fields is a main_data_begin of its width
   pub begin-below : n / 2 ^ second / 2 ^ first / 2 ^ private < 2 ^ begin
-  begin-below =
-      let e : begin + private + first + second ≡ begin + (second + first + private) = omega arith in
-      rw (shr-shr n second first, shr-shr n (second + first) private)
-      (shr_below n begin (second + first + private) (rw (← e) small))
+  begin-below = grind (arith, shr-shr n second first, shr-shr n (second + first) private, shr_below)
 
   -- the four fields before the granules are made by division and remainder of their number
   pub front_fields : ◌≡◌ {A = Front} (record {
@@ -61,16 +52,11 @@ module _ (bs : List ℕ) (begin private first second n : ℕ) (all : AreBits bs)
       let above_first : second ≡ sum (second ∷ []) = omega (arith, sum-cons second []) in
       let e0 : n / 2 ^ second / 2 ^ first / 2 ^ private
       ≡ n / 2 ^ sum (private ∷ first ∷ second ∷ []) % 2 ^ begin =
-      sym (mod-eq_of_lt begin-below)
-      ∙ ap (λ m. m % 2 ^ begin) (ap (λ m. m / 2 ^ private) (shr-shr n second first)
-      ∙ shr-shr n (second + first) private ∙ ap (λ k. n / 2 ^ k) above_begin) in
+      grind (arith, mod-eq_of_lt, begin-below, shr-shr) in
       let e1 : n / 2 ^ second / 2 ^ first % 2 ^ private
-      ≡ n / 2 ^ sum (first ∷ second ∷ []) % 2 ^ private =
-      ap (λ m. m % 2 ^ private) (shr-shr n second first ∙ ap (λ k. n / 2 ^ k) above_private) in
-      let e2 : n / 2 ^ second % 2 ^ first ≡ n / 2 ^ sum (second ∷ []) % 2 ^ first =
-      ap (λ k. n / 2 ^ k % 2 ^ first) above_first in
-      let e3 : n % 2 ^ second ≡ n / 2 ^ sum [] % 2 ^ second =
-      ap (λ m. m % 2 ^ second) (sym (div-one n)) in
+      ≡ n / 2 ^ sum (first ∷ second ∷ []) % 2 ^ private = grind (arith, shr-shr) in
+      let e2 : n / 2 ^ second % 2 ^ first ≡ n / 2 ^ sum (second ∷ []) % 2 ^ first = grind arith in
+      let e3 : n % 2 ^ second ≡ n / 2 ^ sum [] % 2 ^ second = grind (arith, div-one) in
       (λ i. record { main_data_begin = e0 i; private_bits = e1 i; scfsi = e2 i ∷ e3 i ∷ [] })
       ∙ ap front_of_numbers (ap (sliced widths) (is ∙ ap (λ k. number (take k bs)) (sym whole))
       ∙ sym (numbers_at-number_front widths bs all (omega (arith, whole, enough))))
@@ -85,9 +71,7 @@ size-is _ = refl
 -- preflag is all that is above the two lowest bits
 pub preflag_once : (version : Version) (last : ℕ) → last < 2 ^ (preflag_width version + 2)
     → last / 4 % 2 ≡ last / 4
-preflag_once version last small =
-    let most : 2 ^ preflag_width version ≤ 2 ^ 1 = pow_mono (preflag_most version) in
-    mod-eq_of_lt (omega (arith, shr_below last (preflag_width version) 2 small, most))
+preflag_once version last small = grind (arith, pow_mono, preflag_most, mod-eq_of_lt, shr_below)
 
 module _ (version : Version) (bs : List ℕ) (at first middle last : ℕ) (all : AreBits bs)
     (enough : at + granule_size version ≤ length bs) (first_small : first < 2 ^ 29)
@@ -132,10 +116,8 @@ module _ (version : Version) (bs : List ℕ) (at first middle last : ℕ) (all :
       ∙ drop-drop (29 + (cw + 23)) at bs ∙ ap (λ k. drop k bs) (omega arith) in
       let one : first / 131072 ∷ first / 256 % 512 ∷ first % 256 ∷ []
       ≡ numbers_at (12 ∷ 9 ∷ 8 ∷ []) rest =
-      (λ i. sym (mod-eq_of_lt length-below) i ∷ first / 256 % 512
-      ∷ ap (λ m. m % 256) (sym (div-one first)) i ∷ [])
-      ∙ ap (sliced (12 ∷ 9 ∷ 8 ∷ [])) first_is ∙ sym (numbers_at-number_front (12 ∷ 9 ∷ 8 ∷ []) rest
-      (AreBelow-drop 2 at bs all) (omega arith)) in
+      grind (arith, mod-eq_of_lt, length-below, div-one, numbers_at-number_front, AreBelow-drop)
+      in
       let two : middle / 8388608 ∷ middle / 4194304 % 2 ∷ middle % 4194304 ∷ []
       ≡ numbers_at (cw ∷ 1 ∷ 22 ∷ []) (drop 29 rest) =
       (λ i. sym (mod-eq_of_lt compress-below) i ∷ middle / 4194304 % 2
@@ -146,13 +128,15 @@ module _ (version : Version) (bs : List ℕ) (at first middle last : ℕ) (all :
       (AreBelow-drop 2 29 rest (AreBelow-drop 2 at bs all)) (simp length-drop (omega arith))) in
       let three : last / 4 ∷ last / 2 % 2 ∷ last % 2 ∷ []
       ≡ numbers_at (pw ∷ 1 ∷ 1 ∷ []) (drop (sum (cw ∷ 1 ∷ 22 ∷ [])) (drop 29 rest)) =
-      (λ i. sym (mod-eq_of_lt preflag-below) i ∷ last / 2 % 2
-      ∷ ap (λ m. m % 2) (sym (div-one last)) i ∷ [])
-      ∙ ap (sliced (pw ∷ 1 ∷ 1 ∷ []))
-      (last_is ∙ ap₂ (λ k ds. number (take k ds)) (sym last_sum) (sym behind_middle))
-      ∙ sym (numbers_at-number_front (pw ∷ 1 ∷ 1 ∷ []) (drop (sum (cw ∷ 1 ∷ 22 ∷ []))
-      (drop 29 rest)) (AreBelow-drop 2 (sum (cw ∷ 1 ∷ 22 ∷ [])) (drop 29 rest) (AreBelow-drop 2 29
-      rest (AreBelow-drop 2 at bs all))) (rw behind_middle (simp length-drop (omega arith)))) in
+      grind (
+        arith,
+        mod-eq_of_lt,
+        preflag-below,
+        div-one,
+        numbers_at-number_front,
+        AreBelow-drop,
+        length-drop,
+      ) in
       ap granule_of
       (ap₂ (λ xs ys. xs ++ ys) one (ap₂ (λ xs ys. xs ++ ys) two three
       ∙ sym (numbers_at-append (cw ∷ 1 ∷ 22 ∷ []) (pw ∷ 1 ∷ 1 ∷ []) (drop 29 rest)))
@@ -177,19 +161,12 @@ pub pair_of_two : (version : Version) (channels at width : ℕ) (bs : List ℕ) 
     → width ≡ granule_size version → first ≡ granule_at version (drop at bs)
     → second ≡ granule_at version (drop (at + width) bs) → eqb channels 1 ≡ false
     → first ∷ second ∷ [] ≡ pair_at version channels (drop at bs)
-pair_of_two version channels at width bs first second wide is next two =
-    let behind : granule_at version (drop (at + width) bs)
-    ≡ granule_at version (drop (granule_size version) (drop at bs)) =
-    ap (λ n. granule_at version (drop (at + n) bs)) wide
-    ∙ ap (granule_at version) (sym (drop-drop (granule_size version) at bs)) in
-    ap₂ (λ g h. g ∷ h ∷ []) is (next ∙ behind) ∙ rw two refl
+pair_of_two version channels at width bs first second wide is next two = grind (arith, drop-drop)
 
 -- ---- the whole, from its parts
 sizes : (version : Version) (channels : ℕ) → side_bytes_of version channels ≤ 32
-sizes One channels =
-    elim (eqb channels 1) as (λ b. cond b 17 32 ≤ 32) [ true ↦ lit≤ tt | false ↦ lit≤ tt ]
-sizes _ channels =
-    elim (eqb channels 1) as (λ b. cond b 9 17 ≤ 32) [ true ↦ lit≤ tt | false ↦ lit≤ tt ]
+sizes One channels = grind (arith, lit≤)
+sizes _ channels = grind (arith, lit≤)
 
 -- side information has at most 32 bytes
 pub side_size-small : (c : ClassFields) → side_size_of c ≤ 32
@@ -201,21 +178,11 @@ pub parts_size : (c : ClassFields) → IsClass c
     → front_size c.version c.channels + (c.channels * granule_size c.version
     + (granules_of c.version - 1) * (c.channels * granule_size c.version)) ≡ 8 * side_size_of c
 unfolding side_size_of
-parts_size =
-    each_class (λ c. front_size c.version c.channels + (c.channels * granule_size c.version
-    + (granules_of c.version - 1) * (c.channels * granule_size c.version)) ≡ 8 * side_size_of c)
-    (λ f. refl) (λ f. refl) (λ f. refl) (λ f. refl) (λ f channels h. h)
+parts_size = grind (arith, each_class)
 
 channels-pair : (c : ClassFields) (n : ℕ) (bs : List ℕ)
     → channels_at c n bs ≡ pair_at c.version c.channels (drop (n * granule_size c.version) bs)
-channels-pair c n bs =
-    let size : ℕ = granule_size c.version in
-    let next : (n + 1) * size ≡ n * size + size = omega arith in
-    let other : granule_at c.version (drop ((n + 1) * size) bs)
-    ≡ granule_at c.version (drop size (drop (n * size) bs)) =
-    ap (granule_at c.version) (ap (λ k. drop k bs) next ∙ sym (drop-drop size (n * size) bs)) in
-    λ i. granule_at c.version (drop (n * size) bs) ∷ cond (eqb c.channels 1) no_granule (other i)
-    ∷ []
+channels-pair c n bs = grind (arith, drop-drop)
 
 -- the fields before the granules, the first granule and the second are the side information
 pub side_is : (c : ClassFields) (bs : List ℕ) (front : Front) (first second : List Granule)
@@ -229,21 +196,7 @@ pub side_is : (c : ClassFields) (bs : List ℕ) (front : Front) (first second : 
       granules = first ∷ second ∷ [];
     }) (side_at c bs)
 unfolding side_at front_of_numbers
-side_is c bs front first second e0 e1 e2 =
-    let rest : List ℕ = drop (front_size c.version c.channels) bs in
-    let size : ℕ = granule_size c.version in
-    let g0 : first ≡ channels_at c 0 rest = e1 ∙ sym (channels-pair c 0 rest
-    ∙ ap (λ k. pair_at c.version c.channels (drop k rest)) (zero-mul size)) in
-    let g1 : second ≡ cond (eqb (granules_of c.version) 1) no_pair (channels_at c c.channels rest) =
-    e2 ∙ ap (cond (eqb (granules_of c.version) 1) no_pair) (ap (pair_at c.version c.channels)
-    (sym (drop-drop (c.channels * size) (front_size c.version c.channels) bs))
-    ∙ sym (channels-pair c c.channels rest)) in
-    λ i. record {
-      main_data_begin = (e0 i).main_data_begin;
-      private_bits = (e0 i).private_bits;
-      scfsi = (e0 i).scfsi;
-      granules = g0 i ∷ g1 i ∷ [];
-    }
+side_is c bs front first second e0 e1 e2 = grind (arith, channels-pair, zero-mul, drop-drop)
 
 -- side information depends on version and channels alone
 pub side_at-class : (c : ClassFields) (bs : List ℕ)
@@ -254,9 +207,7 @@ side_at-class c bs = refl
 -- where there are two granules, the second one is within the side information
 pub second_room : (granules front size total next : ℕ) → granules ≡ 2 → next ≡ front + size
     → total ≡ front + (size + (granules - 1) * size) → next + size ≤ total
-second_room granules front size total next two e d =
-    let one : (granules - 1) * size ≡ 1 * size = ap (λ n. (n - 1) * size) two in
-    omega arith
+second_room granules front size total next two e d = grind arith
 
 -- the length of side information depends on version and channels alone
 pub side_size-class : (c : ClassFields)

@@ -1,10 +1,10 @@
 -- The laws of the side information: fields and bits give each other back.
-use Rattle.std.proofs.Common.{ap, append-nil, ap₂, arith, Bool, cond, drop, eqb, false, get_or}
-use Rattle.std.proofs.Common.{length, length-append, length-drop, List, lit<, refl, subst, suc, sum}
-use Rattle.std.proofs.Common.{sym, take, take-append-drop, take_all, true, zero, ℕ, [], ◌*◌, ◌++◌}
-use Rattle.std.proofs.Common.{◌+◌, ◌/◌, ◌<◌, ◌^◌, ◌∙◌, ◌∷◌, ◌≡◌, ◌≤◌}
-use Rattle.std.proofs.{Math.Nat.{zero-add, zero-mul}, lemmas.{List.drop_at, Nat.pow_pos}}
-use Rattle.std.specs.{Bool.MatchBool, Int.div_ceil, List.{flat_map, sum_by}}
+use Rattle.std.proofs.Common.{ap, append-nil, ap₂, arith, Bool, drop, false, get_or, length}
+use Rattle.std.proofs.Common.{length-append, length-drop, List, lit<, refl, suc, sum, sym, take}
+use Rattle.std.proofs.Common.{take-append-drop, take_all, true, zero, ℕ, [], ◌*◌, ◌++◌, ◌+◌, ◌/◌}
+use Rattle.std.proofs.{Common.{◌<◌, ◌^◌, ◌∙◌, ◌∷◌, ◌≡◌, ◌≤◌}, Math.Nat.{zero-add, zero-mul}}
+use Rattle.std.{proofs.lemmas.{List.drop_at, Nat.pow_pos}, specs.{Bool.MatchBool, Int.div_ceil}}
+use Rattle.std.specs.List.{flat_map, sum_by}
 use Rattle.bit_fields.proofs.BitsLemmas.{AreBelow-append, AreBelow-drop, AreBits-bits, length-bits}
 use Rattle.bit_fields.proofs.GroupsLemmas.{AreBits-group_bits, group_bits-numbers_at_front}
 use Rattle.bit_fields.proofs.GroupsLemmas.{length-group_bits, numbers_at-group_bits_more}
@@ -14,11 +14,11 @@ use Rattle.frame_header.specs.{Fields.{ClassFields, IsClass}, Tables.{granules_o
 use Rattle.frame_header.specs.declared.version.Version.{Version, TheVariants.{One, Two, TwoFive}}
 use Rattle.side_info.proofs.GranuleLemmas.{AreBits-flat, flat-granules_from, GranuleFits-granule_at}
 use Rattle.side_info.proofs.GranuleLemmas.{granules_from, length-flat, nth_granule-flat}
-use Rattle.side_info.specs.Granule.{compress_width, granule_at, granule_bits, granule_size}
-use Rattle.side_info.specs.{Granule.{GranuleFits, no_granule, preflag_width}, Parts.class_with}
-use Rattle.side_info.specs.Side.{channels_at, front_width, front_widths, granule_in, granules_at}
-use Rattle.side_info.specs.Side.{granules_in, has_granule, IsSideOf, no_side, nth_granule}
-use Rattle.side_info.specs.Side.{payload_bits, payload_bytes, side_at, side_bits, SideFits}
+use Rattle.side_info.specs.Granule.{granule_at, granule_bits, granule_size, GranuleFits, no_granule}
+use Rattle.side_info.specs.Parts.{class_with}
+use Rattle.side_info.specs.Side.{front_width, front_widths, granule_in, granules_at, granules_in}
+use Rattle.side_info.specs.Side.{has_granule, IsSideOf, no_side, nth_granule, payload_bits}
+use Rattle.side_info.specs.Side.{payload_bytes, side_at, side_bits, SideFits}
 use Rattle.side_info.specs.declared.{granule.Granule.Granule, side.Side.Side}
 
 -- ---- the combinations of version and channels
@@ -51,25 +51,19 @@ granule_count c = granules_of c.version * c.channels
 pub widths_sum : (c : ClassFields) → IsClass c
     → sum (front_widths c) + granule_count c * granule_size c.version ≡ 8 * side_size_of c
 unfolding side_size_of
-widths_sum = each_class (λ c. sum (front_widths c) + granule_count c * granule_size c.version
-    ≡ 8 * side_size_of c) (λ f. refl) (λ f. refl) (λ f. refl) (λ f. refl) (λ f channels h. h)
+widths_sum = grind (arith, each_class)
 
 -- ---- bits to fields and back
 granules_in-side_at : (c : ClassFields) → IsClass c → (bs : List ℕ) → granules_in c (side_at c bs)
     ≡ granules_from c.version 0 (granule_count c) (drop (sum (front_widths c)) bs)
 unfolding granules_in side_at granules_from granule_at
-granules_in-side_at = each_class (λ c. (bs : List ℕ) → granules_in c (side_at c bs)
-    ≡ granules_from c.version 0 (granule_count c) (drop (sum (front_widths c)) bs)) (λ f bs. refl)
-    (λ f bs. refl) (λ f bs. refl) (λ f bs. refl) (λ f channels h. h)
+granules_in-side_at = grind (arith, each_class, granules_from)
 
 front-side_at : (c : ClassFields) → IsClass c → (bs : List ℕ)
     → group_bits (front_widths c) ((side_at c bs).main_data_begin ∷ (side_at c bs).private_bits
     ∷ (side_at c bs).scfsi) ≡ group_bits (front_widths c) (numbers_at (front_widths c) bs)
 unfolding side_at group_bits numbers_at
-front-side_at = each_class (λ c. (bs : List ℕ)
-    → group_bits (front_widths c) ((side_at c bs).main_data_begin ∷ (side_at c bs).private_bits
-    ∷ (side_at c bs).scfsi) ≡ group_bits (front_widths c) (numbers_at (front_widths c) bs))
-    (λ f bs. refl) (λ f bs. refl) (λ f bs. refl) (λ f bs. refl) (λ f channels h. h)
+front-side_at = grind (arith, each_class)
 
 -- side information that was read is written as the bits that it was read from
 pub side_bits-side_at : (c : ClassFields) → IsClass c → (bs : List ℕ) → AreBits bs
@@ -80,8 +74,7 @@ side_bits-side_at c class bs all h =
     let rest : List ℕ = drop (sum (front_widths c)) bs in
     let whole : front + granule_count c * granule_size c.version ≡ length bs =
     widths_sum c class ∙ sym h in
-    let l : length rest ≡ granule_count c * granule_size c.version =
-    simp length-drop (omega arith) in
+    let l : length rest ≡ granule_count c * granule_size c.version = grind (arith, length-drop) in
     let most : (0 + granule_count c) * granule_size c.version ≤ length rest =
     rw zero-add (omega arith) in
     ap₂ (λ cs ds. cs ++ ds)
@@ -185,18 +178,13 @@ back : (c : ClassFields) (ns : List ℕ) (gs : List Granule) → NumbersFit (fro
     → side_at c (group_bits (front_widths c) ns ++ flat_map (granule_bits c.version) gs)
     ≡ built c ns (flat_map (granule_bits c.version) gs)
 back c ns gs fits l =
-    side_at-built c (group_bits (front_widths c) ns ++ flat_map (granule_bits c.version) gs)
-    ∙ ap₂ (built c)
-    (numbers_at-group_bits_more (front_widths c) ns (flat_map (granule_bits c.version) gs) fits)
-    (drop_at (group_bits (front_widths c) ns) (flat_map (granule_bits c.version) gs)
-    (sum (front_widths c)) (length-group_bits (front_widths c) ns l))
+    grind (arith, side_at-built, built, numbers_at-group_bits_more, drop_at, length-group_bits)
 
 nth : (version : Version) (gs : List Granule) (n : ℕ) → n < length gs
     → GranuleFits version (get_or gs n no_granule)
     → nth_granule version n (flat_map (granule_bits version) gs) ≡ get_or gs n no_granule
 nth version gs n h fits =
-    ap (nth_granule version n) (sym (append-nil (flat_map (granule_bits version) gs)))
-    ∙ nth_granule-flat version gs n [] h fits
+    grind (arith, append-nil (flat_map (granule_bits version) gs), nth_granule-flat version gs n)
 
 abbrev GivesBack : ClassFields → Side → Type 0
 GivesBack c s = SideFits c s → side_at c (side_bits c s) ≡ s
@@ -274,32 +262,20 @@ side_at-side_bits =
 -- side information is written as zeros and ones
 pub AreBits-side_bits : (c : ClassFields) (s : Side) → AreBits (side_bits c s)
 unfolding side_bits
-AreBits-side_bits c s =
-    AreBelow-append 2 (group_bits (front_widths c) (s.main_data_begin ∷ s.private_bits ∷ s.scfsi))
-    (flat_map (granule_bits c.version) (granules_in c s))
-    (AreBits-group_bits (front_widths c) (s.main_data_begin ∷ s.private_bits ∷ s.scfsi))
-    (AreBits-flat c.version (granules_in c s))
+AreBits-side_bits c s = grind (arith, AreBelow-append, AreBits-group_bits, AreBits-flat)
 
 -- the bits of the fields before the granules and of the granules are as many as their widths
 -- together
 long : (c : ClassFields) (ns : List ℕ) (gs : List Granule) → length ns ≡ length (front_widths c)
     → length (group_bits (front_widths c) ns ++ flat_map (granule_bits c.version) gs)
     ≡ sum (front_widths c) + length gs * granule_size c.version
-long c ns gs l =
-    length-append (group_bits (front_widths c) ns) (flat_map (granule_bits c.version) gs)
-    ∙ ap₂ (λ m n. m + n) (length-group_bits (front_widths c) ns l) (length-flat c.version gs)
+long c ns gs l = grind (arith, length-append, length-group_bits, length-flat)
 
 -- side information is written in as many bits as its bytes have
 pub length-side_bits : (c : ClassFields) → IsClass c → (s : Side) → IsShaped s
     → length (side_bits c s) ≡ 8 * side_size_of c
 unfolding side_bits granules_in granule_bits side_size_of
-length-side_bits =
-    each_side (λ c s. length (side_bits c s) ≡ 8 * side_size_of c)
-    (λ f m p a b g h k l. long (class_with One f 1) (m ∷ p ∷ a ∷ b ∷ []) (g ∷ k ∷ []) refl)
-    (λ f m p a b g h k l. long (class_with One f 2) (m ∷ p ∷ a ∷ b ∷ []) (g ∷ h ∷ k ∷ l ∷ []) refl)
-    (λ f m p a b g h k l. long (class_with Two f 1) (m ∷ p ∷ a ∷ b ∷ []) (g ∷ []) refl)
-    (λ f m p a b g h k l. long (class_with Two f 2) (m ∷ p ∷ a ∷ b ∷ []) (g ∷ h ∷ []) refl)
-    (λ f channels s two. two)
+length-side_bits = search (arith, each_side, long)
 
 -- the lists in side information that was read are as long as the arrays
 pub IsShaped-side_at : (c : ClassFields) (bs : List ℕ) → IsShaped (side_at c bs)
@@ -308,20 +284,11 @@ IsShaped-side_at c bs = record {
   scfsi = refl;
   granules = refl;
   first = refl;
-  second = elim (eqb (granules_of c.version) 1) as (λ b. length (cond b
-      (no_granule ∷ no_granule ∷ []) (channels_at c c.channels (drop (sum (front_widths c)) bs)))
-      ≡ 2) [ true ↦ refl | false ↦ refl ];
+  second = grind arith;
 }
 
 no_granule-fits : (version : Version) → GranuleFits version no_granule
-no_granule-fits version = record {
-  part2_3_length = lit< tt;
-  big_values = lit< tt;
-  global_gain = lit< tt;
-  scalefac_compress = pow_pos (compress_width version);
-  detail = lit< tt;
-  preflag = pow_pos (preflag_width version);
-}
+no_granule-fits version = grind (arith, lit<, pow_pos)
 
 none_fits : (version : Version) (has : Bool)
     → MatchBool has (GranuleFits version no_granule) (◌≡◌ {A = Granule} no_granule no_granule)
@@ -330,8 +297,7 @@ none_fits version false = refl
 
 some_fits : (version : Version) (bs : List ℕ) (n : ℕ) → AreBits bs
     → GranuleFits version (nth_granule version n bs)
-some_fits version bs n all = GranuleFits-granule_at version (drop (n * granule_size version) bs)
-    (AreBelow-drop 2 (n * granule_size version) bs all)
+some_fits version bs n all = grind (arith, GranuleFits-granule_at, AreBelow-drop)
 
 abbrev FitsAt : ClassFields → Side → ℕ → ℕ → Type 0
 FitsAt c s granule channel =
@@ -360,14 +326,11 @@ module _ (c : ClassFields) (m p a b : ℕ) (g h k l : Granule) where
       → FitsAt c (side_with m p a b g h k l) granule channel
   granules_fit x0 x1 x2 x3 zero zero = x0
   granules_fit x0 x1 x2 x3 zero (suc zero) = x1
-  granules_fit x0 x1 x2 x3 zero (suc (suc channel)) =
-      none_fits c.version (has_granule c zero (suc (suc channel)))
+  granules_fit x0 x1 x2 x3 zero (suc (suc channel)) = grind (arith, none_fits)
   granules_fit x0 x1 x2 x3 (suc zero) zero = x2
   granules_fit x0 x1 x2 x3 (suc zero) (suc zero) = x3
-  granules_fit x0 x1 x2 x3 (suc zero) (suc (suc channel)) =
-      none_fits c.version (has_granule c (suc zero) (suc (suc channel)))
-  granules_fit x0 x1 x2 x3 (suc (suc granule)) channel =
-      none_fits c.version (has_granule c (suc (suc granule)) channel)
+  granules_fit x0 x1 x2 x3 (suc zero) (suc (suc channel)) = grind (arith, none_fits)
+  granules_fit x0 x1 x2 x3 (suc (suc granule)) channel = grind (arith, none_fits)
 
   fits_with : FrontFits c (side_with m p a b g h k l) → PairFits c (side_with m p a b g h k l) 0
       → PairFits c (side_with m p a b g h k l) 1 → SideFits c (side_with m p a b g h k l)
@@ -384,8 +347,7 @@ module _ (c : ClassFields) (m p a b : ℕ) (g h k l : Granule) where
       → FitsAt c (side_with m p a b g h k l) 0 0 → FitsAt c (side_with m p a b g h k l) 0 1
       → FitsAt c (side_with m p a b g h k l) 1 0 → FitsAt c (side_with m p a b g h k l) 1 1
       → SideFits c (side_with m p a b g h k l)
-  fits_by front x0 x1 x2 x3 =
-      fits_with (front.0, front.1.0, front.1.1.0, front.1.1.1.0) (x0, x1) (x2, x3)
+  fits_by front x0 x1 x2 x3 = grind (arith, fits_with)
 
 fits_one_mono : (f : ℕ) (bs : List ℕ) → AreBits bs
     → SideFits (class_with One f 1) (side_at (class_with One f 1) bs)
@@ -430,8 +392,7 @@ fits_as_two : (f channels : ℕ) (bs : List ℕ)
     → SideFits (class_with Two f channels) (side_at (class_with Two f channels) bs)
     → SideFits (class_with TwoFive f channels) (side_at (class_with TwoFive f channels) bs)
 unfolding side_at granule_at
-fits_as_two f channels bs two =
-    fits_two_five f channels (side_at (class_with Two f channels) bs) two
+fits_as_two f channels bs two = grind (arith, fits_two_five)
 
 -- the fields of side information that was read are within their bits
 pub SideFits-side_at : (c : ClassFields) → IsClass c → (bs : List ℕ) → AreBits bs
@@ -446,9 +407,7 @@ SideFits-no_side c = record {
   main_data_begin = pow_pos (front_width c 0);
   private_bits = pow_pos (front_width c 1);
   scfsi = scfsi_fit c 0 0 (pow_pos (front_width c 2)) (pow_pos (front_width c 3));
-  granules = granules_fit c 0 0 0 0 no_granule no_granule no_granule no_granule
-      (none_fits c.version (has_granule c 0 0)) (none_fits c.version (has_granule c 0 1))
-      (none_fits c.version (has_granule c 1 0)) (none_fits c.version (has_granule c 1 1));
+  granules = grind (arith, granules_fit, none_fits);
 }
 
 -- ---- the main data
@@ -492,10 +451,5 @@ bits_least s = omega arith
 -- written back as these bytes
 pub IsSideOf-side_at : (c : ClassFields) (part : List ℕ) (s : Side) → IsClass c
     → length part ≡ side_size_of c → s ≡ side_at c (bits part) → IsSideOf c part s
-IsSideOf-side_at c part s right size is = record {
-  side = is;
-  fits = subst (SideFits c) (sym is) (SideFits-side_at c right (bits part) (AreBits-bits part));
-  back = ap (side_bits c) is
-      ∙ side_bits-side_at c right (bits part) (AreBits-bits part)
-      (length-bits part ∙ ap (λ n. 8 * n) size);
-}
+IsSideOf-side_at c part s right size is =
+    grind (arith, SideFits-side_at, AreBits-bits, back, side_bits-side_at, length-bits)

@@ -1,9 +1,9 @@
 -- Side fields joined to words, and the words that are written.
 use Rattle.std.proofs.Common.{ap, append-nil, append_assoc, ap₂, arith, Bool, drop, eqb, false}
-use Rattle.std.proofs.Common.{get_or, length, List, lit≤, refl, subst, suc, sum, sym, take}
-use Rattle.std.proofs.Common.{take_all, true, zero, ℕ, [], ◌%◌, ◌*◌, ◌++◌, ◌+◌, ◌-◌, ◌/◌, ◌<◌, ◌^◌}
-use Rattle.std.proofs.{Common.{◌∙◌, ◌∷◌, ◌≡◌, ◌≤◌}, Math.Nat.div-one, lemmas.Bool.ne_eqb}
-use Rattle.std.{proofs.lemmas.{Grind.flat_map-append, Nat.one_shl}, specs.List.flat_map}
+use Rattle.std.proofs.Common.{get_or, length, List, lit≤, refl, suc, sum, sym, take, take_all, true}
+use Rattle.std.proofs.Common.{zero, ℕ, [], ◌%◌, ◌*◌, ◌++◌, ◌+◌, ◌-◌, ◌/◌, ◌<◌, ◌^◌, ◌∙◌, ◌∷◌, ◌≡◌}
+use Rattle.std.proofs.{Common.◌≤◌, Math.Nat.div-one, lemmas.{Bool.ne_eqb, Grind.flat_map-append}}
+use Rattle.std.{proofs.lemmas.Nat.one_shl, specs.List.flat_map}
 use Rattle.bit_fields.proofs.GroupsLemmas.{group_bits-joined, joined, joined-below}
 use Rattle.bit_fields.{proofs.WordLemmas.{into_last, into_word, put_next}, specs.Bits.bits_of}
 use Rattle.bit_fields.specs.Groups.{group_bits}
@@ -57,24 +57,8 @@ upper_of version g =
 
 upper_below : (version : Version) (g : Granule) → GranuleFits version g
     → upper_of version g < 2 ^ 64
-upper_below One g fits = omega (
-  arith,
-  fits.part2_3_length,
-  fits.big_values,
-  fits.global_gain,
-  fits.scalefac_compress,
-  fits.detail,
-  flag_of-below g.window_switching,
-)
-upper_below _ g fits = omega (
-  arith,
-  fits.part2_3_length,
-  fits.big_values,
-  fits.global_gain,
-  fits.scalefac_compress,
-  fits.detail,
-  flag_of-below g.window_switching,
-)
+upper_below One g fits = grind (arith, flag_of-below)
+upper_below _ g fits = grind (arith, flag_of-below)
 
 -- the fields up to detail fit in a word of 64 bits
 pub upper_fits : (version : Version) (g : Granule) → GranuleFits version g
@@ -83,12 +67,7 @@ pub upper_fits : (version : Version) (g : Granule) → GranuleFits version g
     → middle ≡ g.scalefac_compress * 8388608 + flag_of g.window_switching * 4194304 + g.detail
     → first * (1 * 2 ^ (compress + 23) % 2 ^ 64) + middle < 2 ^ 64
 upper_fits version g fits compress first middle compress_is first_is middle_is =
-    let above : 1 * 2 ^ (compress + 23) % 2 ^ 64 ≡ 2 ^ (compress_width version + 23) =
-    one_shl (compress + 23) 64 (omega (arith, compress_is, compress_most version))
-    ∙ ap (λ n. 2 ^ (n + 23)) compress_is in
-    let upper_is : first * (1 * 2 ^ (compress + 23) % 2 ^ 64) + middle ≡ upper_of version g =
-    λ i. first_is i * above i + middle_is i in
-    rw upper_is (upper_below version g fits)
+    grind (arith, one_shl, compress_most, upper_below)
 
 module _ (version : Version) (g : Granule) (fits : GranuleFits version g)
     (compress preflag first middle last : ℕ) (compress_is : compress ≡ compress_width version)
@@ -101,20 +80,24 @@ module _ (version : Version) (g : Granule) (fits : GranuleFits version g)
       * (1 * 2 ^ (preflag + 2) % 2 ^ 64) + last
       ≡ joined (granule_widths version) (granule_numbers g)
   word-joined =
-      let above : 1 * 2 ^ (compress + 23) % 2 ^ 64 ≡ 2 ^ (compress_width version + 23) =
-      one_shl (compress + 23) 64 (omega (arith, compress_is, compress_most version))
-      ∙ ap (λ n. 2 ^ (n + 23)) compress_is in
-      let below : 1 * 2 ^ (preflag + 2) % 2 ^ 64 ≡ 2 ^ (preflag_width version + 2) =
-      one_shl (preflag + 2) 64 (omega (arith, preflag_is, preflag_most version))
-      ∙ ap (λ n. 2 ^ (n + 2)) preflag_is in
-      (λ i. (first_is i * above i + middle_is i) * below i + last_is i) ∙ granule_joined version g
+      grind (
+        arith,
+        one_shl (compress + 23) 64 (omega (arith, compress_is, compress_most version)),
+        compress_most version,
+        one_shl (preflag + 2) 64 (omega (
+          arith,
+          preflag_is,
+          preflag_most
+              version,
+        )),
+        preflag_most version,
+        granule_joined version g,
+      )
 
   -- the word is below the power of 2 of the granule's bits
   pub word_below : (first * (1 * 2 ^ (compress + 23) % 2 ^ 64) + middle)
       * (1 * 2 ^ (preflag + 2) % 2 ^ 64) + last < 2 ^ granule_size version
-  word_below = rw word-joined
-      (joined-below (granule_widths version) (granule_numbers g)
-      (NumbersFit-granule version g fits))
+  word_below = search (arith, word-joined, joined-below, NumbersFit-granule)
 
   -- the word fits in 64 bits
   pub word_fits : (first * (1 * 2 ^ (compress + 23) % 2 ^ 64) + middle)
@@ -126,9 +109,7 @@ module _ (version : Version) (g : Granule) (fits : GranuleFits version g)
       ((first * (1 * 2 ^ (compress + 23) % 2 ^ 64) + middle) * (1 * 2 ^ (preflag + 2) % 2 ^ 64)
       + last) ≡ granule_bits version g
   unfolding granule_bits
-  word_bits = ap (bits_of (granule_size version)) word-joined ∙ sym
-      (group_bits-joined (granule_widths version) (granule_numbers g)
-      (NumbersFit-granule version g fits))
+  word_bits = search (arith, word-joined, group_bits-joined, NumbersFit-granule)
 
 -- ---- the fields before the granules as one number
 -- for these four widths, the number that joins the fields before the granules has their bits
@@ -153,8 +134,7 @@ front_of_one version channels e = ap (front_widths_of version) (sym e)
 -- the widths before the granules are the ones for two channels otherwise
 pub front_of_two : (version : Version) (channels : ℕ) → (channels ≡ 1 → ⊥)
     → front_widths_of version 2 ≡ front_widths_of version channels
-front_of_two One channels h = let test : eqb channels 1 ≡ false = ne_eqb channels 1 h in
-    rw test refl
+front_of_two One channels h = grind (arith, ne_eqb)
 front_of_two _ channels h = let test : eqb channels 1 ≡ false = ne_eqb channels 1 h in rw test refl
 
 -- the four fields before the granules, joined to a number, spell their bits
@@ -165,8 +145,7 @@ pub front-group_bits : (begin private first second : ℕ) (ws : List ℕ)
     ≡ joined (begin ∷ private ∷ first ∷ second ∷ []) (m ∷ p ∷ get_or cs 0 0 ∷ get_or cs 1 0 ∷ [])
     → bits_of (sum ws) n ≡ group_bits ws (m ∷ p ∷ cs)
 front-group_bits begin private first second ws is m p cs n hm hp hs l e =
-    subst FrontIs is (front_is begin private first second) m p cs n hm hp hs l
-    (e ∙ ap (λ vs. joined vs (m ∷ p ∷ get_or cs 0 0 ∷ get_or cs 1 0 ∷ [])) is)
+    grind (arith, front_is, joined)
 
 -- ---- the words
 module _ (b0 b1 b2 : List ℕ) (front granule w : ℕ) (room : length b0 ≡ 72)
@@ -238,8 +217,7 @@ module _ (b0 b1 b2 b3 b4 : List ℕ) (front a b c d w x y z : ℕ) (room : lengt
 pub four_of : (gs : List ℕ) (cs : List ℕ) → length gs ≡ 4 → cs ++ (bits_of 59 (get_or gs 0 0)
     ++ (bits_of 59 (get_or gs 1 0) ++ (bits_of 59 (get_or gs 2 0) ++ bits_of 59 (get_or gs 3 0))))
     ≡ cs ++ flat_map (bits_of 59) gs
-four_of (a ∷ b ∷ c ∷ d ∷ []) cs l = ap (λ bs. cs
-    ++ (bits_of 59 a ++ (bits_of 59 b ++ (bits_of 59 c ++ bs)))) (sym (append-nil (bits_of 59 d)))
+four_of (a ∷ b ∷ c ∷ d ∷ []) cs l = grind (arith, append-nil)
 four_of gs cs l = absurd (omega arith)
 
 -- ---- the channels of a granule
@@ -254,8 +232,7 @@ flat_one version gs l = absurd (omega arith)
 pub flat_two : (version : Version) (gs : List Granule) → length gs ≡ 2
     → flat_map (granule_bits version) (take 2 gs)
     ≡ granule_bits version (get_or gs 0 no_granule) ++ granule_bits version (get_or gs 1 no_granule)
-flat_two version (g ∷ h ∷ []) l =
-    ap (λ bs. granule_bits version g ++ bs) (append-nil (granule_bits version h))
+flat_two version (g ∷ h ∷ []) l = grind (arith, append-nil)
 flat_two version gs l = absurd (omega arith)
 
 -- ---- the whole, from its parts
@@ -263,16 +240,9 @@ two_granules : (version : Version) (channels : ℕ) (gs : List (List Granule)) �
     → flat_map (granule_bits version) (flat_map (take channels) (take (granules_of version) gs))
     ≡ flat_map (granule_bits version) (take channels (get_or gs 0 []))
     ++ second_pair_bits version channels (get_or gs 1 [])
-two_granules One channels (g ∷ h ∷ []) l =
-    flat_map-append (granule_bits One) (take channels g) (take channels h ++ [])
-    ∙ ap (λ ks. flat_map (granule_bits One) (take channels g) ++ flat_map (granule_bits One) ks)
-    (append-nil (take channels h))
-two_granules Two channels (g ∷ h ∷ []) l =
-    ap (flat_map (granule_bits Two)) (append-nil (take channels g))
-    ∙ sym (append-nil (flat_map (granule_bits Two) (take channels g)))
-two_granules TwoFive channels (g ∷ h ∷ []) l =
-    ap (flat_map (granule_bits TwoFive)) (append-nil (take channels g))
-    ∙ sym (append-nil (flat_map (granule_bits TwoFive) (take channels g)))
+two_granules One channels (g ∷ h ∷ []) l = grind (arith, flat_map-append, append-nil)
+two_granules Two channels (g ∷ h ∷ []) l = grind (arith, append-nil)
+two_granules TwoFive channels (g ∷ h ∷ []) l = grind (arith, append-nil)
 two_granules version channels gs l = absurd (omega arith)
 
 -- side information is written as the fields before the granules, the first granule, and the second
@@ -282,13 +252,7 @@ pub side_bits-parts : (c : ClassFields) (s : Side) → length s.granules ≡ 2 �
     ++ flat_map (granule_bits c.version) (take c.channels (get_or s.granules 0 [])))
     ++ second_pair_bits c.version c.channels (get_or s.granules 1 [])
 unfolding side_bits granules_in
-side_bits-parts c s l =
-    let front : List ℕ =
-    group_bits (front_widths_of c.version c.channels)
-    (s.main_data_begin ∷ s.private_bits ∷ s.scfsi) in
-    ap (λ bs. front ++ bs) (two_granules c.version c.channels s.granules l)
-    ∙ sym (append_assoc front (flat_map (granule_bits c.version) (take c.channels
-    (get_or s.granules 0 []))) (second_pair_bits c.version c.channels (get_or s.granules 1 [])))
+side_bits-parts c s l = grind (arith, two_granules, append_assoc)
 
 -- ---- the fields before the granules, and granules after them
 -- the bits of the fields before the granules, and of the granules that a version has
@@ -303,11 +267,7 @@ module _ (gs hs : List Granule) (front a b : ℕ) (gs_two : length gs ≡ 2)
       → bits_of 59 a ≡ granule_bits One (get_or gs 0 no_granule)
       → bits_of 59 b ≡ granule_bits One (get_or hs 0 no_granule)
       → bits_of 18 front ++ (bits_of 59 a ++ bits_of 59 b) ≡ Whole version channels front gs hs
-  one_mono version channels v n left right =
-      sym (append_assoc (bits_of 18 front) (bits_of 59 a) (bits_of 59 b))
-      ∙ ap₂ (λ xs ys. (bits_of 18 front ++ xs) ++ ys) (left ∙ sym (flat_one One gs gs_two))
-      (right ∙ sym (flat_one One hs hs_two))
-      ∙ ap₂ (λ u k. Whole u k front gs hs) (sym v) (sym n)
+  one_mono version channels v n left right = grind (arith, append_assoc, flat_one)
 
   -- in MPEG-1 with two channels, the front and four granules are all of these bits
   pub one_stereo : (version : Version) (channels c d : ℕ) → version ≡ One → channels ≡ 2
@@ -317,27 +277,15 @@ module _ (gs hs : List Granule) (front a b : ℕ) (gs_two : length gs ≡ 2)
       → bits_of 59 d ≡ granule_bits One (get_or hs 1 no_granule)
       → bits_of 20 front ++ (bits_of 59 a ++ (bits_of 59 b ++ (bits_of 59 c ++ bits_of 59 d)))
       ≡ Whole version channels front gs hs
-  one_stereo version channels c d v n ea eb ec ed =
-      let first : List ℕ = bits_of 59 a ++ bits_of 59 b in
-      let second : List ℕ = bits_of 59 c ++ bits_of 59 d in
-      ap (λ xs. bits_of 20 front ++ xs) (sym (append_assoc (bits_of 59 a) (bits_of 59 b) second))
-      ∙ sym (append_assoc (bits_of 20 front) first second)
-      ∙ ap₂ (λ xs ys. (bits_of 20 front ++ xs) ++ ys)
-      ((λ i. ea i ++ eb i) ∙ sym (flat_two One gs gs_two))
-      ((λ i. ec i ++ ed i) ∙ sym (flat_two One hs hs_two))
-      ∙ ap₂ (λ u k. Whole u k front gs hs) (sym v) (sym n)
+  one_stereo version channels c d v n ea eb ec ed = grind (arith, append_assoc, flat_two)
 
   -- in MPEG-2 and MPEG-2.5 with one channel, the front and one granule are all of these bits
   pub two_mono : (version : Version) (channels : ℕ) → granules_of version ≡ 1 → channels ≡ 1
       → bits_of 63 a ≡ granule_bits version (get_or gs 0 no_granule)
       → bits_of 9 front ++ bits_of 63 a ≡ Whole version channels front gs hs
   two_mono One channels one n left = absurd (omega arith)
-  two_mono Two channels one n left =
-      sym (append-nil (bits_of 9 front ++ bits_of 63 a)) ∙ ap (λ xs. (bits_of 9 front ++ xs) ++ [])
-      (left ∙ sym (flat_one Two gs gs_two)) ∙ ap (λ k. Whole Two k front gs hs) (sym n)
-  two_mono TwoFive channels one n left =
-      sym (append-nil (bits_of 9 front ++ bits_of 63 a)) ∙ ap (λ xs. (bits_of 9 front ++ xs) ++ [])
-      (left ∙ sym (flat_one TwoFive gs gs_two)) ∙ ap (λ k. Whole TwoFive k front gs hs) (sym n)
+  two_mono Two channels one n left = grind (arith, append-nil, flat_one)
+  two_mono TwoFive channels one n left = grind (arith, append-nil, flat_one)
 
   -- in MPEG-2 and MPEG-2.5 with two channels, the front and two granules are all of these bits
   pub two_stereo : (version : Version) (channels : ℕ) → granules_of version ≡ 1 → channels ≡ 2
@@ -345,14 +293,8 @@ module _ (gs hs : List Granule) (front a b : ℕ) (gs_two : length gs ≡ 2)
       → bits_of 63 b ≡ granule_bits version (get_or gs 1 no_granule)
       → bits_of 10 front ++ (bits_of 63 a ++ bits_of 63 b) ≡ Whole version channels front gs hs
   two_stereo One channels one n left right = absurd (omega arith)
-  two_stereo Two channels one n left right =
-      sym (append-nil (bits_of 10 front ++ (bits_of 63 a ++ bits_of 63 b)))
-      ∙ ap (λ xs. (bits_of 10 front ++ xs) ++ []) ((λ i. left i ++ right i)
-      ∙ sym (flat_two Two gs gs_two)) ∙ ap (λ k. Whole Two k front gs hs) (sym n)
-  two_stereo TwoFive channels one n left right =
-      sym (append-nil (bits_of 10 front ++ (bits_of 63 a ++ bits_of 63 b)))
-      ∙ ap (λ xs. (bits_of 10 front ++ xs) ++ []) ((λ i. left i ++ right i)
-      ∙ sym (flat_two TwoFive gs gs_two)) ∙ ap (λ k. Whole TwoFive k front gs hs) (sym n)
+  two_stereo Two channels one n left right = grind (arith, append-nil, flat_two)
+  two_stereo TwoFive channels one n left right = grind (arith, append-nil, flat_two)
 
 -- a granule has 63 bits where there is only one
 pub size_of_two : (version : Version) → granules_of version ≡ 1 → granule_size version ≡ 63

@@ -1,7 +1,7 @@
 -- The areas of slots: the last is the largest, and the first that is large enough is the smallest.
 use Rattle.std.proofs.Common.{AllPairs, ap, arith, Bool, Contains, false, get_or, inl, inr, length}
-use Rattle.std.proofs.Common.{List, lit≤, refl, subst, suc, sym, zero, ℕ, [], ◌-◌, ◌<◌, ◌∙◌, ◌∷◌}
-use Rattle.std.proofs.{Common.{◌≡◌, ◌≤◌}, lemmas.Bool.cases_lt}
+use Rattle.std.proofs.Common.{List, lit≤, subst, suc, sym, zero, ℕ, [], ◌-◌, ◌<◌, ◌∙◌, ◌∷◌, ◌≡◌}
+use Rattle.std.proofs.{Common.◌≤◌, lemmas.Bool.cases_lt}
 use Rattle.std.proofs.lemmas.List.{get_or-map, get_or_default, length-map}
 use Rattle.frame_header.proofs.SlotLemmas.{areas-ascend, Contains-all_slots, get_or-place_of}
 use Rattle.frame_header.proofs.SlotLemmas.{length-all_slots}
@@ -17,8 +17,7 @@ greatest_number-last : (ns : List ℕ) (d : ℕ) → 0 < length ns → Ascend ns
     → get_or ns (length ns - 1) d ≡ greatest_number ns
 greatest_number-last ns d some ascend =
     let last : ℕ = get_or ns (length ns - 1) 0 in
-    let e : get_or ns (length ns - 1) d ≡ last =
-    get_or_default ns (length ns - 1) d 0 (omega arith) in
+    let e : get_or ns (length ns - 1) d ≡ last = grind (arith, get_or_default) in
     let is : Contains ns last =
     (length ns - 1, omega arith, get_or_default ns (length ns - 1) last 0 (omega arith)) in
     let g = Contains-greatest_number ns last is in
@@ -27,9 +26,7 @@ greatest_number-last ns d some ascend =
     let most = greatest_number-most ns last is in
     elim (cases_lt g.0 (length ns - 1)) as (λ _. get_or ns (length ns - 1) d ≡ greatest_number ns) [
       | inl before ↦ let less = ascend g.0 (length ns - 1) 0 before (omega arith) in omega arith
-      | inr here ↦
-          let same : g.0 ≡ length ns - 1 = omega (arith, g.1) in
-          e ∙ ap (λ k. get_or ns k 0) (sym same) ∙ at
+      | inr here ↦ grind arith
     ]
 
 -- the area at a place of the list is the area of the slot there
@@ -70,34 +67,24 @@ slot-area c p (s ∷ slots) n has =
 -- the area of a slot of the list is one of the areas
 pub Contains-area : (c : ClassFields) (p : Bool) (slots : List SlotFields) (slot : SlotFields)
     → Contains slots slot → Contains (slot_areas c p slots) (area_of c slot p)
-Contains-area c p slots slot has = (
-  has.0,
-  omega (arith, has.1, areas-many c p slots),
-  area-at c p slots has.0 (area_of c slot p) slot has.1 ∙ ap (λ s. area_of c s p) has.2,
-)
+Contains-area c p slots slot has = grind (arith, areas-many, area-at)
 
 -- if the areas ascend, slots with equal areas are equal
 pub one-slot : (c : ClassFields) (p : Bool) (slots : List SlotFields) (s t : SlotFields)
     → Ascend (slot_areas c p slots) → Contains slots s → Contains slots t
     → area_of c s p ≡ area_of c t p → s ≡ t
 one-slot c p slots s t ascend first second same =
-    let many = areas-many c p slots in
-    let here = area-at c p slots first.0 0 s first.1 ∙ ap (λ x. area_of c x p) first.2 in
-    let there = area-at c p slots second.0 0 t second.1 ∙ ap (λ x. area_of c x p) second.2 in
-    elim (cases_lt first.0 second.0) as (λ _. s ≡ t) [
-      | inl before ↦ let less = ascend first.0 second.0 0 before (omega (arith, many, second.1)) in
-          absurd (omega (arith, less, here, there, same))
-      | inr from ↦
-          elim (cases_lt second.0 first.0) as (λ _. s ≡ t) [
-            | inl behind ↦
-                let less = ascend second.0 first.0 0 behind (omega (arith, many, first.1)) in
-                absurd (omega (arith, less, here, there, same))
-            | inr till ↦
-                let at : first.0 ≡ second.0 = omega (arith, from, till) in
-                sym first.2 ∙ get_or_default slots first.0 s t first.1
-                ∙ ap (λ k. get_or slots k t) at ∙ second.2
-          ]
-    ]
+    grind (
+      arith,
+      areas-many c p slots,
+      area-at c p slots first.0 0 s first.1,
+      area-at c p slots
+          second.0 0 t second.1,
+      cases_lt first.0 second.0,
+      cases_lt second.0 first.0,
+      get_or_default
+          slots first.0 s t first.1,
+    )
 
 -- the first that is large enough has the smallest area
 pub least-first : (wanted : ℕ) (c : ClassFields) (p : Bool) (slots : List SlotFields) (i : ℕ)
@@ -109,31 +96,16 @@ least-first wanted c p slots i slot within is ascend small enough = record {
   enough = enough;
   least = λ other has fits.
       elim (cases_lt has.0 i) as (λ _. area_of c slot p ≤ area_of c other p) [
-        | inl before ↦
-            let here : get_or slots has.0 slot ≡ other =
-            get_or_default slots has.0 slot other has.1 ∙ has.2 in
-            let less = small has.0 before in
-            absurd (omega (arith, ap (λ s. area_of c s p) here, less, fits))
+        | inl before ↦ grind (arith, get_or_default slots has.0 slot other has.1)
         | inr from ↦
-            elim (cases_lt i has.0) as (λ _. area_of c slot p ≤ area_of c other p) [
-              | inl behind ↦
-                  let less = ascend i has.0 0 behind (omega (arith, areas-many c p slots, has.1)) in
-                  let first = area-at c p slots i 0 slot within in
-                  let second = area-at c p slots has.0 0 other has.1 in
-                  omega (
-                    arith,
-                    less,
-                    first,
-                    second,
-                    ap (λ s. area_of c s p) is,
-                    ap (λ s. area_of c s p) has.2,
-                  )
-              | inr at ↦
-                  let same : i ≡ has.0 = omega arith in
-                  let here : slot ≡ other = is ∙ get_or_default slots i slot other within
-                  ∙ ap (λ k. get_or slots k other) same ∙ has.2 in
-                  omega (arith, ap (λ s. area_of c s p) here)
-            ]
+            grind (
+              arith,
+              cases_lt i has.0,
+              areas-many c p slots,
+              area-at c p slots i 0 slot within,
+              area-at c p slots has.0 0 other has.1,
+              get_or_default slots i slot other within,
+            )
       ];
 }
 
@@ -153,11 +125,16 @@ lead-ascend c slots all ascend = subst (λ l. Ascend (slot_areas c false l)) (sy
 pub leads-span : (c : ClassFields) (window : ℕ) → window ≤ area_of c largest_slot false
     → window ≤ greatest_number (slot_areas c false all_slots)
 leads-span c window spanned =
-    omega (
+    grind (
       arith,
       greatest_number-most (slot_areas c false all_slots) (area_of c largest_slot false)
-          (Contains-area c false all_slots largest_slot
-          (Contains-all_slots largest_slot (omega arith, omega arith))),
+          (Contains-area c false all_slots largest_slot (Contains-all_slots largest_slot (
+            omega arith,
+            omega arith,
+          ))),
+      Contains-area c false all_slots largest_slot (Contains-all_slots largest_slot
+          (omega arith, omega arith)),
+      Contains-all_slots largest_slot (omega arith, omega arith),
     )
 
 -- a lead-in has a slot to choose
@@ -168,8 +145,7 @@ lead-any slots all = omega (arith, ap length all, length-all_slots)
 pub class-ascend : (class c : ClassFields) (p : Bool) (slots : List SlotFields) → slots ≡ all_slots
     → class ≡ c → Ascend (areas_of class p) → Ascend (slot_areas c p slots)
 unfolding areas_of
-class-ascend class c p slots all is ascend = subst (λ l. Ascend (slot_areas c p l)) (sym all)
-    (subst (λ k. Ascend (slot_areas k p all_slots)) is ascend)
+class-ascend class c p slots all is ascend = grind arith
 
 -- the largest slot has the greatest of all areas
 pub greatest_number-all : (c : ClassFields) (p : Bool) → IsClass c
@@ -195,8 +171,4 @@ greatest_number-one n = omega arith
 -- the only slot is the least if its area is large enough
 pub least-one : (wanted : ℕ) (c : ClassFields) (p : Bool) (slot : SlotFields) → wanted
     ≤ greatest_number (slot_areas c p (slot ∷ [])) → IsLeastSlot wanted c p (slot ∷ []) slot
-least-one wanted c p slot enough = record {
-  chosen = (0, omega arith, refl);
-  enough = omega (arith, greatest_number-one (area_of c slot p));
-  least = λ other has fits. omega (arith, ap (λ s. area_of c s p) (only_one slot other has));
-}
+least-one wanted c p slot enough = grind (arith, greatest_number-one, only_one)

@@ -1,7 +1,6 @@
 -- What loops over needs and places show.
-use Rattle.std.proofs.Common.{ap, arith, drop, get_or, length, List, map, subst, sym, ℕ, [], ◌+◌}
-use Rattle.std.proofs.{Common.{◌<◌, ◌∙◌, ◌∷◌, ◌≡◌, ◌≤◌}, lemmas.List.drop_all}
-use Rattle.std.specs.Prelude.{slice_range}
+use Rattle.std.proofs.Common.{arith, drop, get_or, length, List, map, ℕ, [], ◌+◌, ◌<◌, ◌∷◌, ◌≡◌}
+use Rattle.std.{proofs.{Common.◌≤◌, lemmas.List.drop_all}, specs.Prelude.slice_range}
 use Rattle.frame_header.specs.{Fields.ClassFields, Tables.{class_of, window_of}}
 use Rattle.slot_plan.proofs.FreeByteLemmas.{more-behind, within-fit}
 use Rattle.slot_plan.proofs.PartLemmas.{next_need, one-class, parts-cons, parts-none}
@@ -19,8 +18,7 @@ pub class-more : (class : ClassFields) (needs : List Need) (i : ℕ) (need : Nee
     → (AreNeedsOfClass class (drop i needs) → AreNeedsOfClass class needs)
     → AreNeedsOfClass class (drop (i + 1) needs) → AreNeedsOfClass class needs
 unfolding AreNeedsOfClass
-class-more class needs i need within is same on rest =
-    on (subst (AreNeedsOfClass class) (sym (next_need needs i need within is)) (same, rest))
+class-more class needs i need within is same on rest = grind (arith, next_need)
 
 -- once the loop has reached the end, all frames are of the class
 pub class-all : (class : ClassFields) (needs : List Need) (i : ℕ) (d : Need) → 0 < length needs
@@ -29,9 +27,7 @@ pub class-all : (class : ClassFields) (needs : List Need) (i : ℕ) (d : Need) �
     → AreNeedsOfOneClass needs
 unfolding AreNeedsOfClass
 class-all class [] i d some all is on = absurd (omega arith)
-class-all class (first ∷ needs) i d some all is on =
-    subst (λ c. AreNeedsOfClass c needs) is
-    (on (subst (AreNeedsOfClass class) (sym (drop_all i (first ∷ needs) all)) tt)).1
+class-all class (first ∷ needs) i d some all is on = grind (arith, drop_all)
 
 -- ---- frames that fit
 -- one more frame fits in the bytes before it and its own area
@@ -43,12 +39,7 @@ pub fit-next : (window before free next area : ℕ) (part : List Need) (i : ℕ)
     → AllFit window before (map own_frame part)
 unfolding AllFit
 fit-next window before free next area part i need within is own room gives on rest =
-    let after : next ≡ free_bytes_behind window free need.bytes (own_slot_area need) =
-    gives ∙ ap (λ n. free_bytes_behind window free need.bytes n) own in
-    on (subst (λ l. AllFit window free (map own_frame l)) (sym (next_need part i need within is)) (
-      omega (arith, room, own),
-      subst (λ n. AllFit window n (map own_frame (drop (i + 1) part))) after rest,
-    ))
+    grind (arith, next_need)
 
 -- once the loop has reached the end, all frames fit
 pub fit-all : (window before free : ℕ) (part : List Need) (i : ℕ) → before ≤ window
@@ -56,9 +47,7 @@ pub fit-all : (window before free : ℕ) (part : List Need) (i : ℕ) → before
     → (AllFit window free (map own_frame (drop i part)) → AllFit window before (map own_frame part))
     → FitsBehind window before part
 unfolding AllFit
-fit-all window before free part i most all on =
-    within-fit window before (map own_frame part) most
-    (on (subst (λ l. AllFit window free (map own_frame l)) (sym (drop_all i part all)) tt))
+fit-all window before free part i most all on = grind (arith, within-fit, drop_all)
 
 -- ---- frames of one class that fit
 -- frames of one class that fit after free bytes fit there with their own window
@@ -66,34 +55,17 @@ pub behind-free : (class : ClassFields) (needs : List Need) (d : Need) (window f
     → AreNeedsOfOneClass needs → class ≡ class_of (get_or needs 0 d).header
     → window ≡ window_of class.version → free ≤ window → FitsBehind window free needs
     → FitBehindFree free needs
-behind-free class needs d window free all is gives within fits = record {
-  class = class;
-  same = one-class class needs d all is;
-  within = omega (arith, gives, within);
-  fits = subst (λ n. FitsBehind n free needs) gives fits;
-}
+behind-free class needs d window free all is gives within fits = grind (arith, one-class)
 
 -- frames of one class that fit after free bytes fit after a whole window
 pub behind-window : (free : ℕ) (needs : List Need) → FitBehindFree free needs
     → FitBehindWindow needs
-behind-window free needs fit = record {
-  class = fit.class;
-  same = fit.same;
-  fits = more-behind (window_of fit.class.version) free
-      (window_of fit.class.version) needs fit.within fit.fits;
-}
+behind-window free needs fit = grind (arith, more-behind)
 
 -- frames that fit after free bytes can join others that leave at most these bytes
 pub joins-window : (free other : ℕ) (needs : List Need) → 0 < length needs
     → FitBehindFree free needs → other ≤ free → CanJoinBehind other needs
-joins-window free other needs some fit less = record {
-  some = some;
-  class = fit.class;
-  same = fit.same;
-  within = omega (arith, less, fit.within);
-  fits = more-behind (window_of fit.class.version) free
-      (window_of fit.class.version) needs fit.within fit.fits;
-}
+joins-window free other needs some fit less = grind (arith, more-behind)
 
 -- ---- parts that fit
 -- one more part fits after a whole window
@@ -108,8 +80,7 @@ pub parts-fit : (window : ℕ) (needs : List Need) (parts : List ℕ) (at from e
     → ArePartsFeasible window (needs_in_parts needs parts)
 unfolding ArePartsFeasible
 parts-fit window needs parts at from end within is next last here on rest =
-    on (subst (ArePartsFeasible window)
-    (sym (parts-cons needs parts at from end within is next last)) (here, rest))
+    grind (arith, parts-cons)
 
 -- once the loop has reached the end, all parts fit
 pub parts-fit-all : (window : ℕ) (needs : List Need) (parts : List ℕ) (at : ℕ) → length parts ≤ at
@@ -117,5 +88,4 @@ pub parts-fit-all : (window : ℕ) (needs : List Need) (parts : List ℕ) (at : 
     → ArePartsFeasible window (needs_in_parts needs parts))
     → ArePartsFeasible window (needs_in_parts needs parts)
 unfolding ArePartsFeasible
-parts-fit-all window needs parts at all on =
-    on (subst (ArePartsFeasible window) (sym (parts-none needs parts at all)) tt)
+parts-fit-all window needs parts at all on = grind (arith, parts-none)

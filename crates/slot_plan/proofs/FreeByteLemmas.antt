@@ -1,7 +1,7 @@
 -- Frames in their own slots fit after some free bytes exactly if these are at least what
 -- the frames need, and what the frames leave is what is free after the last of them.
-use Rattle.std.proofs.Common.{ap, ap₂, arith, drop, get_or, length, List, map, refl, subst, sym}
-use Rattle.std.proofs.Common.{zero, ℕ, [], ◌++◌, ◌+◌, ◌-◌, ◌<◌, ◌∙◌, ◌∷◌, ◌≡◌, ◌≤◌}
+use Rattle.std.proofs.Common.{ap, arith, drop, get_or, length, List, map, refl, subst, sym, zero, ℕ}
+use Rattle.std.proofs.Common.{[], ◌++◌, ◌+◌, ◌-◌, ◌<◌, ◌∙◌, ◌∷◌, ◌≡◌, ◌≤◌}
 use Rattle.std.{proofs.lemmas.List.{drop-map, drop_all, map-append}, specs.Prelude.◌↔◌}
 use Rattle.frame_header.specs.Fields.{ClassFields, HeaderFields, SlotFields}
 use Rattle.frame_header.specs.{Tables.{class_of, window_of}, declared.version.Version.Version}
@@ -37,37 +37,34 @@ fit-feasible window free frames (starts, layout) =
 pub feasible-fit : (window free : ℕ) (frames : List FrameLengths)
     → AllFit window (free - (free - window)) frames → HasLayout window free frames
 unfolding HasLayout
-feasible-fit window free frames fit = (
-  starts_of window 0 free frames,
-  layout-fit window 0 free (free - (free - window)) frames (omega arith) (omega arith) fit,
-)
+feasible-fit window free frames fit =
+    grind (
+      arith,
+      starts_of window 0 free frames,
+      layout-fit window 0 free (free - (free - window))
+          frames (omega arith) (omega arith) fit,
+    )
 
 -- frames with a layout after at most a window of free bytes fit in these
 pub fit-within : (window free : ℕ) (frames : List FrameLengths) → free ≤ window
     → HasLayout window free frames → AllFit window free frames
-fit-within window free frames within feasible =
-    let same : free - (free - window) ≡ free = omega arith in
-    subst (λ n. AllFit window n frames) same (fit-feasible window free frames feasible)
+fit-within window free frames within feasible = grind (arith, fit-feasible)
 
 -- frames that fit in at most a window of free bytes have a layout after these
 pub within-fit : (window free : ℕ) (frames : List FrameLengths) → free ≤ window
     → AllFit window free frames → HasLayout window free frames
-within-fit window free frames within fit =
-    let same : free ≡ free - (free - window) = omega arith in
-    feasible-fit window free frames (subst (λ n. AllFit window n frames) same fit)
+within-fit window free frames within fit = grind (arith, feasible-fit)
 
 -- frames with a layout after free bytes have one after more
 pub feasible-more : (window free more : ℕ) (frames : List FrameLengths) → free ≤ more
     → HasLayout window free frames → HasLayout window more frames
 feasible-more window free more frames less feasible =
-    feasible-fit window more frames (fit-more window (free - (free - window))
-    (more - (more - window)) frames (omega arith) (fit-feasible window free frames feasible))
+    grind (arith, feasible-fit, fit-more, fit-feasible)
 
 -- frames that fit after free bytes fit after more
 pub more-behind : (window free more : ℕ) (needs : List Need) → free ≤ more
     → FitsBehind window free needs → FitsBehind window more needs
-more-behind window free more needs less fits =
-    feasible-more window free more (map own_frame needs) less fits
+more-behind window free more needs less fits = grind (arith, feasible-more, fits)
 
 -- a frame and then others fit if its main data have room in the
 -- free bytes and its own area, and the others fit in what it leaves
@@ -77,25 +74,14 @@ pub cons-fits : (window free : ℕ) (need : Need) (needs : List Need) → free �
     → FitsBehind window free (need ∷ needs)
 unfolding AllFit
 cons-fits window free need needs within room fits =
-    within-fit window free (map own_frame (need ∷ needs)) within (
-      room,
-      fit-within window (free_bytes_behind window free need.bytes (own_slot_area need))
-          (map own_frame needs)
-          (omega arith) fits,
-    )
+    grind (arith, within-fit, within, fit-within, fits)
 
 -- if a frame and then others fit, the frame has room, and the others fit after what it leaves
 pub fits-cons : (window free : ℕ) (need : Need) (needs : List Need) → free ≤ window
     → FitsBehind window free (need ∷ needs) → (need.bytes ≤ free + own_slot_area need)
     × FitsBehind window (free_bytes_behind window free need.bytes (own_slot_area need)) needs
 unfolding AllFit
-fits-cons window free need needs within fits =
-    let fit = fit-within window free (map own_frame (need ∷ needs)) within fits in (
-      fit.0,
-      within-fit window (free_bytes_behind window free need.bytes (own_slot_area need))
-          (map own_frame needs)
-          (omega arith) fit.1,
-    )
+fits-cons window free need needs within fits = grind (arith, fit-within, within, fits, within-fit)
 
 -- ---- how many bytes frames want
 
@@ -143,8 +129,7 @@ pub own-wanted : (window free : ℕ) (needs : List Need) → FitsBehind window f
 own-wanted window free needs fits =
     let all = own-from window free 0 needs fits in
     record {
-      fits = within-fit window (own_needed needs)
-          (map own_frame needs) all.0 (fit-own window (own_needed needs) needs (omega arith) all.1);
+      fits = grind (arith, within-fit, fit-own);
       least = λ other behind. reserve_before-first window other own_slot own_area_of needs behind
           (chosen-own needs);
     }
@@ -157,8 +142,7 @@ nothing-fits window free = ([], tt)
 -- Frames fit after exactly the numbers of bytes that are at least what they want.
 pub fits-wanted : (window free wanted : ℕ) (needs : List Need) → IsLeastWanted window needs wanted
     → FitsBehind window free needs ↔ (wanted ≤ free)
-fits-wanted window free wanted needs is =
-    (is.least free, λ enough. more-behind window wanted free needs enough is.fits)
+fits-wanted window free wanted needs is = grind (arith, more-behind)
 
 -- ---- how many bytes frames leave
 
@@ -199,8 +183,7 @@ pub fit-append : (window free : ℕ) (xs ys : List FrameLengths) → AllFit wind
 unfolding AllFit left_after
 fit-append window free [] ys all = (tt, all)
 fit-append window free (x ∷ xs) ys all =
-    let rest = fit-append window (free_bytes_behind window free x.bytes x.area) xs ys all.1 in
-    ((all.0, rest.0), rest.1)
+    grind (arith, fit-append window (free_bytes_behind window free x.bytes x.area) xs ys all.1)
 
 -- a frame without an area fits if its main data are at most the free bytes
 before-fits : (window left bytes : ℕ) → bytes ≤ left
@@ -218,41 +201,33 @@ pub leaves-fit : (window free left : ℕ) (needs : List Need) → free ≤ windo
     → LeavesFree window free needs left
     → FitsBehind window free needs × (left ≤ left_after window free (map own_frame needs))
 leaves-fit window free left needs within leaves =
-    let frames = map own_frame needs in
-    let fit = fit-append window free frames (frame_without_area left ∷ [])
-    (fit-within window free (frames ++ frame_without_area left ∷ []) within leaves) in (
-      within-fit window free frames within fit.0,
-      fits-before window (left_after window free frames) left fit.1,
-    )
+    grind (arith, fit-append, fit-within, within, within-fit, fits-before)
 
 -- What is free after frames is the most that they leave.
 pub own-left : (window free : ℕ) (needs : List Need) → free ≤ window → FitsBehind window free needs
     → IsMostLeft window free needs (left_after window free (map own_frame needs))
 own-left window free needs within fits =
-    let frames = map own_frame needs in
-    let left : ℕ = left_after window free frames in
-    record {
-      within = left-within window free frames within;
-      leaves = within-fit window free (frames ++ frame_without_area left ∷ []) within
-          (append-fit window free frames (frame_without_area left ∷ [])
-          (fit-within window free frames within fits) (before-fits window left left (omega arith)));
-      greatest = λ other most leaves. (leaves-fit window free other needs within leaves).1;
-    }
+    grind (
+      arith,
+      within,
+      left-within,
+      within-fit,
+      append-fit,
+      fit-within,
+      fits,
+      before-fits,
+      leaves-fit,
+    )
 
 -- there is only one greatest number of bytes that frames leave
 pub one-left : (window free m n : ℕ) (needs : List Need) → IsMostLeft window free needs m
     → IsMostLeft window free needs n → m ≡ n
-one-left window free m n needs first second =
-    let less = second.greatest m first.within first.leaves in
-    let more = first.greatest n second.within second.leaves in
-    omega arith
+one-left window free m n needs first second = grind arith
 
 -- the most that frames leave is what is free after them
 pub left-value : (window free left : ℕ) (needs : List Need) → free ≤ window
     → IsMostLeft window free needs left → left ≡ left_after window free (map own_frame needs)
-left-value window free left needs within is =
-    one-left window free left (left_after window free (map own_frame needs)) needs is
-    (own-left window free needs within (leaves-fit window free left needs within is.leaves).0)
+left-value window free left needs within is = grind (arith, one-left, own-left, within, leaves-fit)
 
 -- a frame and then others leave what the others leave after what the frame leaves
 pub left-cons : (window free left : ℕ) (need : Need) (needs : List Need) → free ≤ window
@@ -275,11 +250,7 @@ left-cons window free left need needs within room is =
 pub fits-front : (window free : ℕ) (first others : List Need)
     → FitsBehind window free (first ++ others) → FitsBehind window free first
 fits-front window free first others fits =
-    let fit = fit-feasible window free (map own_frame (first ++ others)) fits in
-    let parts =
-    subst (AllFit window (free - (free - window))) (map-append own_frame first others) fit in
-    feasible-fit window free (map own_frame first) (fit-append window (free - (free - window))
-    (map own_frame first) (map own_frame others) parts).0
+    grind (arith, fit-feasible, fits, map-append, feasible-fit, fit-append)
 
 module _ (window free mid : ℕ) (first others : List Need) (within : free ≤ window)
     (is : IsMostLeft window free first mid) where
@@ -289,48 +260,38 @@ module _ (window free mid : ℕ) (first others : List Need) (within : free ≤ w
   -- If all fit, the others fit after what the first leave.
   pub fits-then : FitsBehind window free (first ++ others) → FitsBehind window mid others
   fits-then fits =
-      let fit = subst (AllFit window free) (map-append own_frame first others)
-      (fit-within window free (map own_frame (first ++ others)) within fits) in
-      let behind = (fit-append window free (map own_frame first) (map own_frame others) fit).1 in
-      within-fit window mid (map own_frame others)
-      is.within (subst (λ n. AllFit window n (map own_frame others)) (sym mid-is) behind)
+      grind (arith, map-append, fit-within, within, fits, fit-append, within-fit, mid-is)
 
   -- if the others fit after what the first leave, all fit
   pub then-fits : FitsBehind window mid others → FitsBehind window free (first ++ others)
   then-fits fits =
-      let before = fit-within window free (map own_frame first) within
-      (leaves-fit window free mid first within is.leaves).0 in
-      let behind = subst (λ n. AllFit window n (map own_frame others)) mid-is
-      (fit-within window mid (map own_frame others) is.within fits) in
-      within-fit window free (map own_frame (first ++ others)) within
-      (subst (AllFit window free) (sym (map-append own_frame first others))
-      (append-fit window free (map own_frame first) (map own_frame others) before behind))
+      grind (
+        arith,
+        fit-within,
+        within,
+        leaves-fit,
+        mid-is,
+        fits,
+        within-fit,
+        map-append,
+        append-fit,
+      )
 
   -- what is free after all is what is free after the others, beginning with what the first leave
   left-both : left_after window free (map own_frame (first ++ others))
       ≡ left_after window mid (map own_frame others)
-  left-both =
-      ap (left_after window free) (map-append own_frame first others)
-      ∙ left-append window free (map own_frame first) (map own_frame others)
-      ∙ ap (λ n. left_after window n (map own_frame others)) (sym mid-is)
+  left-both = grind (arith, map-append, left-append, mid-is)
 
   -- what all leave is what the others leave after what the first leave
   pub left-then : (left : ℕ) → IsMostLeft window free (first ++ others) left
       → IsMostLeft window mid others left
-  left-then left all =
-      let fits = fits-then (leaves-fit window free left (first ++ others) within all.leaves).0 in
-      subst (IsMostLeft window mid others)
-      (sym (left-value window free left (first ++ others) within all ∙ left-both))
-      (own-left window mid others is.within fits)
+  left-then left all = grind (arith, fits-then, leaves-fit, within, left-value, left-both, own-left)
 
   -- what the others leave after what the first leave is what all leave
   pub then-left : (left : ℕ) → IsMostLeft window mid others left
       → IsMostLeft window free (first ++ others) left
   then-left left behind =
-      let fits = then-fits (leaves-fit window mid left others is.within behind.leaves).0 in
-      subst (IsMostLeft window free (first ++ others))
-      (left-both ∙ sym (left-value window mid left others is.within behind))
-      (own-left window free (first ++ others) within fits)
+      grind (arith, then-fits, leaves-fit, left-both, left-value, own-left, within)
 
 -- ---- from frame to frame
 
@@ -347,10 +308,8 @@ pub fits-in : (c d : ClassFields) (needs : List Need) (free : ℕ → ℕ) → A
     → AreNeedsOfClass d needs → FitsBehind (window_of c.version) (free (window_of c.version)) needs
     → FitsBehind (window_of d.version) (free (window_of d.version)) needs
 unfolding AreNeedsOfClass
-fits-in c d [] free first second fits =
-    nothing-fits (window_of d.version) (free (window_of d.version))
-fits-in c d (need ∷ needs) free first second fits = subst (λ (k : ClassFields). FitsBehind
-    (window_of k.version) (free (window_of k.version)) (need ∷ needs)) (sym first.0 ∙ second.0) fits
+fits-in c d [] free first second fits = grind (arith, nothing-fits)
+fits-in c d (need ∷ needs) free first second fits = grind (arith, fits)
 
 -- the window of a frame that the code reads is the window of all
 pub window-read : (class own : ClassFields) (needs : List Need) (i window : ℕ) (need : Need)
@@ -368,32 +327,25 @@ window-most TwoFive = omega arith
 -- after the last frame nothing is wanted
 pub wanted-none : (needs : List Need) → 0 ≡ own_needed (drop (length needs) needs)
 wanted-none needs =
-    sym (ap own_needed (drop_all (length needs) needs (omega arith))
-    ∙ reserve_before-nothing own_slot)
+    grind (arith, drop_all (length needs) needs (omega arith), reserve_before-nothing own_slot)
 
 -- the place after the one before is the place itself
 pub wanted-before : (needs : List Need) (at wanted : ℕ) → 0 < at
     → wanted ≡ own_needed (drop at needs) → wanted ≡ own_needed (drop (at - 1 + 1) needs)
-wanted-before needs at wanted some is =
-    let next : at ≡ at - 1 + 1 = omega arith in
-    subst (λ k. wanted ≡ own_needed (drop k needs)) next is
+wanted-before needs at wanted some is = grind arith
 
 -- at the first frame what is wanted from it on is what all want
 pub wanted-all : (window : ℕ) (needs : List Need) (at wanted : ℕ) → at ≡ 0
     → FitsBehind window window needs → wanted ≡ own_needed (drop at needs)
     → IsLeastWanted window needs wanted
-wanted-all window needs at wanted none fits is =
-    let all : wanted ≡ own_needed needs = subst (λ k. wanted ≡ own_needed (drop k needs)) none is in
-    subst (IsLeastWanted window needs) (sym all) (own-wanted window window needs fits)
+wanted-all window needs at wanted none fits is = grind (arith, own-wanted, fits)
 
 module _ (window : ℕ) (needs : List Need) (i : ℕ) (need : Need) (within : i < length needs)
     (is : need ≡ get_or needs i need) where
   -- what the frames from one on want
   pub wanted-next : (after area : ℕ) → after ≡ own_needed (drop (i + 1) needs)
       → area ≡ own_slot_area need → own_needed (drop i needs) ≡ (need.bytes + after) - area
-  wanted-next after area same own =
-      ap own_needed (next_need needs i need within is) ∙ own-cons need (drop (i + 1) needs)
-      ∙ ap₂ (λ m n. (need.bytes + m) - n) (sym same) (sym own)
+  wanted-next after area same own = grind (arith, next_need, within, own-cons, same)
 
   -- if frames fit, a frame and what is wanted after it have room in its area and a window
   pub wanted-most : (free after area : ℕ) → FitsBehind window free needs → after
@@ -427,9 +379,7 @@ module _ (window free : ℕ) (needs : List Need) (i : ℕ) (need : Need) (left a
     (from : LeavesFrom window free needs i left) where
   -- the frame has room in what is left and its own area
   pub leaves-room : need.bytes ≤ left + area
-  leaves-room =
-      let here = subst (FitsBehind window left) (next_need needs i need within is) from.fits in
-      omega (arith, own, (fits-cons window left need (drop (i + 1) needs) from.within here).0)
+  leaves-room = grind (arith, next_need, within, fits-cons)
 
   -- what is left after the frame is left before the next one
   pub leaves-more : (next : ℕ) → next ≡ free_bytes_behind window left need.bytes area
@@ -440,13 +390,11 @@ module _ (window free : ℕ) (needs : List Need) (i : ℕ) (need : Need) (left a
       let parts = fits-cons window left need rest
       from.within (subst (FitsBehind window left) (next_need needs i need within is) from.fits) in
       let value : next ≡ free_bytes_behind window left need.bytes (own_slot_area need) =
-      gives ∙ ap (free_bytes_behind window left need.bytes) own in
+      grind arith in
       record {
         within = omega (arith, value);
         fits = subst (λ n. FitsBehind window n rest) (sym value) parts.1;
-        same = ap (λ n. left_after window n (map own_frame rest)) value ∙ sym
-            (ap (λ l. left_after window left (map own_frame l)) (next_need needs i need within is))
-            ∙ from.same;
+        same = grind (arith, next_need, within);
       }
 
 -- after the last frame what is left is what all frames leave
@@ -455,9 +403,7 @@ pub leaves-all : (window free : ℕ) (needs : List Need) (i left : ℕ) → leng
     → IsMostLeft window free needs left
 unfolding left_after
 leaves-all window free needs i left all within fits from =
-    let value : left ≡ left_after window free (map own_frame needs) =
-    sym (ap (λ l. left_after window left (map own_frame l)) (drop_all i needs all)) ∙ from.same in
-    subst (IsMostLeft window free needs) (sym value) (own-left window free needs within fits)
+    grind (arith, drop_all, own-left, within, fits)
 
 -- ---- the laws
 
@@ -479,10 +425,7 @@ behind-left = λ window free first others within some. (
 
 -- what frames and then others leave is what the others leave after what the first leave
 pub left-on : LeavesGoOn
-left-on = λ window free mid left first others within is. (
-  left-then window free mid first others within is left,
-  then-left window free mid first others within is left,
-)
+left-on = search (arith, left-then, then-left)
 
 -- frames fit after exactly the numbers of bytes that are at least what they want
 pub where-wanted : FitsWhereWanted

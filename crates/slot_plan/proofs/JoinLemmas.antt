@@ -1,7 +1,7 @@
 -- The lead-in of frames in their own slots, and the slot in which such frames join others.
-use Rattle.std.proofs.Common.{AllPairs, ap, arith, Bool, Contains, drop, false, get_or, length}
-use Rattle.std.proofs.Common.{List, max, None, refl, Some, subst, sym, take, ℕ, [], ◌*◌, ◌+◌, ◌-◌}
-use Rattle.std.proofs.{Common.{◌<◌, ◌∙◌, ◌∷◌, ◌≡◌, ◌≤◌}, lemmas.List.{length-drop, take_all}}
+use Rattle.std.proofs.Common.{AllPairs, arith, Bool, Contains, drop, false, get_or, length, List}
+use Rattle.std.proofs.Common.{max, None, refl, Some, subst, sym, take, ℕ, [], ◌*◌, ◌+◌, ◌-◌, ◌<◌}
+use Rattle.std.proofs.{Common.{◌∙◌, ◌∷◌, ◌≡◌, ◌≤◌}, lemmas.List.{length-drop, take_all}}
 use Rattle.frame_header.proofs.SlotLemmas.{window-spanned}
 use Rattle.frame_header.specs.Fields.{ClassFields, HeaderFields, IsClass, SlotFields}
 use Rattle.frame_header.specs.{Slots.{all_slots, areas_of}, Tables.{area_of, class_of, window_of}}
@@ -22,11 +22,7 @@ use Rattle.slot_plan.specs.declared.needs.Need.{Need}
 pub lead-slot : (window wanted : ℕ) (class : ClassFields) (needs : List Need) (slot : SlotFields)
     → IsLeastWanted window needs wanted → IsLeastSlot wanted class false all_slots slot
     → IsLeadInSlot window class needs slot
-lead-slot window wanted class needs slot is least = record {
-  chosen = least.chosen;
-  fits = more-behind window wanted (area_of class slot false) needs least.enough is.fits;
-  least = λ other has fits. least.least other has (is.least (area_of class other false) fits);
-}
+lead-slot window wanted class needs slot is least = grind (arith, more-behind)
 
 -- the first header, unprotected and in that slot, is the header of the lead-in
 pub lead-header : (window : ℕ) (first : Need) (needs : List Need) (slot : SlotFields)
@@ -34,11 +30,7 @@ pub lead-header : (window : ℕ) (first : Need) (needs : List Need) (slot : Slot
     → header ≡ record first.header { protected = false; slot = slot }
     → IsLeadInHeader window (first ∷ needs) header
 unfolding IsLeadInHeader
-lead-header window first needs slot header is gives =
-    let same : slot ≡ header.slot = sym (ap (λ h. h.slot) gives) in (
-      subst (IsLeadInSlot window (class_of first.header) (first ∷ needs)) same is,
-      gives ∙ ap (λ s. record first.header { protected = false; slot = s }) same,
-    )
+lead-header window first needs slot header is gives = grind arith
 
 -- ---- frames that join others
 
@@ -49,11 +41,7 @@ module _ (window free wanted : ℕ) (first : Need) (needs : List Need) (slot : S
   pub slot-fits : wanted ≤ window → IsLeastWanted window needs wanted → first.bytes + wanted
       ≤ free + own_slot_area (need_in_slot slot first)
       → FitsBehind window free (need_in_slot slot first ∷ needs)
-  slot-fits most is room =
-      cons-fits window free (need_in_slot slot first) needs within (omega (arith, room))
-      (more-behind window wanted
-      (free_bytes_behind window free first.bytes (own_slot_area (need_in_slot slot first)))
-      needs (omega (arith, room, most)) is.fits)
+  slot-fits most is room = grind (arith, cons-fits, within, more-behind, most)
 
   -- if a list fits with its first frame in a slot, that
   -- frame's main data and what the others want have room
@@ -73,15 +61,7 @@ module _ (window free wanted area : ℕ) (first : Need) (needs : List Need) (wit
   -- a slot in which the frames join has at least this area
   pub joins-area : (slot : SlotFields) → JoinsInSlot window free first needs slot
       → area ≤ own_slot_area (need_in_slot slot first)
-  joins-area slot joins =
-      let room = fits-slot window free wanted first needs slot within is joins.fits in
-      omega (
-        arith,
-        gives,
-        max-is ((first.bytes + wanted) - free) (own_slot_area first),
-        room,
-        joins.not_less,
-      )
+  joins-area slot joins = grind (arith, fits-slot, within, max-is)
 
   -- frames join in a slot with at least this area
   pub area-joins : (slot : SlotFields) → Contains all_slots slot
@@ -91,8 +71,7 @@ module _ (window free wanted area : ℕ) (first : Need) (needs : List Need) (wit
       record {
         chosen = has;
         not_less = omega (arith, gives, is_max, enough);
-        fits = slot-fits window free wanted first needs slot within most is
-            (omega (arith, gives, is_max, enough));
+        fits = grind (arith, slot-fits, within, most);
       }
 
   -- The frames join in the least slot with such an area, if there is one.
@@ -100,10 +79,7 @@ module _ (window free wanted area : ℕ) (first : Need) (needs : List Need) (wit
       → IsLeastSlot area (class_of first.header) first.header.protected all_slots slot
       → IsJoinSlot window free (first ∷ needs) (Some slot)
   unfolding IsJoinSlot
-  least-joins slot least = record {
-    joins = area-joins slot least.chosen least.enough;
-    least = λ other joins. least.least other joins.chosen (joins-area other joins);
-  }
+  least-joins slot least = grind (arith, area-joins, joins-area)
 
   -- frames join in no slot if none has so large an area
   pub none-joins : greatest_number
@@ -123,10 +99,8 @@ module _ (window free wanted area : ℕ) (first : Need) (needs : List Need) (wit
 pub rising-all : (class : ClassFields) (protected : Bool) (slots : List SlotFields)
     → slots ≡ all_slots → AllPairs (λ m n. m < n) (areas_of class protected)
     → AreRisingSlots class protected slots
-rising-all class protected slots all ascend = record {
-  some = lead-any slots all;
-  ascending = class-ascend class class protected slots all refl ascend;
-}
+rising-all class protected slots all ascend =
+    grind (arith, lead-any slots all, class-ascend class class protected slots all refl ascend)
 
 -- a lead-in of some slot has what frames that fit after a whole window want
 pub lead-enough : (class : ClassFields) (wanted : ℕ) (needs : List Need) (slots : List SlotFields)
@@ -135,26 +109,18 @@ pub lead-enough : (class : ClassFields) (wanted : ℕ) (needs : List Need) (slot
     → IsLeastWanted (window_of class.version) needs wanted
     → wanted ≤ greatest_number (slot_areas class false slots)
 lead-enough class wanted needs slots known all fits is =
-    let most = is.least (window_of class.version) fits in
-    let spans = leads-span class (window_of class.version) (window-spanned class known) in
-    omega (arith, most, spans, ap (λ l. greatest_number (slot_areas class false l)) all)
+    grind (arith, fits, leads-span, window-spanned)
 
 -- the least slot is the same for equal classes and lists
 pub least-in : (m n : ℕ) (c d : ClassFields) (p q : Bool) (xs ys : List SlotFields)
     (slot : SlotFields) → m ≡ n → c ≡ d → p ≡ q → xs ≡ ys → IsLeastSlot m c p xs slot
     → IsLeastSlot n d q ys slot
-least-in m n c d p q xs ys slot same_wanted same_class same_protected same_slots least =
-    subst (λ k. IsLeastSlot k d q ys slot) same_wanted
-    (subst (λ k. IsLeastSlot m k q ys slot) same_class (subst (λ k. IsLeastSlot m c k ys slot)
-    same_protected (subst (λ k. IsLeastSlot m c p k slot) same_slots least)))
+least-in m n c d p q xs ys slot same_wanted same_class same_protected same_slots least = grind arith
 
 -- the greatest area is the same for equal classes and lists
 pub greatest_number-in : (c d : ClassFields) (p q : Bool) (xs ys : List SlotFields) → c ≡ d → p ≡ q
     → xs ≡ ys → greatest_number (slot_areas c p xs) ≡ greatest_number (slot_areas d q ys)
-greatest_number-in c d p q xs ys same_class same_protected same_slots =
-    ap (λ k. greatest_number (slot_areas k p xs)) same_class
-    ∙ ap (λ k. greatest_number (slot_areas d k xs)) same_protected
-    ∙ ap (λ k. greatest_number (slot_areas d q k)) same_slots
+greatest_number-in c d p q xs ys same_class same_protected same_slots = grind arith
 
 -- all frames but the first, as a slice
 abbrev pub others_of : List Need → List Need
@@ -169,9 +135,7 @@ pub others-fit : (free : ℕ) (needs : List Need) → CanJoinBehind free needs
     → FitBehindWindow (others_of needs)
 others-fit free needs can = record {
   class = can.class;
-  same =
-      subst (AreNeedsOfClass can.class) (sym (others-are needs))
-      (class-drop can.class needs 1 can.same);
+  same = grind (arith, others-are needs, class-drop can.class needs 1 can.same);
   fits = subst (FitsBehind (window_of can.class.version) (window_of can.class.version))
       (sym (others-are needs))
       (fits-drop (window_of can.class.version) (window_of can.class.version) 1 needs can.fits);
@@ -219,9 +183,7 @@ module _ (window free wanted area : ℕ) (first : Need) (needs : List Need) wher
   -- the first frame and what the others want have room in its own area and two windows
   pub first-room : FirstOf window free wanted first needs → area ≡ own_slot_area first
       → first.bytes + wanted ≤ 2 * window + area
-  first-room of own =
-      let room = (fits-cons window window first (drop 1 needs) (omega arith) of.fits).0 in
-      omega (arith, room, of.most, own)
+  first-room of own = grind (arith, fits-cons)
 
   -- the least slot with what is missing, but not less than
   -- the first frame's own, is the slot in which frames join
@@ -230,9 +192,11 @@ module _ (window free wanted area : ℕ) (first : Need) (needs : List Need) wher
       → IsLeastSlot area (class_of first.header) first.header.protected all_slots slot
       → IsJoinSlot window free needs (Some slot)
   first-joins slot of gives least =
-      subst (λ l. IsJoinSlot window free l (Some slot)) (sym of.whole)
-      (least-joins window free wanted
-      area first (drop 1 needs) of.within of.most of.wants gives slot least)
+      grind (
+        arith,
+        least-joins window free wanted area first (drop 1 needs) of.within of.most
+            of.wants gives slot least,
+      )
 
   -- frames join in no slot if none has what is missing
   pub first-none : FirstOf window free wanted first needs
@@ -240,9 +204,11 @@ module _ (window free wanted area : ℕ) (first : Need) (needs : List Need) wher
       → greatest_number (slot_areas (class_of first.header) first.header.protected all_slots) < area
       → IsJoinSlot window free needs None
   first-none of gives less =
-      subst (λ l. IsJoinSlot window free l None) (sym of.whole)
-      (none-joins window free wanted area first
-      (drop 1 needs) of.within of.most of.wants gives less)
+      grind (
+        arith,
+        none-joins window free wanted area first (drop 1 needs) of.within of.most
+            of.wants gives less,
+      )
 
 -- ---- the lead-in of frames
 

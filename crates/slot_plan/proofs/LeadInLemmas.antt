@@ -35,15 +35,11 @@ least-stays : (wanted first m : ℕ) (ns : List ℕ) → (wanted ≤ m → first
     → LeastOf wanted first ns → LeastOf wanted first (m ∷ ns)
 least-stays wanted first m ns not_less rest = record {
   least = rest.least;
-  is = elim rest.is as (λ _. (first ≡ rest.least) ⊎ Contains (m ∷ ns) rest.least) [
-    | inl same ↦ inl same
-    | inr has ↦ inr (behind m rest.least ns has)
-  ];
+  is = grind (arith, behind);
   enough = rest.enough;
   low = rest.low;
   most = λ other has fits. elim (contains-cons m ns other has) as (λ _. rest.least ≤ other) [
-    | inl same ↦ let from = not_less (omega (arith, same, fits)) in
-        omega (arith, same, from, rest.low)
+    | inl same ↦ grind arith
     | inr later ↦ rest.most other later fits
   ];
 }
@@ -52,10 +48,7 @@ least-moves : (wanted first m : ℕ) (ns : List ℕ) → m < first → LeastOf w
     → LeastOf wanted first (m ∷ ns)
 least-moves wanted first m ns less rest = record {
   least = rest.least;
-  is = elim rest.is as (λ _. (first ≡ rest.least) ⊎ Contains (m ∷ ns) rest.least) [
-    | inl same ↦ inr (zero, omega arith, same)
-    | inr has ↦ inr (behind m rest.least ns has)
-  ];
+  is = grind (arith, behind);
   enough = rest.enough;
   low = omega (arith, less, rest.low);
   most = λ other has fits. elim (contains-cons m ns other has) as (λ _. rest.least ≤ other) [
@@ -70,19 +63,21 @@ least-from wanted first [] enough = record {
   is = inl refl;
   enough = enough;
   low = omega arith;
-  most =
-      λ other has fits. absurd (omega (arith, has.1));
+  most = grind arith;
 }
 least-from wanted first (m ∷ ns) enough =
     elim (cases_lt m wanted) as (λ _. LeastOf wanted first (m ∷ ns)) [
-      | inl small ↦ least-stays wanted first m ns (λ fits. absurd (omega (arith, small, fits)))
-          (least-from wanted first ns enough)
+      | inl small ↦ grind (arith, least-stays, enough, least-from wanted first ns enough)
       | inr fits ↦
-          elim (cases_lt m first) as (λ _. LeastOf wanted first (m ∷ ns)) [
-            | inl less ↦ least-moves wanted first m ns less (least-from wanted m ns fits)
-            | inr from ↦
-                least-stays wanted first m ns (λ _. from) (least-from wanted first ns enough)
-          ]
+          grind (
+            arith,
+            cases_lt,
+            least-moves,
+            least-stays,
+            enough,
+            least-from wanted m ns fits,
+            least-from wanted first ns enough,
+          )
     ]
 
 least-areas : (window free : ℕ) (opens : List OpenFrame) (some : List ℕ) → AreChosenAreas opens some
@@ -217,17 +212,8 @@ module _ (window : ℕ) (choices : HeaderFields → List SlotFields) (first : Ne
       (area_of (class_of first.header) slot false ∷ rest))
       → IsLeadIn window choices (first ∷ part) (Some slot)
   unfolding IsLeadIn part_items CanBeLaid
-  least-lead never is (rest, least) =
-      let class : ClassFields = class_of first.header in
-      let opens : List OpenFrame = open_frames choices (first ∷ part) in (
-        never,
-        with-slot window class slot opens rest least,
-        is,
-        (λ other has less can. not-before window class slot other opens rest can.0 least has less
-            can.1 can.2),
-      )
+  least-lead never is (rest, least) = grind (arith, with-slot, is, not-before)
 
 -- the lead-in of every part that needs one is the first entry of the least list
 pub lead-first : LeadInsComeFirst
-lead-first = λ window choices first part slot never is.
-    (lead-least window choices first part slot, least-lead window choices first part slot never is)
+lead-first = grind (arith, lead-least, least-lead)

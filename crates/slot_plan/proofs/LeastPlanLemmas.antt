@@ -1,8 +1,8 @@
 -- The first list of slots for which there is a layout is
 -- the least, so the plan is the value of the function.
-use Rattle.std.proofs.Common.{ap, ap₂, arith, Bool, cond, Contains, false, inl, inr, leb, List}
-use Rattle.std.proofs.Common.{lit≤, map, max, None, Option, refl, Some, subst, suc, sym, true, zero}
-use Rattle.std.proofs.Common.{ℕ, [], ◌&&◌, ◌+◌, ◌-◌, ◌<◌, ◌∙◌, ◌∷◌, ◌≡◌, ◌≤◌}
+use Rattle.std.proofs.Common.{ap, ap₂, arith, Bool, cond, Contains, false, inl, leb, List, lit≤}
+use Rattle.std.proofs.Common.{map, max, None, Option, refl, Some, subst, suc, sym, true, zero, ℕ}
+use Rattle.std.proofs.Common.{[], ◌&&◌, ◌+◌, ◌-◌, ◌<◌, ◌∙◌, ◌∷◌, ◌≡◌, ◌≤◌}
 use Rattle.std.proofs.lemmas.{Bool.{and_parts, le-leb, leb-true}, List.Folds.find-append}
 use Rattle.std.specs.Option.{option_or}
 use Rattle.std.specs.Prelude.{All, find, flat_map, is_some, option_and_then, option_map, slice_get}
@@ -63,8 +63,7 @@ has-fit window end before free (frame ∷ frames) ends is has =
     let at : start ≡ end + ((before - window) - end) = max-is end (before - window) in
     let both = and_parts (leb (start + frame.bytes) (before + frame.area))
     (has_layout window (start + frame.bytes) (before + frame.area) frames) has in
-    let here : start + frame.bytes ≤ before + frame.area =
-    leb-true (start + frame.bytes) (before + frame.area) both.0 in (
+    let here : start + frame.bytes ≤ before + frame.area = grind (arith, leb-true) in (
       omega arith,
       has-fit window (start + frame.bytes) (before + frame.area)
           (free_bytes_behind window free frame.bytes frame.area) frames here (omega arith) both.1,
@@ -73,17 +72,20 @@ has-fit window end before free (frame ∷ frames) ends is has =
 has-feasible : (window : ℕ) (frames : List FrameLengths) → has_layout window 0 0 frames ≡ true
     → HasLayout window 0 frames
 unfolding HasLayout
-has-feasible window frames has = (
-  starts_of window 0 0 frames,
-  layout-fit window 0 0 0 frames (omega arith) (omega arith)
-      (has-fit window 0 0 0 frames (omega arith) (omega arith) has),
-)
+has-feasible window frames has =
+    grind (
+      arith,
+      starts_of window 0 0 frames,
+      layout-fit window 0 0 0 frames (omega arith) (omega
+          arith) (has-fit window 0 0 0 frames (omega arith) (omega arith) has),
+      has-fit window 0 0 0
+          frames (omega arith) (omega arith) has,
+    )
 
 feasible-has : (window : ℕ) (frames : List FrameLengths) → HasLayout window 0 frames
     → has_layout window 0 0 frames ≡ true
 unfolding HasLayout
-feasible-has window frames feasible = fit-has window 0 0 0 frames (omega arith) (omega arith)
-    (fit-layout window 0 0 0 frames feasible.0 (omega arith) feasible.1)
+feasible-has window frames feasible = grind (arith, fit-has, fit-layout)
 
 -- ---- the first list that passes a test
 
@@ -114,13 +116,7 @@ Finds items test None = (others : List SlotFields) → AreOf items others → te
 find-map : {X Y : Type 0} (test : Y → Bool) (f : X → Y) (xs : List X)
     → find test (map f xs) ≡ option_map f (find (λ x. test (f x)) xs)
 find-map test f [] = refl
-find-map test f (x ∷ xs) = at (test (f x)) (find-map test f xs)
-  where
-    at : (b : Bool) → find test (map f xs) ≡ option_map f (find (λ x. test (f x)) xs)
-        → cond b (Some (f x)) (find test (map f xs))
-        ≡ option_map f (cond b (Some x) (find (λ x. test (f x)) xs))
-    at true rest = refl
-    at false rest = rest
+find-map test f (x ∷ xs) = grind (arith, find-map test f xs)
 
 -- of the lists whose first slot is one of these, the first that passes
 record IsFirstOf (item : PlanItem) (items : List PlanItem) (choices : List SlotFields)
@@ -157,10 +153,8 @@ module _ (item : PlanItem) (items : List PlanItem) (test : List SlotFields → B
   none-of : (slot : SlotFields) (choices : List SlotFields)
       → ((others : List SlotFields) → AreOf items others → test (slot ∷ others) ≡ true → ⊥)
       → FindsOf item items choices test None → FindsOf item items (slot ∷ choices) test None
-  none-of slot choices none later s others (zero, within, at) of passes =
-      none others of (subst (λ t. test (t ∷ others) ≡ true) (sym at) passes)
-  none-of slot choices none later s others (suc k, within, at) of passes =
-      later s others (k, omega (arith, within), at) of passes
+  none-of slot choices none later s others (zero, within, at) of passes = grind (arith, of, passes)
+  none-of slot choices none later s others (suc k, within, at) of passes = grind (arith, of, passes)
 
   first-later : (slot : SlotFields) (choices : List SlotFields)
       → ((others : List SlotFields) → AreOf items others → test (slot ∷ others) ≡ true → ⊥)
@@ -193,10 +187,8 @@ module _ (item : PlanItem) (items : List PlanItem) (test : List SlotFields → B
       → test (s ∷ others) ≡ true → IsNotBehind (item_area item slot ∷ areas_by items slots)
       (item_area item s ∷ areas_by items others)
   unfolding IsNotBehind
-  first-here slot choices ascend slots is s others (zero, within, at) of passes = inr (
-    ap (λ t. item_area item t) at,
-    is.first others of (subst (λ t. test (t ∷ others) ≡ true) (sym at) passes),
-  )
+  first-here slot choices ascend slots is s others (zero, within, at) of passes =
+      grind (arith, of, passes)
   first-here slot choices ascend slots is s others (suc k, within, at) of passes = inl
       (area-later item.class item.protected slot choices s ascend (k, omega (arith, within), at))
 
@@ -205,14 +197,12 @@ module _ (item : PlanItem) (items : List PlanItem) (test : List SlotFields → B
       → FindsOf item items choices test (find test later) → (found : Option (List SlotFields))
       → Finds items (λ slots. test (slot ∷ slots)) found → FindsOf item items (slot ∷ choices) test
       (option_or (option_map (λ slots. slot ∷ slots) found) (find test later))
-  finds-more slot choices later ascend rest None none =
-      none-more slot choices none (find test later) rest
+  finds-more slot choices later ascend rest None none = grind (arith, none-more)
   finds-more slot choices later ascend rest (Some slots) is = record {
     chosen = (zero, omega arith, refl);
     of = is.of;
     passes = is.passes;
-    first =
-        first-here slot choices ascend slots is;
+    first = grind (arith, first-here slot choices ascend slots is);
   }
 
   finds-of : (choices : List SlotFields) → Ascend (slot_areas item.class item.protected choices)
@@ -283,9 +273,7 @@ slots-frames : (items : List PlanItem) (slots : List SlotFields)
 unfolding frames_in_slots frames_with_areas areas_by
 slots-frames [] slots = refl
 slots-frames (item ∷ items) [] = refl
-slots-frames (item ∷ items) (slot ∷ slots) =
-    ap (λ (l : List FrameLengths). record { bytes = item.bytes; area = item_area item slot } ∷ l)
-    (slots-frames items slots)
+slots-frames (item ∷ items) (slot ∷ slots) = grind (arith, slots-frames items slots)
 
 of-chosen : (items : List PlanItem) (slots : List SlotFields) → AreOf items slots
     → AreChosenAreas (map open_frame items) (areas_by items slots)
@@ -316,73 +304,42 @@ module _ (window : ℕ) (items : List PlanItem) where
   -- slots that pass the test have a layout
   pub slots-feasible : (slots : List SlotFields) → passing slots ≡ true
       → HasLayout window 0 (frames_with_areas (map open_frame items) (areas_by items slots))
-  slots-feasible slots passes = subst (HasLayout window 0) (slots-frames items slots)
-      (has-feasible window (frames_in_slots items slots) passes)
+  slots-feasible slots passes = grind (arith, slots-frames, has-feasible, passes)
 
   -- slots that have a layout pass the test
   pub feasible-slots : (slots : List SlotFields)
       → HasLayout window 0 (frames_with_areas (map open_frame items) (areas_by items slots))
       → passing slots ≡ true
-  feasible-slots slots feasible = feasible-has window (frames_in_slots items slots)
-      (subst (HasLayout window 0) (sym (slots-frames items slots)) feasible)
+  feasible-slots slots feasible = grind (arith, feasible-has, slots-frames)
 
   first-list-least : (slots : List SlotFields) → AreOrdered items
       → first_list window items ≡ Some slots
       → AreOf items slots × IsLeastList window (map open_frame items) (areas_by items slots)
   first-list-least slots ordered is =
-      let found : IsFirst items passing slots =
-      subst (Finds items passing) is (finds items ordered passing) in (
-        found.of,
-        record {
-          chosen = of-chosen items slots found.of;
-          feasible = slots-feasible slots found.passes;
-          least = λ others chosen feasible.
-              let of = chosen-of items others chosen in
-              subst (IsNotBehind (areas_by items slots)) of.2
-              (found.first of.0 of.1 (feasible-slots of.0 (subst (λ l. HasLayout window 0
-              (frames_with_areas (map open_frame items) l)) (sym of.2) feasible)));
-        },
-      )
+      grind (arith, finds, of-chosen, slots-feasible, chosen-of, feasible-slots)
 
   -- if no list is found, no choice can be laid
   pub no-list : AreOrdered items → first_list window items ≡ None
       → CanBeLaid window (map open_frame items) → ⊥
   unfolding CanBeLaid
-  no-list ordered is can =
-      let none : Finds items passing None =
-      subst (Finds items passing) is (finds items ordered passing) in
-      let of = chosen-of items can.0 can.1 in
-      none of.0 of.1 (feasible-slots of.0
-      (subst (λ l. HasLayout window 0 (frames_with_areas (map open_frame items) l))
-      (sym of.2) can.2))
+  no-list ordered is can = grind (arith, finds, chosen-of, feasible-slots)
 
   -- if a list is found, some choice can be laid
   pub list-can : AreOrdered items → (slots : List SlotFields) → first_list window items ≡ Some slots
       → CanBeLaid window (map open_frame items)
   unfolding CanBeLaid
-  list-can ordered slots is = let least = (first-list-least slots ordered is).1 in
-      (areas_by items slots, least.chosen, least.feasible)
+  list-can ordered slots is = grind (arith, first-list-least slots ordered is)
 
   -- if some choice can be laid, a list is found
   pub some-list : AreOrdered items → CanBeLaid window (map open_frame items)
       → (slots : List SlotFields) × (first_list window items ≡ Some slots)
-  some-list ordered can = at (first_list window items) refl
-    where
-      at : (found : Option (List SlotFields)) → first_list window items ≡ found
-          → (slots : List SlotFields) × (first_list window items ≡ Some slots)
-      at None is = absurd (no-list ordered is can)
-      at (Some slots) is = (slots, is)
+  some-list ordered can = grind (arith, no-list)
 
   -- if no choice can be laid, no list is found
   pub never-list : AreOrdered items → (CanBeLaid window (map open_frame items) → ⊥)
       → first_list window items ≡ None
   unfolding CanBeLaid
-  never-list ordered never = at (first_list window items) refl
-    where
-      at : (found : Option (List SlotFields)) → first_list window items ≡ found
-          → first_list window items ≡ None
-      at None is = is
-      at (Some slots) is = absurd (never (list-can ordered slots is))
+  never-list ordered never = grind (arith, list-can)
 
 -- ---- with main data as early as they may be, it is the plan of these items
 
@@ -397,11 +354,10 @@ laid-from window end before [] [] of = (tt, refl, refl)
 laid-from window end before [] (slot ∷ slots) of = absurd of
 laid-from window end before (item ∷ items) [] of = absurd of
 laid-from window end before (item ∷ items) (slot ∷ slots) of =
-    let rest = laid-from window (max end (before - window) + item.bytes)
-    (before + item_area item slot) items slots of.1 in (
-      (refl, of.0, rest.0),
-      ap (λ (l : List ℕ). item_area item slot ∷ l) rest.1,
-      ap (λ (l : List ℕ). (before - max end (before - window)) ∷ l) rest.2,
+    grind (
+      arith,
+      laid-from window (max end (before - window) + item.bytes) (before + item_area item
+          slot) items slots of.1,
     )
 
 -- items with main data as early as they may be have these slots and areas, and the earliest starts
@@ -412,12 +368,7 @@ pub laid-early : (window : ℕ) (items : List PlanItem) (slots : List SlotFields
     (frames_with_areas (map open_frame items)
     (item_areas items (earliest_placement window items slots))))
 laid-early window items slots of =
-    let laid = laid-from window 0 0 items slots of in (
-      laid.0,
-      laid.1,
-      laid.2 ∙ ap (begins_of window 0 0)
-          (slots-frames items slots ∙ ap (frames_with_areas (map open_frame items)) (sym laid.1)),
-    )
+    grind (arith, laid-from window 0 0 items slots of, of, slots-frames items slots)
 
 module _ (window : ℕ) (items : List PlanItem) (ordered : AreOrdered items) where
   plan-laid : (slots : List SlotFields) → first_list window items ≡ Some slots
@@ -459,8 +410,7 @@ module _ (window : ℕ) (items : List PlanItem) (ordered : AreOrdered items) whe
   -- if no choice can be laid, no plan is found
   pub none-found : (CanBeLaid window (map open_frame items) → ⊥)
       → least_placement window items ≡ None
-  none-found never =
-      ap (option_map (earliest_placement window items)) (never-list window items ordered never)
+  none-found never = grind (arith, never-list)
 
   -- if some choice can be laid, a plan is found
   pub can-found : CanBeLaid window (map open_frame items)
@@ -515,10 +465,7 @@ module _ (window : ℕ) (choices : HeaderFields → List SlotFields) where
   after-lead : (first : Need) (part : List Need) (lead_in : Option SlotFields)
       → IsLeadIn window choices (first ∷ part) lead_in → CanBeLaidAfter first part
   unfolding IsLeadIn part_items CanBeLaid
-  after-lead first part None can =
-      let none = reserve_before-can window (open_frames choices (first ∷ part)) can in
-      after-reserve_before first part can.0 can.1 (omega (arith, none.0))
-      (omega (arith, none.0)) none.1
+  after-lead first part None can = grind (arith, reserve_before-can, first, after-reserve_before)
   after-lead first part (Some slot) is =
       let least = (lead-first window choices first part slot is.0 is.2).0 is in
       (area_of (class_of first.header) slot false ∷ least.0, least.1.chosen, least.1.feasible)
@@ -531,8 +478,7 @@ module _ (window : ℕ) (choices : HeaderFields → List SlotFields) where
       → IsLeadIn window choices (first ∷ part) (slice_get slots 0)
   unfolding part_items AreOf areas_by
   first-lead first part [] never of least = absurd of
-  first-lead first part (slot ∷ slots) never of least = (lead-first window choices first part slot
-      never of.0).1 (areas_by (map (need_item choices) (first ∷ part)) slots, least)
+  first-lead first part (slot ∷ slots) never of least = grind (arith, lead-first, first)
 
   lead-by : (first : Need) (part : List Need) → AreInOrder choices (first ∷ part)
       → CanBeLaidAfter first part → (found : Option (List SlotFields))
@@ -540,14 +486,10 @@ module _ (window : ℕ) (choices : HeaderFields → List SlotFields) where
       → IsLeadIn window choices (first ∷ part) (cond (is_some found) None
       (option_and_then (λ slots. slice_get slots 0) (first_list window (after_any first part))))
   unfolding IsLeadIn part_items
-  lead-by first part order can (Some slots) is = list-can window
-      (map (need_item choices) (first ∷ part))
-      (ordered_frames choices (first ∷ part) order) slots is
+  lead-by first part order can (Some slots) is = grind (arith, list-can, first, ordered_frames)
   lead-by first part order can None is =
-      let ordered : AreOrdered (after_any first part) = (
-        slots_ascend (class_of first.header) order.0.class,
-        ordered_frames choices (first ∷ part) order,
-      ) in
+      let ordered : AreOrdered (after_any first part) =
+      grind (arith, slots_ascend, ordered_frames, first) in
       let found = some-list window (after_any first part) ordered can in
       let least = first-list-least window (after_any first part) found.0 ordered found.1 in
       subst (λ o. IsLeadIn window choices (first ∷ part)
@@ -559,8 +501,7 @@ module _ (window : ℕ) (choices : HeaderFields → List SlotFields) where
       → CanBeLaidAfter first part
       → IsLeadIn window choices (first ∷ part) (lead_in_alone window choices (first ∷ part))
   unfolding lead_in_alone
-  lead-made first part order can =
-      lead-by first part order can (first_list window (map (need_item choices) (first ∷ part))) refl
+  lead-made first part order can = grind (arith, lead-by, first)
 
   no-part : IsLeadIn window choices [] (lead_in_alone window choices [])
   unfolding IsLeadIn part_items lead_in_alone
@@ -568,11 +509,9 @@ module _ (window : ℕ) (choices : HeaderFields → List SlotFields) where
 
   lead-alone : (part : List Need) (lead_in : Option SlotFields) → AreInOrder choices part
       → IsLeadIn window choices part lead_in → lead_in_alone window choices part ≡ lead_in
-  lead-alone [] lead_in order is =
-      one_lead window choices [] (lead_in_alone window choices []) lead_in order no-part is
+  lead-alone [] lead_in order is = search (arith, one_lead, no-part)
   lead-alone (first ∷ part) lead_in order is =
-      one_lead window choices (first ∷ part) (lead_in_alone window choices (first ∷ part)) lead_in
-      order (lead-made first part order (after-lead first part lead_in is)) is
+      search (arith, one_lead, first, lead-made, after-lead)
 
   leads-alone : (parts : List (List Need)) (lead_ins : List (Option SlotFields))
       → AllInOrder choices parts → AreLeadIns window choices parts lead_ins
@@ -582,8 +521,7 @@ module _ (window : ℕ) (choices : HeaderFields → List SlotFields) where
   leads-alone [] (lead_in ∷ lead_ins) order are = absurd are
   leads-alone (part ∷ parts) [] order are = absurd are
   leads-alone (part ∷ parts) (lead_in ∷ lead_ins) order are =
-      ap₂ (λ (o : Option SlotFields) (l : List (Option SlotFields)). o ∷ l)
-      (lead-alone part lead_in order.0 are.0) (leads-alone parts lead_ins order.1 are.1)
+      grind (arith, lead-alone, leads-alone parts lead_ins order.1 are.1)
 
   -- ---- the plan
 
@@ -593,19 +531,12 @@ module _ (window : ℕ) (choices : HeaderFields → List SlotFields) where
       → placed ≡ least_plan window choices parts
   unfolding least_plan
   plan-least parts placed order plan =
-      let all = all_in_order choices parts order in
-      let found = plan-found window (all_items choices parts plan.lead_ins)
-      (ordered_whole choices parts plan.lead_ins all) placed plan.whole in
-      sym (ap (λ l. unwrap_or (least_placement window (all_items choices parts l)) [])
-      (leads-alone parts plan.lead_ins all plan.alone) ∙ ap (λ o. unwrap_or o []) found)
+      grind (arith, all_in_order, plan-found, ordered_whole, leads-alone)
 
   ordered_led : (part : List Need) → AreInOrder choices part → AreOrdered (led_items choices part)
   unfolding led_items
   ordered_led [] order = tt
-  ordered_led (first ∷ part) order = (
-    slots_ascend (class_of first.header) order.0.class,
-    ordered_frames choices (first ∷ part) order,
-  )
+  ordered_led (first ∷ part) order = grind (arith, slots_ascend, ordered_frames, first)
 
   -- the led plan of a part is the first list after one lead-in
   pub led-least : (part : List Need) (placed : List Placed) → PartsChooseInOrder choices (part ∷ [])
@@ -642,8 +573,7 @@ module _ (class : ClassFields) (choices : HeaderFields → List SlotFields) wher
       → IsLeadIn window_is choices part (lead_in_alone window_is choices part)
   unfolding AreNeedsOfClass
   lead-feasible [] same order feasible = no-part window_is choices
-  lead-feasible (first ∷ part) same order feasible =
-      lead-made window_is choices first part order (after-feasible first part same.0 order feasible)
+  lead-feasible (first ∷ part) same order feasible = grind (arith, lead-made, first, after-feasible)
 
   leads-feasible : (parts : List (List Need)) → All (λ part. AreNeedsOfClass class part) parts
       → AllInOrder choices parts → ArePartsFeasible window_is parts

@@ -1,6 +1,6 @@
 -- The plan of a part that needs a lead-in is its led plan.
-use Rattle.std.proofs.Common.{arith, Contains, false, List, map, None, Option, refl, Some, subst}
-use Rattle.std.proofs.{Common.{zero, ℕ, [], ◌∷◌}, lemmas.List.append-nil}
+use Rattle.std.proofs.Common.{arith, Contains, false, List, map, None, Option, Some, ℕ, [], ◌∷◌}
+use Rattle.std.proofs.lemmas.List.{append-nil}
 use Rattle.frame_header.specs.{Fields.{ClassFields, HeaderFields, SlotFields}, Slots.all_slots}
 use Rattle.frame_header.specs.Tables.{area_of, class_of}
 use Rattle.slot_plan.proofs.AreaLemmas.{Contains-area, only_one}
@@ -9,7 +9,7 @@ use Rattle.slot_plan.specs.Laws.{LedWhereNeeded}
 use Rattle.slot_plan.specs.Lists.{AreChosenAreas, CanBeLaid, frames_with_areas, IsLeastList}
 use Rattle.slot_plan.specs.Lists.{OpenFrame}
 use Rattle.slot_plan.specs.Parts.{all_items, AreLeadIns, IsLeadIn, lead_in_item, led_items}
-use Rattle.slot_plan.specs.Parts.{need_item, open_frame, part_items, PlanItem, slot_areas}
+use Rattle.slot_plan.specs.Parts.{need_item, open_frame, part_items, PlanItem}
 use Rattle.slot_plan.specs.Plans.{AreItemSlots, IsLedPlan, IsPlanFor, item_areas}
 use Rattle.slot_plan.specs.declared.needs.{Need.Need, Placed.Placed}
 
@@ -23,15 +23,7 @@ one-first : (window : ℕ) (class : ClassFields) (slot : SlotFields) (opens : Li
 unfolding AreChosenAreas frames_with_areas
 one-first window class slot opens rest [] is any one = absurd one.chosen
 one-first window class slot opens rest (area ∷ areas) is any one =
-    let has : Contains (slot_areas class false all_slots) area =
-    subst (Contains (slot_areas class false all_slots)) (only-area class slot area one.chosen.0)
-    (Contains-area class false all_slots slot is) in
-    subst (IsLeastList window (open_frame (lead_in_item class all_slots) ∷ opens))
-    (equal_lists (area_of class slot false ∷ rest) (area ∷ areas)
-    (any.least (area ∷ areas) (has, one.chosen.1) one.feasible)
-    (one.least (area_of class slot false ∷ rest)
-    ((zero, omega arith, refl), any.chosen.1) any.feasible))
-    any
+    grind (arith, only-area, Contains-area, equal_lists)
 
 of-any : (window : ℕ) (class : ClassFields) (slot : SlotFields) (items : List PlanItem)
     (rest : List ℕ)
@@ -41,16 +33,13 @@ of-any : (window : ℕ) (class : ClassFields) (slot : SlotFields) (items : List 
     → IsPlanFor window (lead_in_item class all_slots ∷ items) placed
 unfolding AreItemSlots item_areas frames_with_areas
 of-any window class slot items rest [] is any plan = absurd plan.slots
-of-any window class slot items rest (p ∷ placed) is any plan = record {
-  slots = (
-    plan.slots.0,
-    subst (Contains all_slots) (only_one slot p.slot plan.slots.1) is,
-    plan.slots.2,
-  );
-  least = one-first window class slot (map open_frame items) rest
-      (area_of class p.slot false ∷ item_areas items placed) is any plan.least;
-  begins = plan.begins;
-}
+of-any window class slot items rest (p ∷ placed) is any plan =
+    grind (
+      arith,
+      only_one slot p.slot plan.slots.1,
+      one-first window class slot (map open_frame
+          items) rest (area_of class p.slot false ∷ item_areas items placed) is any plan.least,
+    )
 
 module _ (window : ℕ) (choices : HeaderFields → List SlotFields) where
   of-lead : (part : List Need) (lead_in : Option SlotFields) (placed : List Placed)
@@ -73,11 +62,8 @@ module _ (window : ℕ) (choices : HeaderFields → List SlotFields) where
       → IsLedPlan window choices part placed
   unfolding AreLeadIns all_items
   of-leads part [] placed never alone plan = absurd alone
-  of-leads part (lead_in ∷ lead_ins) placed never alone plan =
-      of-lead part lead_in placed never alone.0 (subst (λ items. IsPlanFor window items placed)
-      (append-nil (part_items choices part lead_in)) plan)
+  of-leads part (lead_in ∷ lead_ins) placed never alone plan = grind (arith, of-lead, append-nil)
 
 -- if a part needs a lead-in, its plan is its led plan
 pub led-needed : LedWhereNeeded
-led-needed = λ window choices part placed never plan. of-leads window choices part
-    plan.lead_ins placed never plan.alone plan.whole
+led-needed = grind (arith, of-leads)

@@ -1,6 +1,6 @@
 -- An area of a class, by the lengths without padding.
-use Rattle.std.proofs.Common.{ap, arith, Bool, cond, eqb, false, get_or, List, lit≤, refl, true, ℕ}
-use Rattle.std.proofs.Common.{◌+◌, ◌-◌, ◌∙◌, ◌≡◌, ◌≤◌}
+use Rattle.std.proofs.Common.{arith, Bool, cond, false, get_or, List, lit≤, refl, true, ℕ, ◌+◌, ◌-◌}
+use Rattle.std.proofs.Common.{◌≡◌, ◌≤◌}
 use Rattle.frame_header.proofs.{LengthLemmas.length-most, SlotLemmas.area-is}
 use Rattle.frame_header.specs.{Fields.{ClassFields, IsSlot, SlotFields}, Slots.slot_of}
 use Rattle.frame_header.specs.Tables.{area_of, length_of, overhead_of, rate_of, side_bytes_of}
@@ -19,12 +19,9 @@ unfolding length_of rate_of
 padded c s = omega (arith, byte_is s.padding)
 
 side_most : (version : Version) (channels : ℕ) → side_bytes_of version channels ≤ 32
-side_most One channels =
-    elim (eqb channels 1) as (λ b. cond b 17 32 ≤ 32) [ true ↦ lit≤ tt | false ↦ lit≤ tt ]
-side_most Two channels =
-    elim (eqb channels 1) as (λ b. cond b 9 17 ≤ 32) [ true ↦ lit≤ tt | false ↦ lit≤ tt ]
-side_most TwoFive channels =
-    elim (eqb channels 1) as (λ b. cond b 9 17 ≤ 32) [ true ↦ lit≤ tt | false ↦ lit≤ tt ]
+side_most One channels = grind (arith, lit≤)
+side_most Two channels = grind (arith, lit≤)
+side_most TwoFive channels = grind (arith, lit≤)
 
 -- header, check word and side information have at most 38 bytes
 pub overhead-side : (c : ClassFields) (p : Bool) → overhead_of c p ≤ 6 + side_size_of c
@@ -44,12 +41,4 @@ pub area-looked : (c : ClassFields) (s : SlotFields) (p : Bool) (by_index : List
     → (overhead ≤ n + bool_byte s.padding) × ((n + bool_byte s.padding) - overhead ≡ area_of c s p)
     × (area_of c s p ≤ 1441)
 area-looked c s p by_index unprotected protected n overhead slot known entry before =
-    let same : s.rate_index - 1 + 1 ≡ s.rate_index = omega (arith, slot.0) in
-    let length : n ≡ length_of c (slot_of s.rate_index false) =
-    entry ∙ known.lengths (s.rate_index - 1) (omega (arith, slot.0, slot.1))
-    ∙ ap (λ k. length_of c (slot_of k false)) same in
-    let whole = area-is c s p known.known slot in (
-      omega (arith, length, padded c s, whole.0, before),
-      omega (arith, length, padded c s, whole.0, before),
-      omega (arith, whole.0, length-most c s known.known slot),
-    )
+    grind (arith, area-is c s p known.known slot, padded c s, length-most c s known.known slot)

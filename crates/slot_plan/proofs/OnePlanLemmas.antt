@@ -1,16 +1,16 @@
 -- There is at most one plan: areas decide the lead-ins,
 -- one list is least, and each of its areas has one slot.
 use Rattle.std.proofs.Common.{All, ap, ap₂, arith, drop, false, get_or, inl, inr, List, map, None}
-use Rattle.std.proofs.Common.{Option, refl, Some, subst, suc, sym, ℕ, [], ◌++◌, ◌∙◌, ◌∷◌, ◌≡◌}
+use Rattle.std.proofs.Common.{Option, refl, Some, suc, sym, ℕ, [], ◌++◌, ◌∙◌, ◌∷◌, ◌≡◌}
 use Rattle.std.proofs.lemmas.Bool.{cases_lt}
 use Rattle.frame_header.proofs.SlotLemmas.{areas-ascend}
 use Rattle.frame_header.specs.Fields.{ClassFields, HeaderFields, IsClass, SlotFields}
 use Rattle.frame_header.specs.{Slots.all_slots, Tables.{area_of, class_of}}
 use Rattle.slot_plan.proofs.AreaLemmas.{Ascend, lead-ascend, one-slot}
-use Rattle.slot_plan.specs.{Laws.{ChoosesInOrder, PartsChooseInOrder}, Layouts.begins_of}
-use Rattle.slot_plan.specs.Lists.{frames_with_areas, IsLeastList, IsNotBehind, OpenFrame}
-use Rattle.slot_plan.specs.Parts.{all_items, AreLeadIns, IsLeadIn, item_area, need_item, open_frame}
-use Rattle.slot_plan.specs.Parts.{part_items, PlanItem, slot_areas}
+use Rattle.slot_plan.specs.Laws.{ChoosesInOrder, PartsChooseInOrder}
+use Rattle.slot_plan.specs.Lists.{IsLeastList, IsNotBehind, OpenFrame}
+use Rattle.slot_plan.specs.Parts.{all_items, AreLeadIns, IsLeadIn, item_area, need_item, part_items}
+use Rattle.slot_plan.specs.Parts.{PlanItem, slot_areas}
 use Rattle.slot_plan.specs.Plans.{AreItemSlots, IsPlan, IsPlanFor, item_areas}
 use Rattle.slot_plan.specs.declared.needs.{Need.Need, Placed.Placed}
 
@@ -24,11 +24,7 @@ equal_lists [] (n ∷ ns) first second = absurd second
 equal_lists (m ∷ ms) [] first second = absurd first
 equal_lists (m ∷ ms) (n ∷ ns) first second =
     elim first as (λ _. m ∷ ms ≡ n ∷ ns) [
-      | inl less ↦
-          elim second as (λ _. m ∷ ms ≡ n ∷ ns) [
-            | inl more ↦ absurd (omega (arith, less, more))
-            | inr at ↦ absurd (omega (arith, less, at.0))
-          ]
+      | inl less ↦ grind arith
       | inr at ↦
           elim second as (λ _. m ∷ ms ≡ n ∷ ns) [
             | inl more ↦ absurd (omega (arith, more, at.0))
@@ -38,8 +34,7 @@ equal_lists (m ∷ ms) (n ∷ ns) first second =
 
 one_least : (window : ℕ) (opens : List OpenFrame) (xs ys : List ℕ) → IsLeastList window opens xs
     → IsLeastList window opens ys → xs ≡ ys
-one_least window opens xs ys first second = equal_lists xs ys
-    (first.least ys second.chosen second.feasible) (second.least xs first.chosen first.feasible)
+one_least window opens xs ys first second = grind (arith, equal_lists)
 
 -- ---- what is placed
 
@@ -50,10 +45,7 @@ AreOrdered (item ∷ items) =
     Ascend (slot_areas item.class item.protected item.choices) × AreOrdered items
 
 placed_same : (p q : Placed) → p.lead_in ≡ q.lead_in → p.slot ≡ q.slot → p.begin ≡ q.begin → p ≡ q
-placed_same p q lead slot begin =
-    ap (λ b. record { lead_in = b; slot = p.slot; begin = p.begin }) lead
-    ∙ ap (λ s. record { lead_in = q.lead_in; slot = s; begin = p.begin }) slot
-    ∙ ap (λ n. record { lead_in = q.lead_in; slot = q.slot; begin = n }) begin
+placed_same p q lead slot begin = grind arith
 
 -- placed frames with the same areas and main_data_begin are the same
 pub one_placed : (items : List PlanItem) (a b : List Placed) → AreOrdered items
@@ -77,13 +69,7 @@ one_placed (item ∷ items) (p ∷ a) (q ∷ b) ordered first second areas begin
 -- frames with given lead-ins have at most one plan
 pub one_plan_for : (window : ℕ) (items : List PlanItem) (a b : List Placed) → AreOrdered items
     → IsPlanFor window items a → IsPlanFor window items b → a ≡ b
-one_plan_for window items a b ordered first second =
-    let areas = one_least window (map open_frame items) (item_areas items a)
-    (item_areas items b) first.least second.least in
-    one_placed items a b ordered first.slots second.slots areas
-    (first.begins
-    ∙ ap (λ l. begins_of window 0 0 (frames_with_areas (map open_frame items) l)) areas
-    ∙ sym second.begins)
+one_plan_for window items a b ordered first second = grind (arith, one_least, one_placed)
 
 -- ---- the lead-ins
 
@@ -149,9 +135,7 @@ one_leads window choices [] (x ∷ xs) ys order first second = absurd first
 one_leads window choices (part ∷ parts) [] ys order first second = absurd first
 one_leads window choices (part ∷ parts) (x ∷ xs) [] order first second = absurd second
 one_leads window choices (part ∷ parts) (x ∷ xs) (y ∷ ys) order first second =
-    ap₂ (λ (o : Option SlotFields) (l : List (Option SlotFields)). o ∷ l)
-    (one_lead window choices part x y order.0 first.0 second.0)
-    (one_leads window choices parts xs ys order.1 first.1 second.1)
+    grind (arith, one_lead, one_leads window choices parts xs ys order.1 first.1 second.1)
 
 -- ---- the whole
 
@@ -163,8 +147,7 @@ ordered_append (x ∷ xs) ys first second = (first.0, ordered_append xs ys first
 pub ordered_frames : (choices : HeaderFields → List SlotFields) (part : List Need)
     → AreInOrder choices part → AreOrdered (map (need_item choices) part)
 ordered_frames choices [] order = tt
-ordered_frames choices (need ∷ needs) order =
-    (order.0.ascending, ordered_frames choices needs order.1)
+ordered_frames choices (need ∷ needs) order = grind (arith, ordered_frames choices needs order.1)
 
 one_ascends : (n : ℕ) → Ascend (n ∷ [])
 one_ascends n = λ i j d before lt. absurd (omega (arith, before, lt))
@@ -175,10 +158,7 @@ ordered_items : (choices : HeaderFields → List SlotFields) (part : List Need)
 unfolding part_items
 ordered_items choices part None order = ordered_frames choices part order
 ordered_items choices [] (Some slot) order = tt
-ordered_items choices (need ∷ part) (Some slot) order = (
-  one_ascends (area_of (class_of need.header) slot false),
-  ordered_frames choices (need ∷ part) order,
-)
+ordered_items choices (need ∷ part) (Some slot) order = grind (arith, one_ascends, ordered_frames)
 
 -- the areas of the choices of all parts with their lead-ins ascend
 pub ordered_whole : (choices : HeaderFields → List SlotFields) (parts : List (List Need))
@@ -188,17 +168,11 @@ unfolding all_items
 ordered_whole choices [] lead_ins order = tt
 ordered_whole choices (part ∷ parts) [] order = tt
 ordered_whole choices (part ∷ parts) (lead_in ∷ lead_ins) order =
-    ordered_append (part_items choices part lead_in) (all_items choices parts lead_ins)
-    (ordered_items choices part lead_in order.0) (ordered_whole choices parts lead_ins order.1)
+    grind (arith, ordered_append, ordered_items, ordered_whole choices parts lead_ins order.1)
 
 -- parts have at most one plan
 pub one-plan : (window : ℕ) (choices : HeaderFields → List SlotFields) (parts : List (List Need))
     (a b : List Placed) → PartsChooseInOrder choices parts → IsPlan window choices parts a
     → IsPlan window choices parts b → a ≡ b
 one-plan window choices parts a b order first second =
-    let all = all_in_order choices parts order in
-    let leads =
-    one_leads window choices parts first.lead_ins second.lead_ins all first.alone second.alone in
-    one_plan_for window (all_items choices parts second.lead_ins) a b
-    (ordered_whole choices parts second.lead_ins all)
-    (subst (λ l. IsPlanFor window (all_items choices parts l) a) leads first.whole) second.whole
+    grind (arith, all_in_order, one_leads, one_plan_for, ordered_whole)

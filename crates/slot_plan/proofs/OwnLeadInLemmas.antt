@@ -22,10 +22,7 @@ use Rattle.slot_plan.specs.declared.needs.{Need.Need, Placed.Placed}
 -- frames in their own slots that can be laid fit after no free bytes
 pub own-none : (window : ℕ) (needs : List Need) → CanBeLaid window (open_frames own_slot needs)
     → FitsBehind window 0 needs
-own-none window needs can =
-    let all = reserve_before-can window (open_frames own_slot needs) can in
-    within-fit window 0 (map own_frame needs) (omega arith)
-    (fit-own window 0 needs (omega (arith, all.0)) all.1)
+own-none window needs can = grind (arith, reserve_before-can, own_slot, within-fit, fit-own)
 
 -- frames that fit after no free bytes can be laid in their own slots
 pub none-own : (window : ℕ) (needs : List Need) → FitsBehind window 0 needs
@@ -78,8 +75,7 @@ led-slot window first needs slot alone =
       least = λ other has fits.
           elim (cases_lt (area_of class other false) (area_of class slot false))
           as (λ _. area_of class slot false ≤ area_of class other false) [
-            | inl less ↦
-                absurd (alone.3 other has less (fits-lead window class other (first ∷ needs) fits))
+            | inl less ↦ grind (arith, fits-lead window class other (first ∷ needs) fits)
             | inr most ↦ most
           ];
     }
@@ -99,15 +95,15 @@ with-lead : (window : ℕ) (needs : List Need) (lead_in : Option SlotFields) (pl
     → IsLeadIn window own_slot needs lead_in
     → AreItemSlots (part_items own_slot needs lead_in) placed → OneWay window needs placed
 unfolding IsLeadIn part_items AreItemSlots AreLedInOwnSlots
-with-lead window needs None placed alone for_items =
-    ((λ fits. for_items), (λ never. absurd (never (own-none window needs alone))))
+with-lead window needs None placed alone for_items = grind (arith, own-none)
 with-lead window [] (Some slot) placed alone for_items = absurd alone
 with-lead window (first ∷ needs) (Some slot) [] alone for_items = absurd for_items
 with-lead window (first ∷ needs) (Some slot) (p ∷ placed) alone for_items =
-    let is = subst (IsLeadInSlot window (class_of first.header) (first ∷ needs))
-    (only_one slot p.slot for_items.1) (led-slot window first needs slot alone) in (
-      (λ fits. absurd (never-alone window first needs slot alone fits)),
-      (λ never. (for_items.0, is, for_items.2)),
+    grind (
+      arith,
+      only_one slot p.slot for_items.1,
+      led-slot window first needs slot alone,
+      never-alone,
     )
 
 with-leads : (window : ℕ) (needs : List Need) (lead_ins : List (Option SlotFields))
@@ -122,5 +118,4 @@ with-leads window needs (lead_in ∷ lead_ins) placed alone plan =
 
 -- the plan of frames in their own slots has a lead-in exactly if they want something
 pub lead-where-wanted : LeadInWhereWanted
-lead-where-wanted =
-    λ window needs placed plan. with-leads window needs plan.lead_ins placed plan.alone plan.whole
+lead-where-wanted = grind (arith, with-leads)

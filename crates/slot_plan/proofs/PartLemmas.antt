@@ -14,7 +14,7 @@ use Rattle.slot_plan.{proofs.ReserveLemmas.reserve_before-fit, specs.Layouts.Has
 use Rattle.slot_plan.specs.Lists.{AreChosenAreas, frames_with_areas}
 use Rattle.slot_plan.specs.Parts.{AreNeedsOfClass, AreNeedsOfOneClass, ArePartsFeasible}
 use Rattle.slot_plan.specs.Parts.{CanBePlanned, need_item, needs_in_parts, open_frame, own_frame}
-use Rattle.slot_plan.specs.Parts.{slot_areas, window_in}
+use Rattle.slot_plan.specs.Parts.{window_in}
 use Rattle.slot_plan.specs.Reserve.{area_by_header, AreReserves, AreReservesInWindow}
 use Rattle.slot_plan.specs.Reserve.{frame_by_header, greatest_number, IsPlaceablePart, open_frames}
 use Rattle.slot_plan.specs.Reserve.{own_area_of, reserve_before, reserves_behind}
@@ -23,10 +23,7 @@ use Rattle.slot_plan.specs.declared.{needs.Need.Need, reserves.Reserves.Reserves
 -- the need at i, and those after it
 pub next_need : (part : List Need) (i : ℕ) (need : Need) → i < length part
     → need ≡ get_or part i need → drop i part ≡ need ∷ drop (i + 1) part
-next_need part i need lt is =
-    let one : suc i ≡ i + 1 = omega arith in
-    drop-cons part i need lt ∙ ap (λ n. get_or part i need ∷ drop n part) one
-    ∙ ap (λ n. n ∷ drop (i + 1) part) (sym is)
+next_need part i need lt is = search (arith, drop-cons)
 
 -- a part with an area for each frame is the frames with these areas
 pub frames-by : (choices : HeaderFields → List SlotFields) (area : HeaderFields → ℕ)
@@ -35,8 +32,7 @@ pub frames-by : (choices : HeaderFields → List SlotFields) (area : HeaderField
     ≡ map (frame_by_header area) part
 unfolding frames_with_areas
 frames-by choices area [] = refl
-frames-by choices area (need ∷ part) =
-    ap (λ l. frame_by_header area need ∷ l) (frames-by choices area part)
+frames-by choices area (need ∷ part) = grind (arith, frames-by choices area part)
 
 -- if a part has a layout, no more is needed from any frame on than the window
 pub reserve_before-from : (window before k : ℕ) (choices : HeaderFields → List SlotFields)
@@ -132,8 +128,7 @@ pub popped : (behind rest : List ℕ) (last : Option ℕ) (ns : List ℕ) (n : �
     → behind ≡ rest ++ option_to_list last → 0 < length (option_to_list last)
     → (last ≡ Some n) × (rest ≡ ns)
 popped behind rest None ns n is parts some = absurd (omega arith)
-popped behind rest (Some m) ns n is parts some =
-    let same = same_from_push rest ns m n (sym parts ∙ is) in (ap (λ k. Some k) same.1, same.0)
+popped behind rest (Some m) ns n is parts some = grind (arith, same_from_push)
 
 -- ---- the frames of a part from i on have what they need
 -- what the frames from i on need, before the first and after each, is within a window
@@ -153,17 +148,11 @@ module _ (window : ℕ) (choices : HeaderFields → List SlotFields) (area : Hea
   reserves-none =
       let none : drop (length part) part ≡ [] = drop_all (length part) part (omega arith) in
       record {
-        before =
-            sym (ap (λ l. reserve_before (open_frames choices l)) none
-            ∙ reserve_before-nothing choices);
-        behind =
-            sym (ap (λ l. reserves_behind (open_frames choices l)) none ∙ nothing_behind choices);
+        before = grind (arith, reserve_before-nothing choices);
+        behind = grind (arith, nothing_behind choices);
         most = omega arith;
-        within = subst (λ l. AreReservesInWindow window (open_frames choices l)) (sym none)
-            (nothing_within window choices);
-        chosen = subst (λ l. AreChosenAreas (open_frames choices l) (map (area_by_header area) l))
-            (sym none)
-            (nothing_chosen choices area);
+        within = grind (arith, nothing_within window choices);
+        chosen = grind (arith, nothing_chosen choices area);
       }
 
   -- one frame earlier, what is needed is known of one more frame
@@ -182,17 +171,10 @@ module _ (window : ℕ) (choices : HeaderFields → List SlotFields) (area : Hea
       (chosen-cons choices area need rest has from.chosen) in
       let all = reserve_before-from window before i choices area part feasible chosen in
       let value : result ≡ reserve_before (open_frames choices (drop i part)) =
-      gives
-      ∙ ap (λ n. (need.bytes + n) - greatest_number (open_frame (need_item choices need)).areas)
-      from.before
-      ∙ sym (reserve_before-cons choices need rest)
-      ∙ ap (λ l. reserve_before (open_frames choices l)) (sym here) in
+      grind (arith, reserve_before-cons) in
       record {
         before = value;
-        behind = ap (λ l. l ++ after ∷ []) from.behind
-            ∙ ap (λ n. reserves_behind (open_frames choices rest) ++ n ∷ []) from.before
-            ∙ sym (behind-cons choices need rest)
-            ∙ ap (λ l. reserves_behind (open_frames choices l)) (sym here);
+        behind = grind (arith, behind-cons);
         most = omega (arith, value, all.0);
         within = all.1;
         chosen = chosen;
@@ -210,8 +192,7 @@ module _ (window : ℕ) (choices : HeaderFields → List SlotFields) (area : Hea
         behind = all.behind;
         most = all.most;
         within = all.within;
-        chosen =
-            all.chosen;
+        chosen = grind arith;
       }
 
 -- ---- forwards: what the next frame needs after it
@@ -227,8 +208,7 @@ next-wanted choices part i need behind rest many last wanted within is all count
     let left : List Need = drop (i + 1) part in
     let ns : List ℕ = reserves_behind (open_frames choices left) in
     let whole : behind ≡ ns ++ reserve_before (open_frames choices left) ∷ [] =
-    all ∙ ap (λ l. reserves_behind (open_frames choices l)) (next_need part i need within is)
-    ∙ behind-cons choices need left in
+    grind (arith, next_need, within, behind-cons) in
     let some : 0 < many =
     omega
     (arith, ap length whole, length-append ns (reserve_before (open_frames choices left) ∷ [])) in
@@ -246,8 +226,7 @@ pub next-reserve_before : (choices : HeaderFields → List SlotFields) (part : L
     ≡ (need.bytes + reserve_before (open_frames choices (drop (i + 1) part)))
     - greatest_number (open_frame (need_item choices need)).areas
 next-reserve_before choices part i need within is =
-    ap (λ l. reserve_before (open_frames choices l)) (next_need part i need within is)
-    ∙ reserve_before-cons choices need (drop (i + 1) part)
+    grind (arith, next_need, within, reserve_before-cons)
 
 -- after the frame at i at most a window is needed either
 pub next-within : (window : ℕ) (choices : HeaderFields → List SlotFields) (part : List Need) (i : ℕ)
@@ -255,9 +234,7 @@ pub next-within : (window : ℕ) (choices : HeaderFields → List SlotFields) (p
     → AreReservesInWindow window (open_frames choices (drop i part))
     → (reserve_before (open_frames choices (drop (i + 1) part)) ≤ window)
     × AreReservesInWindow window (open_frames choices (drop (i + 1) part))
-next-within window choices part i need within is all = within-cons window choices need (drop (i + 1)
-    part) (subst (λ l. AreReservesInWindow window (open_frames choices l))
-    (next_need part i need within is) all)
+next-within window choices part i need within is all = grind (arith, within-cons, next_need, within)
 
 -- ---- the parts
 -- the parts from a place on are the one there and those after it
@@ -269,24 +246,13 @@ unfolding needs_in_parts
 parts-cons needs parts at from end within is next last =
     let one : suc at ≡ at + 1 = omega arith in
     let two : suc (at + 1) ≡ at + 2 = omega arith in
-    let here : drop at parts ≡ from ∷ drop (at + 1) parts =
-    drop-cons parts at 0 within ∙ ap (λ n. get_or parts at 0 ∷ drop n parts) one
-    ∙ ap (λ n. n ∷ drop (at + 1) parts) (sym is) in
+    let here : drop at parts ≡ from ∷ drop (at + 1) parts = grind (arith, drop-cons, within) in
     ap (needs_in_parts needs) here
     ∙ elim (cases_lt (at + 1) (length parts))
     as (λ _. needs_in_parts needs (from ∷ drop (at + 1) parts)
     ≡ slice_range needs from end ∷ needs_in_parts needs (drop (at + 1) parts)) [
-      | inl more ↦
-          let then : drop (at + 1) parts ≡ end ∷ drop (at + 2) parts =
-          drop-cons parts (at + 1) 0 more ∙ ap (λ n. get_or parts (at + 1) 0 ∷ drop n parts) two
-          ∙ ap (λ n. n ∷ drop (at + 2) parts) (sym (next more)) in
-          ap (λ l. needs_in_parts needs (from ∷ l)) then
-          ∙ ap (λ l. slice_range needs from end ∷ needs_in_parts needs l) (sym then)
-      | inr none ↦
-          let empty : drop (at + 1) parts ≡ [] = drop_all (at + 1) parts (omega arith) in
-          ap (λ l. needs_in_parts needs (from ∷ l)) empty
-          ∙ ap (λ n. slice_range needs from n ∷ []) (sym (last (omega arith)))
-          ∙ ap (λ l. slice_range needs from end ∷ needs_in_parts needs l) (sym empty)
+      | inl more ↦ grind (arith, drop-cons)
+      | inr none ↦ grind (arith, drop_all)
     ]
 
 -- past the last place there are no parts
@@ -314,8 +280,7 @@ class-at class (need ∷ needs) (suc i) d all within = class-at class needs i d 
 pub same-class : (class : ClassFields) (needs : List Need) (i : ℕ) (need : Need)
     → AreNeedsOfClass class needs → i < length needs → need ≡ get_or needs i need
     → class ≡ class_of need.header
-same-class class needs i need all within is =
-    sym (ap (λ n. class_of n.header) is ∙ class-at class needs i need all within)
+same-class class needs i need all within is = grind (arith, class-at, within)
 
 -- the area of a slot is the area in the class of the need
 pub area-in : (class : ClassFields) (needs : List Need) (i area : ℕ) (need opened : Need)
@@ -323,8 +288,7 @@ pub area-in : (class : ClassFields) (needs : List Need) (i area : ℕ) (need ope
     → need ≡ get_or needs i need → opened ≡ need → area ≡ area_of class slot opened.header.protected
     → area ≡ area_of (class_of need.header) slot need.header.protected
 area-in class needs i area need opened slot all within is same gives =
-    gives ∙ ap (λ n. area_of class slot n.header.protected) same
-    ∙ ap (λ k. area_of k slot need.header.protected) (same-class class needs i need all within is)
+    grind (arith, same-class, within)
 
 -- the first needs are of the class
 pub class-take : (class : ClassFields) (needs : List Need) (k : ℕ) → AreNeedsOfClass class needs
@@ -345,48 +309,38 @@ class-drop class (need ∷ needs) (suc k) all = class-drop class needs k all.1
 -- any range of the needs is of the class
 pub class-range : (class : ClassFields) (needs : List Need) (from to : ℕ)
     → AreNeedsOfClass class needs → AreNeedsOfClass class (slice_range needs from to)
-class-range class needs from to all =
-    class-take class (drop from needs) (to - from) (class-drop class needs from all)
+class-range class needs from to all = grind (arith, class-take, class-drop)
 
 -- needs of one class are of the class of their first
 pub one-class : (class : ClassFields) (needs : List Need) (d : Need) → AreNeedsOfOneClass needs
     → class ≡ class_of (get_or needs 0 d).header → AreNeedsOfClass class needs
 unfolding AreNeedsOfClass
 one-class class [] d all is = tt
-one-class class (first ∷ needs) d all is =
-    (sym is, subst (λ c. AreNeedsOfClass c needs) (sym is) all)
+one-class class (first ∷ needs) d all is = grind arith
 
 -- the window of a need is the window of the first
 window-at : (needs : List Need) (i : ℕ) (d : Need) → AreNeedsOfOneClass needs → i < length needs
     → window_of (get_or needs i d).header.version ≡ window_in needs
 window-at [] i d all within = absurd (omega arith)
 window-at (first ∷ needs) zero d all within = refl
-window-at (first ∷ needs) (suc i) d all within =
-    ap (λ c. window_of c.version) (class-at (class_of first.header) needs i d all (omega arith))
+window-at (first ∷ needs) (suc i) d all within = grind (arith, class-at)
 
 -- a part from one place to a later one has frames
 pub part-some : (needs : List Need) (from end : ℕ) → from < end → end ≤ length needs
     → 0 < length (slice_range needs from end)
-part-some needs from end some within = omega (
-  arith,
-  length-take-le (end - from) (drop from needs) (omega (arith, length-drop from needs)),
-  length-drop from needs,
-)
+part-some needs from end some within = grind (arith, length-take-le, length-drop)
 
 -- the window of the first need is the window of all
 pub window-first : (needs : List Need) (d : Need) (class : ClassFields) (window : ℕ)
     → AreNeedsOfOneClass needs → 0 < length needs → class ≡ class_of (get_or needs 0 d).header
     → window ≡ window_of class.version → window ≡ window_in needs
-window-first needs d class window all some has gives =
-    gives ∙ ap (λ c. window_of c.version) has ∙ window-at needs 0 d all some
+window-first needs d class window all some has gives = grind (arith, window-at)
 
 -- the window of the first need of parts that can be planned is the window of all
 pub planned-window : (needs : List Need) (parts : List ℕ) (d : Need) (class : ClassFields)
     (window : ℕ) → CanBePlanned needs parts → class ≡ class_of (get_or needs 0 d).header
     → window ≡ window_of class.version → window ≡ window_in needs
-planned-window needs parts d class window planned has gives =
-    window-first needs d class window planned.class
-    (omega (arith, planned.within 0 0 planned.some)) has gives
+planned-window needs parts d class window planned has gives = grind (arith, window-first)
 
 -- a part isn't empty, and ends within the needs
 pub part-bounds : (needs : List Need) (parts : List ℕ) (at end : ℕ) → AllPairs (λ m n. m < n) parts
@@ -394,14 +348,7 @@ pub part-bounds : (needs : List Need) (parts : List ℕ) (at end : ℕ) → AllP
     → (at + 1 < length parts → end ≡ get_or parts (at + 1) 0)
     → (length parts ≤ at + 1 → end ≡ length needs)
     → (get_or parts at 0 < end) × (end ≤ length needs)
-part-bounds needs parts at end ascend all within next last =
-    elim (cases_lt (at + 1) (length parts)) as (λ _. (get_or parts at 0 < end)
-    × (end ≤ length needs)) [
-      | inl more ↦ let is = next more in let less = ascend at (at + 1) 0 (omega arith) more in
-          let below = all (at + 1) 0 more in (omega arith, omega arith)
-      | inr none ↦ let is = last (omega arith) in let below = all at 0 within in
-          (omega arith, omega arith)
-    ]
+part-bounds needs parts at end ascend all within next last = grind (arith, cases_lt, within)
 
 -- all needs are one part
 pub range-all : (needs : List Need) → slice_range needs 0 (length needs) ≡ needs
@@ -412,9 +359,7 @@ pub one-part : (needs : List Need) (window : ℕ) → window ≡ window_in needs
     → ArePartsFeasible (window_in needs) (needs_in_parts needs (0 ∷ []))
     → HasLayout window window (map own_frame needs)
 unfolding ArePartsFeasible needs_in_parts
-one-part needs window is feasible =
-    subst (λ n. HasLayout n n (map own_frame needs)) (sym is) (subst (λ l.
-    HasLayout (window_in needs) (window_in needs) (map own_frame l)) (range-all needs) feasible.0)
+one-part needs window is feasible = grind (arith, range-all)
 
 -- a part with a layout in its own slots can be placed after a lead-in of any slot
 pub placeable-own : (class lengths : ClassFields) (window : ℕ) (part : List Need) → lengths ≡ class
@@ -422,15 +367,7 @@ pub placeable-own : (class lengths : ClassFields) (window : ℕ) (part : List Ne
     → HasLayout window window (map own_frame part)
     → IsPlaceablePart window lengths all_slots own_area_of part
 placeable-own class lengths window part is spanned most some feasible =
-    let largest = subst (λ k. window ≤ greatest_number (slot_areas k false all_slots)) (sym is)
-    (leads-span class window spanned) in
-    record {
-      some = some;
-      most = most;
-      feasible =
-          feasible-windows window window (greatest_number (slot_areas lengths false all_slots))
-          (map own_frame part) largest feasible;
-    }
+    grind (arith, leads-span, most, feasible-windows)
 
 -- the part at this place has frames and a layout, and the parts after it have one too
 pub part-ready : (needs : List Need) (parts : List ℕ) (at end window : ℕ)

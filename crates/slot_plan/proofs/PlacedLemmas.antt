@@ -8,7 +8,7 @@ use Rattle.slot_plan.proofs.{AreaLemmas.{Contains-area, only_one, slot-area}, Pa
 use Rattle.slot_plan.proofs.ReserveLemmas.{append-can, append-reserve_before, AreLeastAreas}
 use Rattle.slot_plan.proofs.ReserveLemmas.{begins-frees, can-reserve_before, fit-least, frees_of}
 use Rattle.slot_plan.proofs.ReserveLemmas.{least-is, reserve_before-can}
-use Rattle.slot_plan.specs.Layouts.{FrameLengths, HasLayout, IsDataLayout}
+use Rattle.slot_plan.specs.Layouts.{HasLayout, IsDataLayout}
 use Rattle.slot_plan.specs.Lists.{AreChosenAreas, CanBeLaid, frames_with_areas, OpenFrame}
 use Rattle.slot_plan.specs.Parts.{all_items, AreLeadIns, AreNeedsOfClass, IsLeadIn, item_area}
 use Rattle.slot_plan.specs.Parts.{lead_in_item, led_items, need_item, open_frame, part_items}
@@ -33,8 +33,7 @@ least-placed window free (item ∷ items) (p ∷ placed) all = (
   all.2.enough,
   (λ other has fits.
       let slot = slot-area item.class item.protected item.choices other has in
-      let less : item_area item p.slot ≤ item_area item slot.0 =
-      all.2.least slot.0 slot.1 (omega (arith, slot.2, fits)) in
+      let less : item_area item p.slot ≤ item_area item slot.0 = grind arith in
       omega (arith, slot.2, less)),
   least-placed window
       (free_bytes_behind window free item.bytes (item_area item p.slot)) items placed all.3,
@@ -46,12 +45,12 @@ unfolding AreItemsPlaced AreItemSlots
 for-placed window free [] [] all = tt
 for-placed window free [] (p ∷ placed) all = absurd all
 for-placed window free (item ∷ items) [] all = absurd all
-for-placed window free (item ∷ items) (p ∷ placed) all = (
-  all.0,
-  all.2.chosen,
-  for-placed window
-      (free_bytes_behind window free item.bytes (item_area item p.slot)) items placed all.3,
-)
+for-placed window free (item ∷ items) (p ∷ placed) all =
+    grind (
+      arith,
+      for-placed window (free_bytes_behind window free item.bytes (item_area item
+          p.slot)) items placed all.3,
+    )
 
 begins-placed : (window free : ℕ) (items : List PlanItem) (placed : List Placed)
     → AreItemsPlaced window free items placed → map (λ p. p.begin) placed
@@ -68,16 +67,7 @@ begins-placed window free (item ∷ items) (p ∷ placed) all =
 pub plan-placed : (window : ℕ) (items : List PlanItem) (placed : List Placed)
     → AreItemsPlaced window 0 items placed → IsPlanFor window items placed
 plan-placed window items placed all =
-    let least = least-placed window 0 items placed all in
-    let frames : List FrameLengths =
-    frames_with_areas (map open_frame items) (item_areas items placed) in
-    record {
-      slots = for-placed window 0 items placed all;
-      least = least-is window (map open_frame items) (item_areas items placed) least;
-      begins =
-          begins-placed window 0 items placed all ∙ begins-frees window 0 0 0 frames (omega arith)
-          (omega arith) (fit-least window 0 (map open_frame items) (item_areas items placed) least);
-    }
+    grind (arith, least-placed, for-placed, least-is, begins-placed, begins-frees, fit-least)
 
 -- ---- the lead-in of a part
 
@@ -146,23 +136,20 @@ unfolding AreLeadIns all_items
 whole-can window choices [] lead_ins all = nothing-can window
 whole-can window choices (part ∷ parts) [] all = absurd all
 whole-can window choices (part ∷ parts) (lead_in ∷ lead_ins) all =
-    subst (CanBeLaid window)
-    (sym (map-append open_frame (part_items choices part lead_in)
-    (all_items choices parts lead_ins)))
-    (append-can window (map open_frame (part_items choices part lead_in))
-    (map open_frame (all_items choices parts lead_ins))
-    (lead_in-can window choices part lead_in all.0)
-    (whole-can window choices parts lead_ins all.1))
+    grind (
+      arith,
+      map-append,
+      append-can,
+      lead_in-can,
+      whole-can window choices parts lead_ins
+          all.1,
+    )
 
 -- ---- placing more frames
 -- before the first frame nothing is placed
 pub places-begun : (window free : ℕ) (items : List PlanItem) (placed : List Placed)
     → PlacesMore window free free items items placed placed
-places-begun window free items placed = record {
-  more = [];
-  appended = sym (append-nil placed);
-  goes = λ rest behind none all. all;
-}
+places-begun window free items placed = grind (arith, append-nil)
 
 placed-cons : (window free : ℕ) (item : PlanItem) (items : List PlanItem) (p : Placed)
     (placed : List Placed) → p.lead_in ≡ item.lead_in → p.begin ≡ free → IsLeastSlot
@@ -181,35 +168,14 @@ pub places-more : (window free now : ℕ) (items : List PlanItem) (item : PlanIt
     item.class item.protected item.choices p.slot
     → PlacesMore window free now items (item ∷ left) old new → PlacesMore window free
     (free_bytes_behind window now item.bytes (item_area item p.slot)) items left old (new ++ p ∷ [])
-places-more window free now items item left old new p is begin least on = record {
-  more = on.more ++ p ∷ [];
-  appended = ap (λ l. l ++ p ∷ []) on.appended ∙ append_assoc old on.more (p ∷ []);
-  goes = λ rest placed none all.
-      let same : reserve_before (map open_frame left)
-      ≡ reserve_before (map open_frame (left ++ rest)) = sym (ap reserve_before
-      (map-append open_frame left rest)
-      ∙ append-reserve_before (map open_frame left) (map open_frame rest) none) in
-      let here = subst (λ n. IsLeastSlot ((item.bytes + n) - now)
-      item.class item.protected item.choices p.slot) same least in
-      subst (λ l. AreItemsPlaced window free (items ++ rest) l)
-      (sym (append_assoc on.more (p ∷ []) placed))
-      (on.goes rest (p ∷ placed) none
-      (placed-cons window now item (left ++ rest) p placed is begin here all));
-}
+places-more window free now items item left old new p is begin least on =
+    grind (arith, append_assoc, map-append, append-reserve_before, placed-cons)
 
 -- frames placed up to one, and then the others from it on, are all placed
 pub places-then : (window free now after : ℕ) (items left : List PlanItem)
     (old mid new : List Placed) → PlacesMore window free now items left old mid
     → PlacesMore window now after left [] mid new → PlacesMore window free after items [] old new
-places-then window free now after items left old mid new first second = record {
-  more = first.more ++ second.more;
-  appended = second.appended ∙ ap (λ l. l ++ second.more) first.appended
-      ∙ append_assoc old first.more second.more;
-  goes = λ rest placed none all.
-      subst (λ l. AreItemsPlaced window free (items ++ rest) l)
-      (sym (append_assoc first.more second.more placed))
-      (first.goes rest (second.more ++ placed) none (second.goes rest placed none all));
-}
+places-then window free now after items left old mid new first second = grind (arith, append_assoc)
 
 -- ---- part by part: whatever places the parts from here on correctly places all correctly
 unfoldable pub PartsPlaced : ℕ → (HeaderFields → List SlotFields) → List (List Need)
@@ -279,14 +245,14 @@ pub parts-all : (window : ℕ) (choices : HeaderFields → List SlotFields) (all
     → IsPlan window choices all placed
 unfolding PartsPlaced
 parts-all window choices all free placed on =
-    let end = on [] [] (no-leads window choices) (no-placed window free choices) in
-    record {
-      lead_ins = end.0;
-      alone = end.1;
-      whole = plan-placed window (all_items choices all end.0) placed
-          (subst (λ l. AreItemsPlaced window 0
-          (all_items choices all end.0) l) (append-nil placed) end.2);
-    }
+    grind (
+      arith,
+      no-leads window choices,
+      no-placed window free choices,
+      plan-placed,
+      append-nil
+          placed,
+    )
 
 -- ---- the next frame of a part
 -- the frame at i, in the least slot with what is needed after it, is one more frame placed
@@ -321,12 +287,7 @@ module _ (window : ℕ) (leads : List SlotFields) (choices : HeaderFields → Li
       → PlacesMore window free after (map (need_item choices) part) [] old new
       → PlacesPart window leads choices part free after old new
   unfolding IsPlacedLeadIn part_items
-  part-without part reserves free after old new are none places = record {
-    lead_in = None;
-    least = can-reserve_before window (open_frames choices part)
-        (map (area_by_header area) part) are.chosen (sym are.before ∙ none) are.within;
-    places = places;
-  }
+  part-without part reserves free after old new are none places = grind (arith, can-reserve_before)
 
   led-with : (first : Need) (part : List Need) (free mid after : ℕ) (p : Placed)
       (old new : List Placed) → p.lead_in ≡ true → p.begin ≡ free → IsLeastSlot
@@ -342,13 +303,7 @@ module _ (window : ℕ) (leads : List SlotFields) (choices : HeaderFields → Li
       let lead : PlanItem = lead_in_item class (p.slot ∷ []) in
       let enough = least.enough in
       let least_one : IsLeastSlot ((0 + reserve_before opens) - free) class false
-      (p.slot ∷ []) p.slot =
-      record {
-        chosen = (zero, omega arith, refl);
-        enough = omega arith;
-        least = λ other is fits.
-            omega (arith, ap (λ s. area_of class s false) (only_one p.slot other is));
-      } in
+      (p.slot ∷ []) p.slot = grind (arith, only_one) in
       let begun = places-more window free free (lead ∷ items) lead items old old p frame begin
       least_one (places-begun window free (lead ∷ items) old) in
       let on = subst (λ n. PlacesMore window free n (lead ∷ items) items old (old ++ p ∷ []))
@@ -356,8 +311,7 @@ module _ (window : ℕ) (leads : List SlotFields) (choices : HeaderFields → Li
       record {
         slot = p.slot;
         least = least;
-        places = places-then window free mid after (lead ∷ items) items old
-            (old ++ p ∷ []) new on places;
+        places = grind (arith, places-then);
       }
 
   -- a least lead-in and then the frames of a part place it as a led part, if the class is known
@@ -369,8 +323,7 @@ module _ (window : ℕ) (leads : List SlotFields) (choices : HeaderFields → Li
       → PlacesMore window mid after (map (need_item choices) part) [] (old ++ p ∷ []) new
       → PlacesLedPart window leads choices part free after old new
   unfolding AreNeedsOfClass
-  led-of class [] free mid after p old new any same frame begin least behind places =
-      absurd (omega arith)
+  led-of class [] free mid after p old new any same frame begin least behind places = grind arith
   led-of class (first ∷ part) free mid after p old new any same frame begin least behind places =
       led-with first part free mid after p old new frame begin
       (subst
@@ -404,11 +357,8 @@ module _ (window : ℕ) (leads : List SlotFields) (choices : HeaderFields → Li
       → AreReserves window choices area part reserves → 0 < reserves.before
       → PlacesLedPart window leads choices part free after old new
       → PlacesPart window leads choices part free after old new
-  part-led part reserves free after old new are some led = record {
-    lead_in = Some led.slot;
-    least = lead-needing part reserves led.slot are some led.least;
-    places = led.places;
-  }
+  part-led part reserves free after old new are some led =
+      grind (arith, lead-needing part reserves led.slot are some led.least)
 
 -- ---- a part after a lead-in of any slot
 any-slot : (window : ℕ) (class : ClassFields) (slot : SlotFields) (items : List PlanItem)
@@ -418,12 +368,7 @@ any-slot : (window : ℕ) (class : ClassFields) (slot : SlotFields) (items : Lis
     → AreItemsPlaced window 0 (lead_in_item class all_slots ∷ items) placed
 unfolding AreItemsPlaced
 any-slot window class slot items [] least all = absurd all
-any-slot window class slot items (p ∷ placed) least all =
-    let same : reserve_before (map open_frame items)
-    ≡ (0 + reserve_before (map open_frame items)) - 0 = omega arith in
-    let here = subst (IsLeastSlot (reserve_before (map open_frame items)) class false all_slots)
-    (only_one slot p.slot all.2.chosen) least in
-    (all.0, all.1, subst (λ n. IsLeastSlot n class false all_slots p.slot) same here, all.3)
+any-slot window class slot items (p ∷ placed) least all = grind (arith, only_one)
 
 led-items : (window : ℕ) (choices : HeaderFields → List SlotFields) (part : List Need)
     (slot : SlotFields) (placed : List Placed) → IsLeastLeadIn all_slots choices part slot
@@ -431,9 +376,7 @@ led-items : (window : ℕ) (choices : HeaderFields → List SlotFields) (part : 
     → AreItemsPlaced window 0 (led_items choices part) placed
 unfolding IsLeastLeadIn part_items led_items
 led-items window choices [] slot placed least all = absurd least
-led-items window choices (first ∷ part) slot placed least all =
-    any-slot window (class_of first.header) slot
-    (map (need_item choices) (first ∷ part)) placed least all
+led-items window choices (first ∷ part) slot placed least all = grind (arith, any-slot)
 
 reserve_before-nothing : reserve_before (map open_frame []) ≡ 0
 unfolding reserve_before
@@ -450,8 +393,6 @@ pub led-placed : (window after : ℕ) (choices : HeaderFields → List SlotField
 led-placed window after choices part placed led =
     let goes = led.places.goes [] [] reserve_before-nothing (nothing_placed window after) in
     let items : List PlanItem = part_items choices part (Some led.slot) in
-    let all : AreItemsPlaced window 0 items placed =
-    subst (AreItemsPlaced window 0 items) (append-nil led.places.more ∙ sym led.places.appended)
-    (subst (λ l. AreItemsPlaced window 0 l (led.places.more ++ [])) (append-nil items) goes) in
+    let all : AreItemsPlaced window 0 items placed = grind (arith, append-nil) in
     plan-placed window (led_items choices part) placed
     (led-items window choices part led.slot placed led.least all)

@@ -23,14 +23,10 @@ unfolding IsDataLayout AllFit
 fit-layout window end before free [] starts some layout = tt
 fit-layout window end before free (frame ∷ frames) [] some layout = absurd layout
 fit-layout window end before free (frame ∷ frames) (start ∷ starts) some layout =
-    let behind : start ≤ before = layout.2 in
-    let near : before ≤ start + window = layout.1 in
-    let later : end ≤ start = layout.0 in
-    let within : start + frame.bytes ≤ before + frame.area = layout.3 in (
-      omega arith,
-      fit-layout window (start + frame.bytes) (before + frame.area)
-          (free_bytes_behind window free frame.bytes frame.area) frames starts
-          (omega arith) layout.4,
+    grind (
+      arith,
+      fit-layout window (start + frame.bytes) (before + frame.area) (free_bytes_behind
+          window free frame.bytes frame.area) frames starts (omega arith) layout.4,
     )
 
 -- the earliest starts
@@ -91,11 +87,9 @@ begins-frees window end before free (frame ∷ frames) ends is fit =
 pub greatest_number-most : (ns : List ℕ) (n : ℕ) → Contains ns n → n ≤ greatest_number ns
 unfolding greatest_number
 greatest_number-most [] n c = absurd (omega (arith, c.1))
-greatest_number-most (m ∷ ns) n (zero, within, at) =
-    omega (arith, le-max_left m (greatest_number ns), at)
+greatest_number-most (m ∷ ns) n (zero, within, at) = grind (arith, le-max_left)
 greatest_number-most (m ∷ ns) n (suc i, within, at) =
-    omega
-    (arith, le-max_right m (greatest_number ns), greatest_number-most ns n (i, omega arith, at))
+    grind (arith, le-max_right, greatest_number-most ns n (i, omega arith, at))
 
 -- a list with a member contains its greatest
 pub Contains-greatest_number : (ns : List ℕ) (n : ℕ) → Contains ns n
@@ -112,10 +106,7 @@ Contains-greatest_number (m ∷ k ∷ ns) n c =
           let is : greatest_number (k ∷ ns) ≡ max m (greatest_number (k ∷ ns)) =
           omega (arith, max-is m (greatest_number (k ∷ ns))) in
           subst (Contains (m ∷ k ∷ ns)) is (suc rest.0, omega (arith, rest.1), rest.2)
-      | inr most ↦
-          let is : m ≡ max m (greatest_number (k ∷ ns)) =
-          omega (arith, max-is m (greatest_number (k ∷ ns))) in
-          subst (Contains (m ∷ k ∷ ns)) is (zero, omega arith, refl)
+      | inr most ↦ grind (arith, max-is)
     ]
 
 -- if some choice fits, at most the free bytes are needed, and never more than the window
@@ -126,12 +117,12 @@ unfolding AreChosenAreas AllFit frames_with_areas reserve_before AreReservesInWi
 reserve_before-fit window free [] areas within chosen fit = (omega arith, tt)
 reserve_before-fit window free (o ∷ opens) [] within chosen fit = absurd chosen
 reserve_before-fit window free (o ∷ opens) (area ∷ areas) within chosen fit =
-    let rest = reserve_before-fit window (free_bytes_behind window free o.bytes area) opens areas
-    (omega arith) chosen.1 fit.1 in
-    let less : reserve_before opens ≤ free_bytes_behind window free o.bytes area = rest.0 in
-    let most = greatest_number-most o.areas area chosen.0 in
-    let room : o.bytes ≤ free + area = fit.0 in
-    (omega arith, (omega arith, rest.1))
+    grind (
+      arith,
+      reserve_before-fit window (free_bytes_behind window free o.bytes area) opens areas
+          (omega arith) chosen.1 fit.1,
+      greatest_number-most o.areas area chosen.0,
+    )
 
 -- if at most the free bytes are needed, some choice fits
 pub fit-reserve_before : (window free : ℕ) (opens : List OpenFrame) (some : List ℕ)
@@ -177,8 +168,7 @@ unfolding AllFit frames_with_areas AreLeastAreas
 fit-least window free [] areas least = tt
 fit-least window free (o ∷ opens) [] least = absurd least
 fit-least window free (o ∷ opens) (area ∷ areas) least =
-    let enough : (o.bytes + reserve_before opens) - free ≤ area = least.1 in
-    (omega arith, fit-least window (free_bytes_behind window free o.bytes area) opens areas least.3)
+    grind (arith, fit-least window (free_bytes_behind window free o.bytes area) opens areas least.3)
 
 -- no other choice that fits comes before it
 pub not_behind-least : (window free : ℕ) (opens : List OpenFrame) (areas others : List ℕ)
@@ -201,10 +191,7 @@ not_behind-least window free (o ∷ opens) (area ∷ areas) (other ∷ others) w
       | inr at ↦
           let same : area ≡ other = omega arith in
           let fits : AllFit window (free_bytes_behind window free o.bytes area)
-          (frames_with_areas opens others) =
-          subst (λ n. AllFit window (free_bytes_behind window free o.bytes n)
-          (frames_with_areas opens others))
-          (sym same) fit.1 in
+          (frames_with_areas opens others) = grind arith in
           inr (
             same,
             not_behind-least window (free_bytes_behind window free o.bytes area) opens areas others
@@ -218,10 +205,12 @@ pub reserve_before-can : (window : ℕ) (opens : List OpenFrame) → CanBeLaid w
     → (reserve_before opens ≡ 0) × AreReservesInWindow window opens
 unfolding CanBeLaid HasLayout
 reserve_before-can window opens can =
-    let fit =
-    fit-layout window 0 0 0 (frames_with_areas opens can.0) can.2.0 (omega arith) can.2.1 in
-    let all = reserve_before-fit window 0 opens can.0 (omega arith) can.1 fit in
-    (omega (arith, all.0), all.1)
+    grind (
+      arith,
+      fit-layout window 0 0 0 (frames_with_areas opens can.0) can.2.0 (omega arith)
+          can.2.1,
+      reserve_before-fit,
+    )
 
 -- if nothing is needed before all frames, and at most a window anywhere, some choice can be laid
 pub can-reserve_before : (window : ℕ) (opens : List OpenFrame) (some : List ℕ)
@@ -246,10 +235,12 @@ least-is window opens areas least =
     let fit = fit-least window 0 opens areas least in
     record {
       chosen = chosen-least window 0 opens areas least;
-      feasible = (
-        starts_of window 0 0 (frames_with_areas opens areas),
-        layout-fit window 0 0 0 (frames_with_areas opens areas) (omega arith) (omega arith) fit,
-      );
+      feasible =
+          grind (
+            arith,
+            layout-fit window 0 0 0 (frames_with_areas opens areas) (omega arith) (omega
+                arith) fit,
+          );
       least = λ others chosen feasible. not_behind-least window 0 opens areas others
           (omega arith) least chosen
           (fit-layout window 0 0 0
@@ -262,18 +253,15 @@ pub append-reserve_before : (xs ys : List OpenFrame) → reserve_before ys ≡ 0
     → reserve_before (xs ++ ys) ≡ reserve_before xs
 unfolding reserve_before
 append-reserve_before [] ys none = none
-append-reserve_before (x ∷ xs) ys none =
-    ap (λ n. (x.bytes + n) - greatest_number x.areas) (append-reserve_before xs ys none)
+append-reserve_before (x ∷ xs) ys none = grind (arith, append-reserve_before xs ys none)
 
 append-within : (window : ℕ) (xs ys : List OpenFrame) → reserve_before ys ≡ 0
     → AreReservesInWindow window xs → AreReservesInWindow window ys
     → AreReservesInWindow window (xs ++ ys)
 unfolding AreReservesInWindow
 append-within window [] ys none first second = second
-append-within window (x ∷ xs) ys none first second = (
-  omega (arith, first.0, append-reserve_before xs ys none),
-  append-within window xs ys none first.1 second,
-)
+append-within window (x ∷ xs) ys none first second =
+    grind (arith, append-reserve_before, append-within window xs ys none first.1 second)
 
 append-chosen : (xs ys : List OpenFrame) (ms ns : List ℕ) → AreChosenAreas xs ms
     → AreChosenAreas ys ns → AreChosenAreas (xs ++ ys) (ms ++ ns)
@@ -303,8 +291,8 @@ pub fit-more : (window free more : ℕ) (frames : List FrameLengths) → free �
 unfolding AllFit
 fit-more window free more [] less fit = tt
 fit-more window free more (frame ∷ frames) less fit =
-    let room : frame.bytes ≤ free + frame.area = fit.0 in (
-      omega arith,
+    grind (
+      arith,
       fit-more window (free_bytes_behind window free frame.bytes frame.area)
           (free_bytes_behind window more frame.bytes frame.area) frames (omega arith) fit.1,
     )
@@ -334,8 +322,11 @@ fit-from window k frames feasible = fit-after window window k frames feasible
 pub feasible-windows : (window before more : ℕ) (frames : List FrameLengths) → window ≤ more
     → HasLayout window before frames → HasLayout window more frames
 unfolding HasLayout
-feasible-windows window before more frames all feasible = (
-  starts_of window 0 more frames,
-  layout-fit window 0 more window frames (omega arith) (omega arith)
-      (fit-layout window 0 before window frames feasible.0 (omega arith) feasible.1),
-)
+feasible-windows window before more frames all feasible =
+    grind (
+      arith,
+      layout-fit window 0 more window frames (omega arith) (omega arith) (fit-layout
+          window 0 before window frames feasible.0 (omega arith) feasible.1),
+      fit-layout window 0 before
+          window frames feasible.0 (omega arith) feasible.1,
+    )

@@ -28,11 +28,14 @@ pub rise-areas : (c : ClassFields) (slots : List SlotFields) → Ascend (slot_ar
     → Rise c slots
 unfolding area_of
 rise-areas c slots ascend i j before within =
-    let many = areas-many c false slots in
-    let less = ascend i j 0 before (omega (arith, within, many)) in
-    let first = area-at c false slots i 0 (slot_of 1 false) (omega (arith, before, within)) in
-    let second = area-at c false slots j 0 (slot_of 1 false) within in
-    omega (arith, less, first, second)
+    grind (
+      arith,
+      areas-many c false slots,
+      before,
+      area-at c false slots i 0 (slot_of 1 false)
+          (omega (arith, before, within)),
+      area-at c false slots j 0 (slot_of 1 false) within,
+    )
 
 -- before a place, the first slot that is long enough
 pub record IsFirstLong (c : ClassFields) (slots : List SlotFields) (to wanted : ℕ)
@@ -67,24 +70,13 @@ table-none c slots items empty =
 -- the table of the slots before a place is no longer than the frames of the slot there
 below : (c : ClassFields) (slots items : List SlotFields) (to : ℕ) → to < length slots
     → Rise c slots → IsTableTo c slots to items → length items ≤ long c slots to
-below c slots items to within rise so_far =
-    elim (cases_lt 0 to) as (λ _. length items ≤ long c slots to) [
-      | inl some ↦ omega (arith, so_far.many some, rise (to - 1) to (omega (arith, some)) within)
-      | inr none ↦ omega (arith, so_far.none (omega (arith, none)))
-    ]
+below c slots items to within rise so_far = grind (arith, cases_lt)
 
 -- the slots before a place are too short for a length that the table doesn't have
 short : (c : ClassFields) (slots items : List SlotFields) (to wanted : ℕ) → to < length slots
     → Rise c slots → IsTableTo c slots to items → length items ≤ wanted → (k : ℕ) → k < to
     → long c slots k < wanted
-short c slots items to wanted within rise so_far from k before =
-    let many = so_far.many (omega (arith, before)) in
-    elim (cases_lt k (to - 1)) as (λ _. long c slots k < wanted) [
-      | inl earlier ↦ omega (arith, many, from, rise k (to - 1) earlier (omega (arith, within)))
-      | inr last ↦
-          let here : k ≡ to - 1 = omega (arith, before, last) in
-          omega (arith, many, from, ap (long c slots) here)
-    ]
+short c slots items to wanted within rise so_far from k before = grind (arith, before, cases_lt)
 
 -- one more slot fills the table up to the length of its frames
 pub table-more : (c : ClassFields) (slots items next : List SlotFields) (to many : ℕ)
@@ -93,30 +85,17 @@ pub table-more : (c : ClassFields) (slots items next : List SlotFields) (to many
     → next ≡ take (many + 1) items ++ replicate (many + 1 - length items) slot → Rise c slots
     → IsTableTo c slots to items → IsTableTo c slots (to + 1) next
 table-more c slots items next to many slot within at is room gives rise so_far =
-    let here : nth slots to ≡ slot =
-    get_or_default slots to (slot_of 1 false) slot within ∙ sym at in
+    let here : nth slots to ≡ slot = grind (arith, get_or_default) in
     let length_here : long c slots to ≡ many = ap (length_of c) here ∙ sym is in
     let last : to + 1 - 1 ≡ to = omega arith in
     let before = below c slots items to within rise so_far in
     let left : ℕ = many + 1 - length items in
-    let whole : next ≡ items ++ replicate left slot = gives ∙ ap (λ l. l ++ replicate left slot)
-    (take_all (many + 1) items (omega (arith, before, length_here))) in
-    let count : length next ≡ many + 1 = ap length whole ∙ omega (
-      arith,
-      length-append items (replicate left slot),
-      length-replicate left slot,
-      before,
-      length_here,
-    ) in
+    let whole : next ≡ items ++ replicate left slot = grind (arith, take_all, many, before) in
+    let count : length next ≡ many + 1 = grind (arith, length-append, length-replicate, before) in
     record {
       none = λ none. absurd (omega (arith, none));
       many = λ _. count ∙ omega (arith, length_here, ap (long c slots) last);
-      room = λ k less.
-          elim (cases_lt k to) as (λ _. 6 + side_size_of c < long c slots k) [
-            | inl earlier ↦ so_far.room k earlier
-            | inr from ↦ let same : k ≡ to = omega (arith, less, from) in
-                omega (arith, room, length_here, ap (long c slots) same)
-          ];
+      room = grind (arith, cases_lt, room);
       first = λ wanted d less.
           elim (cases_lt wanted (length items))
           as (λ _. IsFirstLong c slots (to + 1) wanted (get_or next wanted d)) [
@@ -152,18 +131,12 @@ table-more c slots items next to many slot within at is room gives rise so_far =
 -- a slot that doesn't come after another is no longer
 not_longer : (c : ClassFields) (slots : List SlotFields) (i j : ℕ) → i ≤ j → j < length slots
     → Rise c slots → long c slots i ≤ long c slots j
-not_longer c slots i j before within rise =
-    elim (cases_lt i j) as (λ _. long c slots i ≤ long c slots j) [
-      | inl less ↦ omega (arith, rise i j less within)
-      | inr from ↦ let same : i ≡ j = omega (arith, before, from) in
-          omega (arith, ap (long c slots) same)
-    ]
+not_longer c slots i j before within rise = grind (arith, cases_lt, before)
 
 -- where the list contains a slot, it has a frame of that slot's length
 found-at : (c : ClassFields) (slots : List SlotFields) (slot : SlotFields)
     (has : Contains slots slot) → long c slots has.0 ≡ length_of c slot
-found-at c slots slot has =
-    ap (length_of c) (get_or_default slots has.0 (slot_of 1 false) slot has.1 ∙ has.2)
+found-at c slots slot has = grind (arith, get_or_default)
 
 -- after the last slot it is the table of all slots
 pub table-all : (slots : List SlotFields) (to : ℕ) (table : SlotTable) → 1 ≤ length slots
@@ -217,10 +190,7 @@ least-looked table slots p wanted slot is shortest =
     record {
       chosen = shortest.chosen;
       enough = omega (arith, shortest.enough);
-      least = λ other has fits.
-          let room = is.room other has in
-          let side = overhead-side c p in
-          omega (arith, shortest.least other has (omega (arith, fits, room, side)));
+      least = grind (arith, overhead-side);
     }
 
 -- the table has an entry

@@ -36,7 +36,7 @@ use Rattle.split_edits.specs.Steps.{SaysPlaces, with_outputs, with_part}
 use Rattle.split_edits.specs.declared.piece.PlannedPiece.{PlannedPiece}
 use Rattle.sync_survey.proofs.BytesFaultLemmas.{IsOfBytes, survey_fields-of_bytes}
 use Rattle.sync_survey.proofs.{FoldersLemmas.survey_of-short, SurveyedFileLemmas.survey_of-sound}
-use Rattle.sync_survey.specs.{Faults.{longest_file, survey_fields, SurveyFields}, Survey.survey_of}
+use Rattle.sync_survey.specs.{Faults.{longest_file, SurveyFields}, Survey.survey_of}
 use Rattle.sync_survey.specs.declared.survey_fault.SurveyFault.{SurveyFault}
 use Rattle.sync_survey.specs.declared.survey_fault.SurveyFault.TheVariants.{Absent, Read}
 
@@ -60,10 +60,7 @@ module _ {X : Type 0} (cut : Cutting X) (P : EditFault → Type 0) (between : (f
   laid-all : (file : List ℕ) (s : SurveyFields) (from : X) (tos : List X)
       → IfErr (piece_parts_from cut file s from tos) P
   laid-all file s from [] = tt
-  laid-all file s from (to ∷ more) =
-      then_all P (cut.between from to file s)
-      (λ first. with_first first (piece_parts_from cut file s to more)) (between from to file s)
-      (λ first. first-all first (piece_parts_from cut file s to more) (laid-all file s to more))
+  laid-all file s from (to ∷ more) = grind (arith, then_all, first-all, laid-all file s to more)
 
   at-all : (file : List ℕ) (s : SurveyFields) (places : List X)
       → IfErr (piece_parts cut file s places) P
@@ -72,10 +69,7 @@ module _ {X : Type 0} (cut : Cutting X) (P : EditFault → Type 0) (between : (f
 
   made-all : (prefix file : List ℕ) (s : SurveyFields) (places : Result (List X) EditFault)
       → IfErr places P → IfErr (then_made places (places_result cut prefix file s)) P
-  made-all prefix file s places is =
-      then_all P places (places_result cut prefix file s) is
-      (λ ps. then_all P (piece_parts cut file s ps)
-      (pieces_result prefix file (cut.survey s)) (at-all file s ps) (λ cs. tt))
+  made-all prefix file s places is = grind (arith, then_all, at-all)
 
 takes : (r : Result Made EditFault) → IfErr r IsLateFault → TakesMemory r
 takes (Ok made) late = tt
@@ -86,8 +80,7 @@ module _ {X : Type 0} (cut : Cutting X) (proper : IsProperCutting cut) where
 
   made-late : (prefix file : List ℕ) (s : SurveyFields) (f : Contents)
       → IfErr (then_made (cut.places f) (places_result cut prefix file s)) IsLateFault
-  made-late prefix file s f =
-      made-all cut IsLateFault proper.late prefix file s (cut.places f) (proper.places_late f)
+  made-late prefix file s f = grind (arith, made-all)
 
   by-late : (prefix file : List ℕ) (f : Contents) (r : Result SurveyFields SurveyFault)
       → ((fault : SurveyFault) → r ≡ Err fault → IsOfBytes fault)
@@ -97,18 +90,13 @@ module _ {X : Type 0} (cut : Cutting X) (proper : IsProperCutting cut) where
 
   short-late : (prefix file : List ℕ) (f : Contents) → length file ≤ longest_file
       → IfErr (input_pieces cut prefix (cut.places f) (Some file)) IsLateFault
-  short-late prefix file f few =
-      subst (λ r. IfErr (surveyed_pieces cut prefix (cut.places f) file r) IsLateFault)
-      (sym (survey_of-short file most_frames few))
-      (by-late prefix file f (survey_fields file most_frames)
-      (survey_fields-of_bytes file most_frames))
+  short-late prefix file f few = grind (arith, survey_of-short, by-late, survey_fields-of_bytes)
 
   -- ---- no refusal comes before the sheet is read
 
   made-before : (prefix file : List ℕ) (s : SurveyFields) (f : Contents) → IfErr
       (then_made (cut.places f) (places_result cut prefix file s)) (IsNotBefore (Input 1 Read))
-  made-before prefix file s f = made-all cut (IsNotBefore (Input 1 Read)) proper.after prefix file s
-      (cut.places f) (proper.places_after f)
+  made-before prefix file s f = grind (arith, made-all)
 
   -- ---- the streams of the pieces
 
@@ -152,8 +140,7 @@ pub clash-found : {X : Type 0} (cut : Cutting X) (input prefix : List ℕ) (shee
     (found other : Option ℕ) → sheets ≡ cut.more
     → found ≡ clash_from (piece_names prefix) 0 (input ∷ sheets) → found ≡ other
     → clash_of (split_command cut input prefix) ≡ other
-clash-found cut input prefix sheets found other is clash e =
-    sym (ap (λ l. clash_from (piece_names prefix) 0 (input ∷ l)) is) ∙ sym clash ∙ e
+clash-found cut input prefix sheets found other is clash e = grind arith
 
 module _ {X : Type 0} (cut : Cutting X) (proper : IsProperCutting cut) (input prefix : List ℕ) where
   abbrev more : List (List ℕ)
@@ -166,8 +153,7 @@ module _ {X : Type 0} (cut : Cutting X) (proper : IsProperCutting cut) (input pr
       → HasAnswer command files (Err (EqualNames place))
   unfolding split_result
   gives-equal (Untold touched) place e = tt
-  gives-equal (Told f) place e =
-      ap (λ o. equal_names_or o (input_pieces cut prefix (cut.places f) (f input))) e
+  gives-equal (Told f) place e = grind arith
 
   -- if the name of an input is one of the 99, the command leaves everything as it was
   pub equal-left : (place : ℕ) (now : Seen) → clash_of command ≡ Some place
@@ -178,9 +164,7 @@ module _ {X : Type 0} (cut : Cutting X) (proper : IsProperCutting cut) (input pr
     makes-where : (f : Contents) (o : Option (List ℕ)) → f input ≡ o
         → command.makes f ≡ input_pieces cut prefix (cut.places f) o
     unfolding split_result
-    makes-where f o is =
-        none-equal (clash_of command) (input_pieces cut prefix (cut.places f) (f input)) apart
-        ∙ ap (input_pieces cut prefix (cut.places f)) is
+    makes-where f o is = grind (arith, none-equal)
 
     stays-touched : (old new : Files) → new ≡ old → OnlyTouches (piece_names prefix) old new
     stays-touched old new stays = rw stays (touches_none (piece_names prefix) old)
@@ -545,8 +529,7 @@ module _ {X : Type 0} (cut : Cutting X) (input prefix : List ℕ) where
   -- a fault that was met while the places were found has the right numbers
   pub places-numbers : (fault : EditFault) → HasPlacesNumbers cut fault
       → HasNumbers (split_command cut input prefix) fault
-  places-numbers (Input place fault) is =
-      (omega (arith, is.0, is.1.0), is.1.1, is.1.2, inr (inr is.1.3))
+  places-numbers (Input place fault) is = grind arith
   places-numbers (Refused refusal) is = is
   places-numbers Memory is = tt
   places-numbers _ is = absurd is

@@ -1,17 +1,16 @@
 -- What a file is cut into at positions, and at places of samples: no fault comes too early, and
 -- what is laid holds its stream.
-use Rattle.std.proofs.Common.{ap, ap₂, arith, Bool, cond, Err, false, length, List, None, Ok}
-use Rattle.std.proofs.Common.{Option, refl, Result, Some, subst, sym, true, ℕ, ◌&&◌, ◌||◌, ◌∙◌, ◌≡◌}
-use Rattle.std.specs.Prelude.{IfErr, IfSome, nat_le, nat_lt, replicate}
+use Rattle.std.proofs.Common.{ap, arith, Bool, cond, Err, false, length, List, None, Ok, Option}
+use Rattle.std.proofs.Common.{refl, Result, Some, subst, true, ℕ, ◌||◌, ◌≡◌}
+use Rattle.std.specs.Prelude.{IfErr, IfSome, replicate}
 use Rattle.commands.proofs.RefusingLemmas.{refusal_or-all, then_all, then_ok}
 use Rattle.commands.proofs.SheetLemmas.{sheet-all}
-use Rattle.commands.specs.{AfterCall.{IsEditRefusal, IsLateFault, IsNotBefore}, Refusing.then_made}
-use Rattle.commands.specs.{Sheet.sheet_in, SingleOutput.most_frames}
-use Rattle.commands.specs.declared.fault.EditFault.{EditFault, TheVariants.{Input, Refused}}
-use Rattle.commands.specs.declared.fault.Refusal.{Refusal}
+use Rattle.commands.specs.AfterCall.{IsEditRefusal, IsLateFault, IsNotBefore}
+use Rattle.commands.specs.{SingleOutput.most_frames, declared.fault.EditFault.EditFault}
+use Rattle.commands.specs.declared.fault.{EditFault.TheVariants.{Input, Refused}, Refusal.Refusal}
 use Rattle.commands.specs.declared.fault.Refusal.TheVariants.{Range, Sheet, SheetTooLarge}
 use Rattle.commands.specs.declared.fault.Refusal.TheVariants.{Span as NoSpan}
-use Rattle.cue_sheet.specs.{Cues.cue_of, Places.frame_at, declared.cue_fault.CueFault.CueFault}
+use Rattle.cue_sheet.specs.{Places.frame_at, declared.cue_fault.CueFault.CueFault}
 use Rattle.cue_sheet.specs.declared.place.Place.{Place}
 use Rattle.cut_edits.proofs.ChosenLemmas.{chosen-holds, with_right}
 use Rattle.cut_edits.proofs.HeadLemmas.{survey_without_head-length}
@@ -19,10 +18,9 @@ use Rattle.cut_edits.proofs.PieceLemmas.{head_long, piece-holds, span-survey_wit
 use Rattle.cut_edits.proofs.PieceLemmas.{span-there, survey_without_head-relaid}
 use Rattle.cut_edits.specs.Chosen.{Chosen, chosen_file, chosen_needs, chosen_stream, cut_choice}
 use Rattle.cut_edits.specs.Chosen.{cut_refuses, first_plan, first_planning, laying_part}
-use Rattle.cut_edits.specs.Chosen.{outside_fault, own_slots_part, placed_part, planned_part}
-use Rattle.cut_edits.specs.Exact.{exact_part, exact_refuses, file_span, samples_fault, span_between}
-use Rattle.cut_edits.specs.Exact.{span_piece, survey_without_head}
-use Rattle.exact_span.specs.{Places.sample_at, PlayedPositions.{length_of_played, played_of}}
+use Rattle.cut_edits.specs.Chosen.{own_slots_part, placed_part, planned_part}
+use Rattle.cut_edits.specs.Exact.{exact_part, exact_refuses, file_span, span_piece}
+use Rattle.cut_edits.specs.Exact.{survey_without_head}
 use Rattle.exact_span.specs.declared.{exact_place.ExactPlace.ExactPlace, span.Span.Span}
 use Rattle.info_header.specs.declared.fields.Info.{Info}
 use Rattle.laying.{proofs.SurveyFrameLemmas.survey-had, specs.KeptFields.fields_of_head}
@@ -49,8 +47,7 @@ where-all : (P : EditFault → Type 0) → P (Input 1 Absent)
     → ((size : ℕ) → P (Refused (SheetTooLarge size)))
     → ((fault : CueFault) → P (Refused (Sheet fault))) → (o : Option (List ℕ))
     → IfErr (cue_sheet_places o) P
-where-all P absent large cue o = then_all P (sheet_in o) (λ bytes. places_to_end (cue_of bytes))
-    (sheet-all P absent large o) (λ bytes. end-all P cue (cue_of bytes))
+where-all P absent large cue o = grind (arith, then_all, sheet-all, end-all)
 
 where-late : (o : Option (List ℕ)) → IfErr (cue_sheet_places o) IsLateFault
 where-late = where-all IsLateFault refl (λ size. refl) (λ fault. refl)
@@ -76,13 +73,7 @@ module _ (P : EditFault → Type 0)
   frames-all : (from to : Place) (file : List ℕ) (s : SurveyFields)
       → IfErr (cut_part from to file s) P
   unfolding laying_part cut_choice
-  frames-all from to file s =
-      let a = frame_at s.class (length s.frames) from in
-      let b = frame_at s.class (length s.frames) to in
-      let n = length s.frames in
-      then_all P (cut_choice from to file s) (planned_part (first_planning own_choice) s)
-      (refusal_or-all P (outside_fault a b n) _
-      (unless-test P (Range a b n) (range a b n) (nat_lt a b && nat_le b n))) (λ chosen. tt)
+  frames-all from to file s = grind (arith, then_all, refusal_or-all, unless-test)
 
 frames-hold : (from to : Place) (file : List ℕ) (s : SurveyFields) (laid : LaidPart)
     → survey_of file most_frames ≡ Ok s → cut_part from to file s ≡ Ok laid
@@ -100,20 +91,8 @@ frames-hold from to file s laid surveyed e =
 
 -- the cutting at positions is proper
 pub points-proper : (points : Points) → IsProperCutting (cutting_of points)
-points-proper (Places places) = record {
-  places_late = λ f. tt;
-  places_after = λ f. tt;
-  late = frames-all IsLateFault (λ a b n. refl);
-  after = frames-all (IsNotBefore (Input 1 Read)) (λ a b n. tt);
-  streams = λ from to file s laid octets surveyed e. frames-hold from to file s laid surveyed e;
-}
-points-proper (InSheet sheet) = record {
-  places_late = λ f. where-late (f sheet.now);
-  places_after = λ f. where-after (f sheet.now);
-  late = frames-all IsLateFault (λ a b n. refl);
-  after = frames-all (IsNotBefore (Input 1 Read)) (λ a b n. tt);
-  streams = λ from to file s laid octets surveyed e. frames-hold from to file s laid surveyed e;
-}
+points-proper (Places places) = search (arith, frames-all, frames-hold)
+points-proper (InSheet sheet) = search (arith, where-late, where-after, frames-all, frames-hold)
 
 -- a refusal of positions is one that may be returned
 pub points-refusal : (points : Points) (fault : EditFault) → IsEditRefusal cut_refuses fault
@@ -129,21 +108,13 @@ module _ (from to : Place) (file : List ℕ) (s known : SurveyFields) (same : kn
       → laid ≡ placed_part chosen (first_plan own_choice known.class (chosen_needs chosen known))
       → cut_part from to file s ≡ Ok laid
   unfolding laying_part
-  frames-laid chosen laid chose is =
-      subst (λ (t : SurveyFields). cut_part from to file t ≡ Ok laid) same
-      (ap (λ (r : Result Chosen EditFault). then_made r
-      (planned_part (first_planning own_choice) known))
-      chose ∙ ap Ok (sym is))
+  frames-laid chosen laid chose is = grind arith
 
   -- if the frames are refused, what is laid is refused
   pub frames-refused : (fault : EditFault) → cut_choice from to file known ≡ Err fault
       → cut_part from to file s ≡ Err fault
   unfolding laying_part
-  frames-refused fault chose =
-      subst (λ (t : SurveyFields). cut_part from to file t ≡ Err fault) same
-      (ap (λ (r : Result Chosen EditFault). then_made r
-      (planned_part (first_planning own_choice) known))
-      chose)
+  frames-refused fault chose = grind arith
 
 -- ---- cut at places of samples
 
@@ -152,15 +123,7 @@ module _ (P : EditFault → Type 0)
   exact-all : (from to : ExactPlace) (file : List ℕ) (s : SurveyFields)
       → IfErr (exact_part from to file s) P
   unfolding exact_part file_span
-  exact-all from to file s =
-      let head = fields_of_head file s.head in
-      let samples = length_of_played (played_of head s.class (length s.frames)) in
-      let a = sample_at s.class samples from in
-      let b = sample_at s.class samples to in
-      then_all P (file_span from to head s)
-      (λ span. Ok (span_piece head span file (survey_without_head s)))
-      (refusal_or-all P (samples_fault a b samples) _ (unless-test P (NoSpan a b samples)
-      (span a b samples) (nat_lt a b && nat_le b samples))) (λ span. tt)
+  exact-all from to file s = grind (arith, then_all, refusal_or-all, unless-test)
 
 exact-hold : (from to : ExactPlace) (file : List ℕ) (s : SurveyFields) (laid : LaidPart)
     → survey_of file most_frames ≡ Ok s → exact_part from to file s ≡ Ok laid → HoldsStream
@@ -181,37 +144,22 @@ exact-hold from to file s laid surveyed e =
 
 -- the cutting at places of samples is proper
 pub exact-points-proper : (points : ExactPoints) → IsProperCutting (exact_cutting_of points)
-exact-points-proper (ExactPlaces places) = record {
-  places_late = λ f. tt;
-  places_after = λ f. tt;
-  late = exact-all IsLateFault (λ a b n. refl);
-  after = exact-all (IsNotBefore (Input 1 Read)) (λ a b n. tt);
-  streams = λ from to file s laid octets surveyed e. exact-hold from to file s laid surveyed e;
-}
-exact-points-proper (InExactSheet sheet) = record {
-  places_late = λ f. as-all IsLateFault (cue_sheet_places (f sheet.now)) (where-late (f sheet.now));
-  places_after = λ f. as-all (IsNotBefore (Input 1 Read)) (cue_sheet_places (f sheet.now))
-      (where-after (f sheet.now));
-  late = exact-all IsLateFault (λ a b n. refl);
-  after = exact-all (IsNotBefore (Input 1 Read)) (λ a b n. tt);
-  streams = λ from to file s laid octets surveyed e. exact-hold from to file s laid surveyed e;
-}
+exact-points-proper (ExactPlaces places) = search (arith, exact-all, exact-hold)
+exact-points-proper (InExactSheet sheet) =
+    search (arith, as-all, where-late, where-after, exact-all, exact-hold)
 
 -- a refusal of places is one that may be returned
 pub exact-points-refusal : (points : ExactPoints) (fault : EditFault)
     → IsEditRefusal exact_refuses fault → IsEditRefusal (exact_refuses_of points) fault
 exact-points-refusal (ExactPlaces places) fault is = is
-exact-points-refusal (InExactSheet sheet) (Refused refusal) is =
-    ap (λ b. b || cue_sheet_refuses refusal) is
+exact-points-refusal (InExactSheet sheet) (Refused refusal) is = grind arith
 exact-points-refusal (InExactSheet sheet) _ is = absurd is
 
 -- setting the head apart leaves the samples where they are
 span_same : (from to : ExactPlace) (head : Option Info) (s : SurveyFields)
     → file_span from to head (survey_without_head s) ≡ file_span from to head s
 unfolding file_span
-span_same from to head s =
-    ap (λ (n : ℕ). span_between s.class (played_of head s.class n) from to)
-    (survey_without_head-length s)
+span_same from to head s = grind (arith, survey_without_head-length)
 
 -- the span that was found, given the known survey and head
 module _ (from to : ExactPlace) (file : List ℕ) (s known : SurveyFields)
@@ -219,28 +167,16 @@ module _ (from to : ExactPlace) (file : List ℕ) (s known : SurveyFields)
     (head : Option Info) (head_is : head ≡ fields_of_head file s.head) where
   found : (r : Result Span EditFault) → file_span from to head known ≡ r
       → file_span from to (fields_of_head file s.head) s ≡ r
-  found r is =
-      sym (span_same from to (fields_of_head file s.head) s)
-      ∙ ap (λ (h : Option Info). file_span from to h (survey_without_head s)) (sym head_is)
-      ∙ ap (file_span from to head) (sym same)
-      ∙ is
+  found r is = grind (arith, span_same)
 
   -- the piece of the span is what is laid from the one place to the other
   pub exact-laid-is : (span : Span) (laid : LaidPart) → file_span from to head known ≡ Ok span
       → laid ≡ span_piece head span file known → exact_part from to file s ≡ Ok laid
   unfolding exact_part
-  exact-laid-is span laid is piece =
-      ap (λ (r : Result Span EditFault). then_made r
-      (λ p. Ok (span_piece (fields_of_head file s.head) p file (survey_without_head s))))
-      (found (Ok span) is)
-      ∙ ap₂ (λ (h : Option Info) (t : SurveyFields). Ok (span_piece h span file t)) (sym head_is)
-      (sym same)
-      ∙ ap Ok (sym piece)
+  exact-laid-is span laid is piece = grind (arith, found)
 
   -- if the span is refused, what is laid is refused
   pub exact-laid-refused : (fault : EditFault) → file_span from to head known ≡ Err fault
       → exact_part from to file s ≡ Err fault
   unfolding exact_part
-  exact-laid-refused fault is = ap (λ (r : Result Span EditFault). then_made r
-      (λ p. Ok (span_piece (fields_of_head file s.head) p file (survey_without_head s))))
-      (found (Err fault) is)
+  exact-laid-refused fault is = grind (arith, found)

@@ -1,7 +1,7 @@
 -- Outputs that are written in order.
 use Rattle.std.proofs.Common.{ap, append-nil, arith, drop, inl, inr, is_some, length, length-drop}
 use Rattle.std.proofs.Common.{List, map, None, Option, refl, slice_index_or, Some, string_bytes}
-use Rattle.std.proofs.Common.{subst, sym, take, ℕ, [], ◌++◌, ◌+◌, ◌<◌, ◌∙◌, ◌∷◌, ◌≡◌, ◌≢◌}
+use Rattle.std.proofs.Common.{sym, take, ℕ, [], ◌++◌, ◌+◌, ◌<◌, ◌∙◌, ◌∷◌, ◌≡◌, ◌≢◌}
 use Rattle.std.proofs.Math.Seq.{take-add}
 use Rattle.std.proofs.lemmas.List.{drop-map, get_or-drop, length-map, length-take, map-append}
 use Rattle.std.proofs.lemmas.List.{take-map, Elements.{All-cons, All-nil, All-take}}
@@ -10,7 +10,7 @@ use Rattle.commands.specs.PassFaults.{pass_edit_fault}
 use Rattle.commands.specs.SingleOutput.{files_holding, HoldsLess, HoldsPrefix, IsPassFault}
 use Rattle.laying.specs.Laid.{file_laid, selected_part}
 use Rattle.outside.proofs.FilesLemmas.{touches_both, touches_more, touches_none, touches_told}
-use Rattle.outside.specs.Counts.{Counts, EndedAt, HappenedTo, NothingFailed}
+use Rattle.outside.specs.Counts.{Counts}
 use Rattle.outside.specs.Files.{Contents, Files, Holds, IsFileThere, OnlyTouches, Told, Untold}
 use Rattle.outside.specs.{Files.with_file, Seen.seen_folder, declared.pass.PassFault.PassFault}
 use Rattle.outside.specs.declared.pass.PassFault.TheVariants.{Read, Shrunk, Write}
@@ -85,8 +85,7 @@ stands-beside input name (Told f) (Told g) apart there only =
     record {
       there = ap is_some at ∙ there;
       before = λ bytes holds. sym at ∙ holds;
-      after =
-          λ bytes holds. at ∙ holds;
+      after = grind arith;
     }
 stands-beside input name (Untold before) (Untold after) apart there only =
     record { there = tt; before = λ bytes holds. holds; after = λ bytes holds. holds }
@@ -150,14 +149,7 @@ module _ (s : SurveyFields) (input : List ℕ) (all : List PlannedPiece) (k : �
       let beside =
       stands-beside input (string_bytes piece.name) now new apart wrote.stands.there touches in
       record {
-        files = λ bytes holds.
-            whole bytes (wrote.stands.after bytes holds)
-            ∙ ap (λ files. files_holding files (string_bytes piece.name) (piece_made s piece bytes))
-            (wrote.files bytes holds)
-            ∙ more-written (piece_outputs s done bytes) (string_bytes piece.name)
-            (piece_made s piece bytes) old input bytes holds
-            ∙ ap (λ os. with_outputs os old) (sym (ap (λ ps. piece_outputs s ps bytes) more
-            ∙ map-append (output_of bytes s) done (piece ∷ [])));
+        files = grind (arith, more-written, more, map-append);
         touches = touched;
         stands = record {
           there = beside.there;
@@ -223,8 +215,7 @@ module _ (s : SurveyFields) (input : List ℕ) (all : List PlannedPiece) (k : �
   pieces-fault Read place before between after is same h =
       record {
         is = refl;
-        rose = subst (λ c. HappenedTo input c.read_faults after.read_faults) same
-            h.rose;
+        rose = grind arith;
         place = place;
         files = part-written h.files place is;
       }
@@ -232,11 +223,7 @@ module _ (s : SurveyFields) (input : List ℕ) (all : List PlannedPiece) (k : �
     first = first;
     second = second;
     is = refl;
-    ended = record {
-      rose = subst (λ c. EndedAt input second c.ends after.ends) same h.rose;
-      counts = subst (λ c. NothingFailed c after) same h.counts;
-      untold = sym (touches_told (names_of_pieces done) old now wrote.touches) ∙ h.untold;
-    };
+    ended = grind (arith, after, touches_told);
   }
   pieces-fault Write place before between after is same h =
       record {
@@ -247,8 +234,6 @@ module _ (s : SurveyFields) (input : List ℕ) (all : List PlannedPiece) (k : �
           length-drop k all,
           length-map all (λ (p : PlannedPiece). string_bytes p.name),
         );
-        rose = subst (λ n. HappenedTo n before.write_faults after.write_faults)
-            (sym (name-here place is)) (subst (λ c. HappenedTo (string_bytes piece.name)
-            c.write_faults after.write_faults) same h.1.rose);
+        rose = grind (arith, name-here);
         files = part-unfinished h.1.files place is;
       }

@@ -1,5 +1,5 @@
 -- Pieces, one more at a time, made from the places and written to the outputs.
-use Rattle.std.proofs.Common.{ap, append-nil, append_assoc, ap₂, arith, bytes_eq, drop, Err, false}
+use Rattle.std.proofs.Common.{ap, append-nil, append_assoc, arith, bytes_eq, drop, Err, false}
 use Rattle.std.proofs.Common.{get_or, inl, inr, length, List, map, Ok, refl, Result, slice_index_or}
 use Rattle.std.proofs.Common.{string_bytes, subst, suc, sym, take, true, zero, ℕ, [], ◌++◌, ◌+◌}
 use Rattle.std.proofs.Common.{◌-◌, ◌<◌, ◌∙◌, ◌∷◌, ◌≡◌, ◌≢◌, ◌≤◌}
@@ -9,7 +9,7 @@ use Rattle.std.proofs.lemmas.List.{Folds.list_any_at, FromFn.take-map-range_with
 use Rattle.std.specs.{List.{All, list_any, range_with_len}, Prelude.{MatchResult, ◌⊎◌}}
 use Rattle.std.specs.Result.{IsErrAnd}
 use Rattle.commands.specs.declared.fault.EditFault.{EditFault}
-use Rattle.laying.specs.Laid.{file_laid, IsWritableSelection, LaidPart}
+use Rattle.laying.specs.Laid.{IsWritableSelection, LaidPart}
 use Rattle.outside.proofs.FilesLemmas.{bytes_eq_same}
 use Rattle.requests.proofs.NamesLemmas.{name-at, names-length}
 use Rattle.requests.specs.Names.{piece_name, piece_names}
@@ -40,9 +40,7 @@ module _ {P : Type 0} (cut : Cutting P) (file : List ℕ) (s : SurveyFields) (in
     pub place-laid : (first : LaidPart) → cut.between from to file s ≡ Ok first
         → laid_before (done ++ first ∷ []) (piece_parts_from cut file s to (drop (index + 1) rest))
         ≡ whole
-    place-laid first is =
-        sym (before-first done first (piece_parts_from cut file s to (drop (index + 1) rest)))
-        ∙ rw (next, is) at before
+    place-laid first is = grind (arith, before-first)
 
     -- a pair of places that is refused refuses all
     pub place-refused : (fault : EditFault) → cut.between from to file s ≡ Err fault
@@ -59,10 +57,7 @@ pub laid-is : {P : Type 0} (cut : Cutting P) (file : List ℕ) (s : SurveyFields
     → piece_parts cut file s places
     ≡ piece_parts_from cut file s from (take (length places - 1) (drop 1 places))
 laid-is cut file s from [] some is = absurd (omega (arith, some))
-laid-is cut file s from (place ∷ places) some is =
-    ap (λ p. piece_parts_from cut file s p places) (sym is)
-    ∙ ap (piece_parts_from cut file s from)
-    (sym (take_all (length (place ∷ places) - 1) places (omega arith)))
+laid-is cut file s from (place ∷ places) some is = grind (arith, take_all)
 
 -- a fault of a pair of places is a fault of all
 pub fault-of-all : {M A B C : Type 0} → (B → C) → M ⊎ (A × B) → M ⊎ (A × C)
@@ -82,13 +77,13 @@ pub pieces-push : (prefix : List ℕ) (s : SurveyFields) (k n : ℕ) (pieces : L
     (piece : PlannedPiece) → ArePieces prefix s k pieces → n ≡ k + length pieces
     → string_bytes piece.name ≡ piece_name prefix n → IsWritableSelection s piece.selected
     → ArePieces prefix s k (pieces ++ piece ∷ [])
-pieces-push prefix s k n [] piece are is named writable =
-    (named ∙ ap (piece_name prefix) (let e : n ≡ k = omega (arith, is) in e), writable, tt)
-pieces-push prefix s k n (first ∷ pieces) piece are is named writable = (
-  are.0,
-  are.1,
-  pieces-push prefix s (k + 1) n pieces piece are.2 (omega (arith, is)) named writable,
-)
+pieces-push prefix s k n [] piece are is named writable = grind arith
+pieces-push prefix s k n (first ∷ pieces) piece are is named writable =
+    grind (
+      arith,
+      pieces-push prefix s (k + 1) n pieces piece are.2 (omega (arith, is)) named
+          writable,
+    )
 
 -- the files of pieces are the files of what is laid for them
 pub outputs-are : (prefix : List ℕ) (s : SurveyFields) (k : ℕ) (pieces : List PlannedPiece)
@@ -96,8 +91,7 @@ pub outputs-are : (prefix : List ℕ) (s : SurveyFields) (k : ℕ) (pieces : Lis
     → piece_outputs s pieces bytes ≡ pieces_from prefix k bytes s (map piece_part pieces)
 outputs-are prefix s k [] bytes are = refl
 outputs-are prefix s k (piece ∷ pieces) bytes are =
-    ap₂ (λ name outputs. record { name = name; bytes = file_laid (piece_part piece) bytes s }
-    ∷ outputs) are.0 (outputs-are prefix s (k + 1) pieces bytes are.2)
+    grind (arith, outputs-are prefix s (k + 1) pieces bytes are.2)
 
 -- an input that has no piece's name
 other-name : (prefix input : List ℕ) (k : ℕ) → list_any (bytes_eq input) (piece_names prefix)
@@ -114,12 +108,15 @@ other-name prefix input k none from to same =
 pub can-be-written : (prefix input : List ℕ) (s : SurveyFields) (k : ℕ) (pieces : List PlannedPiece)
     → list_any (bytes_eq input) (piece_names prefix) ≡ false → 1 ≤ k → k + length pieces ≤ 100
     → ArePieces prefix s k pieces → CanPiecesBeWritten input s pieces
-can-be-written prefix input s k [] none from to are =
-    All-nil (λ piece. (input ≢ string_bytes piece.name) × IsWritableSelection s piece.selected)
+can-be-written prefix input s k [] none from to are = grind (arith, All-nil)
 can-be-written prefix input s k (piece ∷ pieces) none from to are =
-    All-cons (λ p. (input ≢ string_bytes p.name) × IsWritableSelection s p.selected) piece pieces
-    ((λ same. other-name prefix input k none from (omega (arith, to)) (same ∙ are.0)), are.1)
-    (can-be-written prefix input s (k + 1) pieces none (omega arith) (omega (arith, to)) are.2)
+    grind (
+      arith,
+      All-cons,
+      other-name,
+      can-be-written prefix input s (k + 1) pieces none (omega
+          arith) (omega (arith, to)) are.2,
+    )
 
 -- ---- the names are the first of the 99
 
@@ -127,24 +124,19 @@ names-are : (prefix : List ℕ) (s : SurveyFields) (k : ℕ) (pieces : List Plan
     → ArePieces prefix s k pieces
     → names_of_pieces pieces ≡ map (piece_name prefix) (range_with_len k (length pieces))
 names-are prefix s k [] are = refl
-names-are prefix s k (piece ∷ pieces) are =
-    ap₂ (λ name names. name ∷ names) are.0 (names-are prefix s (k + 1) pieces are.2)
+names-are prefix s k (piece ∷ pieces) are = grind (arith, names-are prefix s (k + 1) pieces are.2)
 
 names-prefix : (prefix : List ℕ) (s : SurveyFields) (pieces : List PlannedPiece)
     → length pieces ≤ 99 → ArePieces prefix s 1 pieces
     → names_of_pieces pieces ≡ take (length pieces) (piece_names prefix)
 unfolding piece_names
-names-prefix prefix s pieces few are = names-are prefix s 1 pieces are
-    ∙ sym (take-map-range_with_len (piece_name prefix) 1 99 (length pieces) few)
+names-prefix prefix s pieces few are = search (arith, names-are, take-map-range_with_len)
 
 -- the name of the piece at a place is the one that the prefix gives it
 pub name-here : (prefix : List ℕ) (s : SurveyFields) (pieces : List PlannedPiece) (k : ℕ)
     → length pieces ≤ 99 → k < length (names_of_pieces pieces) → ArePieces prefix s 1 pieces
     → slice_index_or (names_of_pieces pieces) k [] ≡ slice_index_or (piece_names prefix) k []
-name-here prefix s pieces k few within are =
-    ap (λ (names : List (List ℕ)). slice_index_or names k []) (names-prefix prefix s pieces few are)
-    ∙ get_or-take (length pieces) (piece_names prefix) k []
-    (omega (arith, within, length-map pieces (λ (p : PlannedPiece). string_bytes p.name)))
+name-here prefix s pieces k few within are = grind (arith, names-prefix, get_or-take, length-map)
 
 All-first : {X : Type 0} (P : X → Type 0) (m n : ℕ) (xs : List X) → All P (take m xs)
     → All P (take m (take n xs))

@@ -1,28 +1,26 @@
 -- The pieces of a split at places of samples, played in order, are the samples from the first place
 -- to the last.
 use Rattle.std.proofs.Common.{ap, ap₂, arith, length, List, map, Ok, Option, refl, Some, subst, suc}
-use Rattle.std.proofs.Common.{sym, zero, ℕ, [], ◌&&◌, ◌*◌, ◌++◌, ◌+◌, ◌-◌, ◌<◌, ◌∙◌, ◌∷◌, ◌≡◌, ◌≤◌}
-use Rattle.std.specs.{List.range_with_len, Prelude.{nat_le, nat_lt}}
+use Rattle.std.proofs.Common.{sym, zero, ℕ, [], ◌*◌, ◌+◌, ◌-◌, ◌<◌, ◌∙◌, ◌∷◌, ◌≡◌, ◌≤◌}
+use Rattle.std.specs.List.{range_with_len}
 use Rattle.commands.{proofs.RefusingLemmas.{refusal_or-ok, then_ok}, specs.SingleOutput.most_frames}
 use Rattle.cut_edits.proofs.PieceLemmas.{samples_there}
 use Rattle.cut_edits.proofs.PlayLemmas.{piece-from, piece-to, pieces-play}
-use Rattle.cut_edits.specs.Exact.{exact_part, file_span, samples_fault, span_lead_ins, span_piece}
+use Rattle.cut_edits.specs.Exact.{exact_part, file_span, span_lead_ins, span_piece}
 use Rattle.cut_edits.specs.{Exact.survey_without_head, ExactLaws.PlaysItsSamples}
 use Rattle.exact_span.proofs.SplitLemmas.{pieces-whole}
 use Rattle.exact_span.specs.Laws.{pieces_samples, PointsAscend, samples_between}
 use Rattle.exact_span.specs.PlayedPositions.{length_of_played, played_of, samples_in}
-use Rattle.exact_span.specs.{Spans.span_of, declared.exact_place.ExactPlace.ExactPlace}
-use Rattle.exact_span.specs.declared.span.Span.{Span}
+use Rattle.exact_span.specs.declared.{exact_place.ExactPlace.ExactPlace, span.Span.Span}
 use Rattle.info_header.specs.declared.fields.Info.{Info}
 use Rattle.laying.{proofs.SurveyFrameLemmas.survey-had, specs.KeptFields.fields_of_head}
 use Rattle.laying.specs.{Laid.{info_laid, LaidPart}, Surveys.CanBeRelaid}
 use Rattle.split_edits.proofs.CommandLemmas.{first-parts}
 use Rattle.split_edits.specs.Cutting.{piece_parts_from, with_first}
 use Rattle.split_edits.specs.Recording.{all_piece_samples, input_played, piece_lead_ins}
-use Rattle.split_edits.specs.Recording.{piece_played, piece_sample, piece_samples}
-use Rattle.split_edits.specs.Recording.{PiecesAreTheRecording, PlayInTurn, PlaysBetween}
-use Rattle.split_edits.specs.{Recording.sample_named, Split.exact_cutting_of}
-use Rattle.split_edits.specs.declared.exact_points.ExactPoints.{ExactPoints}
+use Rattle.split_edits.specs.Recording.{piece_played, piece_samples, PiecesAreTheRecording}
+use Rattle.split_edits.specs.Recording.{PlayInTurn, PlaysBetween, sample_named}
+use Rattle.split_edits.specs.{Split.exact_cutting_of, declared.exact_points.ExactPoints.ExactPoints}
 use Rattle.sync_survey.specs.Faults.{SurveyFields}
 
 -- ---- the samples of one piece
@@ -59,13 +57,7 @@ module _ (file : List ℕ) (s : SurveyFields) (is : CanBeRelaid file s) where
       → length_of_played (piece_played file (survey_without_head s) laid) ≡ b - a
       → piece_samples file s laid ≡ samples_between a b
   unfolding piece_samples
-  played-samples laid a b start long =
-      let played = piece_played file (survey_without_head s) laid in
-      let f = piece_sample s.class (input_played file s).start laid in
-      ap (λ n. map f (range_with_len played.start n)) long
-      ∙ numbers-moved f played.start a (b - a)
-      (λ k few. moved-by played.start (laid.from * samples_in s.class)
-      (piece_lead_ins laid * samples_in s.class) (input_played file s).start a k start)
+  played-samples laid a b start long = search (arith, numbers-moved, moved-by)
 
   module _ (from to : ExactPlace) (span : Span) (found : file_span from to head s ≡ Ok span) where
     abbrev piece : LaidPart
@@ -88,47 +80,33 @@ module _ (file : List ℕ) (s : SurveyFields) (is : CanBeRelaid file s) where
 
     starts : StartsBy piece.from piece.to
     starts =
-        subst (λ (n : ℕ). StartsBy n piece.to)
-        (sym (piece-from head span file (survey_without_head s)))
-        (subst (λ (n : ℕ). StartsBy span.first n)
-        (sym (piece-to head span file (survey_without_head s)))
-        (plays.places.start, plays.places.length))
+        grind (
+          arith,
+          piece-from head span file (survey_without_head s),
+          piece-to head span file
+              (survey_without_head s),
+          piece.to,
+          span.first,
+          plays.places.start,
+          plays.places.length,
+        )
 
     -- the piece plays the samples from the one place to the other
     pub between-plays : PlaysBetween file s from to piece
-    between-plays = record {
-      span = span;
-      found = found;
-      is = refl;
-      plays = plays;
-      samples = played-samples piece (sample from) (sample to) starts.0 starts.1;
-    }
+    between-plays =
+        grind (arith, plays, played-samples piece (sample from) (sample to) starts.0 starts.1)
 
   -- a piece that was laid plays its samples
   laid-plays : (from to : ExactPlace) (laid : LaidPart) → exact_part from to file s ≡ Ok laid
       → PlaysBetween file s from to laid
   unfolding exact_part
-  laid-plays from to laid e =
-      let chose =
-      then_ok (file_span from to head s)
-      (λ span. Ok (span_piece head span file (survey_without_head s))) laid e in
-      let same : span_piece head chose.0 file (survey_without_head s) ≡ laid = cc in
-      subst (PlaysBetween file s from to) same (between-plays from to chose.0 chose.1)
+  laid-plays from to laid e = grind (arith, then_ok, between-plays)
 
   -- the places of a piece are in order
   laid-ascends : (from to : ExactPlace) (laid : LaidPart) → PlaysBetween file s from to laid
       → sample from ≤ sample to
   unfolding file_span
-  laid-ascends from to laid is =
-      let samples = length_of_played (input_played file s) in
-      let start = (input_played file s).start in
-      let ok = refusal_or-ok (samples_fault (sample from) (sample to) samples)
-      (span_of s.class (start + sample from) (start + sample to)) is.span is.found in
-      omega (
-        arith,
-        (samples_there (sample from) (sample to) samples
-            (nat_lt (sample from) (sample to) && nat_le (sample to) samples) refl ok.0).0,
-      )
+  laid-ascends from to laid is = grind (arith, refusal_or-ok, samples_there)
 
   -- ---- all pieces
 
@@ -147,15 +125,13 @@ module _ (file : List ℕ) (s : SurveyFields) (is : CanBeRelaid file s) where
   turns-samples from [] [] are = refl
   turns-samples from [] (l ∷ laid) are = absurd are
   turns-samples from (to ∷ tos) [] are = absurd are
-  turns-samples from (to ∷ tos) (l ∷ laid) are =
-      ap₂ (λ (xs ys : List ℕ). xs ++ ys) are.0.samples (turns-samples to tos laid are.1)
+  turns-samples from (to ∷ tos) (l ∷ laid) are = grind (arith, turns-samples to tos laid are.1)
 
   module _ (points : ExactPoints) where
     from-turns : (from : ExactPlace) (tos : List ExactPlace) (laid : List LaidPart)
         → piece_parts_from (exact_cutting_of points) file s from tos ≡ Ok laid
         → PlayInTurn file s from tos laid
-    from-turns from [] laid e = let none : [] ≡ laid = cc in
-        subst (PlayInTurn file s from []) none tt
+    from-turns from [] laid e = grind arith
     from-turns from (to ∷ tos) laid e =
         let parts = then_ok (exact_part from to file s)
         (λ first. with_first first (piece_parts_from (exact_cutting_of points) file s to tos)) laid
@@ -173,7 +149,5 @@ pieces-recording points file s place places laid surveyed e =
     let each = from-turns file s is points place places laid e in
     record {
       each = each;
-      all = turns-samples file s is place places laid each
-          ∙ pieces-whole (sample_named file s place) (map (sample_named file s) places)
-          (turns-ascend file s is place places laid each);
+      all = grind (arith, turns-samples, pieces-whole, turns-ascend);
     }

@@ -2,8 +2,7 @@
 use Rattle.std.proofs.Common.{ap, arith, Err, List, map, true, ℕ, [], ◌∷◌, ◌≡◌}
 use Rattle.std.proofs.lemmas.List.{length-map, Elements.{All-cons, All-head, All-nil, All-tail}}
 use Rattle.std.specs.List.{All}
-use Rattle.commands.{proofs.WhyLemmas.{each_refusal, each_why}, specs.AfterCall.why_of}
-use Rattle.commands.specs.Refusing.{then_made}
+use Rattle.commands.{proofs.WhyLemmas.{each_refusal, each_why}, specs.Refusing.then_made}
 use Rattle.commands.specs.Sheet.{HasSheetNumbers, IsSheetFault, sheet_read, sheet_refuses}
 use Rattle.commands.specs.declared.fault.EditFault.{EditFault, TheVariants.Refused}
 use Rattle.commands.specs.declared.fault.Refusal.{Refusal, TheVariants.SheetTooLarge}
@@ -23,12 +22,7 @@ read-places bytes fault is = ap (λ r. then_made r (λ read. places_to_end (cue_
 module _ (name : List ℕ) (old new : Seen) (fault : EditFault) where
   -- a sheet that can't be read is a fault of the sheet
   pub unread-fault : IsSheetFault name old new fault → IsCueSheetFault name old new fault
-  unread-fault h = each_why (why_of fault) h
-      (each_refusal (λ r. record {
-        there = r.there;
-        bytes = λ bytes holds. read-places bytes fault (r.bytes bytes holds);
-        stays = r.stays;
-      }))
+  unread-fault h = grind (arith, each_why, each_refusal, read-places)
 
 of_read : (refusal : Refusal) → sheet_refuses refusal ≡ true → cue_sheet_refuses refusal ≡ true
 of_read (SheetTooLarge size) is = is
@@ -50,8 +44,4 @@ all-exact (p ∷ positions) all = All-cons IsExactPlace (Position p) (map Positi
 -- positions are places of samples
 pub exact-sound : (positions : List Place) → ArePlaces IsPlace positions
     → ArePlaces IsExactPlace (map Position positions)
-exact-sound positions are = (
-  all-exact positions are.0,
-  omega (arith, are.1, length-map positions Position),
-  omega (arith, are.2, length-map positions Position),
-)
+exact-sound positions are = grind (arith, all-exact, length-map)

@@ -25,8 +25,7 @@ use Rattle.sync_survey.specs.{Survey.{AreWellPlaced, IsWellPlaced}, declared.pla
 -- a frame is lost if its main data begin before the areas, and none end before it
 lacks_by : (place ended : ℕ) (r : Row) → ended ≡ 0 → place < r.side.main_data_begin
     → lacks_data place ended r ≡ true
-lacks_by place ended r none far = and_from (ended == 0) (points_too_far place r)
-    (eq-eqb ended 0 none) (lt-ltb place r.side.main_data_begin far)
+lacks_by place ended r none far = grind (arith, and_from, eq-eqb, none, lt-ltb, far)
 
 record Lacks (place ended : ℕ) (r : Row) : Type 0 where
   none : ended ≡ 0
@@ -55,14 +54,7 @@ stands_by place ended r well = record {
 pub sound-by : (at other : ℕ) (r : Row) (lost : Bool) → lacks_data at other r ≡ lost
     → (lost ≡ false → Stands at other r) → data_faults at other r ≡ []
 sound-by at other r true is stands = rw is refl
-sound-by at other r false is stands =
-    let well = stands refl in
-    rw (
-      is,
-      le-ltb at r.side.main_data_begin well.begins,
-      le-ltb (at - r.side.main_data_begin) other well.apart,
-      le-ltb (at + own_area r.header) (end_of_data at r) well.within,
-    ) refl
+sound-by at other r false is stands = grind (arith, le-ltb)
 
 -- ---- areas
 
@@ -70,14 +62,8 @@ area_more : (xs : List Row) (i : ℕ) (r : Row) → slice_get xs i ≡ Some r
     → sum_by (λ (q : Row). own_area q.header) (take (suc i) xs)
     ≡ sum_by (λ (q : Row). own_area q.header) (take i xs) + own_area r.header
 area_more [] i r is = absurd cc
-area_more (x ∷ xs) zero r is = let same : x ≡ r = cc in
-    omega (arith, ap (λ (q : Row). own_area q.header) same)
-area_more (x ∷ xs) (suc i) r is =
-    let area = λ (q : Row). own_area q.header in
-    let apart : area x + (sum_by area (take i xs) + area r)
-    ≡ (area x + sum_by area (take i xs)) + area r = omega arith in
-    sum_by-cons area x (take (suc i) xs) ∙ ap (λ m. area x + m) (area_more xs i r is) ∙ apart
-    ∙ ap (λ m. m + area r) (sym (sum_by-cons area x (take i xs)))
+area_more (x ∷ xs) zero r is = grind arith
+area_more (x ∷ xs) (suc i) r is = omega (arith, sum_by, sum_by-cons, area_more xs i r is)
 
 -- the place after a frame is further on by its own area
 pub area-more : (rows : List Row) (i : ℕ) (r : Row) → slice_get rows i ≡ Some r
@@ -100,10 +86,8 @@ module _ (area at ended other : ℕ) (r : Row) (less : other ≤ ended - area)
     (well : lacks_data (area + at) ended r ≡ false → Stands (area + at) ended r) where
   far_lacks_by : (lost : Bool) → lacks_data (area + at) ended r ≡ lost → at < r.side.main_data_begin
       → lacks_data at other r ≡ true
-  far_lacks_by true is far = let had = lacks_parts (area + at) ended r is in
-      lacks_by at other r (omega (arith, less, had.none)) far
-  far_lacks_by false is far = let stands = well is in
-      lacks_by at other r (omega (arith, less, stands.begins, stands.apart, far)) far
+  far_lacks_by true is far = grind (arith, lacks_parts, lacks_by, far)
+  far_lacks_by false is far = grind (arith, lacks_by, far)
 
   -- a frame whose main data begin before the areas without the head's is lost without it
   far_lacks : at < r.side.main_data_begin → lacks_data at other r ≡ true
@@ -119,10 +103,7 @@ module _ (area at ended other : ℕ) (r : Row) (less : other ≤ ended - area)
 
   stands_apart_by : (lost : Bool) → lacks_data (area + at) ended r ≡ lost
       → lacks_data at other r ≡ false → Stands at other r
-  stands_apart_by true is kept =
-      let had = lacks_parts (area + at) ended r is in
-      let begins = near kept in
-      absurd (omega (arith, had.far, begins))
+  stands_apart_by true is kept = grind (arith, lacks_parts, near)
   stands_apart_by false is kept =
       let stands = well is in
       let begins = near kept in
@@ -140,18 +121,13 @@ module _ (area at ended other : ℕ) (r : Row) (less : other ≤ ended - area)
       → lacks_data (area + at) ended r ≡ lost → lacks_data at other r ≡ lost_apart
       → cond (silent || lost_apart) other (end_of_data at r)
       ≤ cond (silent || lost) ended (end_of_data (area + at) r) - area
-  less_by false true false silent is apart =
-      let had = lacks_parts (area + at) ended r is in
-      let begins = near apart in
-      absurd (omega (arith, had.far, begins))
-  less_by false false true silent is apart = let stands = well is in
-      omega (arith, less, stands.apart)
+  less_by false true false silent is apart = grind (arith, lacks_parts, near, apart)
+  less_by false false true silent is apart = grind arith
   less_by false false false silent is apart = let begins = near apart in omega (arith, begins)
   less_by _ _ _ silent is apart = less
 
   less_behind : data_end_after at other (Some r) ≤ data_end_after (area + at) ended (Some r) - area
-  less_behind =
-      less_by (is_silent r) (lacks_data (area + at) ended r) (lacks_data at other r) refl refl refl
+  less_behind = grind (arith, less_by)
 
 -- ---- all frames
 
@@ -166,12 +142,7 @@ module _ (head : Option Head) (class : ClassFields) (rows : List Row)
   stands_at : (i : ℕ) (r : Row) → slice_get rows i ≡ Some r
       → lacks_data (area + at i) (data_end_before head rows i) r ≡ false
       → Stands (area + at i) (data_end_before head rows i) r
-  stands_at i r found kept =
-      let sound =
-      subst (λ n. data_faults n (data_end_before head rows i) r ≡ []) (place-apart head rows i)
-      (placed i r found).sound in
-      stands_by (area + at i) (data_end_before head rows i) r
-      (data-none_well (area + at i) (data_end_before head rows i) r sound kept)
+  stands_at i r found kept = grind (arith, place-apart head rows i, stands_by, data-none_well)
 
   less_next : (i : ℕ) (o : Option Row) → slice_get rows i ≡ o → data_end_before None rows i
       ≤ data_end_before head rows i - area → data_end_after (at i) (data_end_before None rows i) o
@@ -184,11 +155,7 @@ module _ (head : Option Head) (class : ClassFields) (rows : List Row)
   less_at : (i : ℕ) → data_end_before None rows i ≤ data_end_before head rows i - area
   unfolding data_end_before
   less_at zero = omega arith
-  less_at (suc i) =
-      subst (λ n. data_end_after (at i) (data_end_before None rows i) (slice_get rows i)
-      ≤ data_end_after n (data_end_before head rows i) (slice_get rows i) - area)
-      (sym (place-apart head rows i))
-      (less_next i (slice_get rows i) refl (less_at i))
+  less_at (suc i) = grind (arith, place-apart, less_next, less_at i)
 
   lost_far : (i : ℕ) (r : Row) → slice_get rows i ≡ Some r → at i < r.side.main_data_begin
       → is_lost None rows i r ≡ true
@@ -222,11 +189,7 @@ module _ (head : Option Head) (class : ClassFields) (rows : List Row)
       (data_end_before head rows i) ended r (less_at i) (stands_at i r found) kept))
 
   placed-marked_rows : AreWellPlaced None class (marked_rows None rows)
-  placed-marked_rows i q found =
-      let parts = from_some None rows (marked_row None rows i) (slice_get rows i) q
-      (sym (found-marked_rows None rows i) ∙ found) in
-      subst (IsWellPlaced None class (marked_rows None rows) i)
-      parts.2 (placed_apart i parts.0 parts.1)
+  placed-marked_rows i q found = grind (arith, from_some, found-marked_rows, placed_apart)
 
   -- ---- as the frames are marked
 
@@ -259,11 +222,7 @@ pub apart-leads : (head : Option Head) (class : ClassFields) (rows : List Row)
     → points_too_far (place None rows i) r ≡ true
     → (is_lost None rows i r ≡ true) × AreSilentOrLost None rows i
 apart-leads head class rows placed i r found far =
-    let lost = apart-lost head class rows placed i r found far in (
-      lost,
-      none-empty None rows i
-          (lacks_parts (place None rows i) (data_end_before None rows i) r lost).none,
-    )
+    grind (arith, apart-lost head class rows placed i r found far, far, none-empty, lacks_parts)
 
 -- ---- if no frame is lost
 

@@ -1,9 +1,9 @@
 -- The loops that mark the frames that are lost without a head, and that make lost frames empty
 -- ones.
 use Rattle.std.proofs.Common.{ap, append_assoc, ap₂, arith, Bool, cond, drop, false, get_or, length}
-use Rattle.std.proofs.Common.{List, ltb, map, min, None, refl, slice_get, Some, subst, suc, sym}
-use Rattle.std.proofs.Common.{take, true, zero, ℕ, [], ◌&&◌, ◌++◌, ◌+◌, ◌-◌, ◌<◌, ◌==◌, ◌^◌, ◌||◌}
-use Rattle.std.proofs.{Common.{◌∙◌, ◌∷◌, ◌≡◌, ◌≤◌}, Math.ListN.set}
+use Rattle.std.proofs.Common.{List, ltb, map, min, None, refl, slice_get, Some, suc, sym, take}
+use Rattle.std.proofs.Common.{true, zero, ℕ, [], ◌&&◌, ◌++◌, ◌+◌, ◌-◌, ◌<◌, ◌==◌, ◌^◌, ◌||◌, ◌∙◌}
+use Rattle.std.proofs.{Common.{◌∷◌, ◌≡◌, ◌≤◌}, Math.ListN.set}
 use Rattle.std.proofs.Math.Nat.{min-eq_left, min-eq_right, min-le_left}
 use Rattle.std.proofs.lemmas.Bool.{eqb-true, le-ltb, lt-ltb, ltb-false, ltb-true}
 use Rattle.std.proofs.lemmas.List.{append-nil, drop_all, drop_more, length-map, length-take-le}
@@ -30,8 +30,7 @@ module _ (rows now front : List Row) (i : ℕ) (d : Row) (size : length front �
 
   -- the frame at i is as it was
   pub here-is : get_or now i d ≡ get_or rows i d
-  here-is =
-      ap (λ l. get_or l i d) split ∙ at_end front (get_or rows i d) (drop (i + 1) rows) i d size
+  here-is = grind (arith, split, at_end)
 
   -- writing it is having written one more
   pub written-one : (y : Row) → set now i y ≡ (front ++ y ∷ []) ++ drop (i + 1) rows
@@ -48,8 +47,7 @@ pub emptied-step : (rows now : List Row) (i : ℕ) (d : Row) (new : Row) → i <
     → set now i new ≡ map emptied_row (take (i + 1) rows) ++ drop (i + 1) rows
 emptied-step rows now i d new within is one =
     let front = map emptied_row (take i rows) in
-    let size : length front ≡ i =
-    length-map (take i rows) emptied_row ∙ length-take-le i rows (omega (arith, within)) in
+    let size : length front ≡ i = grind (arith, length-map, length-take-le) in
     ap (set now i) (one ∙ ap emptied_row (here-is rows now front i d size within is))
     ∙ written-one rows now front i d size within is (emptied_row (get_or rows i d))
     ∙ ap (λ t. t ++ drop (i + 1) rows) (sym (map-append emptied_row (take i rows)
@@ -70,32 +68,24 @@ module _ (rows : List Row) where
       ≡ apart_from n (take i xs) ++ apart_row rows (n + i) (get_or xs i d) ∷ []
   apart_more n i [] d lt = absurd (omega (arith, lt))
   apart_more n zero (x ∷ xs) d lt = ap (λ m. apart_row rows m x ∷ []) (omega arith)
-  apart_more n (suc i) (x ∷ xs) d lt =
-      ap (λ l. apart_row rows n x ∷ l)
-      (apart_more (n + 1) i xs d (omega (arith, lt)) ∙ ap (λ m. apart_from (n + 1) (take i xs)
-      ++ apart_row rows m (get_or xs i d) ∷ []) (omega arith))
+  apart_more n (suc i) (x ∷ xs) d lt = grind (arith, apart_more (n + 1) i xs d (omega (arith, lt)))
 
   apart_split : (n i : ℕ) (xs : List Row)
       → apart_from n xs ≡ apart_from n (take i xs) ++ apart_from (n + i) (drop i xs)
   apart_split n zero xs = ap (λ m. apart_from m xs) (omega arith)
   apart_split n (suc i) [] = refl
-  apart_split n (suc i) (x ∷ xs) =
-      ap (λ l. apart_row rows n x ∷ l) (apart_split (n + 1) i xs
-      ∙ ap (λ m. apart_from (n + 1) (take i xs) ++ apart_from m (drop i xs)) (omega arith))
+  apart_split n (suc i) (x ∷ xs) = grind (arith, apart_split (n + 1) i xs)
 
   -- ---- from the first frame that has main data and isn't lost
 
   ended_before : (i j : ℕ) → i ≤ j → data_end_before None rows j ≡ 0
       → data_end_before None rows i ≡ 0
-  ended_before i j le none = empty-none None rows i
-      (λ k q lt found. none-empty None rows j none k q (omega (arith, lt, le)) found)
+  ended_before i j le none = grind (arith, empty-none, none-empty, none)
 
   none_lost_by : (i j : ℕ) (r : Row) → i ≤ j → (zero : Bool)
       → (data_end_before None rows j == 0) ≡ zero → 1 ≤ data_end_before None rows i
       → (zero && points_too_far (place None rows j) r) ≡ false
-  none_lost_by i j r le true is some =
-      absurd
-      (omega (arith, ended_before i j le (eqb-true (data_end_before None rows j) 0 is), some))
+  none_lost_by i j r le true is some = grind (arith, ended_before, eqb-true)
   none_lost_by i j r le false is some = refl
 
   none_lost : (i j : ℕ) (r : Row) → i ≤ j → 1 ≤ data_end_before None rows i
@@ -110,30 +100,19 @@ module _ (rows : List Row) where
       → apart_from n xs ≡ xs
   rest_stays i n [] le some = refl
   rest_stays i n (x ∷ xs) le some =
-      ap₂ (λ (b : Bool) (l : List Row). record x { lost = b } ∷ l)
-      (ap (λ b. x.lost || b) (none_lost i n x le some) ∙ or_false x.lost)
-      (rest_stays i (n + 1) xs (omega (arith, le)) some)
+      grind (arith, none_lost, or_false, rest_stays i (n + 1) xs (omega (arith, le)) some)
 
   -- no frame from this one on is lost
   pub apart-stays : (i : ℕ) → 1 ≤ data_end_before None rows i
       → apart_from 0 (take i rows) ++ drop i rows ≡ apart_rows rows
   unfolding apart_rows
-  apart-stays i some = ap (λ l. apart_from 0 (take i rows) ++ l)
-      (sym (rest_stays i i (drop i rows) (omega arith) some)) ∙ sym (apart_split 0 i rows
-      ∙ ap (λ m. apart_from 0 (take i rows) ++ apart_from m (drop i rows)) (omega arith))
+  apart-stays i some =
+      grind (arith, rest_stays i i (drop i rows) (omega arith) some, apart_split 0 i rows)
 
   -- ---- the next frame
 
   sum_by_min : (n sum : ℕ) → sum ≡ min n (2 ^ 64 - 1) → sum < 65535 → sum ≡ n
-  sum_by_min n sum is lt = by_cases (ltb n (2 ^ 64 - 1)) refl
-    where
-      by_cases : (b : Bool) → ltb n (2 ^ 64 - 1) ≡ b → sum ≡ n
-      by_cases true e = let less = ltb-true n (2 ^ 64 - 1) e in
-          is ∙ min-eq_left (omega (arith, less))
-      by_cases false e =
-          let more = ltb-false n (2 ^ 64 - 1) e in
-          let most : sum ≡ 2 ^ 64 - 1 = is ∙ min-eq_right (omega (arith, more)) in
-          absurd (omega (arith, most, lt))
+  sum_by_min n sum is lt = grind (arith, ltb-true, min-eq_left, ltb-false, min-eq_right)
 
   -- The frames before frame i are marked, and each of them is silent or lost; `areas` is the sum of
   -- their areas, if no main_data_begin is greater.
@@ -151,12 +130,9 @@ module _ (rows : List Row) where
 
   far_by : (areas at begin : ℕ) (far few : Bool) → ltb at begin ≡ far → ltb areas 65535 ≡ few
       → areas ≤ at → (areas < 65535 → areas ≡ at) → begin ≤ 65535 → ltb areas begin ≡ far
-  far_by areas at begin true few is short le exact near = let lt = ltb-true at begin is in
-      lt-ltb areas begin (omega (arith, le, lt))
-  far_by areas at begin false true is short le exact near =
-      let same = exact (ltb-true areas 65535 short) in ap (λ n. ltb n begin) same ∙ is
-  far_by areas at begin false false is short le exact near =
-      let most = ltb-false areas 65535 short in le-ltb areas begin (omega (arith, most, near))
+  far_by areas at begin true few is short le exact near = grind (arith, ltb-true, lt-ltb)
+  far_by areas at begin false true is short le exact near = grind (arith, exact, ltb-true)
+  far_by areas at begin false false is short le exact near = grind (arith, ltb-false, le-ltb)
 
   end_more : (i : ℕ) (r : Row) → slice_get rows i ≡ Some r → data_end_before None rows (suc i)
       ≡ data_end_after (place None rows i) (data_end_before None rows i) (Some r)
@@ -182,11 +158,7 @@ module _ (rows : List Row) where
     found = slice_get-get_or rows i d within
 
     far_same : points_too_far areas (get_or now i d) ≡ points_too_far (place None rows i) here
-    far_same =
-        far_by areas (place None rows i)
-        (get_or now i d).side.main_data_begin (points_too_far (place None rows i) (get_or now i d))
-        (ltb areas 65535) refl refl to.few to.exact near
-        ∙ ap (points_too_far (place None rows i)) here_same
+    far_same = grind (arith, far_by, here_same)
 
     lost_same : is_lost None rows i here ≡ points_too_far (place None rows i) here
     lost_same = ap (λ n. (n == 0) && points_too_far (place None rows i) here) to.none
@@ -205,11 +177,7 @@ module _ (rows : List Row) where
 
     end_next : data_end_before None rows (i + 1) ≡ cond (is_silent here
         || points_too_far (place None rows i) here) 0 (end_of_data (place None rows i) here)
-    end_next =
-        let one_more : i + 1 ≡ suc i = omega arith in
-        ap (data_end_before None rows) one_more ∙ end_more i here found
-        ∙ ap₂ (λ b n. cond (is_silent here || b) n (end_of_data (place None rows i) here)) lost_same
-        to.none
+    end_next = grind (arith, end_more, found, lost_same)
 
     empty_same : (is_silent (get_or now i d) || points_too_far areas (get_or now i d))
         ≡ (is_silent here || points_too_far (place None rows i) here)
@@ -227,16 +195,12 @@ module _ (rows : List Row) where
         let at : place None rows (i + 1) ≡ place None rows i + own_area here.header =
         ap (place None rows) one_more ∙ area-more rows i here found in
         let least : sum ≤ areas + own_area (get_or now i d).header =
-        subst (λ n. n ≤ areas + own_area (get_or now i d).header) (sym is)
-        (min-le_left (areas + own_area (get_or now i d).header) (2 ^ 64 - 1)) in
+        grind (arith, min-le_left) in
         record {
           rows_are = rows_next;
-          none = end_next
-              ∙ ap (λ b. cond b 0 (end_of_data (place None rows i) here)) (sym empty_same ∙ empty);
+          none = grind (arith, end_next, empty_same);
           few = omega (arith, least, at, area, to.few);
-          exact = λ lt. let whole = sum_by_min (areas + own_area (get_or now i d).header) sum is lt
-              in let same = to.exact (omega (arith, whole, lt)) in
-              omega (arith, whole, same, at, area);
+          exact = grind (arith, sum_by_min);
         }
 
     loud_end : (silent far : Bool) → is_silent here ≡ silent → (silent || far) ≡ false
@@ -247,15 +211,10 @@ module _ (rows : List Row) where
     -- the frame has main data and isn't lost, so no later one is lost
     pub marked-last : (is_silent (get_or now i d) || points_too_far areas (get_or now i d)) ≡ false
         → set now i new ≡ apart_rows rows
-    marked-last kept =
-        let some = loud_end (is_silent here) (points_too_far (place None rows i) here) refl
-        (sym empty_same ∙ kept) in
-        rows_next ∙ apart-stays (i + 1) (omega (arith, end_next, some))
+    marked-last kept = grind (arith, loud_end, empty_same, rows_next, apart-stays, end_next)
 
   -- all were marked
   pub marked-all : (now : List Row) (areas i : ℕ) → AreMarkedTo now areas i → length rows ≤ i
       → now ≡ apart_rows rows
   unfolding apart_rows
-  marked-all now areas i to all =
-      to.rows_are ∙ ap₂ (λ xs ys. apart_from 0 xs ++ ys) (take_all i rows all) (drop_all i rows all)
-      ∙ append-nil (apart_from 0 rows)
+  marked-all now areas i to all = grind (arith, take_all, drop_all, append-nil)

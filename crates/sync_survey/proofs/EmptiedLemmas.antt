@@ -2,7 +2,7 @@
 -- without fault; so is one whose head was set apart.
 use Rattle.std.proofs.Common.{ap, ap₂, arith, Bool, cond, false, length, List, map, None, Option}
 use Rattle.std.proofs.Common.{option_map, refl, slice_get, Some, subst, suc, sum_by, sym, take}
-use Rattle.std.proofs.Common.{true, zero, ℕ, [], ◌+◌, ◌==◌, ◌||◌, ◌∙◌, ◌∷◌, ◌≡◌, ◌≤◌}
+use Rattle.std.proofs.Common.{true, zero, ℕ, [], ◌+◌, ◌||◌, ◌∙◌, ◌∷◌, ◌≡◌, ◌≤◌}
 use Rattle.std.proofs.lemmas.{Bool.{and_right, le-ltb}, List.{length-map, take-map}}
 use Rattle.std.proofs.lemmas.List.{FromFn.length-enumerate_from, Sums.sum_by-cons}
 use Rattle.std.{proofs.lemmas.Option.slice_get-map, specs.List.enumerate_from}
@@ -15,8 +15,7 @@ use Rattle.sync_survey.specs.Faults.{data_faults, SurveyFields}
 use Rattle.sync_survey.specs.HeadApart.{apart_row, apart_rows, emptied_row, emptied_survey}
 use Rattle.sync_survey.specs.HeadApart.{head_apart, rows_set_apart}
 use Rattle.sync_survey.specs.MainData.{data_end_after, data_end_before, end_of_data, head_area}
-use Rattle.sync_survey.specs.MainData.{is_silent, lacks_data, own_area, place, points_too_far}
-use Rattle.sync_survey.specs.Row.{Row}
+use Rattle.sync_survey.specs.{MainData.{is_silent, lacks_data, own_area, place}, Row.Row}
 use Rattle.sync_survey.specs.Survey.{AreWellPlaced, FramesAreLaid, IsSurveyLaidOut, IsWellPlaced}
 use Rattle.sync_survey.specs.declared.places.Head.{Head}
 
@@ -65,26 +64,14 @@ pub record IsKept (class : ClassFields) (place ended behind : ℕ) (r : Row) : T
 module _ (class : ClassFields) (at ended behind other : ℕ) (r : Row)
     (kept : IsKept class at ended behind r) (less : other ≤ ended) where
   stands_emptied_by : (lost : Bool) → r.lost ≡ lost → Stands at other (emptied_row r)
-  stands_emptied_by true is =
-      subst (Stands at other) (sym (emptied_true r is)) (record {
-        begins = omega arith;
-        apart = omega (arith, less, kept.before);
-        within = omega (arith, no_bytes);
-      })
-  stands_emptied_by false is =
-      let stands = kept.stands is in
-      subst (Stands at other) (sym (emptied_false r is)) (record {
-        begins = stands.begins;
-        apart = omega (arith, less, stands.apart);
-        within = stands.within;
-      })
+  stands_emptied_by true is = grind (arith, emptied_true, no_bytes)
+  stands_emptied_by false is = grind (arith, emptied_false)
 
   stands_emptied : Stands at other (emptied_row r)
   stands_emptied = stands_emptied_by r.lost refl
 
   none_lost : lacks_data at other (emptied_row r) ≡ false
-  none_lost = and_right (other == 0) (points_too_far at (emptied_row r))
-      (le-ltb at (emptied_row r).side.main_data_begin stands_emptied.begins)
+  none_lost = grind (arith, and_right, le-ltb)
 
   kept_by : (lost : Bool) → r.lost ≡ lost → (emptied_row r).lost ≡ false
   kept_by true is = ap (λ (q : Row). q.lost) (emptied_true r is)
@@ -101,16 +88,13 @@ module _ (class : ClassFields) (at ended behind other : ℕ) (r : Row)
   goes_by false false is lost le = rw (emptied_false r lost, is) le
 
   goes : data_end_after at other (Some (emptied_row r)) ≤ behind
-  goes = subst (λ b. cond (is_silent (emptied_row r) || b) other (end_of_data at (emptied_row r))
-      ≤ behind) (sym none_lost) (goes_by (is_silent r) r.lost refl refl kept.goes)
+  goes = grind (arith, none_lost, goes_by)
 
 -- the side information of a frame still fits, whether or not the frame was emptied
 pub fits_by : (class : ClassFields) (r : Row) (lost : Bool) → r.lost ≡ lost → SideFits class r.side
     → SideFits class (emptied_row r).side
-fits_by class r true is fits =
-    subst (λ (q : Row). SideFits class q.side) (sym (emptied_true r is)) (SideFits-no_side class)
-fits_by class r false is fits =
-    subst (λ (q : Row). SideFits class q.side) (sym (emptied_false r is)) fits
+fits_by class r true is fits = grind (arith, emptied_true, SideFits-no_side)
+fits_by class r false is fits = grind (arith, emptied_false, fits)
 
 -- a frame after the change was one before it
 pub some_row : (o : Option Row) (q : Row) → option_map emptied_row o ≡ Some q
@@ -134,8 +118,7 @@ pub place-same : (head : Option Head) (rows : List Row) (i : ℕ)
     → place head (map emptied_row rows) i ≡ place head rows i
 unfolding place
 place-same head rows i =
-    ap (λ l. head_area head + sum_by (λ (q : Row). own_area q.header) l)
-    (take-map emptied_row i rows) ∙ ap (λ n. head_area head + n) (areas_same (take i rows))
+    grind (arith, sum_by, take-map emptied_row i rows, areas_same (take i rows))
 
 earlier : (rows : List Row) (i : ℕ) (r : Row) → slice_get rows (suc i) ≡ Some r
     → (q : Row) × (slice_get rows i ≡ Some q)
@@ -172,8 +155,7 @@ module _ (head : Option Head) (class : ClassFields) (rows : List Row) (ended : �
         known = subst IsHeader (sym (header_by r.lost r)) is.known;
         class_is = ap class_of (header_by r.lost r) ∙ is.class_is;
         fits = fits_by class r r.lost refl is.fits;
-        mark = unmarked class at (ended i) (ended (suc i)) (other i) r is less
-            ∙ ap (λ n. lacks_data n (other i) (emptied_row r)) (sym (place-same head rows i));
+        mark = grind (arith, unmarked, place-same);
         sound = ap (λ n. data_faults n (other i) (emptied_row r)) (place-same head rows i)
             ∙ sound-by at (other i) (emptied_row r)
             (lacks_data at (other i) (emptied_row r)) refl
@@ -211,8 +193,7 @@ module _ (head : Option Head) (class : ClassFields) (rows : List Row)
       → (cond (lost || silent) (more + ended) (end_of_data (more + at) r)
       ≤ more + cond (silent || lost) ended (end_of_data at r))
       × (cond (silent || lost) ended (end_of_data at r) ≤ at + own_area r.header)
-  ends_by at ended r false false before well = let stands = well refl in
-      (omega (arith, stands.begins), stands.within)
+  ends_by at ended r false false before well = grind arith
   ends_by at ended r true true before well = (omega arith, omega (arith, before))
   ends_by at ended r true false before well = (omega arith, omega (arith, before))
   ends_by at ended r false true before well = (omega arith, omega (arith, before))
@@ -221,13 +202,7 @@ module _ (head : Option Head) (class : ClassFields) (rows : List Row)
       → (cond (r.lost || is_silent r) (more + ended i) (end_of_data (more + at i) r)
       ≤ more + ended (suc i)) × (ended (suc i) ≤ at (suc i))
   unfolding data_end_before
-  ends_at i r found before =
-      let ends = ends_by (at i) (ended i) r (is_silent r) r.lost before (stands_at i r found) in
-      let same : ended (suc i) ≡ cond (is_silent r || r.lost) (ended i) (end_of_data (at i) r) =
-      ap (data_end_after (at i) (ended i)) found
-      ∙ ap (λ b. cond (is_silent r || b) (ended i) (end_of_data (at i) r))
-      (sym (placed i r found).mark) in
-      (omega (arith, ends.0, same), omega (arith, ends.1, same, area-more rows i r found))
+  ends_at i r found before = grind (arith, ends_by, before, stands_at, area-more)
 
   before_at : (i : ℕ) (r : Row) → slice_get rows i ≡ Some r → ended i ≤ at i
   unfolding data_end_before
@@ -245,11 +220,7 @@ module _ (head : Option Head) (class : ClassFields) (rows : List Row)
         class_is = is.class_is;
         fits = is.fits;
         before = omega (arith, before);
-        stands = λ kept. let stands = stands_at i r found kept in record {
-          begins = omega (arith, stands.begins);
-          apart = omega (arith, stands.apart, stands.begins);
-          within = omega (arith, stands.within, stands.begins);
-        };
+        stands = grind (arith, stands_at);
         goes = (ends_at i r found before).0;
       }
 
@@ -279,11 +250,12 @@ laid_emptied from to (r ∷ rows) laid =
 laid_from : (all : List Row) (n from to : ℕ) (rows : List Row) → FramesAreLaid from rows to
     → FramesAreLaid from (map (λ (p : ℕ × Row). apart_row all p.0 p.1) (enumerate_from n rows)) to
 laid_from all n from to [] laid = laid
-laid_from all n from to (r ∷ rows) laid = (
-  laid.0,
-  laid.1,
-  laid_from all (n + 1) (r.offset + length_of (class_of r.header) r.header.slot) to rows laid.2,
-)
+laid_from all n from to (r ∷ rows) laid =
+    grind (
+      arith,
+      laid_from all (n + 1) (r.offset + length_of (class_of r.header) r.header.slot) to
+          rows laid.2,
+    )
 
 laid_apart : (head : Option Head) (from to : ℕ) (rows : List Row) → FramesAreLaid from rows to
     → FramesAreLaid from (rows_set_apart head rows) to
@@ -296,27 +268,21 @@ pub length_apart : (head : Option Head) (rows : List Row)
     → length (rows_set_apart head rows) ≡ length rows
 unfolding apart_rows
 length_apart None rows = refl
-length_apart (Some head) rows =
-    length-map (enumerate_from 0 rows) (λ (p : ℕ × Row). apart_row rows p.0 p.1)
-    ∙ length-enumerate_from 0 rows
+length_apart (Some head) rows = grind (arith, length-map, length-enumerate_from)
 
 -- with the head set apart and lost frames emptied, a survey is still laid out
 pub apart-laid : (s : SurveyFields) → IsSurveyLaidOut s
     → IsSurveyLaidOut (emptied_survey (head_apart s))
-apart-laid s laid = record {
-  junk = laid.junk;
-  first = laid.first;
-  head = laid.head;
-  some = omega (
-    arith,
-    laid.some,
-    length-map (rows_set_apart s.head s.frames) emptied_row,
-    length_apart s.head s.frames,
-  );
-  frames = laid_emptied s.first s.length (rows_set_apart s.head s.frames)
-      (laid_apart s.head s.first s.length s.frames laid.frames);
-  blocks = laid.blocks;
-  few = laid.few;
-  placed = placed-emptied s.head s.class (rows_set_apart s.head s.frames)
-      (placed-apart s.head s.class s.frames laid.placed);
-}
+apart-laid s laid =
+    grind (
+      arith,
+      length-map (rows_set_apart s.head s.frames) emptied_row,
+      length_apart s.head
+          s.frames,
+      laid_emptied,
+      laid_apart,
+      placed-emptied s.head s.class (rows_set_apart s.head
+          s.frames) (placed-apart s.head s.class s.frames laid.placed),
+      placed-apart s.head s.class
+          s.frames laid.placed,
+    )

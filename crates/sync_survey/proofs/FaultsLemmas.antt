@@ -1,20 +1,19 @@
 -- The first of several faults, and the faults of a frame in order.
-use Rattle.std.proofs.Common.{ap, ap₂, arith, drop, false, flat_map, get_or, inl, inr, length}
-use Rattle.std.proofs.Common.{length-append, List, map, None, Option, refl, slice_get, slice_set}
-use Rattle.std.proofs.Common.{Some, subst, suc, sum_by, sym, true, zero, ℕ, [], ◌++◌, ◌+◌, ◌<◌, ◌∙◌}
-use Rattle.std.proofs.{Common.{◌∷◌, ◌≡◌, ◌≤◌}, lemmas.Bool.cases_lt}
+use Rattle.std.proofs.Common.{ap, ap₂, arith, false, flat_map, get_or, length, length-append, List}
+use Rattle.std.proofs.Common.{map, None, Option, refl, slice_get, slice_set, Some, suc, sum_by, sym}
+use Rattle.std.proofs.Common.{true, zero, ℕ, [], ◌++◌, ◌+◌, ◌<◌, ◌∙◌, ◌∷◌, ◌≡◌, ◌≤◌}
+use Rattle.std.proofs.lemmas.Bool.{cases_lt}
 use Rattle.std.proofs.lemmas.List.{length-map, map-append, take-append-le, take_all}
 use Rattle.std.proofs.lemmas.List.{Concat.flat_map-append, Sums.sum_by_push}
 use Rattle.std.{proofs.lemmas.Option.slice_get_within, specs.List.enumerate_from}
 use Rattle.std.specs.Option.{option_or}
 use Rattle.frame_header.specs.{Fields.ClassFields, Tables.class_of}
-use Rattle.side_info.specs.Frame.{stored_crc}
 use Rattle.sync_survey.specs.Faults.{all_faults, count_faults, crc_faults, data_faults, faults_at}
 use Rattle.sync_survey.specs.{Faults.{first_of, frame_faults, later_faults}, Items.same_class}
 use Rattle.sync_survey.specs.MainData.{data_end_after, data_end_before, head_area, is_lost}
-use Rattle.sync_survey.specs.MainData.{lacks_data, marked_row, marked_rows, own_area, place}
-use Rattle.sync_survey.specs.{Row.Row, declared.places.Head.Head}
-use Rattle.sync_survey.specs.declared.survey_fault.SurveyFault.{SurveyFault, TheVariants.Mixed}
+use Rattle.sync_survey.specs.{MainData.{marked_row, marked_rows, own_area, place}, Row.Row}
+use Rattle.sync_survey.specs.declared.{places.Head.Head, survey_fault.SurveyFault.SurveyFault}
+use Rattle.sync_survey.specs.declared.survey_fault.SurveyFault.TheVariants.{Mixed}
 
 -- ---- lists of faults
 
@@ -55,11 +54,7 @@ module _ (said allowed place ended count : ℕ) (r : Row) where
   by_parts : option_or (option_or (first_of (crc_faults said r))
       (first_of (data_faults place ended r))) (first_of (count_faults count allowed r))
       ≡ first_of (later_faults said allowed place ended count r)
-  by_parts =
-      ap (λ o. option_or o (first_of (count_faults count allowed r)))
-      (sym (first-append (crc_faults said r) (data_faults place ended r)))
-      ∙ sym (first-append (crc_faults said r ++ data_faults place ended r)
-      (count_faults count allowed r))
+  by_parts = grind (arith, first-append)
 
   -- the fault of the check word comes first
   pub first-word : (fault : SurveyFault) → first_of (crc_faults said r) ≡ Some fault
@@ -97,17 +92,7 @@ pub each_push : (P : ℕ → Row → Type 0) (rows : List Row) (r : Row)
     → ((i : ℕ) (q : Row) → i < length rows → slice_get rows i ≡ Some q → P i q) → P (length rows) r
     → (i : ℕ) (q : Row) → slice_get (rows ++ r ∷ []) i ≡ Some q → P i q
 each_push P rows r each last i q found =
-    elim (cases_lt i (length rows)) as (λ _. P i q) [
-      | inl before ↦ each i q before (sym (get_more rows (r ∷ []) i before) ∙ found)
-      | inr behind ↦
-          let at : i ≡ length rows = omega
-          (arith, behind, slice_get_within (rows ++ r ∷ []) i q found, length-append rows (r ∷ []))
-          in
-          let one : Some r ≡ Some q =
-          sym (get_next rows r) ∙ ap (slice_get (rows ++ r ∷ [])) (sym at) ∙ found in
-          let same : r ≡ q = cc in
-          subst (P i) same (subst (λ n. P n r) (sym at) last)
-    ]
+    grind (arith, cases_lt, get_more, slice_get_within, length-append, get_next)
 
 -- the frame that was added is what is read at the number of the others
 pub get_last : (rows : List Row) (r other : Row) → get_or (rows ++ r ∷ []) (length rows) other ≡ r
@@ -125,21 +110,13 @@ module _ (head : Option Head) (rows : List Row) where
   pub place-more : (more : List Row) (i : ℕ) → i ≤ length rows
       → place head (rows ++ more) i ≡ place head rows i
   unfolding place
-  place-more more i within = ap (λ l. head_area head + sum_by (λ (r : Row). own_area r.header) l)
-      (take-append-le i rows more within)
+  place-more more i within = grind (arith, sum_by, take-append-le, more)
 
   -- the place after one more frame is further on by its own area
   pub place-next : (r : Row) → place head (rows ++ r ∷ []) (length (rows ++ r ∷ []))
       ≡ place head rows (length rows) + own_area r.header
   unfolding place
-  place-next r =
-      let area = λ (q : Row). own_area q.header in
-      omega (
-        arith,
-        ap (sum_by area) (take_all (length (rows ++ r ∷ [])) (rows ++ r ∷ []) (omega arith)),
-        ap (sum_by area) (take_all (length rows) rows (omega arith)),
-        sum_by_push area rows r,
-      )
+  place-next r = grind (arith, sum_by, take_all, sum_by_push)
 
 -- where the main data before frame i end, by a rule on where the area of each frame begins, where
 -- the data before it end, and the frame
@@ -204,9 +181,7 @@ module _ (head : Option Head) (rows : List Row) where
 pub enumerate-append : {X : Type 0} (n : ℕ) (xs ys : List X)
     → enumerate_from n (xs ++ ys) ≡ enumerate_from n xs ++ enumerate_from (n + length xs) ys
 enumerate-append n [] ys = ap (λ m. enumerate_from m ys) (omega arith)
-enumerate-append n (x ∷ xs) ys =
-    ap (λ l. (n, x) ∷ l) (enumerate-append (n + 1) xs ys
-    ∙ ap (λ m. enumerate_from (n + 1) xs ++ enumerate_from m ys) (omega arith))
+enumerate-append n (x ∷ xs) ys = grind (arith, enumerate-append (n + 1) xs ys)
 
 -- numbering a list keeps its length
 pub enumerate-length : {X : Type 0} (n : ℕ) (xs : List X) → length (enumerate_from n xs) ≡ length xs
@@ -239,9 +214,7 @@ module _ (file : List ℕ) (head : Option Head) (class : ClassFields) (allowed :
   -- more frames after it don't change the faults of a frame
   pub frame-more : (rows more : List Row) (i : ℕ) (r : Row) → i ≤ length rows
       → faults_of (rows ++ more) i r ≡ faults_of rows i r
-  frame-more rows more i r within =
-      ap₂ (λ m n. faults_at (stored_crc (drop r.offset file)) class allowed m n i r)
-      (place-more head rows more i within) (end-more head rows more i within)
+  frame-more rows more i r within = grind (arith, place-more, more, end-more)
 
   -- the faults of these frames are unchanged, and those of the frames after them follow
   pub faults-more : (rows more : List Row) → all_faults file head class allowed (rows ++ more)
@@ -262,23 +235,13 @@ module _ (file : List ℕ) (head : Option Head) (class : ClassFields) (allowed :
     -- if the next frame has no fault, all have none
     pub none_more : first_of (faults_of rows (length rows) r) ≡ None
         → all_faults file head class allowed (rows ++ r ∷ []) ≡ []
-    none_more sound =
-        faults-more rows (r ∷ [])
-        ∙ ap₂ (λ (xs ys : List SurveyFault). xs ++ (ys ++ [])) none (frame-more rows (r ∷ [])
-        (length rows) r (omega arith) ∙ none-of (faults_of rows (length rows) r) sound)
+    none_more sound = grind (arith, faults-more, frame-more, none-of)
 
     -- if the next frame has one, its first fault is the first of all
     pub first_more : (later : List Row) (fault : SurveyFault)
         → first_of (faults_of rows (length rows) r) ≡ Some fault
         → first_of (all_faults file head class allowed (rows ++ r ∷ later)) ≡ Some fault
-    first_more later fault is =
-        let whole = rows ++ r ∷ later in
-        let behind = flat_map (λ (p : ℕ × Row). faults_of whole p.0 p.1)
-        (enumerate_from (length rows + 1) later) in
-        ap first_of (faults-more rows (r ∷ later)
-        ∙ ap (λ (xs : List SurveyFault). xs ++ (faults_of whole (length rows) r ++ behind)) none)
-        ∙ some-append (faults_of whole (length rows) r) behind fault
-        (ap first_of (frame-more rows (r ∷ later) (length rows) r (omega arith)) ∙ is)
+    first_more later fault is = grind (arith, flat_map, faults-more, some-append, frame-more)
 
   -- no frames have no faults
   pub faults-none : all_faults file head class allowed [] ≡ []
@@ -291,9 +254,7 @@ module _ (head : Option Head) where
   -- marked frames are as many as before
   pub length-marked_rows : (rows : List Row) → length (marked_rows head rows) ≡ length rows
   unfolding marked_rows
-  length-marked_rows rows =
-      length-map (enumerate_from 0 rows) (λ (p : ℕ × Row). marked_row head rows p.0 p.1)
-      ∙ enumerate-length 0 rows
+  length-marked_rows rows = grind (arith, length-map, enumerate-length)
 
   -- if there are no frames, none is marked
   pub marked_rows-none : marked_rows head [] ≡ []
@@ -302,13 +263,11 @@ module _ (head : Option Head) where
 
   lost-more : (rows more : List Row) (i : ℕ) (r : Row) → i ≤ length rows
       → is_lost head (rows ++ more) i r ≡ is_lost head rows i r
-  lost-more rows more i r within = ap₂ (λ m n. lacks_data m n r)
-      (place-more head rows more i within) (end-more head rows more i within)
+  lost-more rows more i r within = grind (arith, place-more, more, end-more)
 
   marked_row-more : (rows more : List Row) (i : ℕ) (r : Row) → i ≤ length rows
       → marked_row head (rows ++ more) i r ≡ marked_row head rows i r
-  marked_row-more rows more i r within =
-      ap (λ b. record r { lost = b }) (lost-more rows more i r within)
+  marked_row-more rows more i r within = grind (arith, lost-more, more)
 
   -- one more frame doesn't change the marks of those before it
   pub marked_rows-push : (rows : List Row) (r : Row) → marked_rows head (rows ++ r ∷ [])

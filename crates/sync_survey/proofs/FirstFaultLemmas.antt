@@ -1,37 +1,28 @@
 -- The faults of a file are listed in order of offset, so the first of them has the smallest.
 use Rattle.std.proofs.Common.{ap, append_assoc, arith, Bool, cond, drop, Err, false, flat_map}
-use Rattle.std.proofs.Common.{IfErr, inl, inr, length, List, ltb, None, not, Ok, Option}
-use Rattle.std.proofs.Common.{option_to_list, refl, Result, Some, subst, sym, true, ℕ, ⊎_elim, []}
-use Rattle.std.{proofs.Common.{◌++◌, ◌+◌, ◌==◌, ◌∙◌, ◌∷◌, ◌≡◌, ◌≤◌, ◌⊎◌}, specs.List.enumerate_from}
-use Rattle.frame_header.specs.{Fields.ClassFields, Tables.class_of}
+use Rattle.std.proofs.Common.{IfErr, inl, inr, length, List, None, Ok, Option, option_to_list, refl}
+use Rattle.std.proofs.Common.{Result, Some, subst, sym, true, ℕ, ⊎_elim, [], ◌++◌, ◌+◌, ◌∙◌, ◌∷◌}
+use Rattle.std.{proofs.Common.{◌≡◌, ◌≤◌, ◌⊎◌}, specs.List.enumerate_from}
+use Rattle.frame_header.specs.Fields.{ClassFields}
 use Rattle.outside.specs.{Counts.Counts, Files.{Files, Holds}}
-use Rattle.side_info.specs.{CheckWord.check_word_of, Frame.stored_crc, Side.payload_bits}
+use Rattle.side_info.specs.Frame.{stored_crc}
 use Rattle.sync_survey.proofs.{BytesFaultLemmas.fault_is, ItemListLemmas.ends-within}
 use Rattle.sync_survey.proofs.{RunsLemmas.{cons_list, item_run-ends}, StartLemmas.start-first}
-use Rattle.sync_survey.specs.Faults.{all_faults, class_from, data_faults, fault_if_true}
-use Rattle.sync_survey.specs.Faults.{fault_offset, faults_at, faults_from, fields_from, first_of}
-use Rattle.sync_survey.specs.Faults.{frame_faults, has_wrong_crc, longest_file, NoneBefore}
-use Rattle.sync_survey.specs.Faults.{overlaps, overruns, own_faults, points_too_far, room_for_data}
-use Rattle.sync_survey.specs.Faults.{survey_fields, survey_from_start}
-use Rattle.sync_survey.specs.Items.{item_at, same_class, size_of}
-use Rattle.sync_survey.specs.{MainData.{data_end_before, lacks_data, place, rows_of}, Row.Row}
-use Rattle.sync_survey.specs.Runs.{AreEndToEnd, frame_of_item, frames_of, PlacedItem}
-use Rattle.sync_survey.specs.Start.{start_of}
-use Rattle.sync_survey.specs.Survey.{IsSurveyFault, IsSurveyFaultBy, IsSurveyRefusal, RefusesBytes}
-use Rattle.sync_survey.specs.{Survey.survey_of, SurveyFaultKinds.{IsRefused, kind_of}}
-use Rattle.sync_survey.specs.Walk.{end_fault, fault_at, head_of, numbered_frames, stream_run}
-use Rattle.sync_survey.specs.{Walk.walk_from, declared.items.Item.Item}
-use Rattle.sync_survey.specs.declared.items.Item.TheVariants.{Block, End, Frame, Free}
+use Rattle.sync_survey.specs.Faults.{all_faults, data_faults, fault_if_true, fault_offset}
+use Rattle.sync_survey.specs.Faults.{faults_at, faults_from, fields_from, first_of, frame_faults}
+use Rattle.sync_survey.specs.Faults.{NoneBefore, own_faults, survey_fields, survey_from_start}
+use Rattle.sync_survey.specs.{Items.{item_at, size_of}, MainData.{data_end_before, place, rows_of}}
+use Rattle.sync_survey.specs.{Row.Row, Runs.{AreEndToEnd, frame_of_item, frames_of, PlacedItem}}
+use Rattle.sync_survey.specs.{Start.start_of, Survey.{IsSurveyFault, IsSurveyRefusal, survey_of}}
+use Rattle.sync_survey.specs.SurveyFaultKinds.{IsRefused, kind_of}
+use Rattle.sync_survey.specs.Walk.{end_fault, fault_at, numbered_frames, walk_from}
+use Rattle.sync_survey.specs.declared.items.Item.{Item, TheVariants.{Block, End, Frame, Free}}
 use Rattle.sync_survey.specs.declared.places.{Head.Head, PlacedFrame.PlacedFrame, Start.Start}
 use Rattle.sync_survey.specs.declared.runs.Region.{Region, TheVariants.Stream}
 use Rattle.sync_survey.specs.declared.survey_fault.SurveyFault.{SurveyFault}
-use Rattle.sync_survey.specs.declared.survey_fault.SurveyFault.TheVariants.{Absent, BackPointer}
-use Rattle.sync_survey.specs.declared.survey_fault.SurveyFault.TheVariants.{CheckWord, FreeFormat}
-use Rattle.sync_survey.specs.declared.survey_fault.SurveyFault.TheVariants.{LostSync, Memory, Mixed}
-use Rattle.sync_survey.specs.declared.survey_fault.SurveyFault.TheVariants.{Overlap, Overrun, Read}
+use Rattle.sync_survey.specs.declared.survey_fault.SurveyFault.TheVariants.{Absent, FreeFormat}
+use Rattle.sync_survey.specs.declared.survey_fault.SurveyFault.TheVariants.{LostSync, Memory, Read}
 use Rattle.sync_survey.specs.declared.survey_fault.SurveyFault.TheVariants.{Shrunk, TooLong}
-use Rattle.sync_survey.specs.declared.survey_fault.SurveyFault.TheVariants.{TooManyFrames}
-use Rattle.sync_survey.specs.declared.survey_fault.SurveyFault.TheVariants.{Truncated}
 use Rattle.sync_survey.specs.declared.surveys.Survey.{Survey}
 
 -- ---- lists of faults
@@ -67,38 +58,19 @@ at_none at (x ∷ xs) p = (omega (arith, p.0), at_none at xs p.1)
 -- ---- the faults of a frame are at its offset
 
 own_at : (place ended : ℕ) (r : Row) → AreAt r.offset (own_faults place ended r)
-own_at place ended r =
-    let begins = BackPointer r.offset r.side.main_data_begin place in
-    let ends = Overrun r.offset (payload_bits r.side) (room_for_data r) in
-    let far = fault_if_true (points_too_far place r) begins in
-    let over = fault_if_true (overlaps place ended r) (Overlap r.offset) in
-    all_at r.offset (far ++ over) (fault_if_true (overruns place r) ends)
-    (all_at r.offset far over (one_at r.offset (points_too_far place r) begins refl)
-    (one_at r.offset (overlaps place ended r) (Overlap r.offset) refl))
-    (one_at r.offset (overruns place r) ends refl)
+own_at place ended r = grind (arith, all_at, one_at)
 
 unless_at : (at : ℕ) (b : Bool) (xs : List SurveyFault) → AreAt at xs → AreAt at (cond b [] xs)
 unless_at at true xs p = tt
 unless_at at false xs p = p
 
 data_at : (place ended : ℕ) (r : Row) → AreAt r.offset (data_faults place ended r)
-data_at place ended r =
-    unless_at r.offset (lacks_data place ended r) (own_faults place ended r) (own_at place ended r)
+data_at place ended r = grind (arith, unless_at, own_at)
 
 frame_at : (said : ℕ) (class : ClassFields) (allowed place ended count : ℕ) (r : Row)
     → AreAt r.offset (faults_at said class allowed place ended count r)
 unfolding faults_at
-frame_at said class allowed place ended count r =
-    let other = not (same_class (class_of r.header) class) in
-    let word = CheckWord r.offset said (check_word_of r.header r.side) in
-    let mixed = fault_if_true other (Mixed r.offset) in
-    let wrong = fault_if_true (has_wrong_crc said r) word in
-    all_at r.offset ((mixed ++ wrong) ++ data_faults place ended r)
-    (fault_if_true (count == allowed) (TooManyFrames r.offset))
-    (all_at r.offset (mixed ++ wrong) (data_faults place ended r)
-    (all_at r.offset mixed wrong (one_at r.offset other (Mixed r.offset) refl)
-    (one_at r.offset (has_wrong_crc said r) word refl)) (data_at place ended r))
-    (one_at r.offset (count == allowed) (TooManyFrames r.offset) refl)
+frame_at said class allowed place ended count r = grind (arith, all_at, one_at, data_at)
 
 -- ---- the faults of frames that follow each other
 
@@ -136,10 +108,14 @@ module _ (each : ℕ → Row → List SurveyFault) (own : AreOfEach each) where
       (rows : List Row) → AreRising at rows to → NoneBefore at (in_turn each n rows)
   rising_none at to n [] rise = tt
   rising_none at to n (r ∷ rows) rise =
-      none-append at (each n r) (in_turn each (n + 1) rows)
-      (none-less at r.offset (each n r) rise.0 (at_none r.offset (each n r) (own n r)))
-      (none-less at r.offset (in_turn each (n + 1) rows)
-      rise.0 (rising_none r.offset to (n + 1) rows rise.1))
+      grind (
+        arith,
+        none-append,
+        none-less,
+        at_none r.offset (each n r) (own n r),
+        rising_none
+            r.offset to (n + 1) rows rise.1,
+      )
 
   -- the first of the faults of frames and of what comes after them has the smallest offset
   least_first : (at to n : ℕ)
@@ -155,8 +131,7 @@ module _ (each : ℕ → Row → List SurveyFault) (own : AreOfEach each) where
       let regrouped : (here ++ rest) ++ later ≡ here ++ (rest ++ later) =
       append_assoc here rest later in
       let low : NoneBefore r.offset (rest ++ later) =
-      none-append r.offset rest later (rising_none r.offset to (n + 1) rows rise.1)
-      (none-less r.offset to later (rising_ends r.offset rows to rise.1) behind) in
+      grind (arith, none-append, rising_none, none-less, rising_ends) in
       ⊎_elim
       (λ none.
       let same : (here ++ rest) ++ later ≡ rest ++ later = ap (λ l. (l ++ rest) ++ later) none in
@@ -195,12 +170,14 @@ items_rise : (file : List ℕ) (part : Region) (from : ℕ) (ps : List PlacedIte
     → AreEndToEnd part file from ps to → AreRising from (rows_of file (frames_of ps)) to
 items_rise file part from [] to ends = omega (arith, ends)
 items_rise file part from (p ∷ ps) to ends =
-    let later = rising_less p.offset (p.offset + size_of p.item) (rows_of file (frames_of ps)) to
-    (omega arith) (items_rise file part (p.offset + size_of p.item) ps to ends.2) in
-    subst (λ n. AreRising n (rows_of file (frames_of (p ∷ ps))) to) ends.0
-    (subst (λ l. AreRising p.offset (rows_of file l) to)
-    (sym (cons_list (frame_of_item p.offset p.item)
-    (frames_of ps))) (rising_more file p.offset p.item (frames_of ps) to later))
+    grind (
+      arith,
+      rising_less,
+      cons_list,
+      rising_more,
+      items_rise file part (p.offset + size_of
+          p.item) ps to ends.2,
+    )
 
 rise_behind : (file : List ℕ) (at : ℕ) (ps : List PlacedFrame) (to : ℕ)
     → AreRising at (rows_of file ps) to → AreRising at (rows_of file (drop 1 ps)) to
@@ -217,28 +194,23 @@ numbered_frames-rise file at (Some head) ps to rise = rise_behind file at ps to 
 
 stop_place : (stop : ℕ) (item : Item) (fault : SurveyFault) → fault_at stop item ≡ Some fault
     → fault_offset fault ≡ stop
-stop_place stop (Frame h) fault e = let same : Truncated stop ≡ fault = cc in
-    sym (ap fault_offset same)
+stop_place stop (Frame h) fault e = grind arith
 stop_place stop Free fault e = let same : FreeFormat stop ≡ fault = cc in sym (ap fault_offset same)
-stop_place stop (Block b) fault e = let same : Truncated stop ≡ fault = cc in
-    sym (ap fault_offset same)
+stop_place stop (Block b) fault e = grind arith
 stop_place stop End fault e = absurd cc
 stop_place stop _ fault e = let same : LostSync stop ≡ fault = cc in sym (ap fault_offset same)
 
 end_place : (file : List ℕ) (frames : List PlacedFrame) (stop : ℕ) (o : Option SurveyFault)
     → stop ≤ length file → fault_at stop (item_at file stop) ≡ o
     → NoneBefore stop (option_to_list (end_fault file frames o))
-end_place file frames stop (Some fault) within is =
-    (omega (arith, stop_place stop (item_at file stop) fault is), tt)
+end_place file frames stop (Some fault) within is = grind (arith, stop_place)
 end_place file (p ∷ ps) stop None within is = tt
 end_place file [] stop None within is = (within, tt)
 
 one_only : (o : Option SurveyFault) (fault : SurveyFault) → first_of (option_to_list o) ≡ Some fault
     → NoneBefore (fault_offset fault) (option_to_list o)
 one_only None fault e = absurd cc
-one_only (Some f) fault e =
-    let same : f ≡ fault = cc in
-    (omega (arith, ap fault_offset same), tt)
+one_only (Some f) fault e = grind arith
 
 -- the first fault of a file with this start has the smallest offset
 pub first_is_least : (file : List ℕ) (allowed : ℕ) (start : Start) (fault : SurveyFault)
@@ -246,18 +218,16 @@ pub first_is_least : (file : List ℕ) (allowed : ℕ) (start : Start) (fault : 
     → NoneBefore (fault_offset fault) (faults_from file allowed start)
 unfolding faults_from walk_from
 first_is_least file allowed start fault within is =
-    let stream = stream_run file start in
-    let ends = item_run-ends Stream file start.first.offset in
-    let head = head_of file start.first in
-    let frames = numbered_frames head (frames_of stream.items) in
-    let o = end_fault file frames (fault_at stream.stop (item_at file stream.stop)) in
-    all_least file head (class_from start) allowed
-    start.first.offset stream.stop (rows_of file frames) (option_to_list o) fault
-    (numbered_frames-rise file start.first.offset head (frames_of stream.items)
-    stream.stop (items_rise file Stream start.first.offset stream.items stream.stop ends))
-    (end_place file frames stream.stop (fault_at stream.stop (item_at file stream.stop))
-    (ends-within Stream file start.first.offset stream.items stream.stop ends within) refl)
-    (λ f found. one_only o f found) is
+    grind (
+      arith,
+      item_run-ends Stream file start.first.offset,
+      all_least,
+      numbered_frames-rise,
+      items_rise,
+      end_place,
+      ends-within,
+      one_only,
+    )
 
 -- ---- the refusal of a survey
 
@@ -276,8 +246,7 @@ survey_fields-first : (file : List ℕ) (allowed : ℕ) (fault : SurveyFault)
     → survey_fields file allowed ≡ Err fault → (start : Start) → start_of file ≡ Ok start
     → NoneBefore (fault_offset fault) (faults_from file allowed start)
 unfolding survey_fields
-survey_fields-first file allowed fault e start begun =
-    start_is file allowed start fault (start_of file) refl begun e
+survey_fields-first file allowed fault e start begun = grind (arith, start_is)
 
 none_at_all : (xs : List SurveyFault) → NoneBefore 0 xs
 none_at_all [] = tt
@@ -295,19 +264,14 @@ nowhere _ = inr refl
 long_by : (file : List ℕ) (allowed : ℕ) (fault : SurveyFault) (start : Start) (b : Bool)
     → start_of file ≡ Ok start → cond b (Err (TooLong (length file))) (survey_fields file allowed)
     ≡ Err fault → NoneBefore (fault_offset fault) (faults_from file allowed start)
-long_by file allowed fault start true begun e =
-    let same : TooLong (length file) ≡ fault = cc in
-    subst (λ f. NoneBefore (fault_offset f) (faults_from file allowed start)) same
-    (none_at_all (faults_from file allowed start))
-long_by file allowed fault start false begun e =
-    survey_fields-first file allowed fault e start begun
+long_by file allowed fault start true begun e = grind (arith, none_at_all)
+long_by file allowed fault start false begun e = grind (arith, survey_fields-first)
 
 of_file : (file : List ℕ) (allowed : ℕ) (fault : SurveyFault) (start : Start)
     → start_of file ≡ Ok start → survey_of file allowed ≡ Err fault
     → NoneBefore (fault_offset fault) (faults_from file allowed start)
 unfolding survey_of
-of_file file allowed fault start begun is =
-    long_by file allowed fault start (ltb longest_file (length file)) begun is
+of_file file allowed fault start begun is = grind (arith, long_by)
 
 abbrev IsFirstOf : Files → List ℕ → ℕ → SurveyFault → Type 0
 IsFirstOf files name allowed fault = (bytes : List ℕ) → Holds files name bytes → (start : Start)
@@ -316,13 +280,8 @@ IsFirstOf files name allowed fault = (bytes : List ℕ) → Holds files name byt
 module _ (name : List ℕ) (files : Files) (allowed : ℕ) (before after : Counts) where
   refusal_first : (fault : SurveyFault) → IsSurveyFault name files allowed before after fault
       → (fault_offset fault ≡ 0) ⊎ (kind_of fault ≡ IsRefused) → IsFirstOf files name allowed fault
-  refusal_first fault is (inl zero) =
-      λ bytes holds start begun. subst (λ n. NoneBefore n (faults_from bytes allowed start))
-      (sym zero) (none_at_all (faults_from bytes allowed start))
-  refusal_first fault is (inr kind) =
-      let refuses : RefusesBytes name files allowed before after fault =
-      subst (IsSurveyFaultBy name files allowed before after fault) kind is in
-      λ bytes holds start begun. of_file bytes allowed fault start begun (refuses.bytes bytes holds)
+  refusal_first fault is (inl zero) = grind (arith, none_at_all)
+  refusal_first fault is (inr kind) = grind (arith, of_file)
 
   -- a refusal of a file is the one with the smallest offset
   pub refused_first : (r : Result Survey SurveyFault)

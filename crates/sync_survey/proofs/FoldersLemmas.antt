@@ -27,8 +27,7 @@ too_long : (file : List ℕ) (allowed size : ℕ) → size ≡ length file → l
     → survey_of file allowed ≡ Err (TooLong size)
 unfolding survey_of
 too_long file allowed size is long =
-    let more : ltb longest_file (length file) ≡ true =
-    lt-ltb longest_file (length file) (omega (arith, is, long)) in
+    let more : ltb longest_file (length file) ≡ true = grind (arith, lt-ltb) in
     ap (λ b. cond b (Err (TooLong (length file))) (survey_fields file allowed)) more
     ∙ ap (λ n. Err (TooLong n)) (sym is)
 
@@ -206,8 +205,7 @@ module _ (name : List ℕ) (files : Files) (allowed : ℕ) (before after : Count
   bytes_refusal size fault known same rightly refused =
       kind_refusal fault rightly (record {
         there = known.there;
-        bytes = λ bytes holds. survey_of-short bytes allowed
-            (omega (arith, known.few, known.long bytes holds)) ∙ refused bytes holds;
+        bytes = grind (arith, survey_of-short);
         counts = same;
       })
 

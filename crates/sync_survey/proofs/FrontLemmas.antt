@@ -26,9 +26,7 @@ pub passed_more : (file : List ℕ) (blocks later : List Piece) (at size : ℕ) 
     → IsPassedTo file blocks at → Passes Front file at item size
     → later ≡ blocks ++ option_to_list (block_of_item at item) → IsPassedTo file later (at + size)
 passed_more file blocks later at size item so_far passes kept = record {
-  pieces = ap (λ l. l ++ blocks_of (item_run Front file (at + size)).items) kept
-      ∙ append_assoc blocks (option_to_list (block_of_item at item)) _
-      ∙ ap (λ l. blocks ++ l) (sym passes.blocks) ∙ so_far.pieces;
+  pieces = grind (arith, append_assoc);
   stop = sym passes.stop ∙ so_far.stop;
 }
 
@@ -43,16 +41,14 @@ pub passed_all : (file : List ℕ) (blocks : List Piece) (at : ℕ) → IsPassed
 passed_all file blocks at so_far none =
     let stopped = item_run-stopped_run Front file at none in
     record {
-      pieces = sym (append-nil blocks)
-          ∙ ap (λ l. blocks ++ l) (sym (ap (λ r. blocks_of r.items) stopped)) ∙ so_far.pieces;
+      pieces = grind (arith, append-nil);
       end = sym (ap (λ r. r.stop) stopped) ∙ so_far.stop;
     }
 
 -- at the end of the file, the front was passed
 pub passed_end : (file : List ℕ) (blocks : List Piece) (at size : ℕ) → size ≡ length file
     → size ≤ at → IsPassedTo file blocks at → IsFrontPassed file blocks at
-passed_end file blocks at size is past so_far =
-    passed_all file blocks at so_far (whole_item_at-past Front file at (omega (arith, is, past)))
+passed_end file blocks at size is past so_far = grind (arith, passed_all, whole_item_at-past)
 
 -- ---- blocks that follow each other
 
@@ -72,22 +68,19 @@ pieces_later from (p ∷ blocks) to later laid low =
 
 laid_none : (from : ℕ) (blocks : List Piece) (to later : ℕ) → BlocksAreLaid from blocks to
     → to ≤ later → BlocksAreLaid from (blocks ++ []) later
-laid_none from blocks to later laid low = subst (λ l. BlocksAreLaid from l later)
-    (sym (append-nil blocks)) (pieces_later from blocks to later laid low)
+laid_none from blocks to later laid low = grind (arith, append-nil, pieces_later)
 
 laid_by : (blocks : List Piece) (at size : ℕ) (item : Item) → BlocksAreLaid 0 blocks at
     → size_of item ≤ size
     → BlocksAreLaid 0 (blocks ++ option_to_list (block_of_item at item)) (at + size)
-laid_by blocks at size (Block b) laid least = laid_push 0 blocks at (at + size)
-    (record { offset = at; block = b }) laid (omega arith) (omega (arith, least))
+laid_by blocks at size (Block b) laid least = grind (arith, laid_push)
 laid_by blocks at size _ laid least = laid_none 0 blocks at (at + size) laid (omega arith)
 
 -- one more block follows those before it
 pub blocks_more : (blocks later : List Piece) (at size : ℕ) (item : Item)
     → BlocksAreLaid 0 blocks at → size_of item ≤ size
     → later ≡ blocks ++ option_to_list (block_of_item at item) → BlocksAreLaid 0 later (at + size)
-blocks_more blocks later at size item laid least kept =
-    subst (λ l. BlocksAreLaid 0 l (at + size)) (sym kept) (laid_by blocks at size item laid least)
+blocks_more blocks later at size item laid least kept = grind (arith, laid_by)
 
 -- no blocks are laid out
 pub blocks_none : (blocks : List Piece) → blocks ≡ [] → BlocksAreLaid 0 blocks 0

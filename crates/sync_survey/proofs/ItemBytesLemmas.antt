@@ -1,13 +1,10 @@
 -- An item is known by its own bytes, whatever bytes are after them.
-use Rattle.std.proofs.Common.{ap, arith, codes, cond, drop, Err, leb, length, List, Ok, refl, Some}
-use Rattle.std.proofs.Common.{sym, take, true, ℕ, ◌++◌, ◌+◌, ◌∙◌, ◌≡◌, ◌≤◌}
-use Rattle.std.proofs.lemmas.Bool.{false≢true}
+use Rattle.std.proofs.Common.{ap, arith, codes, drop, length, List, Ok, refl, Some, sym, take, true}
+use Rattle.std.proofs.{Common.{ℕ, ◌++◌, ◌+◌, ◌∙◌, ◌≡◌, ◌≤◌}, lemmas.Bool.false≢true}
 use Rattle.std.proofs.lemmas.List.{get_or-take, length-drop, length-take, length-take-le}
 use Rattle.std.proofs.lemmas.List.{take-append-le, take-take, take_at}
 use Rattle.frame_header.proofs.{HeaderLemmas.IsClass-class_of, LengthLemmas.area_some}
-use Rattle.frame_header.specs.{Fields.{HeaderFields, IsHeader}, Reading.header_at}
-use Rattle.frame_header.specs.Tables.{class_of, length_of}
-use Rattle.frame_header.specs.declared.header.NotHeader.TheVariants.{No}
+use Rattle.frame_header.specs.{Fields.{HeaderFields, IsHeader}, Tables.{class_of, length_of}}
 use Rattle.sync_survey.proofs.ItemsLemmas.{header_front-in_range, stands-at}
 use Rattle.sync_survey.proofs.OneItemLemmas.{stands-only}
 use Rattle.sync_survey.specs.Items.{header_front, IsItemFront, item_at, item_front, size_of}
@@ -33,22 +30,28 @@ begins-take : (kind : Kind) (n : ℕ) (bytes : List ℕ) → known_by kind ≤ n
     → begins kind (take n bytes) ≡ begins kind bytes
 unfolding is_id3v2 is_id3v1 is_ape
 begins-take Id3v2 n bytes within =
-    rw (
+    grind (
+      arith,
       long_take 10 n bytes within,
       text_take (codes "ID3") n bytes (omega arith),
+      codes
+          "ID3",
       get_or-take n bytes 3 0 (omega arith),
       get_or-take n bytes 4 0 (omega arith),
-      part_take 6 4 n bytes (omega arith),
-    ) refl
+      part_take 6
+          4 n bytes (omega arith),
+    )
 begins-take Id3v1 n bytes within = text_take (codes "TAG") n bytes within
 begins-take Ape n bytes within =
-    rw (
+    grind (
+      arith,
       long_take 32 n bytes within,
       text_take (codes "APETAGEX") n bytes (omega arith),
+      codes "APETAGEX",
       part_take 8 4 n bytes (omega arith),
       part_take 12 4 n bytes (omega arith),
       part_take 20 4 n bytes (omega arith),
-    ) refl
+    )
 
 length_of_kind-take : (kind : Kind) (n : ℕ) (bytes : List ℕ) → known_by kind ≤ n
     → length_of_kind kind (take n bytes) ≡ length_of_kind kind bytes
@@ -61,8 +64,7 @@ length_of_kind-take Ape n bytes within = rw (part_take 12 4 n bytes (omega arith
 -- the first bytes that decide whether there is a block of a kind are enough
 pub block_of_kind-take : (kind : Kind) (n : ℕ) (bytes : List ℕ) → known_by kind ≤ n
     → block_of_kind kind (take n bytes) ≡ block_of_kind kind bytes
-block_of_kind-take kind n bytes within =
-    rw (begins-take kind n bytes within, length_of_kind-take kind n bytes within) refl
+block_of_kind-take kind n bytes within = grind (arith, begins-take, length_of_kind-take)
 
 -- the bytes that decide the kind are within the block
 known_within : (kind : Kind) (bytes : List ℕ) → known_by kind ≤ length_of_kind kind bytes
@@ -78,7 +80,7 @@ block_front-bytes bytes rest b is within =
     let known : known_by b.kind ≤ b.length =
     omega (arith, known_within b.kind bytes, (block_front-begins bytes b is).1) in
     let same : take b.length (own ++ rest) ≡ own =
-    take_at own rest b.length (length-take-le b.length bytes within) in
+    grind (arith, take_at, length-take-le) in
     block_front-any b.kind (own ++ rest) b
     (sym (block_of_kind-take b.kind b.length (own ++ rest) known) ∙ ap (block_of_kind b.kind) same
     ∙ block_of_kind-take b.kind b.length bytes known ∙ block_front-own bytes b is)
@@ -88,11 +90,7 @@ block_front-bytes bytes rest b is within =
 -- only the first four bytes matter
 pub header_front-four : (xs ys : List ℕ) → take 4 xs ≡ take 4 ys → header_front xs ≡ header_front ys
 unfolding header_front
-header_front-four xs ys same =
-    let long : leb 4 (length xs) ≡ leb 4 (length ys) = sym (long_take 4 4 xs (omega arith))
-    ∙ ap (λ l. leb 4 (length l)) same ∙ long_take 4 4 ys (omega arith) in
-    ap (λ b. cond b (header_at (take 4 xs)) (Err No)) long
-    ∙ ap (λ four. cond (leb 4 (length ys)) (header_at four) (Err No)) same
+header_front-four xs ys same = grind (arith, long_take)
 
 -- ---- an item
 
@@ -118,8 +116,7 @@ frame_item h own header long least = record {
 
 -- a frame has more than the four bytes of its header
 pub frame-least : (h : HeaderFields) → IsHeader h → 4 ≤ length_of (class_of h) h.slot
-frame-least h fields =
-    omega (arith, area_some (class_of h) h.slot (IsClass-class_of h fields) fields.slot)
+frame-least h fields = grind (arith, area_some, IsClass-class_of)
 
 -- a whole item with which bytes begin is known by its own bytes
 stands_kept : (item : Item) (bytes rest : List ℕ) → IsItemFront bytes item → belongs Stream item
@@ -132,9 +129,7 @@ stands_kept (Frame h) bytes rest here is within =
     ∙ take-take 4 size bytes least)
     ∙ here
 stands_kept (Block b) bytes rest here is within = block_front-bytes bytes rest b here within
-stands_kept Zero bytes rest here is within =
-    take-append-le 1 (take 1 bytes) rest (omega (arith, within, length-take 1 bytes))
-    ∙ take-take 1 1 bytes (omega arith) ∙ here
+stands_kept Zero bytes rest here is within = grind (arith, take-append-le, length-take, take-take)
 stands_kept _ bytes rest here is within = absurd (false≢true is)
 
 -- the bytes of a whole item of a file are that item

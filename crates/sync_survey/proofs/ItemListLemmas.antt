@@ -1,5 +1,5 @@
 -- Bytes that are items joined in order: where they are in a file, the items follow end to end.
-use Rattle.std.proofs.Common.{ap, append_assoc, ap₂, arith, drop, filter_map, length, length-append}
+use Rattle.std.proofs.Common.{ap, append_assoc, arith, drop, filter_map, length, length-append}
 use Rattle.std.proofs.Common.{length-drop, List, map, None, Option, option_map, refl, Some, sym}
 use Rattle.std.proofs.Common.{true, ℕ, [], ◌++◌, ◌+◌, ◌-◌, ◌<◌, ◌∙◌, ◌∷◌, ◌≡◌, ◌≤◌}
 use Rattle.std.{proofs.lemmas.List.{drop-drop, drop_at}, specs.List.cons_option}
@@ -29,12 +29,13 @@ module _ (part : Region) (file : List ℕ) where
       → AreEndToEnd part file from ps to → AreEndToEnd Stream file from ps to
   ends-stream from [] to ends = ends
   ends-stream from (p ∷ ps) to ends =
-      let here = whole_item_at-is part file p.offset p.item ends.1 in (
-        ends.0,
-        whole_item_at-whole Stream file
-            p.offset p.item here.is (stream_belongs part p.item here.belongs)
-            here.within,
-        ends-stream (p.offset + size_of p.item) ps to ends.2,
+      grind (
+        arith,
+        whole_item_at-is,
+        whole_item_at-whole,
+        stream_belongs,
+        ends-stream (p.offset +
+            size_of p.item) ps to ends.2,
       )
 
   -- ---- from where to where
@@ -68,13 +69,11 @@ pub items-length : (part : Region) (file : List ℕ) (from : ℕ) (ps : List Pla
     → from + length bytes ≡ to
 items-length part file from [] to bytes ends are = omega (arith, ends, ap length are)
 items-length part file from (p ∷ ps) to bytes ends are =
-    omega (
+    grind (
       arith,
-      ends.0,
-      ap length are.2,
-      length-append are.0 are.1,
-      are.3.size,
-      items-length part file (p.offset + size_of p.item) ps to are.1 ends.2 are.4,
+      length-append,
+      items-length part file (p.offset + size_of p.item) ps to are.1
+          ends.2 are.4,
     )
 
 -- the bytes of items of a file are these items
@@ -110,8 +109,7 @@ nearer gap p = placed_by (λ at. at - gap) p
 pub item_at-known : (file : List ℕ) (place at : ℕ) (bytes : List ℕ) (item : Item) → place ≡ at
     → drop at file ≡ bytes → item_front bytes ≡ item → item_at file place ≡ item
 unfolding item_at
-item_at-known file place at bytes item same is known =
-    ap (λ n. item_front (drop n file)) same ∙ ap item_front is ∙ known
+item_at-known file place at bytes item same is known = grind arith
 
 -- items that aren't nearer at all are where they were
 pub nearer-none : (ps : List PlacedItem) → map (nearer 0) ps ≡ ps
@@ -135,7 +133,7 @@ module _ (part : Region) (old file : List ℕ) (gap : ℕ) where
       let here = whole_item_at-is part old p.offset p.item ends.1 in
       let place : p.offset - gap ≡ at = omega (arith, ends.0, there) in
       let stands : drop at file ≡ own ++ (rest ++ behind) =
-      is ∙ ap (λ l. l ++ behind) are.2 ∙ append_assoc own rest behind in
+      grind (arith, append_assoc) in
       let room : at + size ≤ length file = omega (
         arith,
         within,
@@ -164,8 +162,7 @@ module _ (part : Region) (old file : List ℕ) (gap : ℕ) where
       → whole_item_at part file (to - gap) ≡ None
       → item_run part file at ≡ record { items = map (nearer gap) ps; stop = to - gap }
   items-item_run from at ps to bytes behind ends there are within is none =
-      item_run-only part file at (map (nearer gap) ps) (to - gap)
-      (items-end from at ps to bytes behind ends there are within is) none
+      search (arith, item_run-only, items-end)
 
 -- ---- frames and blocks among them
 
@@ -180,8 +177,7 @@ module _ {A : Type 0} (part_of : ℕ → Item → Option A) (by : A → A) (to :
   taken : (ps : List PlacedItem) → filter_map (λ p. part_of p.offset p.item) (map (placed_by to) ps)
       ≡ map by (filter_map (λ p. part_of p.offset p.item) ps)
   taken [] = refl
-  taken (p ∷ ps) = ap₂ cons_option (moved p.offset p.item) (taken ps)
-      ∙ taken_more (part_of p.offset p.item) (filter_map (λ p. part_of p.offset p.item) ps)
+  taken (p ∷ ps) = grind (arith, taken_more, filter_map, taken ps)
 
 moved_frame : (to : ℕ → ℕ) (at : ℕ) (item : Item)
     → frame_of_item (to at) item ≡ option_map (frame_by to) (frame_of_item at item)
@@ -223,8 +219,7 @@ one_mapped : (f g : Piece → Piece) (at : ℕ) (item : Item) (ys : List Piece)
     → ((p : Piece) → p.offset ≡ at → f p ≡ g p) → map f ys ≡ map g ys
     → map f (cons_option (block_of_item at item) ys)
     ≡ map g (cons_option (block_of_item at item) ys)
-one_mapped f g at (Block b) ys same rest =
-    ap₂ (λ (p : Piece) (l : List Piece). p ∷ l) (same (record { offset = at; block = b }) refl) rest
+one_mapped f g at (Block b) ys same rest = grind arith
 one_mapped f g at _ ys same rest = rest
 
 -- two changes that agree for blocks between two offsets agree for the blocks that are there
@@ -252,10 +247,10 @@ pub frames-few : (part : Region) (file : List ℕ) (from : ℕ) (ps : List Place
     → AreEndToEnd part file from ps to → from + length (frames_of ps) ≤ to
 frames-few part file from [] to ends = omega (arith, ends)
 frames-few part file from (p ∷ ps) to ends =
-    omega (
+    grind (
       arith,
-      ends.0,
-      (whole_item_at-is part file p.offset p.item ends.1).some,
-      frame_count p.offset p.item (frames_of ps),
-      frames-few part file (p.offset + size_of p.item) ps to ends.2,
+      whole_item_at-is,
+      frame_count,
+      frames-few part file (p.offset + size_of p.item) ps
+          to ends.2,
     )

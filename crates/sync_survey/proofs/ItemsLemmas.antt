@@ -18,13 +18,7 @@ use Rattle.tag_blocks.specs.declared.block.Block.{Block as TagBlock}
 byte_stands : (b : ℕ) (bs : List ℕ) (zero : Bool) → (b == 0) ≡ zero → header_front (b ∷ bs) ≡ Err No
     → block_front (b ∷ bs) ≡ None → IsItemFront (b ∷ bs) (cond zero Zero Nothing)
 byte_stands b bs true is no_header no_block = ap (λ x. x ∷ []) (eqb-true b 0 is)
-byte_stands b bs false is no_header no_block = (
-  no_header,
-  no_block,
-  (λ e. absurd cc),
-  (λ e. let first : b ≡ 0 = cc in let zero : (b == 0) ≡ true = ap (λ x. x == 0) first in
-      absurd (false≢true (sym is ∙ zero))),
-)
+byte_stands b bs false is no_header no_block = grind (arith, false≢true)
 
 stands_by : (bytes : List ℕ) (r : Result HeaderFields NotHeader) (o : Option TagBlock)
     → header_front bytes ≡ r → block_front bytes ≡ o
@@ -43,8 +37,7 @@ stands bytes = stands_by bytes (header_front bytes) (block_front bytes) refl ref
 pub frame_of_header : (bytes : List ℕ) (h : HeaderFields) → header_front bytes ≡ Ok h
     → item_front bytes ≡ Frame h
 unfolding item_front
-frame_of_header bytes h e =
-    ap (λ r. header_or_item r (block_or_item (block_front bytes) (byte_item bytes))) e
+frame_of_header bytes h e = grind arith
 
 -- the header of an item that is a frame is the one with which the bytes begin
 pub header_stands : (bytes : List ℕ) (item : Item) (h : HeaderFields) → item ≡ item_front bytes
@@ -77,8 +70,7 @@ unfolding header_front
 header_front-in_range bytes h e = IsHeader-header_at (take 4 bytes) h (header_cases _ _ h e)
 
 frame_some : (h : HeaderFields) → IsHeader h → 0 < length_of (class_of h) h.slot
-frame_some h fields =
-    omega (arith, area_some (class_of h) h.slot (IsClass-class_of h fields) fields.slot)
+frame_some h fields = grind (arith, area_some, IsClass-class_of)
 
 -- an item with which bytes begin and that belongs to a part has at least one byte
 pub some_by : (bytes : List ℕ) (part : Region) (item : Item) → IsItemFront bytes item
@@ -91,5 +83,4 @@ some_by bytes part _ here is = absurd (false≢true is)
 -- an item at an offset of a file that belongs to a part has at least one byte
 pub size-some : (part : Region) (file : List ℕ) (at : ℕ) (item : Item) → item_at file at ≡ item
     → belongs part item ≡ true → 0 < size_of item
-size-some part file at item is belongs =
-    some_by (drop at file) part item (stands-at file at item is) belongs
+size-some part file at item is belongs = search (arith, some_by, stands-at)

@@ -9,8 +9,7 @@ use Rattle.sync_survey.proofs.{ItemBytesLemmas.header_front-four, ItemsLemmas.{s
 use Rattle.sync_survey.proofs.OneItemLemmas.{stands-only_at}
 use Rattle.sync_survey.proofs.RunsLemmas.{blocks-next, frames-next, item_run-next}
 use Rattle.sync_survey.proofs.RunsLemmas.{whole_item_at-whole}
-use Rattle.sync_survey.specs.Items.{block_or_item, byte_item, header_or_item, IsItemFront, item_at}
-use Rattle.sync_survey.specs.Items.{item_fits, item_front, size_of}
+use Rattle.sync_survey.specs.Items.{byte_item, IsItemFront, item_at, item_fits, item_front, size_of}
 use Rattle.sync_survey.specs.Looks.{look_size, Passes, Shows}
 use Rattle.sync_survey.specs.Runs.{belongs, blocks_of, frames_of, item_if_whole, item_run}
 use Rattle.sync_survey.specs.{Runs.whole_item_at, declared.items.Item.Item}
@@ -30,11 +29,16 @@ pub item_front-take : (n : ℕ) (bytes : List ℕ) → 32 ≤ n
     → item_front (take n bytes) ≡ item_front bytes
 unfolding item_front
 item_front-take n bytes many =
-    let header =
-    header_front-four (take n bytes) bytes (take-take 4 n bytes (omega (arith, many))) in
-    let block = block_front-take n bytes many in
-    let byte = byte_item-take n bytes (omega (arith, many)) in
-    λ i. header_or_item (header i) (block_or_item (block i) (byte i))
+    grind (
+      arith,
+      header_front-four (take n bytes) bytes (take-take 4 n bytes (omega (
+        arith,
+        many,
+      ))),
+      take-take 4 n bytes (omega (arith, many)),
+      block_front-take n bytes many,
+      byte_item-take n bytes (omega (arith, many)),
+    )
 
 -- ---- zero bytes
 
@@ -63,8 +67,7 @@ module _ {X : Type 0} (file : List ℕ) (f : ℕ → X)
   zeros_same : (front rest : List ℕ) (at : ℕ) → drop at file ≡ front ++ rest
       → f at ≡ f (at + prefix_len zero_test front)
   zeros_same [] rest at is = let end : at ≡ at + 0 = omega arith in ap f end
-  zeros_same (b ∷ bs) rest at is = zeros_more (bs ++ rest) at (prefix_len zero_test bs) b is
-      (zeros_same bs rest (at + 1)) (zero_test b) refl
+  zeros_same (b ∷ bs) rest at is = grind (arith, zeros_more, zeros_same bs rest (at + 1))
 
 -- ---- how many bytes are passed
 
@@ -76,11 +79,7 @@ pub record IsSized (item : Item) (left size : ℕ) : Type 0 where
 
 zero_counted : (front : List ℕ) → take 1 front ≡ 0 ∷ [] → 1 ≤ prefix_len zero_test front
 zero_counted [] first = absurd cc
-zero_counted (b ∷ bs) first =
-    let zero : b ≡ 0 = cc in
-    let counts : (t : Bool) → t ≡ true → 1 ≤ cond t (1 + prefix_len zero_test bs) 0 =
-    λ t is. subst (λ t. 1 ≤ cond t (1 + prefix_len zero_test bs) 0) (sym is) (omega arith) in
-    counts (zero_test b) (ap zero_test zero)
+zero_counted (b ∷ bs) first = grind arith
 
 abbrev Counts : Item → List ℕ → ℕ → Type 0
 Counts item front size =
@@ -98,11 +97,9 @@ module _ (part : Region) (front : List ℕ) (left size : ℕ) where
   sized_by : (item : Item) → IsItemFront front item → belongs part item ≡ true → size_of item ≤ left
       → length front ≤ left → Counts item front size → IsSized item left size
   sized_by (Frame h) here is within all counts =
-      own_size (Frame h) left size (some_by front part (Frame h) here is) within
-      (counts.1 (λ e. cc))
+      grind (arith, own_size, some_by front part (Frame h) here is, within)
   sized_by (Block b) here is within all counts =
-      own_size (Block b) left size (some_by front part (Block b) here is) within
-      (counts.1 (λ e. cc))
+      grind (arith, own_size, some_by front part (Block b) here is, within)
   sized_by Zero here is within all counts =
       let many = zero_counted front here in
       let size_is = counts.0 refl in
@@ -119,16 +116,14 @@ module _ (part : Region) (front : List ℕ) (left size : ℕ) where
   pub sized : (item : Item) → item ≡ item_front front → belongs part item ≡ true → size_of item
       ≤ left → length front ≤ left → (item ≡ Zero → size ≡ prefix_len zero_test front)
       → ((item ≡ Zero → ⊥) → size ≡ size_of item) → IsSized item left size
-  sized item is here within all zeros other = sized_by item
-      (subst (IsItemFront front) (sym is) (stands front)) here within all (zeros, other)
+  sized item is here within all zeros other = grind (arith, sized_by, stands, within)
 
 module _ (file : List ℕ) (at : ℕ) (front : List ℕ) (left : ℕ)
     (shows : Shows file at front left) where
   -- the item with which the look begins is the file's item there
   pub item_at-shown : item_front front ≡ item_at file at
   unfolding item_at
-  item_at-shown =
-      ap item_front shows.front_is ∙ item_front-take look_size (drop at file) (omega arith)
+  item_at-shown = grind (arith, item_front-take look_size (drop at file) (omega arith))
 
   -- the item `size` bytes later, where 32 bytes are shown from there on, is the file's item there
   pub item_at-behind : (size : ℕ) → size ≤ 4064
@@ -151,17 +146,13 @@ module _ (file : List ℕ) (at : ℕ) (front : List ℕ) (left : ℕ)
   none_by : (part : Region) (item : Item) → item_at file at ≡ item → (b : Bool)
       → belongs part item ≡ b → (b ≡ true → left < size_of item) → whole_item_at part file at ≡ None
   unfolding whole_item_at
-  none_by part item is true here past =
-      let over : item_fits file at item ≡ false =
-      sym (item_fits-left item) ∙ lt-leb (size_of item) left (past refl) in
-      ap (item_if_whole part file at) is ∙ rw (here, over) refl
+  none_by part item is true here past = grind (arith, item_fits-left, lt-leb)
   none_by part item is false here past = ap (item_if_whole part file at) is ∙ rw here refl
 
   -- an item of the part that is longer than what is left isn't whole there
   pub not_here : (part : Region) (item : Item) → item ≡ item_front front
       → (belongs part item ≡ true → left < size_of item) → whole_item_at part file at ≡ None
-  not_here part item is past =
-      none_by part item (sym item_at-shown ∙ sym is) (belongs part item) refl past
+  not_here part item is past = grind (arith, none_by, item_at-shown)
 
   whole_here : (part : Region) (item : Item) → item ≡ item_front front → belongs part item ≡ true
       → 0 < size_of item → size_of item ≤ left → whole_item_at part file at ≡ Some item
@@ -194,13 +185,7 @@ module _ (file : List ℕ) (at : ℕ) (front : List ℕ) (left : ℕ)
   -- passing all of an item's bytes is passing it
   pub passes_whole : (part : Region) (item : Item) (size : ℕ)
       → whole_item_at part file at ≡ Some item → size ≡ size_of item → Passes part file at item size
-  passes_whole part item size here is =
-      subst (Passes part file at item) (sym is)
-      (record {
-        frames = frames-next part file at item here;
-        blocks = blocks-next part file at item here;
-        stop = ap (λ r. r.stop) (item_run-next part file at item here);
-      })
+  passes_whole part item size here is = grind (arith, frames-next, blocks-next, item_run-next)
 
   step_by : (part : Region) (item : Item) (size : ℕ) → whole_item_at part file at ≡ Some item
       → Counts item front size → Passes part file at item size

@@ -1,8 +1,7 @@
 -- Lost frames have only silent and lost frames before them, since the main data of any other frame
 -- end after 0.
-use Rattle.std.proofs.Common.{ap, arith, Bool, cond, false, inl, inr, List, None, Option, refl}
-use Rattle.std.proofs.Common.{slice_get, Some, subst, suc, sym, true, zero, ℕ, ⊎_elim, ◌<◌, ◌==◌}
-use Rattle.std.proofs.Common.{◌||◌, ◌∙◌, ◌≡◌, ◌≤◌, ◌⊎◌}
+use Rattle.std.proofs.Common.{arith, Bool, cond, false, inl, inr, List, None, Option, refl}
+use Rattle.std.proofs.Common.{slice_get, Some, suc, true, zero, ℕ, ◌<◌, ◌==◌, ◌||◌, ◌≡◌, ◌≤◌, ◌⊎◌}
 use Rattle.std.proofs.lemmas.Bool.{and_from, and_parts, eq-eqb, eqb-true}
 use Rattle.side_info.specs.Side.{payload_bits, payload_bytes}
 use Rattle.sync_survey.specs.Laws.{AreSilentOrLost}
@@ -33,8 +32,7 @@ zero_cases place ended r false false is other e = absurd (omega (arith, e, loud-
 
 zero_behind : (place ended : ℕ) (r : Row) → data_end_after place ended (Some r) ≡ 0
     → (ended ≡ 0) × IsEmpty place ended r
-zero_behind place ended r e =
-    zero_cases place ended r (is_silent r) (lacks_data place ended r) refl refl e
+zero_behind place ended r e = grind (arith, zero_cases)
 
 empty_cases : (silent lost : Bool) (ended other : ℕ) → (silent ≡ true) ⊎ (lost ≡ true) → ended ≡ 0
     → cond (silent || lost) ended other ≡ 0
@@ -48,8 +46,7 @@ at_or_before : (j i : ℕ) → j < suc i → (j < i) ⊎ (j ≡ i)
 at_or_before zero zero lt = inr refl
 at_or_before zero (suc i) lt = inl (omega arith)
 at_or_before (suc j) zero lt = absurd (omega (arith, lt))
-at_or_before (suc j) (suc i) lt = ⊎_elim (λ before. inl (omega (arith, before)))
-    (λ same. inr (ap suc same)) (at_or_before j i (omega (arith, lt)))
+at_or_before (suc j) (suc i) lt = grind (arith, at_or_before j i (omega (arith, lt)))
 
 module _ (head : Option Head) (rows : List Row) where
   abbrev IsEmptyAt : ℕ → Row → Type 0
@@ -57,21 +54,14 @@ module _ (head : Option Head) (rows : List Row) where
 
   here_by : (i j : ℕ) (q : Row) (o : Option Row) → slice_get rows i ≡ o
       → ((r : Row) → o ≡ Some r → IsEmptyAt i r) → j ≡ i → slice_get rows j ≡ Some q → IsEmptyAt j q
-  here_by i j q o is each same found = subst (λ n. IsEmptyAt n q) (sym same)
-      (each q (sym is ∙ ap (slice_get rows) (sym same) ∙ found))
+  here_by i j q o is each same found = grind arith
 
   step : (i : ℕ) (o : Option Row) → slice_get rows i ≡ o
       → (data_end_before head rows i ≡ 0 → AreSilentOrLost head rows i)
       → data_end_after (place head rows i) (data_end_before head rows i) o ≡ 0
       → AreSilentOrLost head rows (suc i)
-  step i None is before e = λ j q lt found.
-      ⊎_elim (λ earlier. before e j q earlier found)
-      (λ same. here_by i j q None is (λ r some. absurd cc) same found) (at_or_before j i lt)
-  step i (Some r) is before e = λ j q lt found.
-      let parts = zero_behind (place head rows i) (data_end_before head rows i) r e in
-      ⊎_elim (λ earlier. before parts.0 j q earlier found)
-      (λ same. here_by i j q (Some r) is (λ p some. let one : r ≡ p = cc in
-      subst (IsEmptyAt i) one parts.1) same found) (at_or_before j i lt)
+  step i None is before e = grind (arith, here_by, at_or_before)
+  step i (Some r) is before e = grind (arith, zero_behind, here_by, at_or_before)
 
   -- if no main data end after 0 before a frame, all frames before it are silent or lost
   pub none-empty : (i : ℕ) → data_end_before head rows i ≡ 0 → AreSilentOrLost head rows i
@@ -83,8 +73,7 @@ module _ (head : Option Head) (rows : List Row) where
       → ((r : Row) → slice_get rows i ≡ Some r → IsEmptyAt i r)
       → data_end_after (place head rows i) (data_end_before head rows i) o ≡ 0
   behind_empty i None is none each = none
-  behind_empty i (Some r) is none each = empty_cases (is_silent r) (is_lost head rows i r)
-      (data_end_before head rows i) (end_of_data (place head rows i) r) (each r is) none
+  behind_empty i (Some r) is none each = grind (arith, empty_cases)
 
   -- if all frames before a frame are silent or lost, no main data before it end after 0
   pub empty-none : (i : ℕ) → AreSilentOrLost head rows i → data_end_before head rows i ≡ 0
@@ -99,14 +88,9 @@ module _ (head : Option Head) (rows : List Row) where
   -- a lost frame points too far back, and all frames before it are silent or lost
   pub lost-leads : (i : ℕ) (r : Row) → is_lost head rows i r ≡ true
       → (points_too_far (place head rows i) r ≡ true) × AreSilentOrLost head rows i
-  lost-leads i r lost =
-      let parts =
-      and_parts (data_end_before head rows i == 0) (points_too_far (place head rows i) r) lost in
-      (parts.1, none-empty i (eqb-true (data_end_before head rows i) 0 parts.0))
+  lost-leads i r lost = grind (arith, and_parts, none-empty, eqb-true)
 
   -- such a frame is lost
   pub leads-lost : (i : ℕ) (r : Row) → (points_too_far (place head rows i) r ≡ true)
       × AreSilentOrLost head rows i → is_lost head rows i r ≡ true
-  leads-lost i r leads =
-      and_from (data_end_before head rows i == 0) (points_too_far (place head rows i) r)
-      (eq-eqb (data_end_before head rows i) 0 (empty-none i leads.1)) leads.0
+  leads-lost i r leads = grind (arith, and_from, eq-eqb, empty-none)

@@ -1,9 +1,8 @@
 -- Bytes begin with at most one item.
 use Rattle.std.proofs.Common.{ap, arith, Bool, cond, drop, Err, false, get_or, length, List, None}
-use Rattle.std.proofs.Common.{Option, refl, Result, Some, subst, sym, take, true, ℕ, [], ◌*◌, ◌++◌}
-use Rattle.std.proofs.Common.{◌+◌, ◌<◌, ◌==◌, ◌^◌, ◌∙◌, ◌∷◌, ◌≡◌, ◌≢◌, ◌≤◌}
-use Rattle.std.proofs.{Math.Seq.take-append-add, lemmas.Bool.{and_parts, eqb-true, leb-true}}
-use Rattle.std.proofs.lemmas.List.{length-take}
+use Rattle.std.proofs.Common.{Option, refl, Result, Some, sym, take, true, ℕ, [], ◌*◌, ◌++◌, ◌+◌}
+use Rattle.std.proofs.{Common.{◌<◌, ◌==◌, ◌∙◌, ◌∷◌, ◌≡◌, ◌≢◌, ◌≤◌}, Math.Seq.take-append-add}
+use Rattle.std.proofs.lemmas.{Bool.{and_parts, eqb-true, leb-true}, List.length-take}
 use Rattle.bit_fields.proofs.BitsLemmas.{AreBelow-take, AreBits-bits, bits-cons, length-bits}
 use Rattle.bit_fields.proofs.BitsLemmas.{length-bits_of, number-append, number-below}
 use Rattle.bit_fields.{proofs.BitsLemmas.number-bits_of-below, specs.Bits.{bits, bits_of, number}}
@@ -11,9 +10,8 @@ use Rattle.bit_fields.specs.Groups.{group}
 use Rattle.frame_header.{proofs.HeaderLemmas.header_in-no, specs.Fields.HeaderFields}
 use Rattle.frame_header.specs.Reading.{header_at, header_in, is_readable}
 use Rattle.frame_header.specs.declared.header.NotHeader.{NotHeader, TheVariants.No}
-use Rattle.sync_survey.specs.Items.{block_or_item, byte_item, header_front, header_or_item}
-use Rattle.sync_survey.specs.{Items.{IsItemFront, item_at, item_front}, declared.items.Item.Item}
-use Rattle.sync_survey.specs.declared.items.Item.TheVariants.{Block, End, Nothing, Zero}
+use Rattle.sync_survey.specs.Items.{byte_item, header_front, IsItemFront, item_at, item_front}
+use Rattle.sync_survey.specs.declared.items.Item.{Item, TheVariants.{Block, End, Nothing, Zero}}
 use Rattle.tag_blocks.proofs.BlocksLemmas.{block_front-first, block_front-not_zero, first_byte}
 use Rattle.tag_blocks.specs.{Blocks.block_front, declared.block.Block.Block as TagBlock}
 use Rattle.tag_blocks.specs.declared.block.Kind.{Kind, TheVariants.Id3v2}
@@ -28,21 +26,19 @@ sync_byte byte next rest below sync =
     let eight : length (bits_of 8 byte) ≡ 8 = length-bits_of 8 byte in
     let behind = bits (next ∷ rest) in
     let front : take 11 (bits (byte ∷ next ∷ rest)) ≡ bits_of 8 byte ++ take 3 behind =
-    ap (take 11) (bits-cons byte (next ∷ rest)) ∙ ap (λ n. take (n + 3) (bits_of 8 byte ++ behind))
-    (sym eight) ∙ take-append-add (bits_of 8 byte) behind 3 in
+    grind (arith, bits-cons byte (next ∷ rest), take-append-add (bits_of 8 byte) behind 3) steps
+    400000 in
     let three : length (take 3 behind) ≡ 3 =
     omega (arith, length-take 3 behind, length-bits (next ∷ rest)) in
     let whole : number (take 11 (bits (byte ∷ next ∷ rest))) ≡ byte * 8 + number (take 3 behind) =
-    ap number front ∙ number-append (bits_of 8 byte) (take 3 behind)
-    ∙ (λ i. number-bits_of-below 8 byte below i * 2 ^ three i + number (take 3 behind)) in
-    let few : number (take 3 behind) < 8 = subst (λ n. number (take 3 behind) < 2 ^ n) three
-    (number-below (take 3 behind) (AreBelow-take 2 3 behind (AreBits-bits (next ∷ rest)))) in
+    grind (arith, number-append, number-bits_of-below) in
+    let few : number (take 3 behind) < 8 =
+    grind (arith, number-below, AreBelow-take, AreBits-bits) in
     omega (arith, few, sym whole ∙ sync)
 
 readable_sync : (h : List ℕ) → is_readable h ≡ true → group 0 11 h ≡ 2047
 unfolding is_readable
-readable_sync h is =
-    eqb-true _ _ (and_parts _ _ (and_parts _ _ (and_parts _ _ (and_parts _ _ is).0).0).0).0
+readable_sync h is = grind (arith, eqb-true, and_parts)
 
 readable_cases : (h : List ℕ) (b : Bool) → is_readable h ≡ b → header_in h ≢ Err No
     → is_readable h ≡ true
@@ -70,8 +66,7 @@ four_bytes _ below long = absurd (omega (arith, long))
 -- bytes that don't begin with ff begin with no header
 pub no_header : (bytes : List ℕ) → get_or bytes 0 0 < 255 → header_front bytes ≡ Err No
 unfolding header_front
-no_header bytes below =
-    no_header_by _ _ (λ long. four_bytes bytes below (leb-true 4 (length bytes) long))
+no_header bytes below = grind (arith, no_header_by, four_bytes, leb-true)
 
 -- ---- the first byte of a block
 
@@ -88,8 +83,7 @@ option_cases None not = refl
 option_cases (Some b) not = absurd (not b refl)
 
 no_block : (bytes : List ℕ) → get_or bytes 0 0 ≡ 0 → block_front bytes ≡ None
-no_block bytes first =
-    option_cases (block_front bytes) (λ b is. block_front-not_zero bytes b is first)
+no_block bytes first = grind (arith, option_cases, block_front-not_zero)
 
 -- ---- one item
 
@@ -111,24 +105,11 @@ byte_item-zero (b ∷ bs) first = let same : b ≡ 0 = cc in (same, ap (λ x. by
 -- an item with which bytes begin is the one that the definition finds
 pub stands-only : (bytes : List ℕ) (item : Item) → IsItemFront bytes item → item ≡ item_front bytes
 unfolding item_front
-stands-only bytes (Block b) here =
-    let header = no_header bytes (block_front-below bytes b here) in
-    sym (λ i. header_or_item (header i) (block_or_item (here i) (byte_item bytes)))
-stands-only bytes Zero here =
-    let first = byte_item-zero bytes here in
-    let header = no_header bytes (omega (arith, first.0)) in
-    let block = no_block bytes first.0 in
-    sym ((λ i. header_or_item (header i) (block_or_item (block i) (byte_item bytes))) ∙ first.1)
-stands-only bytes End here =
-    let first : get_or bytes 0 0 ≡ 0 = ap (λ xs. get_or xs 0 0) here in
-    let header = no_header bytes (omega (arith, first)) in
-    let block = no_block bytes first in
-    sym (λ i. header_or_item (header i) (block_or_item (block i) (byte_item (here i))))
-stands-only bytes Nothing here =
-    sym ((λ i. header_or_item (here.0 i) (block_or_item (here.1 i) (byte_item bytes)))
-    ∙ byte_item-nothing bytes here.2 here.3)
-stands-only bytes _ here =
-    ap (λ r. header_or_item r (block_or_item (block_front bytes) (byte_item bytes))) (sym here)
+stands-only bytes (Block b) here = grind (arith, no_header, block_front-below)
+stands-only bytes Zero here = grind (arith, byte_item-zero, no_header, no_block)
+stands-only bytes End here = grind (arith, no_header, no_block)
+stands-only bytes Nothing here = grind (arith, byte_item-nothing)
+stands-only bytes _ here = grind arith
 
 -- an item at an offset of a file is the one that the definition finds there
 pub stands-only_at : (file : List ℕ) (at : ℕ) (item : Item) → IsItemFront (drop at file) item

@@ -1,9 +1,8 @@
 -- Two lists, each in order, as one.
-use Rattle.std.proofs.Common.{ap, arith, cond, false, List, ltb, map, refl, sym, true, ℕ, [], ◌++◌}
-use Rattle.std.proofs.Common.{◌<◌, ◌∙◌, ◌∷◌, ◌≡◌, ◌≤◌}
+use Rattle.std.proofs.Common.{ap, arith, List, map, refl, ℕ, [], ◌++◌, ◌<◌, ◌∷◌, ◌≡◌, ◌≤◌}
 use Rattle.std.proofs.lemmas.Bool.{le-ltb, lt-ltb, ltb-false, ltb-true}
-use Rattle.sync_survey.specs.Order.{IsFirstAfter, IsFirstFrom, merged_before, merged_list}
-use Rattle.sync_survey.specs.Order.{ordered_insert, ordered_list, RisesBy}
+use Rattle.sync_survey.specs.Order.{IsFirstAfter, IsFirstFrom, merged_list, ordered_insert}
+use Rattle.sync_survey.specs.Order.{ordered_list, RisesBy}
 
 module _ {A : Type 0} (key : A → ℕ) where
   -- ---- one entry put in
@@ -44,14 +43,7 @@ module _ {A : Type 0} (key : A → ℕ) where
   unfolding merged_list
   put_before t [] us rises behind = put_first t us behind
   put_before t (s ∷ ts) [] rises behind = rw (le-ltb (key s) (key t) rises.0) refl
-  put_before t (s ∷ ts) (u ∷ us) rises behind =
-      elim (ltb (key u) (key s)) as (λ b. ordered_insert key t
-      (cond b (u ∷ merged_before key s (merged_list key ts) us) (s ∷ merged_list key ts (u ∷ us)))
-      ≡ t ∷ cond b (u ∷ merged_before key s (merged_list key ts) us)
-      (s ∷ merged_list key ts (u ∷ us))) [
-        | true ↦ rw (le-ltb (key u) (key t) behind.0) refl
-        | false ↦ rw (le-ltb (key s) (key t) rises.0) refl
-      ]
+  put_before t (s ∷ ts) (u ∷ us) rises behind = grind (arith, le-ltb)
 
   -- entries that rise from a number on rise from any lesser one
   pub rises_from : (from to : ℕ) (ts : List A) → from ≤ to → RisesBy key to ts → RisesBy key from ts
@@ -61,31 +53,25 @@ module _ {A : Type 0} (key : A → ℕ) where
   put_merged : (t : A) (ts us : List A) (from : ℕ) → RisesBy key (key t) ts → RisesBy key from us
       → ordered_insert key t (merged_list key ts us) ≡ merged_list key (t ∷ ts) us
   unfolding merged_list
-  put_merged t ts [] from rises up =
-      ap (ordered_insert key t) (merged_nil ts) ∙ put_first t ts rises
-      ∙ ap (λ us. t ∷ us) (sym (merged_nil ts))
+  put_merged t ts [] from rises up = grind (arith, merged_nil, put_first)
   put_merged t ts (u ∷ us) from rises up =
-      let behind : ordered_insert key t (merged_list key ts us)
-      ≡ merged_before key t (merged_list key ts) us =
-      put_merged t ts us (key u) rises up.1 in
-      elim (ltb (key u) (key t)) as (λ b. ltb (key u) (key t) ≡ b
-      → ordered_insert key t (merged_list key ts (u ∷ us))
-      ≡ cond b (u ∷ merged_before key t (merged_list key ts) us)
-      (t ∷ merged_list key ts (u ∷ us))) [
-        | true ↦ λ is.
-            ap (ordered_insert key t) (merged_other ts u us
-            (rises_after (key u) (key t) ts rises (ltb-true (key u) (key t) is)))
-            ∙ rw is (ap (λ vs. u ∷ vs) behind)
-        | false ↦ λ is. put_before t ts (u ∷ us) rises (ltb-false (key u) (key t) is, up.1)
-      ] refl
+      grind (
+        arith,
+        merged_other,
+        rises_after,
+        ltb-true,
+        put_before,
+        ltb-false,
+        put_merged t ts us
+            (key u) rises up.1,
+      )
 
   -- ---- two lists, each in order
 
   ordered_same : (ts : List A) (from : ℕ) → RisesBy key from ts → ordered_list key ts ≡ ts
   unfolding ordered_list
   ordered_same [] from rises = refl
-  ordered_same (t ∷ ts) from rises =
-      ap (ordered_insert key t) (ordered_same ts (key t) rises.1) ∙ put_first t ts rises.1
+  ordered_same (t ∷ ts) from rises = grind (arith, put_first, ordered_same ts (key t) rises.1)
 
   -- two lists that rise, joined and put in order, are merged
   pub ordered_both : (ts us : List A) (from to : ℕ) → RisesBy key from ts → RisesBy key to us
@@ -93,8 +79,7 @@ module _ {A : Type 0} (key : A → ℕ) where
   unfolding ordered_list merged_list
   ordered_both [] us from to rises up = ordered_same us to up
   ordered_both (t ∷ ts) us from to rises up =
-      ap (ordered_insert key t) (ordered_both ts us (key t) to rises.1 up)
-      ∙ put_merged t ts us to rises.1 up
+      grind (arith, put_merged, ordered_both ts us (key t) to rises.1 up)
 
 -- ---- entries compared by what is made of them
 

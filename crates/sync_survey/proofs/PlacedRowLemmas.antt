@@ -17,8 +17,8 @@ use Rattle.sync_survey.proofs.SurveyPartsLemmas.{survey_fields-parts}
 use Rattle.sync_survey.specs.Faults.{class_from, data_faults, faults_at, first_of, survey_fields}
 use Rattle.sync_survey.specs.{Faults.SurveyFields, Items.{item_at, size_of}, Looks.KeepsFrame}
 use Rattle.sync_survey.specs.MainData.{data_end_after, data_end_before, head_area, lacks_data}
-use Rattle.sync_survey.specs.MainData.{marked_row, marked_rows, own_area, place, row_of, rows_of}
-use Rattle.sync_survey.specs.{Row.Row, Runs.{AreEndToEnd, frame_of_item, frames_of, PlacedItem}}
+use Rattle.sync_survey.specs.{MainData.{marked_row, marked_rows, own_area, place, rows_of}, Row.Row}
+use Rattle.sync_survey.specs.Runs.{AreEndToEnd, frame_of_item, frames_of, PlacedItem}
 use Rattle.sync_survey.specs.{Start.start_of, Survey.{AreWellPlaced, IsWellPlaced}}
 use Rattle.sync_survey.specs.Walk.{head_of, numbered_frames, stream_run}
 use Rattle.sync_survey.specs.declared.{found.SurveySoFar.SurveySoFar, items.Item.Item}
@@ -53,9 +53,7 @@ pub placed_same : (head : Option Head) (class : ClassFields) (old new : List Row
     (before behind : ReservoirState) → new ≡ old → behind ≡ before
     → ArePlacedTo head class old before.place before.ended
     → ArePlacedTo head class new behind.place behind.ended
-placed_same head class old new before behind same stays placed =
-    subst (λ (b : ReservoirState). ArePlacedTo head class new b.place b.ended) (sym stays)
-    (subst (λ rows. ArePlacedTo head class rows before.place before.ended) (sym same) placed)
+placed_same head class old new before behind same stays placed = grind arith
 
 -- a frame is well placed, given place and end
 pub placed_by : (head : Option Head) (class : ClassFields) (rows : List Row) (i : ℕ) (r : Row)
@@ -75,11 +73,7 @@ placed_by head class rows i r place_now ended at ends known same fits mark none 
 placed_before : (head : Option Head) (class : ClassFields) (rows more : List Row) (i : ℕ) (r : Row)
     → i < length rows → IsWellPlaced head class rows i r
     → IsWellPlaced head class (rows ++ more) i r
-placed_before head class rows more i r lt is =
-    placed_by head class (rows ++ more) i r (place head rows i) (data_end_before head rows i)
-    (sym (place-more head rows more i (omega (arith, lt))))
-    (sym (end-more head rows more i (omega (arith, lt))))
-    is.known is.class_is is.fits is.mark is.sound
+placed_before head class rows more i r lt is = grind (arith, placed_by, place-more, end-more)
 
 module _ (head : Option Head) (class : ClassFields) (said allowed : ℕ) (r : Row) (rows : List Row)
     (place_now ended count : ℕ) (placed : ArePlacedTo head class rows place_now ended)
@@ -97,11 +91,7 @@ module _ (head : Option Head) (class : ClassFields) (said allowed : ℕ) (r : Ro
   class_is = class-sound (class_of r.header) class sound.same
 
   last : IsWellPlaced head class (rows ++ frame ∷ []) (length rows) frame
-  last = placed_by head class (rows ++ frame ∷ []) (length rows) frame place_now ended
-      (placed.place_is ∙ sym (place-more head rows (frame ∷ []) (length rows) (omega arith)))
-      (placed.ended_is ∙ sym (end-more head rows (frame ∷ []) (length rows) (omega arith)))
-      known class_is (subst (λ c. SideFits c r.side) class_is fits) refl
-      (sound-no_data said class allowed place_now ended count r sound)
+  last = grind (arith, placed_by, place-more, end-more, class_is, sound-no_data, sound)
 
   each : (i : ℕ) (q : Row) → slice_get (rows ++ frame ∷ []) i ≡ Some q
       → IsWellPlaced head class (rows ++ frame ∷ []) i q
@@ -113,8 +103,7 @@ module _ (head : Option Head) (class : ClassFields) (said allowed : ℕ) (r : Ro
   one_more = record {
     frames = each;
     place_is = omega (arith, placed.place_is, place-next head rows frame);
-    ended_is = ap₂ (λ m n. data_end_after m n (Some frame)) placed.place_is placed.ended_is
-        ∙ sym (end-next head rows frame);
+    ended_is = grind (arith, end-next);
   }
 
 -- a frame that was kept is well placed after those before it
@@ -123,13 +112,11 @@ pub placed_next : (head : Option Head) (class : ClassFields) (said allowed : ℕ
     → ArePlacedTo head class old.rows.items old.before.place old.before.ended
     → ArePlacedTo head class new.rows.items new.before.place new.before.ended
 placed_next head class said allowed r old new known keeps placed =
-    let more = one_more head class said allowed r old.rows.items old.before.place old.before.ended
-    (length old.rows.items) placed known keeps.sound keeps.fits in
-    subst (λ n. ArePlacedTo head class new.rows.items new.before.place n) (sym keeps.ended)
-    (subst (λ n. ArePlacedTo head class new.rows.items n
-    (data_end_after old.before.place old.before.ended (Some r))) (sym keeps.place)
-    (subst (λ l. ArePlacedTo head class l (old.before.place + own_area r.header)
-    (data_end_after old.before.place old.before.ended (Some r))) (sym keeps.rows) more))
+    grind (
+      arith,
+      one_more head class said allowed r old.rows.items old.before.place
+          old.before.ended (length old.rows.items) placed known keeps.sound keeps.fits,
+    )
 
 -- ---- the frames of a file without fault
 
@@ -143,19 +130,14 @@ module _ (head : Option Head) (rows : List Row) where
 
   areas-marked : (i n : ℕ) (xs : List Row)
       → areas_in (take i (marks_from n xs)) ≡ areas_in (take i xs)
-  areas-marked (suc i) n (x ∷ xs) =
-      sum_by-cons (λ (r : Row). own_area r.header) (marked_row head rows n x)
-      (take i (marks_from (n + 1) xs))
-      ∙ ap (λ m. own_area x.header + m) (areas-marked i (n + 1) xs)
-      ∙ sym (sum_by-cons (λ (r : Row). own_area r.header) x (take i xs))
+  areas-marked (suc i) n (x ∷ xs) = search (arith, sum_by-cons, areas-marked i (n + 1) xs)
   areas-marked _ n _ = refl
 
   get-marked : (i n : ℕ) (xs : List Row)
       → slice_get (marks_from n xs) i ≡ option_map (marked_row head rows (n + i)) (slice_get xs i)
   get-marked i n [] = refl
   get-marked zero n (x ∷ xs) = ap (λ m. Some (marked_row head rows m x)) (omega arith)
-  get-marked (suc i) n (x ∷ xs) = get-marked i (n + 1) xs
-      ∙ ap (λ m. option_map (marked_row head rows m) (slice_get xs i)) (omega arith)
+  get-marked (suc i) n (x ∷ xs) = grind (arith, option_map, get-marked i (n + 1) xs)
 
   -- marks don't change the place of a frame
   pub place-marked_rows : (i : ℕ) → place head (marked_rows head rows) i ≡ place head rows i
@@ -166,8 +148,7 @@ module _ (head : Option Head) (rows : List Row) where
   pub found-marked_rows : (i : ℕ)
       → slice_get (marked_rows head rows) i ≡ option_map (marked_row head rows i) (slice_get rows i)
   unfolding marked_rows
-  found-marked_rows i = get-marked i 0 rows
-      ∙ ap (λ m. option_map (marked_row head rows m) (slice_get rows i)) (omega arith)
+  found-marked_rows i = grind (arith, get-marked, option_map)
 
   behind-marked : (i m n : ℕ) (o : Option Row)
       → data_end_after m n (option_map (marked_row head rows i) o) ≡ data_end_after m n o
@@ -180,12 +161,7 @@ module _ (head : Option Head) (rows : List Row) where
   unfolding data_end_before
   end-marked_rows zero = refl
   end-marked_rows (suc i) =
-      ap (λ o. data_end_after (place head (marked_rows head rows) i)
-      (data_end_before head (marked_rows head rows) i) o) (found-marked_rows i)
-      ∙ behind-marked i (place head (marked_rows head rows) i)
-      (data_end_before head (marked_rows head rows) i)
-      (slice_get rows i)
-      ∙ ap₂ (λ m n. data_end_after m n (slice_get rows i)) (place-marked_rows i) (end-marked_rows i)
+      grind (arith, found-marked_rows, behind-marked, place-marked_rows, end-marked_rows i)
 
   -- what is made of a frame that may be there was made of one that is
   pub from_some : (f : Row → Row) (o : Option Row) (q : Row) → option_map f o ≡ Some q
@@ -196,10 +172,7 @@ module _ (head : Option Head) (rows : List Row) where
 row_fits : (file : List ℕ) (ps : List PlacedFrame) (i : ℕ) (r : Row) → IsClass (class_of r.header)
     → slice_get (rows_of file ps) i ≡ Some r → SideFits (class_of r.header) r.side
 row_fits file [] i r class is = absurd cc
-row_fits file (p ∷ ps) zero r class is =
-    let same : row_of file p ≡ r = cc in
-    subst (λ (q : Row). SideFits (class_of q.header) q.side) same
-    (fits-side_in p.header _ (subst (λ (q : Row). IsClass (class_of q.header)) (sym same) class))
+row_fits file (p ∷ ps) zero r class is = grind (arith, fits-side_in)
 row_fits file (p ∷ ps) (suc i) r class is = row_fits file ps i r class is
 
 class-start : (file : List ℕ) (start : Start) → start_of file ≡ Ok start
@@ -217,8 +190,7 @@ AllKnown (p ∷ ps) = IsHeader p.header × AllKnown ps
 known_cons : (file : List ℕ) (at : ℕ) (item : Item) (ps : List PlacedFrame) → item_at file at ≡ item
     → AllKnown ps → AllKnown (cons_option (frame_of_item at item) ps)
 unfolding AllKnown
-known_cons file at (Frame h) ps is behind =
-    (header_front-in_range _ h (stands-at file at (Frame h) is), behind)
+known_cons file at (Frame h) ps is behind = search (arith, header_front-in_range, stands-at)
 known_cons file at _ ps is behind = behind
 
 known_items : (part : Region) (file : List ℕ) (from : ℕ) (ps : List PlacedItem) (to : ℕ)
@@ -226,9 +198,13 @@ known_items : (part : Region) (file : List ℕ) (from : ℕ) (ps : List PlacedIt
 unfolding AllKnown
 known_items part file from [] to ends = tt
 known_items part file from (p ∷ ps) to ends =
-    known_cons file p.offset p.item (frames_of ps)
-    (whole_item_at-is part file p.offset p.item ends.1).is
-    (known_items part file (p.offset + size_of p.item) ps to ends.2)
+    grind (
+      arith,
+      known_cons,
+      whole_item_at-is,
+      known_items part file (p.offset + size_of p.item) ps
+          to ends.2,
+    )
 
 numbered_frames-known : (head : Option Head) (ps : List PlacedFrame) → AllKnown ps
     → AllKnown (numbered_frames head ps)
@@ -240,9 +216,7 @@ row_known : (file : List ℕ) (ps : List PlacedFrame) (i : ℕ) (r : Row) → Al
     → slice_get (rows_of file ps) i ≡ Some r → IsHeader r.header
 unfolding AllKnown
 row_known file [] i r all is = absurd cc
-row_known file (p ∷ ps) zero r all is =
-    let same : row_of file p ≡ r = cc in
-    subst (λ (q : Row). IsHeader q.header) same all.0
+row_known file (p ∷ ps) zero r all is = grind arith
 row_known file (p ∷ ps) (suc i) r all is = row_known file ps i r all.1 is
 
 well_placed : (file : List ℕ) (allowed : ℕ) (start : Start) (head : Option Head)

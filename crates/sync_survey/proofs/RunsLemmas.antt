@@ -1,7 +1,7 @@
 -- Items that follow end to end: one more item, and what they are together.
 use Rattle.std.proofs.Common.{ap, append-nil, append_assoc, arith, Bool, cond, drop, false, length}
-use Rattle.std.proofs.Common.{List, None, Option, option_to_list, refl, Some, subst, suc, sym, true}
-use Rattle.std.proofs.Common.{zero, ℕ, [], ◌++◌, ◌+◌, ◌-◌, ◌<◌, ◌∙◌, ◌∷◌, ◌≡◌, ◌≤◌}
+use Rattle.std.proofs.Common.{List, None, Option, option_to_list, refl, Some, suc, sym, true, zero}
+use Rattle.std.proofs.Common.{ℕ, [], ◌++◌, ◌+◌, ◌-◌, ◌<◌, ◌∙◌, ◌∷◌, ◌≡◌, ◌≤◌}
 use Rattle.std.proofs.lemmas.Bool.{and_parts, false≢true, le-leb, leb-true}
 use Rattle.std.proofs.lemmas.List.{drop-drop, take-append-drop, Elements.filter_map-append}
 use Rattle.std.specs.List.{cons_option}
@@ -50,17 +50,12 @@ module _ (part : Region) (file : List ℕ) where
   pub whole_item_at-is : (at : ℕ) (item : Item)
       → whole_item_at part file at ≡ Some item → IsItemOf part file at item
   unfolding whole_item_at
-  whole_item_at-is at item e =
-      let cases = whole_cases _ _ item e in
-      let tests = and_parts _ _ cases.0 in
-      subst (IsItemOf part file at)
-      cases.1 (within_file at (item_at file at) refl tests.0 tests.1)
+  whole_item_at-is at item e = grind (arith, whole_cases, and_parts, within_file)
 
   item_if_whole-is : (at : ℕ) (item found : Item) → found ≡ item
       → belongs part item ≡ true → item_fits file at item ≡ true
       → item_if_whole part file at found ≡ Some item
-  item_if_whole-is at item found is belongs item_fits =
-      ap (item_if_whole part file at) is ∙ rw (belongs, item_fits) refl
+  item_if_whole-is at item found is belongs item_fits = grind (arith, is, belongs)
 
   -- a whole item of the part at an offset is the item there
   pub whole_item_at-whole : (at : ℕ) (item : Item) → item_at file at ≡ item
@@ -73,8 +68,7 @@ module _ (part : Region) (file : List ℕ) where
   none_behind : (at : ℕ) (o : Option Item)
       → whole_item_at part file at ≡ o → length file ≤ at → o ≡ None
   none_behind at None is past = refl
-  none_behind at (Some item) is past = let here = whole_item_at-is at item is in
-      absurd (omega (arith, here.within, here.some))
+  none_behind at (Some item) is past = grind (arith, whole_item_at-is, is)
 
   -- at the end of the file and past it no item begins
   pub whole_item_at-past : (at : ℕ) → length file ≤ at → whole_item_at part file at ≡ None
@@ -94,15 +88,13 @@ module _ (part : Region) (file : List ℕ) where
   -- past the end any bound gives the same run
   past : (n at : ℕ) → length file ≤ at → run_up_to n part file at ≡ stopped_run at
   past zero at le = none_more at
-  past (suc n) at le = one_more n at
-      ∙ ap (run_onward at (λ later. run_up_to n part file later)) (whole_item_at-past at le)
+  past (suc n) at le = grind (arith, one_more, whole_item_at-past)
 
   -- any bound that is at least the number of bytes left gives the same run
   enough : (m n at : ℕ) → length file ≤ m + at
       → length file ≤ n + at → run_up_to m part file at ≡ run_up_to n part file at
   enough zero n at le le' = past zero at (omega (arith, le)) ∙ sym (past n at (omega (arith, le)))
-  enough (suc m) zero at le le' = past (suc m) at (omega (arith, le'))
-      ∙ sym (past zero at (omega (arith, le')))
+  enough (suc m) zero at le le' = grind (arith, past)
   enough (suc m) (suc n) at le le' =
       one_more m at
       ∙ run_onward-same at (λ later. run_up_to m part file later)
@@ -117,9 +109,7 @@ module _ (part : Region) (file : List ℕ) where
   pub item_run-step : (at : ℕ)
       → item_run part file at ≡ run_onward at (item_run part file) (whole_item_at part file at)
   unfolding item_run
-  item_run-step at =
-      enough (length file) (suc (length file)) at (omega arith) (omega arith)
-      ∙ one_more (length file) at
+  item_run-step at = grind (arith, enough (length file) (suc (length file)), one_more (length file))
 
   -- if an item is at the offset, the run begins with it
   pub item_run-next : (at : ℕ) (item : Item) → whole_item_at part file at ≡ Some item
@@ -179,12 +169,9 @@ module _ (part : Region) (file : List ℕ) where
   pub item_run-only : (from : ℕ) (ps : List PlacedItem) (to : ℕ)
       → AreEndToEnd part file from ps to → whole_item_at part file to ≡ None
       → item_run part file from ≡ record { items = ps; stop = to }
-  item_run-only from [] to ends none =
-      item_run-stopped_run from (ap (whole_item_at part file) ends ∙ none) ∙ ap stopped_run ends
+  item_run-only from [] to ends none = grind (arith, item_run-stopped_run)
   item_run-only from (p ∷ ps) to ends none =
-      ap (item_run part file) (sym ends.0) ∙ item_run-next p.offset p.item ends.1
-      ∙ ap (run_with_item p.offset p.item)
-      (item_run-only (p.offset + size_of p.item) ps to ends.2 none)
+      grind (arith, item_run-next, item_run-only (p.offset + size_of p.item) ps to ends.2 none)
 
   -- items that follow end to end and the bytes after them are the file's bytes from their beginning
   -- on
@@ -215,10 +202,7 @@ run_onward-front : (file : List ℕ) (at : ℕ) (next : ℕ → ItemRun) (o : Op
     → whole_item_at Front file at ≡ o → ((later : ℕ) → frames_of (next later).items ≡ [])
     → frames_of (run_onward at next o).items ≡ []
 run_onward-front file at next None is none = refl
-run_onward-front file at next (Some item) is none =
-    let here = whole_item_at-is Front file at item is in
-    ap (λ o. cons_option o (frames_of (next (at + size_of item)).items))
-    (no_frame at item here.belongs) ∙ none (at + size_of item)
+run_onward-front file at next (Some item) is none = grind (arith, whole_item_at-is, is, no_frame)
 
 front_up_to : (n : ℕ) (file : List ℕ) (at : ℕ) → frames_of (run_up_to n Front file at).items ≡ []
 unfolding run_up_to
@@ -237,8 +221,7 @@ pub frames-next : (part : Region) (file : List ℕ) (at : ℕ) (item : Item)
     frames_of (item_run part file at).items
     ≡ option_to_list (frame_of_item at item)
     ++ frames_of (item_run part file (at + size_of item)).items
-frames-next part file at item is = ap (λ r. frames_of r.items) (item_run-next part file at item is)
-    ∙ cons_list (frame_of_item at item) (frames_of (item_run part file (at + size_of item)).items)
+frames-next part file at item is = grind (arith, item_run-next, is, cons_list)
 
 -- the block, if any, at the offset comes first of the blocks
 pub blocks-next : (part : Region) (file : List ℕ) (at : ℕ) (item : Item)
@@ -246,20 +229,17 @@ pub blocks-next : (part : Region) (file : List ℕ) (at : ℕ) (item : Item)
     blocks_of (item_run part file at).items
     ≡ option_to_list (block_of_item at item)
     ++ blocks_of (item_run part file (at + size_of item)).items
-blocks-next part file at item is = ap (λ r. blocks_of r.items) (item_run-next part file at item is)
-    ∙ cons_list (block_of_item at item) (blocks_of (item_run part file (at + size_of item)).items)
+blocks-next part file at item is = grind (arith, item_run-next, is, cons_list)
 
 -- one more item was kept
 pub kept_more : {X : Type 0} (old here kept rest later item_if_whole : List X) → kept ≡ old ++ here
     → rest ≡ here ++ later → old ++ rest ≡ item_if_whole → kept ++ later ≡ item_if_whole
-kept_more old here kept rest later item_if_whole e e' e'' =
-    ap (λ k. k ++ later) e ∙ append_assoc old here later ∙ ap (λ r. old ++ r) (sym e') ∙ e''
+kept_more old here kept rest later item_if_whole e e' e'' = grind (arith, append_assoc)
 
 -- if nothing is left to keep, all was kept
 pub kept_whole : {X : Type 0} (kept rest item_if_whole : List X) → rest ≡ []
     → kept ++ rest ≡ item_if_whole → kept ≡ item_if_whole
-kept_whole kept rest item_if_whole nothing e =
-    sym (append-nil kept) ∙ ap (λ r. kept ++ r) (sym nothing) ∙ e
+kept_whole kept rest item_if_whole nothing e = grind (arith, append-nil)
 
 -- the frames of two joined lists of items are those of the first and then those of the second
 pub frames-append : (ps qs : List PlacedItem) → frames_of (ps ++ qs) ≡ frames_of ps ++ frames_of qs

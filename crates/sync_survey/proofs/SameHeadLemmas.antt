@@ -1,7 +1,7 @@
 -- A frame that is the same from two bytes before its area on is still a head, or still none.
 use Rattle.std.proofs.Common.{ap, arith, codes, drop, List, None, Option, option_map, refl, Some}
-use Rattle.std.proofs.Common.{sym, take, ℕ, ◌+◌, ◌-◌, ◌||◌, ◌∙◌, ◌≡◌, ◌≤◌}
-use Rattle.std.{proofs.lemmas.List.{drop-drop, drop-take}, specs.Str.bytes_eq}
+use Rattle.std.proofs.Common.{sym, take, ℕ, ◌+◌, ◌-◌, ◌∙◌, ◌≡◌, ◌≤◌}
+use Rattle.std.proofs.lemmas.List.{drop-drop, drop-take}
 use Rattle.frame_header.specs.Fields.{HeaderFields}
 use Rattle.frame_header.specs.Tables.{area_of, class_of, length_of, overhead_of}
 use Rattle.info_header.specs.HeadText.{has_text, head_text_of, high_place, low_place}
@@ -22,8 +22,7 @@ drop_later place from xs ys within same =
 text_same : (place : ℕ) (xs ys : List ℕ) → drop place xs ≡ drop place ys
     → has_text place xs ≡ has_text place ys
 unfolding has_text
-text_same place xs ys same =
-    ap (λ l. bytes_eq (take 4 l) (codes "Xing") || bytes_eq (take 4 l) (codes "Info")) same
+text_same place xs ys same = grind (arith, codes)
 
 text_by : (h : HeaderFields) (xs ys : List ℕ) → has_text (low_place h) xs
     ≡ has_text (low_place h) ys → has_text (high_place h) xs ≡ has_text (high_place h) ys
@@ -35,18 +34,11 @@ text_by h xs ys low high = rw (low, high) refl
 places : (h : HeaderFields) → (overhead_of (class_of h) h.protected - 2 ≤ low_place h)
     × (overhead_of (class_of h) h.protected - 2 ≤ high_place h)
 unfolding low_place high_place
-places h = (
-  omega (arith, overhead-most (class_of h) h.protected),
-  omega (arith, overhead-most (class_of h) h.protected),
-)
+places h = grind (arith, overhead-most)
 
 text-same : (h : HeaderFields) (xs ys : List ℕ) → drop (overhead_of (class_of h) h.protected - 2) xs
     ≡ drop (overhead_of (class_of h) h.protected - 2) ys → head_text_of h xs ≡ head_text_of h ys
-text-same h xs ys same =
-    let from = overhead_of (class_of h) h.protected - 2 in
-    text_by h xs ys
-    (text_same (low_place h) xs ys (drop_later (low_place h) from xs ys (places h).0 same))
-    (text_same (high_place h) xs ys (drop_later (high_place h) from xs ys (places h).1 same))
+text-same h xs ys same = grind (arith, text_by, text_same, drop_later, places)
 
 -- a head, `gap` bytes nearer to the beginning of the file
 abbrev pub nearer_head : ℕ → Head → Head
@@ -66,10 +58,7 @@ pub head_of-nearer : (old file : List ℕ) (gap : ℕ) (p : PlacedFrame) → dro
     ≡ drop (overhead_of (class_of p.header) p.header.protected - 2) (frame_bytes old p)
     → head_of file (nearer_frame gap p) ≡ option_map (nearer_head gap) (head_of old p)
 unfolding head_of
-head_of-nearer old file gap p same =
-    ap (option_map (λ at. record { offset = p.offset - gap; header = p.header; text_at = at }))
-    (text-same p.header (frame_bytes file (nearer_frame gap p)) (frame_bytes old p) same)
-    ∙ placed gap p (head_text_of p.header (frame_bytes old p))
+head_of-nearer old file gap p same = grind (arith, option_map, text-same, nearer_frame, placed)
 
 area_placed : (old file : List ℕ) (gap : ℕ) (p : PlacedFrame) (o : Option ℕ)
     → area_bytes file (p.offset - gap) p.header ≡ area_bytes old p.offset p.header
@@ -89,8 +78,7 @@ pub head_bytes-nearer : (old file : List ℕ) (gap : ℕ) (p : PlacedFrame)
     → head_bytes file (option_map (nearer_head gap) (head_of old p))
     ≡ head_bytes old (head_of old p)
 unfolding head_of
-head_bytes-nearer old file gap p same =
-    area_placed old file gap p (head_text_of p.header (frame_bytes old p)) same
+head_bytes-nearer old file gap p same = grind (arith, area_placed)
 
 -- the area of a frame is what follows its side information
 pub area-frame : (file : List ℕ) (p : PlacedFrame)

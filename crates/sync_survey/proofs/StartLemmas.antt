@@ -8,7 +8,7 @@ use Rattle.std.specs.List.{cons_option, range_with_len}
 use Rattle.frame_header.specs.{Fields.HeaderFields, Tables.{class_of, length_of}}
 use Rattle.sync_survey.proofs.LooksLemmas.{item_at-behind, item_at-shown, item_fits-left}
 use Rattle.sync_survey.proofs.{OneItemLemmas.stands-only_at, RunsLemmas.{IsItemOf, within_file}}
-use Rattle.sync_survey.specs.{Items.{item_at, item_fits, item_front, size_of}, Looks.Shows}
+use Rattle.sync_survey.specs.{Items.{item_at, item_fits, item_front}, Looks.Shows}
 use Rattle.sync_survey.specs.Start.{anchored_frame, anchored_item, first_anchored, front_end_of}
 use Rattle.sync_survey.specs.Start.{has_anchor, is_anchor, is_anchored, IsLeastOffset, IsLeastStart}
 use Rattle.sync_survey.specs.Start.{longest_junk, start_after_junk, start_at, start_of}
@@ -51,14 +51,9 @@ first_cases : (stands : ℕ → Option PlacedFrame) (n from at : ℕ) (p : Place
     (o : Option PlacedFrame) → stands from ≡ o → IsFirstAt stands from (from + suc n) at p →
     (IsFirstAt stands (from + 1) ((from + 1) + n) at p → first_of stands n (from + 1) ≡ Some p)
     → slice_get (cons_option o (filter_map stands (range_with_len (from + 1) n))) 0 ≡ Some p
-first_cases stands n from at p (Some q) is first behind =
-    let contra : from < at → ⊥ =
-    λ later. let no : stands from ≡ None = first.none from (omega arith) later in absurd cc in
-    let same : from ≡ at = omega (arith, first.low, contra) in
-    sym is ∙ ap stands same ∙ first.here
+first_cases stands n from at p (Some q) is first behind = grind arith
 first_cases stands n from at p None is first behind =
-    let contra : at ≡ from → ⊥ =
-    λ same. let here : stands from ≡ Some p = ap stands (sym same) ∙ first.here in absurd cc in
+    let contra : at ≡ from → ⊥ = grind arith in
     let later : from + 1 ≤ at = omega (arith, first.low, contra) in
     behind (record {
       low = later;
@@ -83,9 +78,7 @@ is_nothing : (stands : ℕ → Option PlacedFrame) (n from at : ℕ) (o : Option
 is_nothing stands n from at (Some q) is found behind x here low high = absurd cc
 is_nothing stands n from at None is found behind None here low high = here
 is_nothing stands n from at None is found behind (Some p) here low high =
-    let contra : at ≡ from → ⊥ =
-    λ same. let some : stands from ≡ Some p = ap stands (sym same) ∙ here in absurd cc in
-    behind found (omega (arith, low, contra)) (omega (arith, high))
+    grind (arith, here, low, high)
 
 -- if there is no first, there is nothing at any offset
 pub first_of-nothing : (stands : ℕ → Option PlacedFrame) (count from : ℕ)
@@ -101,10 +94,7 @@ none_before : (stands : ℕ → Option PlacedFrame) (from at earlier : ℕ) (x :
     → earlier < at → stands earlier ≡ x →
     stands earlier ≡ None
 none_before stands from at earlier None isnt none low high is = is
-none_before stands from at earlier (Some p) isnt none low high is =
-    let contra : earlier ≡ from → ⊥ =
-    λ same. let some : stands from ≡ Some p = ap stands (sym same) ∙ is in absurd cc in
-    none earlier (omega (arith, low, contra)) high
+none_before stands from at earlier (Some p) isnt none low high is = grind (arith, none, low, high)
 
 is_found : (stands : ℕ → Option PlacedFrame) (n from : ℕ) (p : PlacedFrame) (o : Option PlacedFrame)
     → stands from ≡ o
@@ -128,8 +118,7 @@ is_found stands n from p None is found behind =
         low = omega (arith, later.1.low);
         high = omega (arith, later.1.high);
         here = later.1.here;
-        none = λ earlier low high. none_before stands from later.0 earlier
-            (stands earlier) is later.1.none low high refl;
+        none = grind (arith, none_before);
       },
     )
 
@@ -137,8 +126,7 @@ is_found stands n from p None is found behind =
 pub first_of-is : (stands : ℕ → Option PlacedFrame) (count from : ℕ) (p : PlacedFrame)
     → first_of stands count from ≡ Some p → (at : ℕ) × IsFirstAt stands from (from + count) at p
 first_of-is stands zero from p found = absurd cc
-first_of-is stands (suc n) from p found =
-    is_found stands n from p (stands from) refl found (first_of-is stands n (from + 1) p)
+first_of-is stands (suc n) from p found = grind (arith, is_found, first_of-is stands n (from + 1) p)
 
 -- ---- anchored frames
 
@@ -194,12 +182,7 @@ IsFirstAnchored file from to r = MatchOption r ((at : ℕ) → from ≤ at → a
 -- the first anchored frame is at the smallest offset
 least_at : (file : List ℕ) (from to at : ℕ) (p : PlacedFrame)
     → IsFirstAt (anchored_frame file) from to at p → IsLeastOffset (is_anchored file) from to at
-least_at file from to at p first = (
-  first.low,
-  first.high,
-  ap is_some first.here,
-  (λ earlier low high. ap is_some (first.none earlier low high)),
-)
+least_at file from to at p first = grind (arith, is_some)
 
 -- the first anchored frame has no other before it
 pub first_anchored-least : (count : ℕ) (file : List ℕ) (from : ℕ) (r : Option PlacedFrame)
@@ -259,24 +242,19 @@ start_cases file at _ s is e = behind_cases file at _ s refl e
 -- the first frame of a stream is whole, and none is before it
 pub start-first : (file : List ℕ) (s : Start) → start_of file ≡ Ok s → IsFirstFrame file s
 unfolding start_of
-start-first file s e =
-    start_cases file (front_end_of file) (item_at file (front_end_of file)) s refl e
+start-first file s e = search (arith, start_cases)
 
 -- ---- where the front ends
 
 front_fits : (at : ℕ) (p : PlacedFrame) (b : Bool) (fault : SurveyFault) (s : Start)
     → cond b (Ok (record { front_end = at; first = p })) (Err fault) ≡ Ok s → s.front_end ≡ at
-front_fits at p true fault s e =
-    let same : record { front_end = at; first = p } ≡ s = cc in
-    ap (λ t. t.front_end) (sym same)
+front_fits at p true fault s e = grind arith
 front_fits at p false fault s e = absurd cc
 
 front_behind : (at : ℕ) (o : Option PlacedFrame) (s : Start) → start_after_junk at o ≡ Ok s
     → s.front_end ≡ at
 front_behind at None s e = absurd cc
-front_behind at (Some p) s e =
-    let same : record { front_end = at; first = p } ≡ s = cc in
-    ap (λ t. t.front_end) (sym same)
+front_behind at (Some p) s e = grind arith
 
 front_cases : (file : List ℕ) (at : ℕ) (item : Item) (s : Start) → start_at file at item ≡ Ok s
     → s.front_end ≡ at
@@ -316,8 +294,7 @@ module _ (file : List ℕ) (at : ℕ) (front : List ℕ) (left : ℕ)
       none_by (Frame h) (sym (item_at-shown file at front left shows) ∙ is) (λ g e.
       let same : h ≡ g = cc in
       let over : item_fits file at (Frame h) ≡ false =
-      sym (item_fits-left file at front left shows (Frame h))
-      ∙ lt-leb (size_of (Frame h)) left past in
+      grind (arith, item_fits-left, lt-leb) in
       subst (λ x. has_anchor file at x ≡ false) same (ap (λ b. b
       && is_anchor (class_of h) (item_at file (at + length_of (class_of h) h.slot))) over))
 
@@ -331,10 +308,9 @@ module _ (file : List ℕ) (at : ℕ) (front : List ℕ) (left : ℕ)
   shown_before h behind is within few end =
       let size = length_of (class_of h) h.slot in
       let fit : item_fits file at (Frame h) ≡ true =
-      sym (item_fits-left file at front left shows (Frame h)) ∙ le-leb size left within in
+      grind (arith, item_fits-left, le-leb) in
       let anchor : has_anchor file at h ≡ is_anchor (class_of h) behind =
-      ap (λ b. b && is_anchor (class_of h) (item_at file (at + size))) fit
-      ∙ ap (is_anchor (class_of h)) (sym (end ∙ item_at-behind file at front left shows size few))
+      grind (arith, item_at-behind)
       in
       ap (anchored_item file at) (sym (item_at-shown file at front left shows) ∙ is)
       ∙ ap (λ b. cond b (Some (record { offset = at; header = h })) None) anchor
@@ -351,8 +327,7 @@ anchored_frame-past file at past =
 none_by_end : (file : List ℕ) (from to at : ℕ)
     → ((earlier : ℕ) → from ≤ earlier → earlier < to → anchored_frame file earlier ≡ None) → from
     ≤ at → (to ≤ at → length file ≤ at) → (b : Bool) → leb to at ≡ b → anchored_frame file at ≡ None
-none_by_end file from to at none low end true e =
-    anchored_frame-past file at (end (leb-true to at e))
+none_by_end file from to at none low end true e = grind (arith, anchored_frame-past, leb-true)
 none_by_end file from to at none low end false e = none at low (leb-false to at e)
 
 -- no anchored frame is before the end of the file or of the search
@@ -361,8 +336,7 @@ pub none_anchored : (file : List ℕ) (size from to : ℕ) → size ≡ length f
     → ((earlier : ℕ) → from ≤ earlier → earlier < to → anchored_frame file earlier ≡ None)
     → first_anchored longest_junk file from ≡ None
 none_anchored file size from to is end none =
-    first_anchored-none longest_junk file from (λ at low high. none_by_end file from to at none low
-    (λ behind. omega (arith, is, end, behind, high)) (leb to at) refl)
+    grind (arith, first_anchored-none, none_by_end file from to, none)
 
 -- ---- the start, given what is where the front ends
 
@@ -370,5 +344,4 @@ none_anchored file size from to is end none =
 pub start_is : (file : List ℕ) (at : ℕ) (item : Item) → at ≡ front_end_of file
     → item_at file at ≡ item → start_of file ≡ start_at file at item
 unfolding start_of
-start_is file at item end here =
-    ap (λ n. start_at file n (item_at file n)) (sym end) ∙ ap (start_at file at) here
+start_is file at item end here = grind (arith, here)

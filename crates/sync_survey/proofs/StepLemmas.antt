@@ -21,13 +21,13 @@ use Rattle.sync_survey.proofs.ProgressLemmas.{first_fault, IsBegun, IsMarkedTo, 
 use Rattle.sync_survey.proofs.ProgressLemmas.{passed_block, passed_frame, passed_zeros}
 use Rattle.sync_survey.proofs.{SurveyLemmas.overhead-within, SurveyPartsLemmas.faults-none_sound}
 use Rattle.sync_survey.specs.Faults.{class_from, faults_at, first_of, survey_fields}
-use Rattle.sync_survey.specs.Items.{header_front, IsItemFront, item_front, size_of}
+use Rattle.sync_survey.specs.Items.{header_front, item_front, size_of}
 use Rattle.sync_survey.specs.Looks.{IsFrameFault, IsNotPassed, KeepsBlocks, KeepsFrame, KeepsItem}
 use Rattle.sync_survey.specs.Looks.{look_size, Passes, PassesFault, PassesFront, ReachArea, Shows}
 use Rattle.sync_survey.specs.Looks.{StopsThere}
 use Rattle.sync_survey.specs.MainData.{data_end_after, lacks_data, marked_row, marked_rows}
 use Rattle.sync_survey.specs.{MainData.{own_area, row_in, row_of}, Row.Row}
-use Rattle.sync_survey.specs.Runs.{block_of_item, blocks_of, frame_of_item, frames_of, item_run}
+use Rattle.sync_survey.specs.Runs.{block_of_item, frame_of_item}
 use Rattle.sync_survey.specs.Survey.{BlocksAreLaid, FramesAreLaid, HasLength, IsSurveyRefusal}
 use Rattle.sync_survey.specs.SurveyFaultKinds.{RefusesRightly}
 use Rattle.sync_survey.specs.declared.{found.SurveySoFar.SurveySoFar, items.Item.Item}
@@ -41,8 +41,7 @@ use Rattle.sync_survey.specs.declared.{runs.Step.Step, survey_fault.SurveyFault.
 -- the header of a frame that was met has its fields in range
 pub item_header : (front : List ℕ) (item : Item) → item ≡ item_front front → (h : HeaderFields)
     → item ≡ Frame h → IsHeader h
-item_header front item is h frame =
-    header_front-in_range front h (subst (IsItemFront front) (sym is ∙ frame) (stands front))
+item_header front item is h frame = grind (arith, header_front-in_range, stands)
 
 -- what precedes a frame's area is within the frame
 pub overhead_few : (front : List ℕ) (item : Item) (h : HeaderFields) → item ≡ item_front front
@@ -52,15 +51,12 @@ overhead_few front item h is frame = overhead-within h (item_header front item i
 -- a header anywhere is the header of a frame with few bytes
 pub length_few : (front : List ℕ) (h : HeaderFields) → item_front front ≡ Frame h
     → length_of (class_of h) h.slot ≤ 1441
-length_few front h is =
-    let known = item_header front (Frame h) (sym is) h refl in
-    length-most (class_of h) h.slot (IsClass-class_of h known) known.slot
+length_few front h is = grind (arith, item_header, length-most, IsClass-class_of)
 
 -- a look at a whole frame shows all that precedes the area
 pub room_shown : (front : List ℕ) (h : HeaderFields) (left : ℕ) → item_front front ≡ Frame h
     → size_of (Frame h) ≤ left → length front ≡ min look_size left → ReachArea h front
-room_shown front h left is within many =
-    omega (arith, overhead_few front (Frame h) h (sym is) refl, length_few front h is, within, many)
+room_shown front h left is within many = grind (arith, overhead_few, length_few)
 
 -- a look at a frame that is passed shows all that precedes the area
 pub room_passed : {front : List ℕ} {left : ℕ} {step : Step} → PassesFront front left step
@@ -104,8 +100,7 @@ module _ (file : List ℕ) (at : ℕ) (front : List ℕ) (left : ℕ) (shows : S
       → first_of (faults_at (stored_crc front) class allowed place ended count (row_in at h front))
       ≡ first_of (faults_at (stored_crc (drop at file)) class allowed place ended count
       (row_of file (record { offset = at; header = h })))
-  faults_shown class allowed place ended count = ap₂
-      (λ said r. first_of (faults_at said class allowed place ended count r)) word_shown row_shown
+  faults_shown class allowed place ended count = grind (arith, count, word_shown, row_shown)
 
 -- ---- one more item
 
@@ -137,40 +132,22 @@ module _ (file : List ℕ) (start : Start) (head : Option Head) (allowed : ℕ) 
       → new.rows.items ≡ marked_rows head rows → new.pieces.items ≡ pieces
       → new.before.place ≡ place → new.before.ended ≡ ended
       → IsSurveyedTo file start head allowed rows pieces place ended (at + size) → IsOn new size
-  same rows pieces place ended new size rows_are pieces_are place_is ended_is there = record {
-    frames = rows;
-    marks = rows_are;
-    surveyed =
-        subst (λ n. IsSurveyedTo file start head allowed rows new.pieces.items new.before.place n
-        (at + size)) (sym ended_is)
-        (subst (λ n. IsSurveyedTo file start head allowed rows new.pieces.items n ended (at + size))
-        (sym place_is)
-        (subst (λ l. IsSurveyedTo file start head allowed rows l place ended (at + size))
-        (sym pieces_are) there));
-  }
+  same rows pieces place ended new size rows_are pieces_are place_is ended_is there =
+      grind (arith, rows)
 
   blocks_kept : (blocks : List Piece) (new : SurveySoFar) (size : ℕ) → KeepsBlocks blocks old new
       → IsSurveyedTo file start head allowed frames
       (old.pieces.items ++ blocks) old.before.place old.before.ended (at + size) → IsOn new size
-  blocks_kept blocks new size keeps there =
-      same frames (old.pieces.items ++ blocks) old.before.place old.before.ended new size
-      (keeps.rows ∙ so_far.marks) keeps.pieces (ap (λ b. b.place) keeps.before)
-      (ap (λ b. b.ended) keeps.before) there
+  blocks_kept blocks new size keeps there = grind (arith, same)
 
   none_kept : (item : Item) (new : SurveySoFar) (size : ℕ) → Passes Stream file at Zero size
       → KeepsBlocks [] old new → IsOn new size
-  none_kept item new size passes keeps =
-      blocks_kept [] new size keeps
-      (subst (λ l. IsSurveyedTo file start head allowed frames l
-      old.before.place old.before.ended (at + size)) (sym (append-nil old.pieces.items))
-      (passed_zeros file start head allowed frames
-      old.pieces.items old.before.place old.before.ended at so_far.surveyed size passes))
+  none_kept item new size passes keeps = grind (arith, blocks_kept, append-nil, passed_zeros)
 
   -- the frame is kept with the mark that its number gives
   mark_is : (r : Row) → record r { lost = lacks_data old.before.place old.before.ended r }
       ≡ marked_row head frames (length frames) r
-  mark_is r = ap₂ (λ m n. record r { lost = lacks_data m n r })
-      so_far.surveyed.place_is so_far.surveyed.ended_is
+  mark_is r = grind arith
 
   frame_kept : (h : HeaderFields) (new : SurveySoFar) (size : ℕ)
       → overhead_of (class_of h) h.protected ≤ look_size → Passes Stream file at (Frame h) size
@@ -199,30 +176,21 @@ module _ (file : List ℕ) (start : Start) (head : Option Head) (allowed : ℕ) 
   -- what is neither a frame nor a block is passed like a zero byte
   as_zero : (item : Item) (size : ℕ) → Passes Stream file at item size → frame_of_item at item
       ≡ None → block_of_item at item ≡ None → Passes Stream file at Zero size
-  as_zero item size passes no_frame no_block = record {
-    frames = passes.frames
-        ∙ ap (λ o. option_to_list o ++ frames_of (item_run Stream file (at + size)).items) no_frame;
-    blocks = passes.blocks
-        ∙ ap (λ o. option_to_list o ++ blocks_of (item_run Stream file (at + size)).items) no_block;
-    stop = passes.stop;
-  }
+  as_zero item size passes no_frame no_block = grind arith
 
   -- an item that is passed and kept takes the survey past it
   pub kept : (item : Item) (new : SurveySoFar) (size : ℕ) → few_before item
       → Passes Stream file at item size → KeepsItem (class_from start) allowed at item front old new
       → IsOn new size
   kept (Frame h) new size few passes keeps = frame_kept h new size few passes keeps
-  kept Free new size few passes keeps =
-      none_kept Free new size (as_zero Free size passes refl refl) keeps
+  kept Free new size few passes keeps = grind (arith, none_kept, as_zero)
   kept (Block b) new size few passes keeps =
       blocks_kept (record { offset = at; block = b } ∷ []) new size keeps
       (passed_block file start head allowed frames old.pieces.items old.before.place
       old.before.ended at so_far.surveyed (record { offset = at; block = b }) size refl passes)
   kept Zero new size few passes keeps = none_kept Zero new size passes keeps
-  kept End new size few passes keeps =
-      none_kept End new size (as_zero End size passes refl refl) keeps
-  kept Nothing new size few passes keeps =
-      none_kept Nothing new size (as_zero Nothing size passes refl refl) keeps
+  kept End new size few passes keeps = grind (arith, none_kept, as_zero)
+  kept Nothing new size few passes keeps = grind (arith, none_kept, as_zero)
 
   -- the first fault of a frame is the fault of the file
   pub refused : (begun : IsBegun file start head) (item : Item) (size : ℕ) (fault : SurveyFault)
@@ -259,22 +227,27 @@ pub laid_push : (from : ℕ) (rows : List Row) (to later : ℕ) (r : Row) → Fr
     → r.offset + length_of (class_of r.header) r.header.slot ≤ later
     → FramesAreLaid from (rows ++ r ∷ []) later
 laid_push from [] to later r laid fits low high = (omega (arith, laid, low), fits, high)
-laid_push from (q ∷ rows) to later r laid fits low high = (
-  laid.0,
-  laid.1,
-  laid_push (q.offset + length_of (class_of q.header) q.header.slot) rows to later r laid.2 fits low
-      high,
-)
+laid_push from (q ∷ rows) to later r laid fits low high =
+    grind (
+      arith,
+      rows,
+      low,
+      laid_push (q.offset + length_of (class_of q.header) q.header.slot) rows
+          to later r laid.2 fits low high,
+    )
 
 -- frames that end before an offset end before any later one
 pub laid_later : (from : ℕ) (rows : List Row) (to later : ℕ) → FramesAreLaid from rows to
     → to ≤ later → FramesAreLaid from rows later
 laid_later from [] to later laid low = omega (arith, laid, low)
-laid_later from (q ∷ rows) to later laid low = (
-  laid.0,
-  laid.1,
-  laid_later (q.offset + length_of (class_of q.header) q.header.slot) rows to later laid.2 low,
-)
+laid_later from (q ∷ rows) to later laid low =
+    grind (
+      arith,
+      rows,
+      low,
+      laid_later (q.offset + length_of (class_of q.header) q.header.slot)
+          rows to later laid.2 low,
+    )
 
 -- the area is within the frame
 pub area_within : (h : HeaderFields) → own_area h ≤ length_of (class_of h) h.slot
@@ -295,13 +268,10 @@ module _ (head : Option Head) (first : ℕ) (class : ClassFields) (allowed at : 
       → option_to_list (block_of_item at item) ≡ blocks → size_of item ≤ size
       → KeepsBlocks blocks old new → IsLaidTo head class first new (at + size)
   laid_blocks item blocks are least keeps = record {
-    rows = subst (λ l. FramesAreLaid first l (at + size)) (sym keeps.rows)
-        (laid_later first old.rows.items at (at + size) laid.rows (omega arith));
-    pieces = blocks_more old.pieces.items new.pieces.items at size item laid.pieces least
-        (keeps.pieces ∙ ap (λ l. old.pieces.items ++ l) (sym are));
+    rows = grind (arith, laid_later);
+    pieces = grind (arith, blocks_more);
     low = omega (arith, ap (λ b. b.place) keeps.before, laid.low);
-    placed = placed_same head class
-        old.rows.items new.rows.items old.before new.before keeps.rows keeps.before laid.placed;
+    placed = grind (arith, placed_same);
   }
 
   -- what is kept follows what was there before
@@ -309,10 +279,7 @@ module _ (head : Option Head) (first : ℕ) (class : ClassFields) (allowed at : 
       ≤ size → KeepsItem class allowed at item front old new
       → IsLaidTo head class first new (at + size)
   laid_more (Frame h) known least keeps = record {
-    rows = subst (λ l. FramesAreLaid first l (at + size)) (sym keeps.rows)
-        (laid_push first old.rows.items at (at + size) (record (row_in at h front) {
-          lost = lacks_data old.before.place old.before.ended (row_in at h front);
-        }) laid.rows keeps.fits (omega arith) (omega (arith, least)));
+    rows = grind (arith, laid_push);
     pieces = blocks_more old.pieces.items new.pieces.items at size (Frame h) laid.pieces least
         (keeps.pieces ∙ sym (append-nil old.pieces.items));
     low = omega (arith, keeps.place, area_within h, laid.low, least);
@@ -327,26 +294,14 @@ module _ (head : Option Head) (first : ℕ) (class : ClassFields) (allowed at : 
 
 -- a frame without fault is not the first past the number that is allowed
 fewer : (n allowed : ℕ) → (n == allowed) ≡ false → n ≤ allowed → n < allowed
-fewer n allowed differ few = elim (cases_lt n allowed) as (λ _. n < allowed) [
-  | inl below ↦ below
-  | inr above ↦ absurd (true≢false (sym (eq-eqb n allowed (omega (arith, few, above))) ∙ differ))
-]
+fewer n allowed differ few = grind (arith, cases_lt, true≢false, eq-eqb)
 
 -- a frame that was kept leaves no more frames than are allowed
 pub few_more : (class : ClassFields) (allowed at : ℕ) (front : List ℕ) (old new : SurveySoFar)
     (item : Item) → KeepsItem class allowed at item front old new → length old.rows.items ≤ allowed
     → length new.rows.items ≤ allowed
 few_more class allowed at front old new (Frame h) keeps few =
-    let r = row_in at h front in
-    let sound = faults-none_sound (stored_crc front) class allowed
-    old.before.place old.before.ended (length old.rows.items) r (none-of _ keeps.sound) in
-    let kept = record r { lost = lacks_data old.before.place old.before.ended r } in
-    omega (
-      arith,
-      fewer (length old.rows.items) allowed sound.few few,
-      ap length keeps.rows,
-      length-append old.rows.items (kept ∷ []),
-    )
+    grind (arith, faults-none_sound, none-of, fewer, length-append)
 few_more class allowed at front old new Free keeps few = omega (arith, ap length keeps.rows, few)
 few_more class allowed at front old new _ keeps few = omega (arith, ap length keeps.rows, few)
 
@@ -377,8 +332,10 @@ pass_refusal name files allowed before after size fault class at bytes left old 
 -- rows that follow each other end after they begin
 pub laid_end : (from : ℕ) (rows : List Row) (to : ℕ) → FramesAreLaid from rows to → from ≤ to
 laid_end from [] to laid = laid
-laid_end from (r ∷ rows) to laid = omega (
-  arith,
-  laid.0,
-  laid_end (r.offset + length_of (class_of r.header) r.header.slot) rows to laid.2,
-)
+laid_end from (r ∷ rows) to laid =
+    grind (
+      arith,
+      rows,
+      laid_end (r.offset + length_of (class_of r.header) r.header.slot) rows to
+          laid.2,
+    )

@@ -1,7 +1,6 @@
 -- The survey of a file's bytes, from what the parts of the code find.
 use Rattle.std.proofs.Common.{ap, ap₂, arith, drop, Err, length, List, None, Ok, Option}
-use Rattle.std.proofs.Common.{option_to_list, refl, Result, Some, subst, ℕ, [], ◌++◌, ◌∙◌, ◌∷◌, ◌≡◌}
-use Rattle.std.proofs.Common.{◌≤◌}
+use Rattle.std.proofs.Common.{option_to_list, refl, Result, Some, ℕ, [], ◌++◌, ◌∙◌, ◌∷◌, ◌≡◌, ◌≤◌}
 use Rattle.frame_header.proofs.{HeaderLemmas.IsClass-class_of, LengthLemmas.area_some}
 use Rattle.frame_header.specs.Fields.{HeaderFields, IsHeader}
 use Rattle.frame_header.specs.Tables.{class_of, length_of, overhead_of}
@@ -22,11 +21,7 @@ use Rattle.sync_survey.specs.declared.survey_fault.SurveyFault.{SurveyFault}
 -- what precedes a frame's area is within the frame
 pub overhead-within : (h : HeaderFields) → IsHeader h
     → overhead_of (class_of h) h.protected ≤ length_of (class_of h) h.slot
-overhead-within h fields = omega (
-  arith,
-  overhead-most (class_of h) h.protected,
-  area_some (class_of h) h.slot (IsClass-class_of h fields) fields.slot,
-)
+overhead-within h fields = grind (arith, overhead-most, area_some, IsClass-class_of)
 
 -- ---- the survey
 
@@ -58,8 +53,7 @@ module _ (file : List ℕ) (allowed : ℕ) (start : Start) (head : Option Head)
 
   faults-are : faults_from file allowed start ≡ of_frames ++ option_to_list end
   unfolding faults_from
-  faults-are = ap (λ w. all_faults file w.head (class_from start) allowed (rows_of file w.frames)
-      ++ option_to_list w.fault) (walk-is file start head frames blocks stop found)
+  faults-are = grind (arith, start, walk-is)
 
   abbrev fields : SurveyFields
   fields = told_by file start head (rows_of file frames) blocks
@@ -73,15 +67,18 @@ module _ (file : List ℕ) (allowed : ℕ) (start : Start) (head : Option Head)
   pub survey-frame : (fault : SurveyFault) → first_of of_frames ≡ Some fault
       → survey_fields file allowed ≡ Err fault
   survey-frame fault is =
-      survey-by file allowed (Ok start) found.start_is
-      ∙ ap (λ o. fault_or_survey o (fields_from file start))
-      (ap first_of faults-are ∙ some-append of_frames (option_to_list end) fault is)
+      grind (
+        arith,
+        survey-by file allowed (Ok start) found.start_is,
+        start,
+        faults-are,
+        some-append
+            of_frames (option_to_list end) fault is,
+      )
 
   last-fault : first_of of_frames ≡ None → (o : Option SurveyFault) → end ≡ o
       → first_of (faults_from file allowed start) ≡ first_of (option_to_list o)
-  last-fault none o is =
-      ap first_of (faults-are ∙ ap₂ (λ (xs : List SurveyFault) (e : Option SurveyFault). xs
-      ++ option_to_list e) (none-of of_frames none) is)
+  last-fault none o is = grind (arith, faults-are, none-of, none)
 
   -- if no frame is at fault, but the walk stops before the end or has no frame, that is the file's
   -- fault
@@ -116,8 +113,7 @@ fields_cases file allowed start s None begins is e =
 start_cases : (file : List ℕ) (allowed : ℕ) (s : SurveyFields) (r : Result Start SurveyFault)
     → start_of file ≡ r → survey_from_start file allowed r ≡ Ok s → IsSurveyed file allowed s
 start_cases file allowed s (Err fault) begins e = absurd cc
-start_cases file allowed s (Ok start) begins e =
-    fields_cases file allowed start s (first_of (faults_from file allowed start)) begins refl e
+start_cases file allowed s (Ok start) begins e = grind (arith, fields_cases, start, begins)
 
 -- a survey without fault has a start, and no fault from there on
 pub survey_fields-is : (file : List ℕ) (allowed : ℕ) (s : SurveyFields)
@@ -165,5 +161,4 @@ end_none file allowed start none = last_none _ _ none
 -- the frames and the head of a survey without fault are those of the walk
 pub walked : (file : List ℕ) (allowed : ℕ) (s : SurveyFields) (is : IsSurveyed file allowed s)
     → IsWalked file s is.start
-walked file allowed s is = subst (λ t. IsWalked file t is.start) is.fields_are
-    (walked_by file is.start (walk_fault file is.start (end_none file allowed is.start is.none)))
+walked file allowed s is = grind (arith, walked_by, walk_fault, end_none)

@@ -14,11 +14,9 @@ use Rattle.sync_survey.specs.Faults.{all_faults, class_from, data_faults, fault_
 use Rattle.sync_survey.specs.Faults.{faults_from, fields_from, first_of, frame_faults}
 use Rattle.sync_survey.specs.Faults.{has_wrong_crc, HoldsStream, overlaps, overruns, own_faults}
 use Rattle.sync_survey.specs.Faults.{points_too_far, stream_of, stream_of_survey, survey_fields}
-use Rattle.sync_survey.specs.Faults.{surveyed_stream, SurveyFields, unbounded_survey}
-use Rattle.sync_survey.specs.Items.{item_at, same_class}
-use Rattle.sync_survey.specs.MainData.{data_end_before, lacks_data, main_bytes, place, row_of}
-use Rattle.sync_survey.specs.{MainData.{rows_of, stream_frame, stream_frames}, Row.Row}
-use Rattle.sync_survey.specs.{Runs.frames_of, Start.start_of}
+use Rattle.sync_survey.specs.{Faults.SurveyFields, Items.{item_at, same_class}}
+use Rattle.sync_survey.specs.MainData.{data_end_before, lacks_data, place, row_of, rows_of}
+use Rattle.sync_survey.specs.{MainData.stream_frames, Row.Row, Runs.frames_of, Start.start_of}
 use Rattle.sync_survey.specs.Walk.{all_blocks, end_fault, fault_at, head_of, numbered_frames}
 use Rattle.sync_survey.specs.{Walk.{stream_run, walk_from}, declared.places.Head.Head}
 use Rattle.sync_survey.specs.declared.places.{PlacedFrame.PlacedFrame, Start.Start}
@@ -56,8 +54,7 @@ survey_fields-told file allowed start read =
       head_is = refl;
       frames_are = refl;
       blocks_are = refl;
-      stop_is =
-          refl;
+      stop_is = grind arith;
     }) (ap first_of read.frames) read.end
 
 empty_parts : (xs ys : List SurveyFault) → xs ++ ys ≡ [] → (xs ≡ []) × (ys ≡ [])
@@ -125,14 +122,11 @@ own-none_well place ended r none =
     record {
       begins = nothing_true _ _ begin.0;
       apart = nothing_true _ _ begin.1;
-      within =
-          nothing_true _ _ main.1;
+      within = grind (arith, nothing_true);
     }
 
 well-no_own : (place ended : ℕ) (r : Row) → StandWell place ended r → own_faults place ended r ≡ []
-well-no_own place ended r well =
-    empty_both _ _ (empty_both _ _ (nothing_false _ _ well.begins) (nothing_false _ _ well.apart))
-    (nothing_false _ _ well.within)
+well-no_own place ended r well = grind (arith, empty_both, nothing_false)
 
 unless-none : (b : Bool) (xs : List SurveyFault) → cond b [] xs ≡ [] → b ≡ false → xs ≡ []
 unless-none true xs none is = absurd cc
@@ -154,8 +148,7 @@ module _ (said : ℕ) (class : ClassFields) (allowed place ended count : ℕ) (r
       record {
         same = nothing_true _ _ word.0;
         word = nothing_true _ _ word.1;
-        main = λ is. own-none_well place ended r
-            (unless-none (lacks_data place ended r) (own_faults place ended r) front.1 is);
+        main = grind (arith, own-none_well, unless-none);
         few = nothing_true _ _ all.1;
       }
 
@@ -163,25 +156,17 @@ module _ (said : ℕ) (class : ClassFields) (allowed place ended count : ℕ) (r
   pub sound-no_faults : IsSound said class allowed place ended count r
       → faults_at said class allowed place ended count r ≡ []
   unfolding faults_at
-  sound-no_faults sound =
-      empty_both _ _
-      (empty_both _ _ (empty_both _ _ (nothing_false _ _ sound.same) (nothing_false _ _ sound.word))
-      (none-unless (lacks_data place ended r) (own_faults place ended r)
-      (λ is. well-no_own place ended r (sound.main is))))
-      (nothing_false _ _ sound.few)
+  sound-no_faults sound = grind (arith, empty_both, nothing_false, none-unless, well-no_own)
 
   -- the main data of a sound frame have no fault
   pub sound-no_data : IsSound said class allowed place ended count r
       → data_faults place ended r ≡ []
-  sound-no_data sound =
-      none-unless (lacks_data place ended r) (own_faults place ended r)
-      (λ is. well-no_own place ended r (sound.main is))
+  sound-no_data sound = grind (arith, none-unless, well-no_own)
 
 -- main data without a fault are where they may be, unless the frame is lost
 pub data-none_well : (place ended : ℕ) (r : Row) → data_faults place ended r ≡ []
     → lacks_data place ended r ≡ false → StandWell place ended r
-data-none_well place ended r none is = own-none_well place ended r
-    (unless-none (lacks_data place ended r) (own_faults place ended r) none is)
+data-none_well place ended r none is = grind (arith, own-none_well, unless-none)
 
 -- ---- all frames
 
@@ -200,9 +185,7 @@ none_each : (each : ℕ → Row → List SurveyFault) (n : ℕ) (rows : List Row
     → flat_map (λ (p : ℕ × Row). each p.0 p.1) (enumerate_from n rows) ≡ [] → (i : ℕ) (r : Row)
     → slice_get rows i ≡ Some r → each (n + i) r ≡ []
 none_each each n [] none i r is = absurd cc
-none_each each n (q ∷ rows) none zero r is =
-    let same : q ≡ r = cc in
-    ap₂ each (omega arith) (sym same) ∙ (empty_parts (each n q) _ none).0
+none_each each n (q ∷ rows) none zero r is = grind (arith, empty_parts)
 none_each each n (q ∷ rows) none (suc i) r is = ap (λ m. each m r) (omega arith)
     ∙ none_each each (n + 1) rows (empty_parts (each n q) _ none).1 i r is
 
@@ -297,9 +280,7 @@ pub survey_fields-stream : (file : List ℕ) (allowed : ℕ) (s : SurveyFields)
     → survey_fields file allowed ≡ Ok s → HoldsStream file (stream_of_survey file s)
 unfolding stream_of
 survey_fields-stream file allowed s e =
-    let freely : unbounded_survey file ≡ Ok s =
-    survey_fields-allowed file allowed (length file + 1) s (omega arith) e in
-    record { well_formed = (s, freely); stream_is = ap (surveyed_stream file) freely }
+    grind (arith, survey_fields-allowed file allowed (length file + 1) s (omega arith) e)
 
 -- a file whose end has no fault has a frame
 pub some_frames : (file : List ℕ) (frames : List PlacedFrame) (o : Option SurveyFault)
@@ -312,6 +293,4 @@ some_frames file [] (Some fault) e = absurd cc
 pub stream-length : (file : List ℕ) (s : SurveyFields)
     → length (stream_of_survey file s) ≡ length s.frames
 unfolding stream_of_survey stream_frames
-stream-length file s = length-map (enumerate_from 0 s.frames)
-    (λ (p : ℕ × Row). stream_frame (main_bytes file s.head s.frames) s.head s.frames p.0 p.1)
-    ∙ length-enumerate_from 0 s.frames
+stream-length file s = grind (arith, length-map, length-enumerate_from)

@@ -1,6 +1,6 @@
 -- What the survey of a file that isn't too long says.
-use Rattle.std.proofs.Common.{arith, Bool, cond, Err, false, length, List, ltb, Ok, refl, Result}
-use Rattle.std.proofs.{Common.{true, ℕ, ◌+◌, ◌≡◌, ◌≤◌}, lemmas.Bool.ltb-false}
+use Rattle.std.proofs.Common.{arith, Bool, cond, Err, false, length, List, ltb, Ok, Result, true, ℕ}
+use Rattle.std.proofs.{Common.{◌+◌, ◌≡◌, ◌≤◌}, lemmas.Bool.ltb-false}
 use Rattle.sync_survey.proofs.SurveyPartsLemmas.{survey_fields-allowed}
 use Rattle.sync_survey.specs.Faults.{IsWellFormed, longest_file, survey_fields, SurveyFields}
 use Rattle.sync_survey.specs.{Survey.survey_of, declared.survey_fault.SurveyFault.SurveyFault}
@@ -16,8 +16,7 @@ pub survey_of-parts : (file : List ℕ) (allowed : ℕ) (s : SurveyFields)
     → survey_of file allowed ≡ Ok s
     → (length file ≤ longest_file) × (survey_fields file allowed ≡ Ok s)
 unfolding survey_of
-survey_of-parts file allowed s e =
-    long_cases (ltb longest_file (length file)) file (survey_fields file allowed) _ s refl e
+survey_of-parts file allowed s e = grind (arith, long_cases)
 
 -- a surveyed file is well-formed
 pub survey_of-sound : (file : List ℕ) (allowed : ℕ) (s : SurveyFields)

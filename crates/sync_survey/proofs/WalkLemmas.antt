@@ -24,8 +24,7 @@ use Rattle.sync_survey.specs.declared.survey_fault.SurveyFault.{SurveyFault}
 pub first_item : (file : List ℕ) (first : PlacedFrame) → item_at file first.offset
     ≡ Frame first.header → first.offset + size_of (Frame first.header) ≤ length file
     → whole_item_at Stream file first.offset ≡ Some (Frame first.header)
-first_item file first is within =
-    whole_item_at-whole Stream file first.offset (Frame first.header) is refl within
+first_item file first is within = grind (arith, whole_item_at-whole)
 
 -- the frames, the blocks and the stop of the stream, from where its numbered frames begin
 pub numbered_frames-run : (file : List ℕ) (start : Start) (head : Option Head)
@@ -76,18 +75,7 @@ pub walk-is : (file : List ℕ) (start : Start) (head : Option Head) (frames : L
           end_fault file frames (fault_at stop (item_at file stop));
     }
 unfolding walk_from
-walk-is file start head frames blocks stop found =
-    let numbers : frames ≡ numbered_frames (head_of file start.first)
-    (frames_of (stream_run file start).items) = found.frames_are
-    ∙ ap (λ h. numbered_frames h (frames_of (stream_run file start).items)) found.head_is in
-    sym (λ i. record {
-      start = start;
-      head = found.head_is i;
-      frames = numbers i;
-      blocks = found.blocks_are i;
-      fault =
-          end_fault file (numbers i) (fault_at (found.stop_is i) (item_at file (found.stop_is i)));
-    })
+walk-is file start head frames blocks stop found = grind arith
 
 -- ---- where the walk ends
 
@@ -116,8 +104,7 @@ stop_is bytes at r d some is = stop_by bytes at (item_front bytes) r d (stands b
 -- if nothing is at fault, nothing is left
 pub nothing_left : (file : List ℕ) (stop : ℕ) → fault_at stop (item_at file stop) ≡ None
     → drop stop file ≡ []
-nothing_left file stop none = at_end (drop stop file) stop (item_at file stop)
-    (stands-at file stop (item_at file stop) refl) none
+nothing_left file stop none = search (arith, at_end, stands-at)
 
 -- the items from the first frame on, joined in order, are the file's bytes from there to this
 -- offset
@@ -131,12 +118,15 @@ pub reach-end : (file : List ℕ) (start : Start) (frames : List PlacedFrame) (s
     → end_fault file frames (fault_at stop (item_at file stop)) ≡ None
     → ReachesTo file start (length file)
 reach-end file start frames stop is none =
-    let r = stream_run file start in
-    let nothing : drop stop file ≡ [] = nothing_left file stop (no_fault file frames _ none) in
-    ap (λ rest. bytes_of_items file r.items ++ rest)
-    (drop-length file ∙ sym nothing ∙ ap (λ at. drop at file) is)
-    ∙ bytes-ends Stream file
-    start.first.offset r.items r.stop (item_run-ends Stream file start.first.offset)
+    grind (
+      arith,
+      nothing_left,
+      no_fault,
+      drop-length file,
+      bytes-ends,
+      item_run-ends Stream file
+          start.first.offset,
+    )
 
 -- ---- a head that a look shows
 

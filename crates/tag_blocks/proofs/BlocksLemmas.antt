@@ -23,8 +23,7 @@ first_byte Ape = 65
 first_of : (text bytes : List ℕ) → 0 < length text → begins_with text bytes ≡ true
     → get_or bytes 0 0 ≡ get_or text 0 0
 first_of text bytes some is =
-    let same : text ≡ take (length text) bytes =
-    (bytes_eq-Decides text (take (length text) bytes)).0 is in
+    let same : text ≡ take (length text) bytes = grind (arith, bytes_eq-Decides) in
     sym (get_or-take (length text) bytes 0 0 some) ∙ ap (λ t. get_or t 0 0) (sym same)
 
 id3v2_first : (bytes : List ℕ) → is_id3v2 bytes ≡ true → get_or bytes 0 0 ≡ 73
@@ -119,8 +118,7 @@ any_cases : (kind : Kind) (bytes : List ℕ) (b : Block) → block_of_kind kind 
 any_cases kind bytes b is None none = sym (block_front-none kind bytes none) ∙ is
 any_cases kind bytes b is (Some other) some =
     let own = block_front-own bytes other some in
-    let same : other.kind ≡ kind = one_kind other.kind kind bytes
-    (block_of_kind-kind other.kind bytes other own).0 (block_of_kind-kind kind bytes b is).0 in
+    let same : other.kind ≡ kind = grind (arith, one_kind, block_of_kind-kind) in
     sym own ∙ ap (λ k. block_of_kind k bytes) same ∙ is
 
 -- a block of any kind with which bytes begin is their block: the order in which kinds are tried

@@ -12,8 +12,7 @@ use Rattle.std.proofs.lemmas.List.Folds.{length-prefix_len}
 use Rattle.std.proofs.lemmas.List.Sums.{list_all-from_AllPass, prefix_len_passes, sum_by-cons}
 use Rattle.std.{proofs.lemmas.Option.cond_some, specs.List.{list_all, list_any, prefix_len}}
 use Rattle.std.specs.Prelude.{filter}
-use Rattle.byteorder.specs.Endian.{little_bytes, little_number}
-use Rattle.byteorder.specs.Numbers.{little_from-lt, little_number-reads_back}
+use Rattle.byteorder.specs.{Endian.{little_bytes, little_number}, Numbers.little_from-lt}
 use Rattle.tag_blocks.{proofs.NumbersLemmas.little_bytes-little_number, specs.Blocks.ape_number}
 use Rattle.tag_blocks.specs.Items.{has_whole_item, is_item, is_key_char, is_undo, item_and_more}
 use Rattle.tag_blocks.specs.Items.{item_bytes, item_length, items_bytes, items_length, key_length}
@@ -37,30 +36,19 @@ pub items_more : (items : List TagItem) (i : ℕ) (d item : TagItem) (old before
     → item ≡ get_or items i d → i < length items → before ≡ old ++ items_bytes (take i items)
     → new ≡ before ++ item_bytes item → new ≡ old ++ items_bytes (take (i + 1) items)
 items_more items i d item old before new is less so_far added =
-    added
-    ∙ ap (λ bs. bs ++ item_bytes item) so_far
-    ∙ flat_map_more item_bytes old (take i items) item
-    ∙ ap (λ xs. old ++ items_bytes xs)
-    (ap (λ x. take i items ++ x ∷ []) is ∙ sym (take_more items i d less))
+    grind (arith, flat_map_more, is, take_more)
 
 -- items have as many bytes as their lengths say together
 pub length-items_bytes : (items : List TagItem) → length (items_bytes items) ≡ items_length items
 length-items_bytes [] = refl
 length-items_bytes (item ∷ items) =
-    omega (
-      arith,
-      length-append (item_bytes item) (items_bytes items),
-      length-item_bytes item,
-      length-items_bytes items,
-      items_length-cons item items,
-    )
+    grind (arith, length-append, length-item_bytes, items_length-cons, length-items_bytes items)
 
 -- ---- numbers of 32 bits
 
 -- dropping some of a list of bytes leaves bytes
 pub octets-drop : (n : ℕ) (bytes : List ℕ) → AreByteValues bytes → AreByteValues (drop n bytes)
-octets-drop n bytes octets =
-    λ i. subst (λ b. b < 256) (sym (get_or-drop n bytes i 0)) (octets (n + i))
+octets-drop n bytes octets = grind (arith, get_or-drop)
 
 -- the first of some bytes are bytes
 pub octets-take : (n : ℕ) (bytes : List ℕ) → AreByteValues bytes → (i : ℕ)
@@ -79,8 +67,7 @@ little_bytes-ape_number at bytes octets within =
 
 -- a number of 32 bits is read from the bytes that it is written as
 pub little_number-little_bytes : (n : ℕ) → n < 2 ^ 32 → little_number 4 (little_bytes 4 n) ≡ n
-little_number-little_bytes n below = ap (little_number 4) (sym (append-nil (little_bytes 4 n)))
-    ∙ little_number-reads_back 4 n [] below
+little_number-little_bytes n below = grind (arith, append-nil)
 
 -- ---- an item with which bytes begin
 
@@ -108,27 +95,18 @@ has_whole_item-parts bytes is =
 -- if all the conditions hold, an item is whole
 pub has_whole_item-from : (bytes : List ℕ) → Stands bytes → true ≡ has_whole_item bytes
 unfolding has_whole_item
-has_whole_item-from bytes s = sym (and_from _ _ (and_from _ _ (and_from _ _ (le-leb _ _ s.least)
-    (le-leb _ _ s.most)) (le-leb _ _ s.within)) (eq-eqb _ _ s.zero_behind))
+has_whole_item-from bytes s = grind (arith, and_from, le-leb, eq-eqb)
 
 -- if not all the conditions hold, no item is whole
 pub has_whole_item-not : (bytes : List ℕ) → (Stands bytes → ⊥) → false ≡ has_whole_item bytes
-has_whole_item-not bytes none =
-    sym (false_from_ne_true (has_whole_item bytes) (λ is. none (has_whole_item-parts bytes is)))
+has_whole_item-not bytes none = grind (arith, false_from_ne_true, has_whole_item-parts)
 
 -- an item is as long as the bytes before its value plus its value
 pub length-front : (bytes : List ℕ) → has_whole_item bytes ≡ true
     → item_length (tag_item_front bytes) ≡ value_place bytes + ape_number 0 bytes
 unfolding tag_item_front
 length-front bytes is =
-    let parts = has_whole_item-parts bytes is in
-    omega (
-      arith,
-      parts.within,
-      length-prefix_len is_key_char (drop 8 bytes),
-      length-take-le (ape_number 0 bytes) (drop (value_place bytes) bytes)
-          (omega (arith, parts.within, length-drop (value_place bytes) bytes)),
-    )
+    grind (arith, has_whole_item-parts, is, length-prefix_len, length-take-le, length-drop)
 
 -- an item that is whole is within the bytes
 pub within-front : (bytes : List ℕ) → has_whole_item bytes ≡ true
@@ -137,9 +115,7 @@ within-front bytes is = omega (arith, length-front bytes is, (has_whole_item-par
 
 joined : (a b key value rest : List ℕ)
     → (a ++ (b ++ (key ++ (0 ∷ value)))) ++ rest ≡ a ++ (b ++ (key ++ (0 ∷ (value ++ rest))))
-joined a b key value rest =
-    append_assoc a (b ++ (key ++ (0 ∷ value))) rest ∙ ap (λ l. a ++ l) (append_assoc b
-    (key ++ (0 ∷ value)) rest ∙ ap (λ l. b ++ l) (append_assoc key (0 ∷ value) rest))
+joined a b key value rest = grind (arith, append_assoc, value)
 
 split : (n : ℕ) (bytes : List ℕ) → bytes ≡ take n bytes ++ drop n bytes
 split n bytes = sym (take-append-drop n bytes)
@@ -154,13 +130,14 @@ parts_of bytes is =
     let parts = has_whole_item-parts bytes is in
     let value : drop (9 + k) bytes
     ≡ take (ape_number 0 bytes) (drop (9 + k) bytes) ++ drop (9 + k + ape_number 0 bytes) bytes =
-    split (ape_number 0 bytes) (drop (9 + k) bytes)
-    ∙ ap (λ l. take (ape_number 0 bytes) (drop (9 + k) bytes) ++ l)
-    (drop-drop (ape_number 0 bytes) (9 + k) bytes) in
+    grind (
+      arith,
+      split (ape_number 0 bytes) (drop (9 + k) bytes),
+      drop-drop (ape_number 0
+          bytes) (9 + k) bytes,
+    ) in
     let next : 8 + k + 1 ≡ 9 + k = omega arith in
-    let zeroed : drop (8 + k) bytes ≡ 0 ∷ drop (9 + k) bytes =
-    drop_more bytes (8 + k) 0 (omega (arith, parts.within))
-    ∙ ap (λ b. b ∷ drop (8 + k + 1) bytes) parts.zero_behind ∙ ap (λ n. 0 ∷ drop n bytes) next in
+    let zeroed : drop (8 + k) bytes ≡ 0 ∷ drop (9 + k) bytes = grind (arith, drop_more) in
     let key : drop 8 bytes ≡ take k (drop 8 bytes) ++ drop (8 + k) bytes =
     split k (drop 8 bytes) ∙ ap (λ l. take k (drop 8 bytes) ++ l) (drop-drop k 8 bytes) in
     let flags : drop 4 bytes ≡ take 4 (drop 4 bytes) ++ drop 8 bytes =
@@ -184,8 +161,7 @@ bytes-front bytes octets is =
     let key : List ℕ = take (key_length bytes) (drop 8 bytes) in
     let value : List ℕ = take (ape_number 0 bytes) (drop (value_place bytes) bytes) in
     let rest : drop (value_place bytes + ape_number 0 bytes) bytes
-    ≡ drop (item_length (tag_item_front bytes)) bytes =
-    ap (λ n. drop n bytes) (sym (length-front bytes is)) in
+    ≡ drop (item_length (tag_item_front bytes)) bytes = grind (arith, length-front, is) in
     parts_of bytes is
     ∙ ap (λ l. take 4 bytes ++ (take 4 (drop 4 bytes) ++ (key ++ (0 ∷ (value ++ l))))) rest
     ∙ sym (joined (take 4 bytes) (take 4 (drop 4 bytes)) key value
@@ -198,12 +174,7 @@ bytes-front bytes octets is =
 key_passes : (bytes : List ℕ)
     → list_all is_key_char (take (prefix_len is_key_char bytes) bytes) ≡ true
 key_passes bytes =
-    list_all-from_AllPass is_key_char (take (prefix_len is_key_char bytes) bytes) (λ k d before.
-    let within : k < prefix_len is_key_char bytes =
-    omega (arith, before, length-prefix_len is_key_char bytes) in
-    subst (λ c. is_key_char c ≡ true)
-    (sym (get_or-take (prefix_len is_key_char bytes) bytes k d within))
-    (prefix_len_passes is_key_char bytes k d within))
+    grind (arith, list_all-from_AllPass, length-prefix_len, get_or-take, prefix_len_passes)
 
 -- a number of a tag is below 2 ^ 32
 pub ape_number-below : (at : ℕ) (bytes : List ℕ) → AreByteValues bytes
@@ -216,18 +187,22 @@ pub is_item-front : (bytes : List ℕ) → AreByteValues bytes → has_whole_ite
     → is_item (tag_item_front bytes) ≡ true
 unfolding is_item tag_item_front
 is_item-front bytes octets is =
-    let parts = has_whole_item-parts bytes is in
-    let long : length (take (key_length bytes) (drop 8 bytes)) ≡ key_length bytes =
-    length-prefix_len is_key_char (drop 8 bytes) in
-    let few : length (take (ape_number 0 bytes) (drop (value_place bytes) bytes)) ≤ ape_number 0
-    bytes = omega (arith, length-take (ape_number 0 bytes) (drop (value_place bytes) bytes)) in
-    and_from _ _ (and_from _ _
-    (and_from _ _ (and_from _ _ (le-leb 2 (length (take (key_length bytes) (drop 8 bytes)))
-    (omega (arith, long, parts.least))) (le-leb (length (take (key_length bytes) (drop 8 bytes)))
-    255 (omega (arith, long, parts.most)))) (key_passes (drop 8 bytes)))
-    (lt-ltb (length (take (ape_number 0 bytes) (drop (value_place bytes) bytes))) (2 ^ 32)
-    (omega (arith, few, ape_number-below 0 bytes octets))))
-    (lt-ltb (ape_number 4 bytes) (2 ^ 32) (ape_number-below 4 bytes octets))
+    grind (
+      arith,
+      has_whole_item-parts bytes is,
+      is,
+      length-prefix_len is_key_char (drop 8 bytes),
+      length-take (ape_number 0 bytes) (drop (value_place bytes) bytes),
+      and_from,
+      le-leb,
+      key_passes
+          (drop 8 bytes),
+      lt-ltb,
+      ape_number-below 0 bytes octets,
+      lt-ltb (ape_number 4 bytes) (2 ^ 32)
+          (ape_number-below 4 bytes octets),
+      ape_number-below 4 bytes octets,
+    )
 
 -- ---- an item read from its bytes
 
@@ -279,8 +254,7 @@ drop-shown item rest = refl
 
 key-shown : (item : TagItem) (rest : List ℕ) → IsItem item
     → key_length (shown item rest) ≡ length item.key
-key-shown item rest is = ap (prefix_len is_key_char) (drop-shown item rest)
-    ∙ prefix_len-key item.key (item.value ++ rest) is.chars
+key-shown item rest is = grind (arith, drop-shown, prefix_len-key)
 
 size-shown : (item : TagItem) (rest : List ℕ) → IsItem item
     → ape_number 0 (shown item rest) ≡ length item.value
@@ -294,59 +268,47 @@ flags-shown item rest is = little_number-little_bytes item.flags is.flags
 
 length-shown : (item : TagItem) (rest : List ℕ)
     → length (shown item rest) ≡ item_length item + length rest
-length-shown item rest = omega (
-  arith,
-  ap length (shown-is item rest),
-  length-append (item_bytes item) rest,
-  length-item_bytes item,
-)
+length-shown item rest =
+    grind (arith, shown-is item rest, length-append (item_bytes item) rest, length-item_bytes item)
 
 zero-shown : (item : TagItem) (rest : List ℕ) → get_or (shown item rest) (8 + length item.key) 0 ≡ 0
 zero-shown item rest =
-    sym (get_or-drop 8 (shown item rest) (length item.key) 0)
-    ∙ ap (λ l. get_or l (length item.key) 0) (drop-shown item rest)
-    ∙ get_or_at item.key 0 (item.value ++ rest) 0 (length item.key) refl
+    grind (
+      arith,
+      get_or-drop 8 (shown item rest) (length item.key) 0,
+      drop-shown item rest,
+      get_or_at item.key 0 (item.value ++ rest) 0 (length item.key) refl,
+    )
 
 value-shown : (item : TagItem) (rest : List ℕ)
     → drop (9 + length item.key) (shown item rest) ≡ item.value ++ rest
 value-shown item rest =
-    let more : 8 + (length item.key + 1) ≡ 9 + length item.key = omega arith in
-    ap (λ n. drop n (shown item rest)) (sym more)
-    ∙ sym (drop-drop (length item.key + 1) 8 (shown item rest))
-    ∙ ap (drop (length item.key + 1)) (drop-shown item rest)
-    ∙ sym (drop-drop 1 (length item.key) (item.key ++ (0 ∷ (item.value ++ rest))))
-    ∙ ap (drop 1) (drop_at item.key (0 ∷ (item.value ++ rest)) (length item.key) refl)
+    grind (
+      arith,
+      drop-drop (length item.key + 1) 8 (shown item rest),
+      drop-shown item rest,
+      drop-drop 1 (length item.key) (item.key ++ (0 ∷ (item.value ++ rest))),
+      drop_at item.key (0 ∷
+          (item.value ++ rest)) (length item.key) refl,
+    )
 
 has_whole_item-shown : (item : TagItem) (rest : List ℕ) → IsItem item
     → has_whole_item (shown item rest) ≡ true
 unfolding has_whole_item
 has_whole_item-shown item rest is =
-    rw (key-shown item rest is, size-shown item rest is, zero-shown item rest)
-    (and_from _ _ (and_from _ _ (and_from _ _ (le-leb 2 (length item.key) is.least)
-    (le-leb (length item.key) 255 is.most)) (le-leb (9 + length item.key + length item.value)
-    (length (shown item rest)) (omega (arith, length-shown item rest)))) refl)
+    grind (arith, key-shown, is, size-shown, zero-shown, and_from, le-leb, length-shown)
 
 front-shown : (item : TagItem) (rest : List ℕ) → IsItem item
     → tag_item_front (shown item rest) ≡ item
 unfolding tag_item_front
 front-shown item rest is =
-    rw (
-      key-shown item rest is,
-      size-shown item rest is,
-      flags-shown item rest is,
-      value-shown item rest,
-      drop-shown item rest,
-      take_at item.key (0 ∷ (item.value ++ rest)) (length item.key) refl,
-      take_at item.value rest (length item.value) refl,
-    ) refl
+    grind (arith, key-shown, is, size-shown, flags-shown, value-shown, drop-shown, take_at)
 
 -- an item is read from its bytes, whatever follows
 pub tag_item_of-item_bytes : (item : TagItem) (rest : List ℕ) → is_item item ≡ true
     → tag_item_of (item_bytes item ++ rest) ≡ Some item
 tag_item_of-item_bytes item rest is =
-    let parts = is_item-parts item is in
-    ap tag_item_of (shown-is item rest)
-    ∙ rw (has_whole_item-shown item rest parts) (ap Some (front-shown item rest parts))
+    grind (arith, is_item-parts, is, shown-is, has_whole_item-shown, front-shown)
 
 -- ---- the next item
 
@@ -362,9 +324,7 @@ some_same a b e = cc
 next_cases : (met : Bool) (o : Option TagItem) (item : TagItem) → next_if_admitted met o ≡ Some item
     → (o ≡ Some item) × ((met && is_undo item) ≡ false)
 next_cases met None item e = absurd cc
-next_cases met (Some other) item e =
-    let cases = admitted_cases met (is_undo other) other item refl e in
-    (cases.0, subst (λ i. (met && is_undo i) ≡ false) (some_same other item cases.0) cases.1)
+next_cases met (Some other) item e = grind (arith, admitted_cases, some_same)
 
 -- the next item is there, and isn't a second undo item
 pub record IsNext (met : Bool) (bytes : List ℕ) (item : TagItem) : Type 0 where
@@ -383,8 +343,7 @@ next_item-is met bytes item next =
 -- the next item is within the bytes
 pub next_item-within : (met : Bool) (bytes : List ℕ) (item : TagItem)
     → next_item met bytes ≡ Some item → item_length item ≤ length bytes
-next_item-within met bytes item next = let here = next_item-is met bytes item next in
-    subst (λ i. item_length i ≤ length bytes) here.is (within-front bytes here.stands_there)
+next_item-within met bytes item next = grind (arith, next_item-is, within-front)
 
 admit : (met : Bool) (item : TagItem) (o : Option TagItem) → o ≡ Some item
     → (met && is_undo item) ≡ false → next_if_admitted met o ≡ Some item
@@ -402,18 +361,14 @@ one_more most met bytes = refl
 pub tag_items_from-next : (most : ℕ) (met : Bool) (bytes : List ℕ) (item : TagItem)
     → next_item met bytes ≡ Some item → tag_items_from (suc most) met bytes
     ≡ item ∷ tag_items_from most (met || is_undo item) (drop (item_length item) bytes)
-tag_items_from-next most met bytes item next = one_more most met bytes
-    ∙ ap (item_and_more (λ i. tag_items_from most (met || is_undo i) (drop (item_length i) bytes)))
-    next
+tag_items_from-next most met bytes item next = grind (arith, one_more, most)
 
 -- if there is no next item, there are no items
 pub tag_items_from-none : (most : ℕ) (met : Bool) (bytes : List ℕ) → next_item met bytes ≡ None
     → tag_items_from most met bytes ≡ []
 unfolding tag_items_from
 tag_items_from-none zero met bytes none = refl
-tag_items_from-none (suc most) met bytes none = one_more most met bytes
-    ∙ ap (item_and_more (λ i. tag_items_from most (met || is_undo i) (drop (item_length i) bytes)))
-    none
+tag_items_from-none (suc most) met bytes none = grind (arith, one_more, most)
 
 -- if no more items may follow, there are none
 pub tag_items_from-zero : (met : Bool) (bytes : List ℕ) → tag_items_from 0 met bytes ≡ []
@@ -440,16 +395,12 @@ read_more whole items count at passed met bytes item more is next =
 -- if there is no next item, the items so far are all
 pub read_none : (whole items : List TagItem) (left : ℕ) (met : Bool) (bytes : List ℕ)
     → whole ≡ items ++ tag_items_from left met bytes → next_item met bytes ≡ None → items ≡ whole
-read_none whole items left met bytes is none =
-    sym (is ∙ ap (λ l. items ++ l) (tag_items_from-none left met bytes none) ∙ append-nil items)
+read_none whole items left met bytes is none = grind (arith, is, tag_items_from-none, append-nil)
 
 -- if as many items were read as there may be, they are all
 pub read_all : (whole items : List TagItem) (count at : ℕ) (met : Bool) (bytes : List ℕ)
     → count ≤ at → whole ≡ items ++ tag_items_from (count - at) met bytes → items ≡ whole
-read_all whole items count at met bytes done is =
-    let none : count - at ≡ 0 = omega (arith, done) in
-    sym (is ∙ ap (λ n. items ++ tag_items_from n met bytes) none
-    ∙ ap (λ l. items ++ l) (tag_items_from-zero met bytes) ∙ append-nil items)
+read_all whole items count at met bytes done is = grind (arith, is, tag_items_from-zero, append-nil)
 
 -- ---- what items that follow end to end are
 
@@ -497,21 +448,14 @@ read_one : (met : Bool) (bytes : List ℕ) (item : TagItem) (items : List TagIte
     → AreRead (met || is_undo item) (drop (item_length item) bytes) items
     → AreRead met bytes (item ∷ items)
 read_one met bytes item items octets next rest =
-    let here : is_item item ≡ true =
-    subst (λ i. is_item i ≡ true) next.is (is_item-front bytes octets next.stands_there) in
+    let here : is_item item ≡ true = grind (arith, is_item-front) in
     let front : bytes ≡ item_bytes item ++ drop (item_length item) bytes =
-    subst (λ i. bytes ≡ item_bytes i ++ drop (item_length i) bytes)
-    next.is (bytes-front bytes octets next.stands_there) in
+    grind (arith, bytes-front) in
     let behind : drop (items_length items) (drop (item_length item) bytes)
-    ≡ drop (items_length (item ∷ items)) bytes =
-    drop-drop (items_length items) (item_length item) bytes
-    ∙ ap (λ n. drop n bytes) (sym (items_length-cons item items)) in
+    ≡ drop (items_length (item ∷ items)) bytes = grind (arith, drop-drop, items_length-cons) in
     record {
       all = and_from (is_item item) (list_all is_item items) here rest.all;
-      front = front
-          ∙ ap (λ l. item_bytes item ++ l) (rest.front ∙ ap (λ l. items_bytes items ++ l) behind)
-          ∙ sym (append_assoc (item_bytes item) (items_bytes items)
-          (drop (items_length (item ∷ items)) bytes));
+      front = grind (arith, front, append_assoc);
       few = omega (
         arith,
         undos-cons item items,
@@ -536,8 +480,7 @@ read_cases most met bytes octets fewer (Some item) next =
 -- what is read are items with whose bytes the bytes begin, and at most one is an undo item
 pub tag_items_from-read : (most : ℕ) (met : Bool) (bytes : List ℕ) → AreByteValues bytes
     → AreRead met bytes (tag_items_from most met bytes)
-tag_items_from-read zero met bytes octets =
-    subst (AreRead met bytes) (sym (tag_items_from-zero met bytes)) (read_nothing met bytes)
+tag_items_from-read zero met bytes octets = grind (arith, tag_items_from-zero, read_nothing)
 tag_items_from-read (suc most) met bytes octets = read_cases most met bytes octets
     (λ m b all. tag_items_from-read most m b all) (next_item met bytes) refl
 
@@ -550,9 +493,8 @@ tag_items_from-items_bytes met (item ∷ items) all few =
     let parts = and_parts (is_item item) (list_all is_item items) all in
     let less = few_less met (is_undo item) (length (filter is_undo items))
     (omega (arith, few, undos-cons item items)) in
-    let next : next_item met (items_bytes (item ∷ items)) ≡ Some item = admit met item (tag_item_of
-    (items_bytes (item ∷ items)))
-    (tag_item_of-item_bytes item (items_bytes items) parts.0) less.0 in
+    let next : next_item met (items_bytes (item ∷ items)) ≡ Some item =
+    grind (arith, admit, tag_item_of-item_bytes) in
     tag_items_from-next (length items) met (items_bytes (item ∷ items)) item next
     ∙ ap (λ l. item ∷ l) (ap (tag_items_from (length items) (met || is_undo item))
     (drop_at (item_bytes item) (items_bytes items) (item_length item) (length-item_bytes item))
@@ -599,22 +541,14 @@ stopped_later : (most : ℕ) (met : Bool) (bytes : List ℕ) (item : TagItem) (i
     → IsStopped (suc most) met bytes (item ∷ items)
 stopped_later most met bytes item items rest = record {
   few = omega (arith, rest.few);
-  last = λ less.
-      ap (λ m. next_item m (drop (items_length (item ∷ items)) bytes))
-      (sym (or_assoc met (is_undo item) (list_any is_undo items)))
-      ∙ ap (next_item ((met || is_undo item) || list_any is_undo items))
-      (ap (λ n. drop n bytes) (items_length-cons item items)
-      ∙ sym (drop-drop (items_length items) (item_length item) bytes))
-      ∙ rest.last (omega (arith, less));
+  last = grind (arith, or_assoc, items_length-cons, drop-drop);
 }
 
 stop_cases : (most : ℕ) (met : Bool) (bytes : List ℕ)
     → ((m : Bool) (b : List ℕ) → IsStopped most m b (tag_items_from most m b))
     → (o : Option TagItem) → next_item met bytes ≡ o
     → IsStopped (suc most) met bytes (tag_items_from (suc most) met bytes)
-stop_cases most met bytes fewer None none =
-    subst (IsStopped (suc most) met bytes) (sym (tag_items_from-none (suc most) met bytes none))
-    (stopped_here (suc most) met bytes (λ _. none))
+stop_cases most met bytes fewer None none = grind (arith, most, tag_items_from-none, stopped_here)
 stop_cases most met bytes fewer (Some item) next =
     subst (IsStopped (suc most) met bytes) (sym (tag_items_from-next most met bytes item next))
     (stopped_later most met bytes item (tag_items_from most (met || is_undo item)
@@ -623,9 +557,7 @@ stop_cases most met bytes fewer (Some item) next =
 -- reading continues up to the most items there may be, or until there is no next one
 pub tag_items_from-stopped : (most : ℕ) (met : Bool) (bytes : List ℕ)
     → IsStopped most met bytes (tag_items_from most met bytes)
-tag_items_from-stopped zero met bytes =
-    subst (IsStopped 0 met bytes) (sym (tag_items_from-zero met bytes))
-    (stopped_here 0 met bytes (λ less. absurd (omega (arith, less))))
+tag_items_from-stopped zero met bytes = grind (arith, tag_items_from-zero, stopped_here)
 tag_items_from-stopped (suc most) met bytes =
     stop_cases most met bytes (λ m b. tag_items_from-stopped most m b) (next_item met bytes) refl
 
@@ -644,22 +576,17 @@ pub tag_items_from-only : (most : ℕ) (met : Bool) (items : List TagItem) (byte
     → (length items < most → next_item (met || list_any is_undo items) rest ≡ None)
     → tag_items_from most met bytes ≡ items
 tag_items_from-only most met [] bytes rest all few one front last =
-    only_none most met bytes
-    (λ less. ap (next_item met) front ∙ ap (λ m. next_item m rest) (sym (or_false met)) ∙ last less)
-tag_items_from-only zero met (item ∷ items) bytes rest all few one front last =
-    absurd (omega (arith, few))
+    grind (arith, only_none, most, front, or_false)
+tag_items_from-only zero met (item ∷ items) bytes rest all few one front last = grind (arith, few)
 tag_items_from-only (suc most) met (item ∷ items) bytes rest all few one front last =
     let parts = and_parts (is_item item) (list_all is_item items) all in
     let less = few_less met (is_undo item) (length (filter is_undo items))
     (omega (arith, one, undos-cons item items)) in
     let shape : bytes ≡ item_bytes item ++ (items_bytes items ++ rest) =
     front ∙ append_assoc (item_bytes item) (items_bytes items) rest in
-    let next : next_item met bytes ≡ Some item = admit met item (tag_item_of bytes)
-    (ap tag_item_of shape ∙ tag_item_of-item_bytes item (items_bytes items ++ rest) parts.0)
-    less.0 in
+    let next : next_item met bytes ≡ Some item = grind (arith, admit, tag_item_of-item_bytes) in
     let behind : drop (item_length item) bytes ≡ items_bytes items ++ rest =
-    ap (drop (item_length item)) shape ∙ drop_at (item_bytes item) (items_bytes items ++ rest)
-    (item_length item) (length-item_bytes item) in
+    grind (arith, drop_at, length-item_bytes) in
     tag_items_from-next most met bytes item next
     ∙ ap (λ l. item ∷ l) (tag_items_from-only most (met || is_undo item) items
     (drop (item_length item) bytes) rest parts.1 (omega (arith, few)) less.1 behind

@@ -7,8 +7,8 @@ use Rattle.std.proofs.Math.Seq.{take-add}
 use Rattle.std.proofs.lemmas.Bool.{and_from, and_parts, eq-eqb, eqb-true, le-leb, leb-true, lt-ltb}
 use Rattle.std.proofs.lemmas.Bool.{ltb-true, ne_eqb}
 use Rattle.std.proofs.lemmas.List.{drop-drop, drop_at, length-take-le, nil_from_length, take_all}
-use Rattle.std.{proofs.lemmas.{List.take_at, Slice.Eq.bytes_eq-Decides}, specs.Int.bit_at}
-use Rattle.std.specs.{List.list_all, Prelude.{codes, nat_le}}
+use Rattle.std.{proofs.lemmas.{List.take_at, Slice.Eq.bytes_eq-Decides}, specs.List.list_all}
+use Rattle.std.specs.Prelude.{codes, nat_le}
 use Rattle.byteorder.specs.Endian.{little_bytes}
 use Rattle.tag_blocks.proofs.BlocksLemmas.{block_front-any, block_front-begins}
 use Rattle.tag_blocks.proofs.ItemsLemmas.{ape_number-below, is_item-parts, items_length-cons}
@@ -18,7 +18,7 @@ use Rattle.tag_blocks.proofs.ItemsLemmas.{tag_items_from-items_bytes, tag_items_
 use Rattle.tag_blocks.proofs.{ItemsLemmas.tag_items_from-within, UndoItemsLemmas.items_length-parts}
 use Rattle.tag_blocks.specs.Blocks.{ape_flags, ape_length, ape_size, ape_version, begins_with}
 use Rattle.tag_blocks.specs.Blocks.{block_front, is_ape}
-use Rattle.tag_blocks.specs.Items.{is_item, items_bytes, items_length, tag_items_from, TagItem}
+use Rattle.tag_blocks.specs.Items.{is_item, items_bytes, items_length, TagItem}
 use Rattle.tag_blocks.specs.Laws.{AreByteValues}
 use Rattle.tag_blocks.specs.Tags.{ape_count, are_footer_flags, are_header_flags, end_bytes}
 use Rattle.tag_blocks.specs.Tags.{footer_place, is_footer, is_reserved, IsTag, item_part, tag_bytes}
@@ -55,17 +55,7 @@ length-end_bytes size count flags = refl
 -- a tag has the bytes of its items, and 64 of its header and its footer
 pub length-tag_bytes : (tag : TagFields) → length (tag_bytes tag) ≡ 64 + items_length tag.items
 unfolding tag_bytes
-length-tag_bytes tag =
-    let header : List ℕ = end_bytes (tag_size tag) (length tag.items) tag.header_flags in
-    let footer : List ℕ = end_bytes (tag_size tag) (length tag.items) tag.footer_flags in
-    omega (
-      arith,
-      length-append header (items_bytes tag.items ++ footer),
-      length-append (items_bytes tag.items) footer,
-      length-end_bytes (tag_size tag) (length tag.items) tag.header_flags,
-      length-end_bytes (tag_size tag) (length tag.items) tag.footer_flags,
-      length-items_bytes tag.items,
-    )
+length-tag_bytes tag = grind (arith, length-append, length-end_bytes, length-items_bytes)
 
 -- ---- a header or a footer that was written
 
@@ -84,8 +74,7 @@ end_bytes-parts : (size count flags : ℕ) (rest : List ℕ) → size < 2 ^ 32 �
     → flags < 2 ^ 32 → IsEnd size count flags (end_bytes size count flags ++ rest) rest
 unfolding end_bytes
 end_bytes-parts size count flags rest s n f = record {
-  long = le-leb 32 (length (end_bytes size count flags ++ rest)) (omega
-      (arith, length-append (end_bytes size count flags) rest, length-end_bytes size count flags));
+  long = grind (arith, le-leb, count, length-append, length-end_bytes);
   text = refl;
   version = refl;
   size_is = little_number-little_bytes size s;
@@ -100,11 +89,7 @@ end_bytes-parts size count flags rest s n f = record {
 is_footer-end : (size count flags : ℕ) (bytes : List ℕ) → IsEnd size count flags bytes []
     → are_footer_flags flags ≡ true → is_footer size count bytes ≡ true
 unfolding is_footer
-is_footer-end size count flags bytes is bits =
-    and_from _ _ (and_from _ _
-    (and_from _ _ (and_from _ _ (and_from _ _ is.text (eq-eqb (ape_version bytes) 2000 is.version))
-    (eq-eqb (ape_size bytes) size is.size_is)) (eq-eqb (ape_count bytes) count is.count_is))
-    (subst (λ n. are_footer_flags n ≡ true) (sym is.flags_is) bits)) is.reserved
+is_footer-end size count flags bytes is bits = grind (arith, and_from, eq-eqb, count, bits)
 
 -- the block has the header, the items and the footer of a tag, each in its place
 pub record AreParts (tag : TagFields) (block : List ℕ) : Type 0 where
@@ -146,9 +131,7 @@ tag_bytes-parts tag is =
     record {
       header = header;
       place = place;
-      items = ap (λ k. take k (drop 32 block)) many
-          ∙ ap (take (items_length tag.items)) header.behind ∙ take_at (items_bytes tag.items)
-          footer (items_length tag.items) (length-items_bytes tag.items);
+      items = grind (arith, take_at, footer, length-items_bytes);
       behind = behind;
       footer = subst (λ b. IsEnd size count tag.footer_flags b []) (append-nil footer ∙ sym behind)
           (end_bytes-parts size count tag.footer_flags [] s n (ltb-true _ _ is.footer_number));
@@ -219,19 +202,13 @@ tag_of-tag_bytes tag is =
     let block : List ℕ = tag_bytes tag in
     let parts = tag_bytes-parts tag is in
     let count : ape_count block ≡ length tag.items = parts.header.count_is in
-    let items : tag_items_of block ≡ tag.items =
-    ap (λ k. tag_items_from k false (item_part block)) count
-    ∙ ap (tag_items_from (length tag.items) false) parts.items
-    ∙ tag_items_from-items_bytes false tag.items is.items (omega (arith, is.one)) in
+    let items : tag_items_of block ≡ tag.items = grind (arith, count, tag_items_from-items_bytes) in
     let counted : (length (tag_items_of block) == ape_count block) ≡ true =
     eq-eqb (length (tag_items_of block)) (ape_count block) (ap length items ∙ sym count) in
     let placed : (32 + items_length (tag_items_of block) == footer_place block) ≡ true =
-    eq-eqb (32 + items_length (tag_items_of block)) (footer_place block)
-    (ap (λ l. 32 + items_length l) items ∙ sym parts.place) in
+    grind (arith, eq-eqb, items) in
     let footed : is_footer (ape_size block) (ape_count block) (drop (footer_place block) block)
-    ≡ true =
-    rw (parts.header.size_is, count) (is_footer-end (tag_size tag) (length tag.items)
-    tag.footer_flags (drop (footer_place block) block) parts.footer is.footer_bits) in
+    ≡ true = grind (arith, count, is_footer-end) in
     tag_of-whole block parts.header.reserved counted placed footed
     ∙ ap Ok (rw (parts.header.flags_is, parts.footer.flags_is, items) refl)
 
@@ -241,12 +218,7 @@ is_ape-end : (size count flags : ℕ) (bytes rest : List ℕ) → IsEnd size cou
     → 32 ≤ size → are_header_flags flags ≡ true → is_ape bytes ≡ true
 unfolding is_ape
 is_ape-end size count flags bytes rest is most bits =
-    let flag = and_parts (bit_at flags 31 == 1) (bit_at flags 29 == 1) bits in
-    and_from _ _ (and_from _ _ (and_from _ _
-    (and_from _ _ (and_from _ _ is.long is.text) (eq-eqb (ape_version bytes) 2000 is.version))
-    (le-leb 32 (ape_size bytes) (omega (arith, is.size_is, most))))
-    (subst (λ n. (bit_at n 31 == 1) ≡ true) (sym is.flags_is) flag.0))
-    (subst (λ n. (bit_at n 29 == 1) ≡ true) (sym is.flags_is) flag.1)
+    grind (arith, and_parts, bits, and_from, eq-eqb, le-leb, most)
 
 -- the bytes of a tag begin with an APEv2 block that is as long as they are
 pub block_front-tag_bytes : (tag : TagFields) → IsTag tag
@@ -272,29 +244,18 @@ zeros (b ∷ bytes) all =
 six : (bytes : List ℕ)
     → take 32 bytes ≡ take 8 bytes ++ (take 4 (drop 8 bytes) ++ (take 4 (drop 12 bytes)
     ++ (take 4 (drop 16 bytes) ++ (take 4 (drop 20 bytes) ++ take 8 (drop 24 bytes)))))
-six bytes =
-    take-add 8 24 bytes
-    ∙ ap (λ l. take 8 bytes ++ l) (take-add 4 20 (drop 8 bytes)
-    ∙ ap (λ l. take 4 (drop 8 bytes) ++ take 20 l) (drop-drop 4 8 bytes)
-    ∙ ap (λ l. take 4 (drop 8 bytes) ++ l) (take-add 4 16 (drop 12 bytes)
-    ∙ ap (λ l. take 4 (drop 12 bytes) ++ take 16 l) (drop-drop 4 12 bytes)
-    ∙ ap (λ l. take 4 (drop 12 bytes) ++ l) (take-add 4 12 (drop 16 bytes)
-    ∙ ap (λ l. take 4 (drop 16 bytes) ++ take 12 l) (drop-drop 4 16 bytes)
-    ∙ ap (λ l. take 4 (drop 16 bytes) ++ l) (take-add 4 8 (drop 20 bytes)
-    ∙ ap (λ l. take 4 (drop 20 bytes) ++ take 8 l) (drop-drop 4 20 bytes)))))
+six bytes = grind (arith, take-add, drop-drop)
 
 glued : (a b c d e f g h i j k l : List ℕ) → a ≡ g → b ≡ h → c ≡ i → d ≡ j → e ≡ k → f ≡ l
     → a ++ (b ++ (c ++ (d ++ (e ++ f)))) ≡ g ++ (h ++ (i ++ (j ++ (k ++ l))))
-glued a b c d e f g h i j k l first second third fourth fifth sixth =
-    rw (first, second, third, fourth, fifth, sixth) refl
+glued a b c d e f g h i j k l first second third fourth fifth sixth = grind arith
 
 end_bytes-back : (bytes : List ℕ) → AreByteValues bytes → 32 ≤ length bytes
     → begins_with (codes "APETAGEX") bytes ≡ true → ape_version bytes ≡ 2000 → is_reserved bytes
     ≡ true → take 32 bytes ≡ end_bytes (ape_size bytes) (ape_count bytes) (ape_flags bytes)
 unfolding end_bytes
 end_bytes-back bytes octets long text version reserved =
-    let front : take 8 bytes ≡ codes "APETAGEX" =
-    sym ((bytes_eq-Decides (codes "APETAGEX") (take 8 bytes)).0 text) in
+    let front : take 8 bytes ≡ codes "APETAGEX" = grind (arith, bytes_eq-Decides, text) in
     let number : take 4 (drop 8 bytes) ≡ little_bytes 4 2000 =
     sym (little_bytes-ape_number 8 bytes octets (omega (arith, long))) ∙ ap (little_bytes 4) version
     in
@@ -394,8 +355,7 @@ IsTag-in block whole =
       others = omega (arith, sum, whole.place, whole.most);
       own = omega (arith, sum, whole.place, whole.most);
       header_bits = whole.is.header_bits;
-      footer_bits = (is_footer-parts (ape_size block) (ape_count block)
-          (drop (footer_place block) block) whole.footer).bits;
+      footer_bits = grind (arith, is_footer-parts);
       header_number = lt-ltb (ape_flags block) (2 ^ 32) (ape_number-below 20 block whole.octets);
       footer_number =
           lt-ltb (ape_flags (drop (footer_place block) block)) (2 ^ 32) (ape_number-below 20
@@ -419,9 +379,7 @@ tag_bytes-in block whole =
     let size : items_length items + 32 ≡ ape_size block =
     omega (arith, whole.place, whole.is.long) in
     let header : end_bytes (items_length items + 32) (length items) (ape_flags block)
-    ≡ take 32 block =
-    rw (size, whole.count) (sym (end_bytes-back block
-    whole.octets whole.is.least whole.is.text whole.is.version whole.reserved)) in
+    ≡ take 32 block = grind (arith, end_bytes-back) in
     let short : length footer ≡ 32 = omega (arith, length-drop end block, whole.is.least) in
     let ended : end_bytes (items_length items + 32) (length items) (ape_flags footer) ≡ footer =
     rw (size, whole.count, ← foot.size_is, ← foot.count_is)
@@ -438,12 +396,16 @@ tag_bytes-in block whole =
       whole.is.least,
     ) in
     let nothing : items_bytes items ≡ item_part block =
-    sym (append-nil (items_bytes items)) ∙ ap (λ l. items_bytes items ++ l) (sym
-    (none_left (items_length items) (item_part block) (omega (arith, wide)))) ∙ sym read.front in
+    grind (arith, append-nil, items, none_left) in
     let split : item_part block ++ footer ≡ drop 32 block =
-    ap (λ l. item_part block ++ l) (ap (λ k. drop k block)
-    (sym (up_to end (items_length items) whole.place)) ∙ sym (drop-drop (end - 32) 32 block))
-    ∙ take-append-drop (end - 32) (drop 32 block) in
+    grind (
+      arith,
+      up_to end (items_length items) whole.place,
+      items,
+      drop-drop (end - 32) 32
+          block,
+      take-append-drop (end - 32) (drop 32 block),
+    ) in
     rw (header, nothing, ended, split) (take-append-drop 32 block)
 
 -- ---- the steps of reading, by what was found at each
@@ -460,12 +422,7 @@ module _ (block : List ℕ) (items : List TagItem) (many long count : ℕ) where
   -- if not as many items were read as the header states, the fault is after the last one
   pub count_fault : AreFound block items many long count → (many ≡ count → ⊥)
       → tag_of block ≡ Err (TagFault.BadTag (32 + long))
-  count_fault found bad =
-      let same : many ≡ length (tag_items_of block) = found.many_is ∙ ap length found.items_is in
-      tag_of-count block found.reserved (ne_eqb (length (tag_items_of block)) (ape_count block)
-      (λ e. bad (same ∙ e ∙ sym found.count_is)))
-      ∙ ap (λ n. Err (TagFault.BadTag (32 + n)))
-      (sym (found.long_is ∙ ap items_length found.items_is))
+  count_fault found bad = grind (arith, tag_of-count, ne_eqb)
 
   counted : AreFound block items many long count → many ≡ count
       → length (tag_items_of block) ≡ ape_count block
@@ -474,14 +431,7 @@ module _ (block : List ℕ) (items : List TagItem) (many long count : ℕ) where
   -- if the footer isn't right after the items that were read, the fault is after the last one
   pub place_fault : AreFound block items many long count → many ≡ count
       → (32 + long ≡ footer_place block → ⊥) → tag_of block ≡ Err (TagFault.BadTag (32 + long))
-  place_fault found good bad =
-      let same : long ≡ items_length (tag_items_of block) =
-      found.long_is ∙ ap items_length found.items_is in
-      tag_of-place block found.reserved
-      (eq-eqb (length (tag_items_of block)) (ape_count block) (counted found good))
-      (ne_eqb (32 + items_length (tag_items_of block)) (footer_place block)
-      (λ e. bad (ap (λ n. 32 + n) same ∙ e)))
-      ∙ ap (λ n. Err (TagFault.BadTag (32 + n))) (sym same)
+  place_fault found good bad = grind (arith, long, tag_of-place, eq-eqb, counted, ne_eqb)
 
   placed : AreFound block items many long count → 32 + long ≡ footer_place block
       → 32 + items_length (tag_items_of block) ≡ footer_place block
@@ -492,11 +442,7 @@ module _ (block : List ℕ) (items : List TagItem) (many long count : ℕ) where
       → 32 + long ≡ footer_place block
       → is_footer (ape_size block) (ape_count block) (drop (footer_place block) block) ≡ false
       → tag_of block ≡ Err (TagFault.BadTag (footer_place block))
-  footer_fault found good place bad =
-      tag_of-footer block found.reserved
-      (eq-eqb (length (tag_items_of block)) (ape_count block) (counted found good))
-      (eq-eqb (32 + items_length (tag_items_of block)) (footer_place block) (placed found place))
-      bad
+  footer_fault found good place bad = grind (arith, tag_of-footer, eq-eqb, counted, placed, place)
 
   -- if nothing is at fault, the block has no fault
   pub whole_found : block_front block ≡ Some (record { kind = Ape; length = length block })
@@ -516,10 +462,7 @@ module _ (block : List ℕ) (items : List TagItem) (many long count : ℕ) where
 
 -- the tag of a block without fault is the one in it
 pub tag_of-in : (block : List ℕ) → IsWhole block → tag_of block ≡ Ok (tag_in block)
-tag_of-in block whole =
-    tag_of-whole block
-    whole.reserved (eq-eqb (length (tag_items_of block)) (ape_count block) whole.count)
-    (eq-eqb (32 + items_length (tag_items_of block)) (footer_place block) whole.place) whole.footer
+tag_of-in block whole = grind (arith, tag_of-whole, eq-eqb)
 
 -- the items of a block leave room for header and footer
 pub found-within : (block : List ℕ) → AreByteValues block → 64 ≤ length block
@@ -545,23 +488,17 @@ fault_cases : (block : List ℕ) (a b c d : Bool) (items_long : ℕ) (tag : TagF
     (cond (not b) (Err (TagFault.BadTag (32 + items_long))) (cond (not c) (Err (TagFault.BadTag
     (32 + items_long))) (cond (not d) (Err (TagFault.BadTag (footer_place block))) (Ok tag))))
     ≡ Err (TagFault.BadTag place) → place < length block
-fault_cases block false b c d n tag place long within e = let here : 24 ≡ place = cc in
-    omega (arith, here, long)
-fault_cases block true true true false n tag place long within e =
-    let here : footer_place block ≡ place = cc in omega (arith, here, long)
+fault_cases block false b c d n tag place long within e = grind (arith, place, long)
+fault_cases block true true true false n tag place long within e = grind (arith, place, long)
 fault_cases block true true true true n tag place long within e = absurd cc
-fault_cases block true _ _ d n tag place long within e = let here : 32 + n ≡ place = cc in
-    omega (arith, here, within)
+fault_cases block true _ _ d n tag place long within e = grind (arith, place)
 
 -- a fault is at a byte of the block
 pub place-within : (block : List ℕ) (place : ℕ) → AreByteValues block → 64 ≤ length block
     → tag_of block ≡ Err (TagFault.BadTag place) → place < length block
 unfolding tag_of
 place-within block place octets long e =
-    fault_cases block (is_reserved block) (length (tag_items_of block) == ape_count block)
-    (32 + items_length (tag_items_of block) == footer_place block)
-    (is_footer (ape_size block) (ape_count block) (drop (footer_place block) block))
-    (items_length (tag_items_of block)) (tag_in block) place long (found-within block octets long) e
+    grind (arith, fault_cases, place, long, found-within, octets)
 
 -- ---- a block that is a tag has no fault
 

@@ -1,14 +1,13 @@
 -- The undo item among the items: where it is, what the items are with another one or without it,
 -- and that all others stay.
-use Rattle.std.proofs.Common.{ap, arith, Bool, cond, drop, false, get_or, length, List, map, None}
-use Rattle.std.proofs.Common.{not, pos, refl, set, Some, subst, suc, sym, take, true, ℕ, [], ◌++◌}
-use Rattle.std.proofs.Common.{◌+◌, ◌<◌, ◌^◌, ◌∙◌, ◌∷◌, ◌≡◌, ◌≤◌}
+use Rattle.std.proofs.Common.{ap, arith, Bool, cond, drop, false, get_or, length, List, None, pos}
+use Rattle.std.proofs.Common.{refl, set, Some, subst, sym, take, true, ℕ, [], ◌++◌, ◌+◌, ◌<◌, ◌∙◌}
+use Rattle.std.proofs.Common.{◌∷◌, ◌≡◌, ◌≤◌}
 use Rattle.std.proofs.lemmas.Bool.{and_from, and_parts, ltb-false, ltb-true}
 use Rattle.std.proofs.lemmas.{List.{length-map, nil_from_length}, Slice.Eq.bytes_eq-Decides}
-use Rattle.std.specs.{Char.to_ascii_lowercase, List.{list_all, position_or_len}}
-use Rattle.std.specs.Prelude.{codes, nat_lt, position}
+use Rattle.std.specs.{List.{list_all, position_or_len}, Prelude.position}
 use Rattle.tag_blocks.proofs.ItemsLemmas.{items_length-cons}
-use Rattle.tag_blocks.specs.Items.{is_item, is_key, is_undo, item_length, items_length, TagItem}
+use Rattle.tag_blocks.specs.Items.{is_item, is_undo, item_length, items_length, TagItem}
 use Rattle.tag_blocks.specs.Tags.{IsTag, other_items, TagFields, undo_items}
 use Rattle.tag_blocks.specs.UndoItems.{new_undo_item, undo_from, with_undo, without_undo}
 use Rattle.tag_blocks.specs.{UndoText.{undo_of, undo_text}, declared.undo.Undo.Undo}
@@ -27,14 +26,12 @@ missed_cases false k e = refl
 -- the index of the undo item is among the items
 pub position-some : (items : List TagItem) (at : ℕ) → position is_undo items ≡ Some at
     → (position_or_len is_undo items < length items) × (position_or_len is_undo items ≡ at)
-position-some items at e = let cases = found_cases (nat_lt (position_or_len is_undo items)
-    (length items)) (position_or_len is_undo items) at e in (ltb-true _ _ cases.0, cases.1)
+position-some items at e = grind (arith, found_cases, ltb-true)
 
 -- if there is no undo item, its index is past the items
 pub position-none : (items : List TagItem) → position is_undo items ≡ None
     → length items ≤ position_or_len is_undo items
-position-none items e = ltb-false _ _ (missed_cases (nat_lt (position_or_len is_undo items)
-    (length items)) (position_or_len is_undo items) e)
+position-none items e = grind (arith, ltb-false, missed_cases)
 
 -- ---- the items with another undo item or without one, by its place
 
@@ -47,12 +44,7 @@ set_cases : (undo : Undo) (item : TagItem) (items : List TagItem) (d : TagItem) 
     ≡ set (item ∷ items) (position_or_len is_undo (item ∷ items)) (record (get_or (item ∷ items)
     (position_or_len is_undo (item ∷ items)) d) { value = undo_text undo })
 set_cases undo item items d true own within rest = rw own refl
-set_cases undo item items d false own within rest =
-    let one : 1 + position_or_len is_undo items ≡ suc (position_or_len is_undo items) =
-    omega arith in
-    let less : 1 + position_or_len is_undo items < length (item ∷ items) = subst
-    (λ b. cond (not b) (1 + position_or_len is_undo items) 0 < length (item ∷ items)) own within in
-    rw (own, one) (ap (λ l. item ∷ l) (rest (omega (arith, less))))
+set_cases undo item items d false own within rest = grind (arith, own)
 
 -- the undo item gets another value in its place, and keeps its key and flags
 pub with_undo-set : (undo : Undo) (items : List TagItem) (d : TagItem)
@@ -69,14 +61,8 @@ add_cases : (undo : Undo) (item : TagItem) (items : List TagItem) (is : Bool) �
     → (with_undo undo items ≡ items ++ (new_undo_item undo ∷ [])) × (without_undo items ≡ items))
     → (with_undo undo (item ∷ items) ≡ (item ∷ items) ++ (new_undo_item undo ∷ []))
     × (without_undo (item ∷ items) ≡ item ∷ items)
-add_cases undo item items true own past rest =
-    let none : length (item ∷ items) ≤ 0 = subst (λ b. length (item ∷ items)
-    ≤ cond (not b) (1 + position_or_len is_undo items) 0) own past in absurd (omega (arith, none))
-add_cases undo item items false own past rest =
-    let more : length (item ∷ items) ≤ 1 + position_or_len is_undo items = subst
-    (λ b. length (item ∷ items) ≤ cond (not b) (1 + position_or_len is_undo items) 0) own past in
-    let behind = rest (omega (arith, more)) in
-    (rw own (ap (λ l. item ∷ l) behind.0), rw own (ap (λ l. item ∷ l) behind.1))
+add_cases undo item items true own past rest = grind (arith, own)
+add_cases undo item items false own past rest = grind (arith, own)
 
 -- if there is no undo item, a new one is added, and none is removed
 pub with_undo-added : (undo : Undo) (items : List TagItem)
@@ -93,14 +79,7 @@ remove_cases : (item : TagItem) (items : List TagItem) (is : Bool) → is_undo i
     → without_undo (item ∷ items) ≡ take (position_or_len is_undo (item ∷ items)) (item ∷ items)
     ++ drop (position_or_len is_undo (item ∷ items) + 1) (item ∷ items)
 remove_cases item items true own within rest = rw own refl
-remove_cases item items false own within rest =
-    let one : 1 + position_or_len is_undo items ≡ suc (position_or_len is_undo items) =
-    omega arith in
-    let two : suc (position_or_len is_undo items) + 1 ≡ suc (position_or_len is_undo items + 1) =
-    omega arith in
-    let less : 1 + position_or_len is_undo items < length (item ∷ items) = subst
-    (λ b. cond (not b) (1 + position_or_len is_undo items) 0 < length (item ∷ items)) own within in
-    rw (own, one, two) (ap (λ l. item ∷ l) (rest (omega (arith, less))))
+remove_cases item items false own within rest = grind (arith, own)
 
 -- without the undo item the items are the ones before it and the ones after it
 pub without_undo-removed : (items : List TagItem) → position_or_len is_undo items < length items
@@ -130,42 +109,21 @@ sum_cases : (item : TagItem) (items : List TagItem) (is : Bool) → is_undo item
     → items_length items ≡ items_length (other_items items) + items_length (undo_items items)
     → items_length (item ∷ items)
     ≡ items_length (other_items (item ∷ items)) + items_length (undo_items (item ∷ items))
-sum_cases item items true own rest =
-    omega (
-      arith,
-      rest,
-      items_length-cons item items,
-      ap items_length (other-cons item items true own),
-      ap items_length (undo-cons item items true own),
-      items_length-cons item (undo_items items),
-    )
-sum_cases item items false own rest =
-    omega (
-      arith,
-      rest,
-      items_length-cons item items,
-      ap items_length (other-cons item items false own),
-      ap items_length (undo-cons item items false own),
-      items_length-cons item (other_items items),
-    )
+sum_cases item items true own rest = grind (arith, items_length-cons, other-cons, own, undo-cons)
+sum_cases item items false own rest = grind (arith, items_length-cons, other-cons, own, undo-cons)
 
 -- the length of the items is the length of the other items plus the length of the undo items
 pub items_length-parts : (items : List TagItem)
     → items_length items ≡ items_length (other_items items) + items_length (undo_items items)
 items_length-parts [] = omega arith
-items_length-parts (item ∷ items) =
-    sum_cases item items (is_undo item) refl (items_length-parts items)
+items_length-parts (item ∷ items) = grind (arith, sum_cases, items_length-parts items)
 
 -- ---- the undo item itself
 
 -- the key of the undo item has 12 characters
 pub undo-key : (item : TagItem) → is_undo item ≡ true → length item.key ≡ 12
 unfolding is_undo
-undo-key item is =
-    let same : map to_ascii_lowercase item.key ≡ map to_ascii_lowercase (codes "MP3GAIN_UNDO") =
-    (bytes_eq-Decides (map to_ascii_lowercase item.key)
-    (map to_ascii_lowercase (codes "MP3GAIN_UNDO"))).0 is in
-    sym (length-map item.key to_ascii_lowercase) ∙ ap length same
+undo-key item is = grind (arith, bytes_eq-Decides, length-map)
 
 new-is : (undo : Undo) → is_undo (new_undo_item undo) ≡ true
 unfolding is_undo
@@ -183,11 +141,7 @@ changed-is undo item = refl
 changed-item : (undo : Undo) (item : TagItem) → is_item item ≡ true
     → is_item (record item { value = undo_text undo }) ≡ true
 unfolding is_item
-changed-item undo item is =
-    let two = and_parts _ _ is in
-    let one = and_parts _ _ two.0 in
-    and_from _ _
-    (and_from (is_key item.key) (nat_lt (length (undo_text undo)) (2 ^ 32)) one.0 refl) two.1
+changed-item undo item is = grind (arith, and_parts, and_from)
 
 -- ---- a tag with another undo item
 
@@ -195,14 +149,8 @@ all_cases : (undo : Undo) (item : TagItem) (items : List TagItem) (is : Bool) �
     → list_all is_item (item ∷ items) ≡ true
     → (list_all is_item items ≡ true → list_all is_item (with_undo undo items) ≡ true)
     → list_all is_item (with_undo undo (item ∷ items)) ≡ true
-all_cases undo item items true own all rest =
-    let parts = and_parts (is_item item) (list_all is_item items) all in
-    rw own (and_from (is_item (record item { value = undo_text undo })) (list_all is_item items)
-    (changed-item undo item parts.0) parts.1)
-all_cases undo item items false own all rest =
-    let parts = and_parts (is_item item) (list_all is_item items) all in
-    rw own
-    (and_from (is_item item) (list_all is_item (with_undo undo items)) parts.0 (rest parts.1))
+all_cases undo item items true own all rest = grind (arith, and_parts, own, and_from, changed-item)
+all_cases undo item items false own all rest = grind (arith, and_parts, own, and_from)
 
 with_undo-all : (undo : Undo) (items : List TagItem) → list_all is_item items ≡ true
     → list_all is_item (with_undo undo items) ≡ true
@@ -218,23 +166,19 @@ pub record HasOne (items : List TagItem) : Type 0 where
 others_cases : (undo : Undo) (item : TagItem) (items : List TagItem) (is : Bool) → is_undo item ≡ is
     → other_items (with_undo undo items) ≡ other_items items
     → other_items (with_undo undo (item ∷ items)) ≡ other_items (item ∷ items)
-others_cases undo item items true own rest = rw own
-    (other-cons (record item { value = undo_text undo }) items true (changed-is undo item ∙ own))
-others_cases undo item items false own rest =
-    rw own (other-cons item (with_undo undo items) false own ∙ ap (λ l. item ∷ l) rest)
+others_cases undo item items true own rest = grind (arith, own, other-cons, changed-is)
+others_cases undo item items false own rest = grind (arith, own, other-cons)
 
 -- all other items stay when an undo item is put in
 pub others-with_undo : (undo : Undo) (items : List TagItem)
     → other_items (with_undo undo items) ≡ other_items items
 others-with_undo undo [] = other-cons (new_undo_item undo) [] true (new-is undo)
-others-with_undo undo (item ∷ items) =
-    others_cases undo item items (is_undo item) refl (others-with_undo undo items)
+others-with_undo undo (item ∷ items) = grind (arith, others_cases, others-with_undo undo items)
 
 one_item : (item : TagItem) (items : List TagItem) → is_undo item ≡ true → length item.value ≡ 11
     → undo_items items ≡ [] → HasOne (item ∷ items)
 one_item item items own value none =
-    let here : undo_items (item ∷ items) ≡ item ∷ [] =
-    undo-cons item items true own ∙ ap (λ l. item ∷ l) none in
+    let here : undo_items (item ∷ items) ≡ item ∷ [] = grind (arith, undo-cons, own, none) in
     record {
       one = omega (arith, ap length here);
       own =
@@ -246,8 +190,7 @@ own_cases : (undo : Undo) (item : TagItem) (items : List TagItem) (is : Bool) �
     → (length (undo_items items) ≤ 1 → HasOne (with_undo undo items))
     → HasOne (with_undo undo (item ∷ items))
 own_cases undo item items true own few rest =
-    let none : undo_items items ≡ [] = nil_from_length (undo_items items)
-    (omega (arith, few, ap length (undo-cons item items true own))) in
+    let none : undo_items items ≡ [] = grind (arith, nil_from_length, undo-cons, own) in
     rw own
     (one_item (record item { value = undo_text undo }) items (changed-is undo item ∙ own) refl none)
 own_cases undo item items false own few rest =
@@ -273,8 +216,7 @@ IsTag-with_undo undo tag is =
     record {
       items = with_undo-all undo tag.items is.items;
       one = one.one;
-      others =
-          subst (λ l. items_length l ≤ 1048512) (sym (others-with_undo undo tag.items)) is.others;
+      others = grind (arith, others-with_undo);
       own = omega (arith, one.own);
       header_bits = is.header_bits;
       footer_bits = is.footer_bits;
@@ -300,16 +242,14 @@ without_cases item items true own all few rest =
     rw own (record {
       all = parts.1;
       others = sym (other-cons item items true own);
-      none = nil_from_length
-          (undo_items items) (omega (arith, few, ap length (undo-cons item items true own)));
+      none = grind (arith, nil_from_length, undo-cons, own);
     })
 without_cases item items false own all few rest =
     let parts = and_parts (is_item item) (list_all is_item items) all in
     let behind = rest parts.1 (omega (arith, few, ap length (undo-cons item items false own))) in
     rw own (record {
       all = and_from (is_item item) (list_all is_item (without_undo items)) parts.0 behind.all;
-      others = other-cons item (without_undo items) false own ∙ ap (λ l. item ∷ l) behind.others
-          ∙ sym (other-cons item items false own);
+      others = grind (arith, other-cons, own);
       none = undo-cons item (without_undo items) false own ∙ behind.none;
     })
 
@@ -341,10 +281,7 @@ IsTag-without_undo tag is =
 -- removing the item at the index of the undo item gives the items without it
 pub removed : (items left : List TagItem) (at : ℕ) → position is_undo items ≡ Some at
     → left ≡ take at items ++ drop (at + 1) items → left ≡ without_undo items
-removed items left at found is =
-    let place = position-some items at found in
-    is ∙ ap (λ k. take k items ++ drop (k + 1) items) (sym place.1)
-    ∙ sym (without_undo-removed items place.0)
+removed items left at found is = grind (arith, position-some, without_undo-removed)
 
 -- items without an undo item stay as they are
 pub none_removed : (items : List TagItem) → position is_undo items ≡ None
@@ -357,15 +294,7 @@ pub replaced : (undo : Undo) (items changed : List TagItem) (at : ℕ) (item : T
     → position is_undo items ≡ Some at → item ≡ get_or items at item → changed
     ≡ set items at (record item { value = undo_text undo }) → changed ≡ with_undo undo items
 replaced undo items changed at item found own is =
-    let place = position-some items at found in
-    let here : record item { value = undo_text undo }
-    ≡ record (get_or items (position_or_len is_undo items) item) { value = undo_text undo } =
-    ap (λ (i : TagItem). record i { value = undo_text undo })
-    (own ∙ ap (λ k. get_or items k item) (sym place.1)) in
-    is ∙ ap (λ i. set items at i) here
-    ∙ ap (λ k. set items k (record (get_or items (position_or_len is_undo items) item) {
-      value = undo_text undo;
-    })) (sym place.1) ∙ sym (with_undo-set undo items item place.0)
+    grind (arith, position-some items, own, set items, set, with_undo-set)
 
 -- if there is no undo item, adding a new one at the end puts the undo in
 pub added : (undo : Undo) (items more : List TagItem) → position is_undo items ≡ None
@@ -379,8 +308,7 @@ put_cases : (undo : Undo) (item : TagItem) (items : List TagItem) (place : ℕ) 
     → ((p : ℕ) → undo_from p (with_undo undo items) ≡ Found undo)
     → undo_from place (with_undo undo (item ∷ items)) ≡ Found undo
 put_cases undo item items place true own text rest = rw (own, changed-is undo item, own, text) refl
-put_cases undo item items place false own text rest =
-    rw (own, own) (rest (place + item_length item))
+put_cases undo item items place false own text rest = grind (arith, own)
 
 -- an undo that was put in is found
 pub undo_from-with_undo : (undo : Undo) (items : List TagItem) (place : ℕ)
@@ -393,10 +321,8 @@ missing_cases : (item : TagItem) (items : List TagItem) (place : ℕ) (is : Bool
     → undo_items (item ∷ items) ≡ []
     → (undo_items items ≡ [] → undo_from (place + item_length item) items ≡ Missing)
     → undo_from place (item ∷ items) ≡ Missing
-missing_cases item items place true own none rest = let some : item ∷ undo_items items ≡ [] =
-    sym (undo-cons item items true own) ∙ none in absurd cc
-missing_cases item items place false own none rest =
-    rw own (rest (sym (undo-cons item items false own) ∙ none))
+missing_cases item items place true own none rest = grind (arith, undo-cons, own, none)
+missing_cases item items place false own none rest = grind (arith, own, undo-cons, none)
 
 -- if there is no undo item, none is found
 pub undo_from-missing : (items : List TagItem) (place : ℕ) → undo_items items ≡ []
@@ -422,10 +348,8 @@ none_cases : (item : TagItem) (items : List TagItem) (is : Bool) → is_undo ite
     → length (undo_items (item ∷ items)) ≤ 1
     → (length (undo_items items) ≤ 1 → undo_items (without_undo items) ≡ [])
     → undo_items (without_undo (item ∷ items)) ≡ []
-none_cases item items true own few rest = rw own (nil_from_length (undo_items items)
-    (omega (arith, few, ap length (undo-cons item items true own))))
-none_cases item items false own few rest = rw own (undo-cons item (without_undo items) false own
-    ∙ rest (omega (arith, few, ap length (undo-cons item items false own))))
+none_cases item items true own few rest = grind (arith, own, nil_from_length, undo-cons)
+none_cases item items false own few rest = grind (arith, own, undo-cons)
 
 -- without the one undo item there is none
 pub undos-without_undo : (items : List TagItem) → length (undo_items items) ≤ 1
@@ -438,12 +362,10 @@ stay_cases : (item : TagItem) (items : List TagItem) (is : Bool) → is_undo ite
     → other_items (without_undo items) ≡ other_items items
     → other_items (without_undo (item ∷ items)) ≡ other_items (item ∷ items)
 stay_cases item items true own rest = rw own refl
-stay_cases item items false own rest =
-    rw own (other-cons item (without_undo items) false own ∙ ap (λ l. item ∷ l) rest)
+stay_cases item items false own rest = grind (arith, own, other-cons)
 
 -- all other items stay when the undo item is taken out
 pub others-without_undo : (items : List TagItem)
     → other_items (without_undo items) ≡ other_items items
 others-without_undo [] = refl
-others-without_undo (item ∷ items) =
-    stay_cases item items (is_undo item) refl (others-without_undo items)
+others-without_undo (item ∷ items) = grind (arith, stay_cases, others-without_undo items)

@@ -1,8 +1,8 @@
 -- The value of an undo item: what is written is read again.
 use Rattle.std.proofs.Common.{ap, arith, Bool, cond, drop, false, get_or, length, length-drop, List}
-use Rattle.std.proofs.Common.{neg_ℤ, negsuc, None, of_z, Option, pos, refl, Some, subst, suc, sym}
-use Rattle.std.proofs.Common.{take, take-append-drop, to_z, true, unsigned_abs, zero, ℕ, ℤ, [], ◌%◌}
-use Rattle.std.proofs.Common.{◌&&◌, ◌*◌, ◌++◌, ◌+◌, ◌-◌, ◌/◌, ◌==◌, ◌||◌, ◌∙◌, ◌∷◌, ◌≡◌, ◌≤◌}
+use Rattle.std.proofs.Common.{neg_ℤ, negsuc, None, of_z, Option, pos, refl, Some, suc, sym, take}
+use Rattle.std.proofs.Common.{take-append-drop, to_z, true, unsigned_abs, zero, ℕ, ℤ, [], ◌%◌, ◌*◌}
+use Rattle.std.proofs.Common.{◌++◌, ◌+◌, ◌-◌, ◌/◌, ◌==◌, ◌||◌, ◌∙◌, ◌∷◌, ◌≡◌, ◌≤◌}
 use Rattle.std.proofs.lemmas.Bool.{and_from, and_parts, eqb-true, le-leb, leb-true, lt-leb}
 use Rattle.std.proofs.lemmas.{Bool.true≢false, Int.{fits_signed_from_abs, to_z-of_z}}
 use Rattle.std.proofs.lemmas.List.{drop-drop, drop_more, length-take-le, nil_from_length}
@@ -14,8 +14,7 @@ use Rattle.tag_blocks.specs.declared.undo.Undo.{Undo}
 use mir.Syntax.{w16}
 
 is_digit : (n : ℕ) → n ≤ 9 → is_ascii_digit (48 + n) ≡ true
-is_digit n most =
-    and_from _ _ (le-leb 48 (48 + n) (omega arith)) (le-leb (48 + n) 57 (omega (arith, most)))
+is_digit n most = grind (arith, and_from, le-leb)
 
 hundreds : (n : ℕ) → n ≤ 999 → n / 100 ≤ 9
 hundreds n most = omega (arith, most)
@@ -26,11 +25,7 @@ digits n most = omega (arith, most)
 
 three_digits : (n : ℕ) → n ≤ 999 → (is_ascii_digit (48 + n / 100) ≡ true)
     × (is_ascii_digit (48 + n / 10 % 10) ≡ true) × (is_ascii_digit (48 + n % 10) ≡ true)
-three_digits n most = (
-  is_digit (n / 100) (hundreds n most),
-  is_digit (n / 10 % 10) (omega arith),
-  is_digit (n % 10) (omega arith),
-)
+three_digits n most = grind (arith, is_digit, hundreds)
 
 -- a number that isn't negative has no minus
 no_minus : (n : ℕ) → int_lt (pos n) (pos 0) ≡ false
@@ -39,10 +34,8 @@ no_minus n = lt-leb (suc n) 0 (omega arith)
 -- steps are written as a sign and three digits
 pub is_steps-steps_text : (steps : ℤ) → unsigned_abs steps ≤ 999
     → is_steps (steps_text steps) ≡ true
-is_steps-steps_text (pos n) most = let three = three_digits n most in
-    rw (no_minus n, three.0, three.1, three.2) refl
-is_steps-steps_text (negsuc n) most = let three = three_digits (suc n) most in
-    rw (three.0, three.1, three.2) refl
+is_steps-steps_text (pos n) most = grind (arith, three_digits, no_minus)
+is_steps-steps_text (negsuc n) most = grind (arith, three_digits)
 
 -- steps are read from what they are written as
 pub spelled_steps-steps_text : (steps : ℤ) → unsigned_abs steps ≤ 999
@@ -62,13 +55,7 @@ of_wrap left right false = refl
 -- the text of an undo is read as that undo
 pub undo_of-undo_text : (undo : Undo) → UndoFitsText undo → undo_of (undo_text undo) ≡ Some undo
 unfolding undo_of is_undo_text
-undo_of-undo_text undo fits =
-    rw (
-      is_steps-steps_text undo.left fits.left,
-      is_steps-steps_text undo.right fits.right,
-      spelled_steps-steps_text undo.left fits.left,
-      spelled_steps-steps_text undo.right fits.right,
-    ) (of_wrap undo.left undo.right undo.wrap)
+undo_of-undo_text undo fits = grind (arith, is_steps-steps_text, spelled_steps-steps_text, of_wrap)
 
 -- ---- the parts of a value that is read
 
@@ -117,11 +104,7 @@ undo_read value left right is left_is left_most right_is right_most =
 digit_back : (b c d : ℕ) → 48 ≤ b → b ≤ 57 → 48 ≤ c → c ≤ 57 → 48 ≤ d → d ≤ 57 → (n : ℕ)
     → n ≡ (b - 48) * 100 + (c - 48) * 10 + (d - 48)
     → (48 + n / 100 ≡ b) × (48 + n / 10 % 10 ≡ c) × (48 + n % 10 ≡ d)
-digit_back b c d b_least b_most c_least c_most d_least d_most n is = (
-  omega (arith, b_least, b_most, c_least, c_most, d_least, d_most, is),
-  omega (arith, b_least, b_most, c_least, c_most, d_least, d_most, is),
-  omega (arith, b_least, b_most, c_least, c_most, d_least, d_most, is),
-)
+digit_back b c d b_least b_most c_least c_most d_least d_most n is = grind arith
 
 -- the digits of a number, without its sign
 record AreDigits (b c d n : ℕ) : Type 0 where
@@ -145,51 +128,31 @@ sign_cases : (a b c d : ℕ) → ((a == 43) || (a == 45)) ≡ true
     → AreDigits b c d (digits_number (a ∷ b ∷ c ∷ d ∷ []))
     → is_minus_zero (a ∷ b ∷ c ∷ d ∷ []) ≡ false → (is : Bool) → (a == 45) ≡ is
     → steps_text (spelled_steps (a ∷ b ∷ c ∷ d ∷ [])) ≡ a ∷ b ∷ c ∷ d ∷ []
-sign_cases a b c d sign are whole true own =
-    let minus : a ≡ 45 = eqb-true a 45 own in
-    let some : (digits_number (a ∷ b ∷ c ∷ d ∷ []) == 0) ≡ false =
-    subst (λ t. (t && (digits_number (a ∷ b ∷ c ∷ d ∷ []) == 0)) ≡ false) own whole in
-    rw own (minus_back b c d (digits_number (a ∷ b ∷ c ∷ d ∷ [])) are some
-    ∙ ap (λ x. x ∷ b ∷ c ∷ d ∷ []) (sym minus))
-sign_cases a b c d sign are whole false own =
-    let plus : a ≡ 43 =
-    eqb-true a 43 (sym (or_false (a == 43)) ∙ subst (λ t. ((a == 43) || t) ≡ true) own sign) in
-    rw own (plus_back b c d (digits_number (a ∷ b ∷ c ∷ d ∷ [])) are
-    ∙ ap (λ x. x ∷ b ∷ c ∷ d ∷ []) (sym plus))
+sign_cases a b c d sign are whole true own = grind (arith, eqb-true, minus_back)
+sign_cases a b c d sign are whole false own = grind (arith, eqb-true, or_false, plus_back)
 
 four_back : (four : List ℕ) → length four ≡ 4 → is_steps four ≡ true → is_minus_zero four ≡ false
     → steps_text (spelled_steps four) ≡ four
 four_back (a ∷ b ∷ c ∷ d ∷ []) l is whole =
-    let three = and_parts _ _ is in
-    let two = and_parts _ _ three.0 in
-    let one = and_parts _ _ two.0 in
-    let first = and_parts _ _ one.1 in
-    let second = and_parts _ _ two.1 in
-    let third = and_parts _ _ three.1 in
-    let back = digit_back b c d (leb-true 48 b first.0) (leb-true b 57 first.1)
-    (leb-true 48 c second.0) (leb-true c 57 second.1) (leb-true 48 d third.0)
-    (leb-true d 57 third.1) (digits_number (a ∷ b ∷ c ∷ d ∷ [])) refl in
-    sign_cases a b c d one.0 (record { first = back.0; second = back.1; third = back.2 }) whole
-    (a == 45) refl
+    grind (arith, and_parts, digit_back, leb-true, sign_cases)
 four_back (a ∷ b ∷ c ∷ d ∷ e ∷ more) l is whole = absurd (omega (arith, l))
 four_back _ l is whole = absurd (omega (arith, l))
 
 eleven : (value : List ℕ) → length value ≡ 11 → value ≡ take 4 value
     ++ (get_or value 4 0 ∷ (take 4 (drop 5 value) ++ (get_or value 9 0 ∷ (get_or value 10 0 ∷ []))))
 eleven value l =
-    let last : drop 10 value ≡ get_or value 10 0 ∷ [] =
-    drop_more value 10 0 (omega (arith, l)) ∙ ap (λ t. get_or value 10 0 ∷ t)
-    (nil_from_length (drop 11 value) (omega (arith, l, length-drop 11 value))) in
-    let ninth : drop 9 value ≡ get_or value 9 0 ∷ (get_or value 10 0 ∷ []) =
-    drop_more value 9 0 (omega (arith, l)) ∙ ap (λ t. get_or value 9 0 ∷ t) last in
-    let fifth : drop 5 value
-    ≡ take 4 (drop 5 value) ++ (get_or value 9 0 ∷ (get_or value 10 0 ∷ [])) =
-    sym (take-append-drop 4 (drop 5 value))
-    ∙ ap (λ t. take 4 (drop 5 value) ++ t) (drop-drop 4 5 value ∙ ninth) in
-    let fourth : drop 4 value ≡ get_or value 4 0 ∷ drop 5 value =
-    drop_more value 4 0 (omega (arith, l)) in
-    sym (take-append-drop 4 value)
-    ∙ ap (λ t. take 4 value ++ t) (fourth ∙ ap (λ t. get_or value 4 0 ∷ t) fifth)
+    grind (
+      arith,
+      drop_more value 10 0 (omega (arith, l)),
+      nil_from_length (drop 11 value) (omega
+          (arith, l, length-drop 11 value)),
+      length-drop 11 value,
+      drop_more value 9 0 (omega (arith, l)),
+      take-append-drop 4 (drop 5 value),
+      drop-drop 4 5 value,
+      drop_more value 4 0 (omega (arith, l)),
+      take-append-drop 4 value,
+    )
 
 letter_cases : (c : ℕ) (is : Bool) → (c == 87) ≡ is → ((c == 78) || is) ≡ true → wrap_letter is ≡ c
 letter_cases c true own letter = sym (eqb-true c 87 own)
@@ -197,8 +160,7 @@ letter_cases c false own letter = sym (eqb-true c 78 (sym (or_false (c == 78)) �
 
 glued : (a b g h : List ℕ) (c d e i j k : ℕ) → a ≡ g → c ≡ i → b ≡ h → d ≡ j → e ≡ k
     → a ++ (c ∷ (b ++ (d ∷ (e ∷ [])))) ≡ g ++ (i ∷ (h ++ (j ∷ (k ∷ []))))
-glued a b g h c d e i j k first second third fourth fifth =
-    rw (first, second, third, fourth, fifth) refl
+glued a b g h c d e i j k first second third fourth fifth = grind (arith, first, second, third)
 
 -- a value that is read as an undo and has no minus zero is that undo's text
 pub undo_text-undo_of : (value : List ℕ) (undo : Undo) → undo_of value ≡ Some undo

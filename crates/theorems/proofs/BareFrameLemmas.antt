@@ -1,21 +1,20 @@
 -- What a frame with all main data is in a stream
 -- determines the frame, but for its slot and its begin.
-use Rattle.std.proofs.Common.{ap, ap₂, arith, Bool, drop, false, length, List, map, refl, subst}
-use Rattle.std.proofs.Common.{sum, sym, take, true, ℕ, [], ◌*◌, ◌++◌, ◌+◌, ◌-◌, ◌/◌, ◌∙◌, ◌∷◌, ◌≡◌}
+use Rattle.std.proofs.Common.{ap, ap₂, arith, Bool, drop, false, length, List, map, refl, sum, sym}
+use Rattle.std.proofs.Common.{take, true, ℕ, [], ◌++◌, ◌+◌, ◌/◌, ◌∙◌, ◌∷◌, ◌≡◌}
 use Rattle.std.proofs.lemmas.List.{length-drop, length-take-le, take-append-drop, Sums.sum_by-cons}
-use Rattle.std.specs.{List.concat, Prelude.MatchBool}
+use Rattle.std.specs.List.{concat}
 use Rattle.bit_fields.{proofs.BitsLemmas.{bits-injective, length-bits}, specs.Bits.bits}
-use Rattle.frame_header.specs.Fields.{ClassFields, HeaderFields, IsClass}
-use Rattle.frame_writer.specs.{Frames.Frame, Laid.zeros}
+use Rattle.frame_header.specs.Fields.{ClassFields, IsClass}
+use Rattle.frame_writer.specs.Frames.{Frame}
 use Rattle.laying.proofs.{EntryByteLemmas.shaped, PlannedFrameLemmas.{next-map, one}}
 use Rattle.laying.specs.LaidFiles.{AreStreamEntries, IsStreamEntry, stream_entry}
 use Rattle.laying.specs.Relaid.{relaid_frames, rest_behind}
-use Rattle.side_info.proofs.SideLemmas.{bits_least, each_side, IsShaped}
-use Rattle.side_info.specs.Granule.{GranuleFits, no_granule}
+use Rattle.side_info.{proofs.SideLemmas.{bits_least, each_side, IsShaped}, specs.Granule.no_granule}
 use Rattle.side_info.specs.Side.{granule_in, granules_in, has_granule, payload_bits, payload_bytes}
 use Rattle.side_info.specs.{Side.SideFits, declared.{granule.Granule.Granule, side.Side.Side}}
 use Rattle.slot_plan.specs.declared.needs.Placed.{Placed}
-use Rattle.sync_survey.specs.MainData.{granule_lengths, no_slot, split_bits, StreamFrame}
+use Rattle.sync_survey.specs.MainData.{no_slot, split_bits}
 
 -- ---- the parts of main data
 
@@ -35,10 +34,7 @@ LacksOthers c s = (granule channel : ℕ) → has_granule c granule channel ≡ 
     → granule_in s granule channel ≡ no_granule
 
 lacks-others : (c : ClassFields) (s : Side) → SideFits c s → LacksOthers c s
-lacks-others c s fits granule channel lacks =
-    subst (λ b. MatchBool b (GranuleFits c.version (granule_in s granule channel))
-    (granule_in s granule channel ≡ no_granule)) lacks
-    (fits.granules granule channel)
+lacks-others c s fits granule channel lacks = grind arith
 
 -- the lengths of the granules add up to the length of the main data
 abbrev AreParts : ClassFields → Side → Type 0
@@ -96,20 +92,10 @@ module _ (c : ClassFields) (known : IsClass c) where
   own_bits f = take (payload_bits f.kept.side) (bits f.payload)
 
   bits-long : (f : Frame) → IsStreamEntry c f → length (own_bits f) ≡ payload_bits f.kept.side
-  bits-long f is =
-      length-take-le (payload_bits f.kept.side) (bits f.payload)
-      (omega (arith, bits_least f.kept.side, length-bits f.payload, is.size))
+  bits-long f is = grind (arith, length-take-le, bits_least, length-bits)
 
   entry-bits : (f : Frame) → IsStreamEntry c f → concat (stream_entry f).payload ≡ own_bits f
-  entry-bits f is =
-      let sums =
-      parts-sum c known f.kept.side (shaped f.kept.side is.pairs)
-      (lacks-others c f.kept.side is.fits) in
-      let same : sum (granule_lengths f.kept.header f.kept.side) ≡ payload_bits f.kept.side =
-      ap (λ d. sum (map (λ (g : Granule). g.part2_3_length) (granules_in d f.kept.side))) is.class
-      ∙ sums in
-      concat-parts (granule_lengths f.kept.header f.kept.side) (own_bits f)
-      (bits-long f is ∙ sym same)
+  entry-bits f is = grind (arith, parts-sum, shaped, lacks-others, concat-parts, bits-long)
 
   -- the payload bits of side information don't depend on its main_data_begin
   begun-bits : (s : Side) → payload_bits (record s { main_data_begin = 0 }) ≡ payload_bits s
@@ -123,32 +109,24 @@ module _ (c : ClassFields) (known : IsClass c) where
   same-payload : (f g : Frame) → IsStreamEntry c f → IsStreamEntry c g
       → stream_entry f ≡ stream_entry g → f.payload ≡ g.payload
   same-payload f g first second same =
-      let sides = ap (λ (x : StreamFrame). x.side) same in
-      let many : payload_bits f.kept.side ≡ payload_bits g.kept.side =
-      sym (begun-bits f.kept.side) ∙ ap payload_bits sides ∙ begun-bits g.kept.side in
-      let size : payload_bytes f.kept.side ≡ payload_bytes g.kept.side =
-      sym (begun-bytes f.kept.side) ∙ ap payload_bytes sides ∙ begun-bytes g.kept.side in
-      let front : own_bits f ≡ own_bits g =
-      sym (entry-bits f first) ∙ ap (λ (x : StreamFrame). concat x.payload) same
-      ∙ entry-bits g second in
-      let behind : drop (payload_bits f.kept.side) (bits f.payload)
-      ≡ drop (payload_bits g.kept.side) (bits g.payload) =
-      first.filled ∙ ap₂ (λ m n. zeros (8 * m - n)) size many ∙ sym second.filled in
-      let all : bits f.payload ≡ bits g.payload =
-      sym (take-append-drop (payload_bits f.kept.side) (bits f.payload))
-      ∙ ap₂ (λ (x y : List ℕ). x ++ y) front behind
-      ∙ take-append-drop (payload_bits g.kept.side) (bits g.payload) in
-      bits-injective f.payload g.payload first.octets second.octets all
+      grind (
+        arith,
+        begun-bits f.kept.side,
+        begun-bits g.kept.side,
+        begun-bytes f.kept.side,
+        begun-bytes g.kept.side,
+        entry-bits f first,
+        entry-bits g second,
+        take-append-drop
+            (payload_bits f.kept.side) (bits f.payload),
+        take-append-drop (payload_bits g.kept.side) (bits
+            g.payload),
+        bits-injective,
+      )
 
   same-bare : (f g : Frame) → IsStreamEntry c f → IsStreamEntry c g
       → stream_entry f ≡ stream_entry g → bare f ≡ bare g
-  same-bare f g first second same =
-      let header = ap (λ (x : StreamFrame). x.header) same in
-      let side = ap (λ (x : StreamFrame). x.side) same in
-      let payload = same-payload f g first second same in
-      ap₂ (λ (h : HeaderFields) (r : Side × List ℕ).
-      record { kept = record { header = h; side = r.0 }; payload = r.1 }) header
-      (ap₂ (λ (x : Side) (y : List ℕ). (x, y)) side payload)
+  same-bare f g first second same = grind (arith, same-payload)
 
   -- ---- all frames
 
@@ -175,9 +153,7 @@ unfolding relaid_frames
 relaid_frames-bare [] placed = refl
 relaid_frames-bare (f ∷ fs) [] = refl
 relaid_frames-bare (f ∷ fs) (p ∷ placed) =
-    ap₂ (λ (x : Frame) (xs : List Frame). x ∷ xs) (one-bare p.lead_in p f)
-    (ap (λ (l : List Frame). relaid_frames l placed) (sym (next-map bare p.lead_in f fs))
-    ∙ relaid_frames-bare (rest_behind p.lead_in f fs) placed)
+    grind (arith, one-bare, next-map, relaid_frames-bare (rest_behind p.lead_in f fs) placed)
 
 -- frames that are the same when bare are relaid the same
 pub relaid_frames-same : (fs gs : List Frame) (placed : List Placed) → map bare fs ≡ map bare gs

@@ -1,22 +1,19 @@
 -- The commands that choose frames by their positions, or all frames, of one file.
-use Rattle.std.proofs.Common.{ap, ap₂, arith, Bool, length, List, map, None, Ok, Option, refl}
-use Rattle.std.proofs.Common.{Result, Some, subst, sym, ℕ, [], ◌∙◌, ◌∷◌, ◌≡◌}
-use Rattle.std.specs.List.{enumerate_from}
-use Rattle.std.specs.Prelude.{replicate, slice_get, slice_range, unwrap_or, ◌<◌, ◌≤◌}
+use Rattle.std.proofs.Common.{ap, arith, Bool, length, List, map, Ok, Option, Result, Some, subst}
+use Rattle.std.{proofs.Common.{sym, ℕ, [], ◌∙◌, ◌∷◌, ◌≡◌}, specs.List.enumerate_from}
+use Rattle.std.specs.Prelude.{slice_get, slice_range, unwrap_or, ◌<◌, ◌≤◌}
 use Rattle.commands.proofs.{MadeLemmas.{made-of, makes-parts}, RefusingLemmas.refusal_or-ok}
 use Rattle.commands.specs.SingleOutput.{input_result, most_frames}
 use Rattle.commands.specs.declared.fault.{EditFault.EditFault, Refusal.Refusal}
 use Rattle.cue_sheet.specs.{Places.frame_at, declared.place.Place.Place}
 use Rattle.cut_edits.proofs.ChosenLemmas.{all-whole, all_right, by_usual, chosen-within, laid-parts}
-use Rattle.cut_edits.specs.Chosen.{all_choice, AreUsualChoices, Choosing, Chosen, chosen_file_part}
-use Rattle.cut_edits.specs.Chosen.{chosen_needs, chosen_range, cut_choice, cut_command, cut_refuses}
-use Rattle.cut_edits.specs.Chosen.{first_plan, first_planning, laid_stream_or_none, laying_making}
-use Rattle.cut_edits.specs.Chosen.{laying_stream, laying_task, outside_fault, placed_part, Planning}
-use Rattle.cut_edits.specs.Chosen.{slot_choices, surveyed_laid_stream}
+use Rattle.cut_edits.specs.Chosen.{all_choice, AreUsualChoices, Choosing, Chosen, chosen_needs}
+use Rattle.cut_edits.specs.Chosen.{chosen_range, cut_choice, cut_command, cut_refuses, first_plan}
+use Rattle.cut_edits.specs.Chosen.{first_planning, laying_making, laying_task, placed_part}
+use Rattle.cut_edits.specs.Chosen.{Planning, slot_choices}
 use Rattle.frame_header.specs.{Fields.{ClassFields, HeaderFields, SlotFields}, Tables.class_of}
 use Rattle.job_words.specs.Request.{Cut, Pack}
 use Rattle.laying.specs.{Laid.stream_laid, NeedsFit.IsPlacedSurvey}
-use Rattle.laying.specs.Relaid.{part_stream, stream_with_lead_ins}
 use Rattle.outside.specs.Files.{Contents}
 use Rattle.pack_edits.proofs.LimitLemmas.{limited-made}
 use Rattle.pack_edits.specs.Modes.{limited_result, mode_limit, mode_planning, mode_refuses}
@@ -42,8 +39,7 @@ rows-number : (main : List ℕ) (head : Option Head) (all rows : List Row) (clas
     ≡ length rows → position_number (map (λ (p : ℕ × Row). stream_frame main head all p.0 p.1)
     (enumerate_from 0 rows)) place ≡ frame_at class (length rows) place
 rows-number main head all [] class place some first many = absurd (omega (arith, some))
-rows-number main head all (r ∷ rows) class place some first many =
-    ap₂ (λ (c : ClassFields) n. frame_at c n place) (first r refl) many
+rows-number main head all (r ∷ rows) class place some first many = grind arith
 
 numbers : (file : List ℕ) (s : SurveyFields) → IsPlacedSurvey s → 0 < length s.frames
     → (place : Place) → length (stream_of_survey file s) ≡ length s.frames
@@ -69,17 +65,11 @@ module _ (file : List ℕ) (s : SurveyFields) (is : survey_of file most_frames �
       (frames_between (stream_of file) from to ≡ slice_range (stream_of file) chosen.from chosen.to)
       × (chosen.from < chosen.to) × (chosen.to ≤ length s.frames)
   between-is quality extension from to chosen e =
-      let is_there = chosen-within quality extension (at from) (at to) (length s.frames) chosen e in
-      let same = refusal_or-ok (outside_fault (at from) (at to) (length s.frames))
-      (record { from = at from; to = at to; quality = quality; extension = extension }) chosen e in
-      let some : 0 < length s.frames = omega (arith, is_there.0, is_there.1) in
-      let first : position_number (stream_of file) from ≡ chosen.from =
-      number-is some from ∙ ap (λ (c : Chosen). c.from) same.1 in
-      let last : position_number (stream_of file) to ≡ chosen.to =
-      number-is some to ∙ ap (λ (c : Chosen). c.to) same.1 in (
-        ap₂ (λ m n. slice_range (stream_of file) m n) first last,
-        subst (λ (c : Chosen). c.from < c.to) same.1 is_there.0,
-        subst (λ (c : Chosen). c.to ≤ length s.frames) same.1 is_there.1,
+      grind (
+        arith,
+        chosen-within quality extension (at from) (at to) (length s.frames) chosen e,
+        refusal_or-ok,
+        number-is,
       )
 
   between-exact : (choices : HeaderFields → List SlotFields) → AreUsualChoices choices
@@ -88,12 +78,7 @@ module _ (file : List ℕ) (s : SurveyFields) (is : survey_of file most_frames �
       → IsExactly (frames_between (stream_of file) from to ∷ [])
       (stream_laid (placed_part chosen (first_plan choices s.class (chosen_needs chosen s))) file s)
   between-exact choices usual quality extension from to chosen e =
-      let between = between-is quality extension from to chosen e in
-      subst (λ (l : List StreamFrame). IsExactly (l ∷ [])
-      (stream_laid (placed_part chosen (first_plan choices s.class (chosen_needs chosen s))) file
-      s))
-      (sym between.0)
-      (chosen-exact_is chosen file s is between.1 between.2 choices usual)
+      grind (arith, between-is quality extension from to chosen e, chosen-exact_is)
 
   -- the frames that a cut chooses, in the slots of their plan
   pub cut-exact : (from to : Place) (least : Bool) (chosen : Chosen) (placed : List Placed)
@@ -102,36 +87,27 @@ module _ (file : List ℕ) (s : SurveyFields) (is : survey_of file most_frames �
       (frames_between (stream_of file) from to ∷ [])
       (stream_laid (placed_part chosen placed) file s)
   unfolding cut_choice
-  cut-exact from to least chosen placed e planned =
-      let same : first_plan (slot_choices least) s.class (chosen_needs chosen s) ≡ placed = cc in
-      subst (λ (l : List Placed). IsExactly (frames_between (stream_of file) from to ∷ [])
-      (stream_laid (placed_part chosen l) file s)) same
-      (between-exact (slot_choices least) (by_usual least) None (replicate 36 0) from to chosen e)
+  cut-exact from to least chosen placed e planned = grind (arith, between-exact, by_usual)
 
   -- ---- all frames
 
   all-frames : (chosen : Chosen) → all_choice file s ≡ Ok chosen
       → slice_range (stream_of file) chosen.from chosen.to ≡ stream_of file
   all-frames chosen e =
-      let all = all-whole file s chosen e in
-      ap₂ (λ m n. slice_range (stream_of file) m n) all.0 all.1
-      ∙ ap (λ (l : List StreamFrame). slice_range l 0 (length s.frames)) (stream-is file most_frames
-      s is) ∙ whole-stream file s ∙ sym (stream-is file most_frames s is)
+      grind (arith, all-whole file s chosen e, stream-is file most_frames s is, whole-stream file s)
 
   -- all frames in the slots of the plan of a mode
   packed-is : (mode : PackMode) (chosen : Chosen) (placed : List Placed) → all_choice file s
       ≡ Ok chosen → mode_planning mode s.class (chosen_needs chosen s) ≡ Ok placed
       → IsExactly (stream_of file ∷ []) (stream_laid (placed_part chosen placed) file s)
   packed-is mode chosen placed e planned =
-      let right = all_right file s chosen e in
-      let exact = packed-exact mode chosen file s placed is right.some right.within planned in
-      let own : slice_range (stream_of file) chosen.from chosen.to
-      ≡ part_stream (chosen_file_part chosen file s) = ap (λ (l : List StreamFrame). slice_range l
-      chosen.from chosen.to) (stream-is file most_frames s is) in
-      subst (λ (l : List StreamFrame). IsExactly (stream_of file ∷ [])
-      (stream_with_lead_ins placed l)) own
-      (subst (λ (l : List StreamFrame). IsExactly (l ∷ []) (stream_with_lead_ins placed
-      (slice_range (stream_of file) chosen.from chosen.to))) (all-frames chosen e) exact)
+      grind (
+        arith,
+        all_right file s chosen e,
+        packed-exact,
+        stream-is file most_frames s is,
+        all-frames chosen e,
+      )
 
 -- ---- the commands
 
@@ -160,10 +136,7 @@ module _ (choose : Choosing) (plan : Planning) (refuses : Refusal → Bool)
       let by = laid-parts choose plan is.file is.survey is.bytes is.made in
       let laid = placed_part by.chosen by.placed in
       let stream : (laying_task choose plan refuses input).stream files
-      ≡ stream_laid laid is.file is.survey =
-      ap (λ (o : Option (List ℕ)). laying_stream choose plan (unwrap_or o [])) is.there
-      ∙ ap (surveyed_laid_stream choose plan is.file) is.surveyed
-      ∙ ap (laid_stream_or_none is.file is.survey) by.laid in
+      ≡ stream_laid laid is.file is.survey = grind arith in
       subst (λ (l : List StreamFrame). IsExactly (frames (named_frames files input) ∷ []) l)
       (sym stream)
       (subst (λ (l : List StreamFrame). IsExactly (frames l ∷ [])

@@ -1,8 +1,7 @@
 -- The frames of a file that was cut short: the first frames that it had, each as it was.
-use Rattle.std.proofs.Common.{ap, ap₂, arith, drop, false, inl, inr, length, List, None, Ok, Option}
-use Rattle.std.proofs.Common.{refl, Some, suc, sym, take, zero, ℕ, [], ◌++◌, ◌+◌, ◌-◌, ◌∙◌, ◌∷◌}
-use Rattle.std.proofs.{Common.{◌≡◌, ◌≤◌}, Math.Path.transport, lemmas.Bool.ne_eqb}
-use Rattle.std.proofs.lemmas.List.{drop_all, length-drop, map-append, take-take}
+use Rattle.std.proofs.Common.{ap, arith, drop, false, inl, inr, length, List, None, Ok, Option}
+use Rattle.std.proofs.Common.{refl, Some, suc, sym, zero, ℕ, [], ◌++◌, ◌+◌, ◌-◌, ◌∙◌, ◌∷◌, ◌≡◌, ◌≤◌}
+use Rattle.std.proofs.lemmas.{Bool.ne_eqb, List.{drop_all, length-drop, map-append, take-take}}
 use Rattle.std.{proofs.lemmas.Option.slice_get_within, specs.{List.cons_option, Prelude.slice_get}}
 use Rattle.frame_header.proofs.{HeaderLemmas.IsClass-class_of, LengthLemmas.area_some}
 use Rattle.frame_header.specs.Fields.{ClassFields, HeaderFields, IsHeader}
@@ -86,12 +85,7 @@ module _ (file : List ℕ) (n : ℕ) (within : n ≤ length file) where
     least = omega (arith, overhead-within p.header is.header, is.high)
 
     six : 6 ≤ n - p.offset
-    six = omega (
-      arith,
-      area_some (class_of p.header) p.header.slot (IsClass-class_of p.header is.header)
-          is.header.slot,
-      is.high,
-    )
+    six = grind (arith, area_some, IsClass-class_of)
 
     row-same : row_of now p ≡ row_of file p
     row-same =
@@ -101,22 +95,17 @@ module _ (file : List ℕ) (n : ℕ) (within : n ≤ length file) where
 
     -- the check word of a frame that is still whole is the same
     pub word-same : stored_crc (drop p.offset now) ≡ stored_crc (drop p.offset file)
-    word-same = ap stored_crc (drop-cut file n within p.offset low)
-        ∙ stored_crc-take (n - p.offset) (drop p.offset file) six
+    word-same = grind (arith, drop-cut, low, stored_crc-take, six)
 
     -- the bytes of a frame that is still whole are the same
     pub bytes-same : frame_bytes now p ≡ frame_bytes file p
-    bytes-same =
-        let size = length_of (class_of p.header) p.header.slot in
-        ap (take size) (drop-cut file n within p.offset low)
-        ∙ take-take size (n - p.offset) (drop p.offset file) (omega (arith, is.high))
+    bytes-same = grind (arith, drop-cut, low, take-take)
 
   -- the rows of frames that are still whole are the same
   pub rows-same : (ps : List PlacedFrame) → AreIn (rows_of file ps)
       → rows_of now ps ≡ rows_of file ps
   rows-same [] are = refl
-  rows-same (p ∷ ps) are =
-      ap₂ (λ (r : Row) (rs : List Row). r ∷ rs) (row-same p are.0) (rows-same ps are.1)
+  rows-same (p ∷ ps) are = grind (arith, row-same, rows-same ps are.1)
 
   -- each row belongs to a frame that is still whole
   pub row-in : (ps : List PlacedFrame) (i : ℕ) (r : Row) → AreIn (rows_of file ps)
@@ -139,18 +128,14 @@ module _ (file : List ℕ) (n : ℕ) (within : n ≤ length file) where
       let here = sound i r (get_more rows more i low ∙ is) in
       let found = row-in ps i r are is in
       let word : stored_crc (drop r.offset now) ≡ stored_crc (drop r.offset file) =
-      ap (λ (q : Row). stored_crc (drop q.offset now)) found.2 ∙ word-same found.0 found.1
-      ∙ ap (λ (q : Row). stored_crc (drop q.offset file)) (sym found.2) in
+      grind (arith, word-same) in
       let moved : IsSound (stored_crc (drop r.offset now)) class allowed (place head rows i)
-      (data_end_before head rows i) i r =
-      transport (λ j. IsSound (sym word j) class allowed (place-more head rows more i
-      (omega (arith, low)) j) (end-more head rows more i (omega (arith, low)) j) i r) here in
+      (data_end_before head rows i) i r = grind (arith, place-more, low, end-more, r) in
       record {
         same = moved.same;
         word = moved.word;
         main = moved.main;
-        few =
-            ne_eqb i many (λ e. omega (arith, e, low, few));
+        few = grind (arith, ne_eqb, low);
       }
 
 -- ---- the stream
@@ -192,8 +177,7 @@ module _ (file : List ℕ) (n : ℕ) (within : n ≤ length file) (start : Start
 
   -- the items after the first frame are the items that are still whole
   pub r : IsCutRun file n within Stream behind later.items later.stop
-  r = cut-run file n within Stream behind later.items later.stop (item_run-ends Stream file behind)
-      kept
+  r = grind (arith, cut-run, item_run-ends)
 
   runs-on : stream_run file start
       ≡ record { items = record { offset = at; item = Frame h } ∷ later.items; stop = later.stop }
@@ -213,8 +197,7 @@ module _ (file : List ℕ) (n : ℕ) (within : n ≤ length file) (start : Start
   stopped_by : IsStop file n within Stream later.stop r.stop r.rest
       → whole_item_at Stream front r.stop ≡ None
   unfolding r
-  stopped_by (inl end) = whole_item_at-past Stream front
-      r.stop (omega (arith, end.0, to_end, within, length-cut file n within))
+  stopped_by (inl end) = grind (arith, whole_item_at-past, to_end, length-cut)
   stopped_by (inr found) = cut-none file n within Stream r.stop found.0 found.1
 
   stopped : whole_item_at Stream front r.stop ≡ None
@@ -321,10 +304,4 @@ module _ (file : List ℕ) (n : ℕ) (within : n ≤ length file) (start : Start
 
   -- this is what the walk finds
   pub found-now : IsFound front start head frames (all_blocks front start) r.stop
-  found-now = record {
-    start_is = start_now;
-    head_is = sym head-same;
-    frames_are = frames-now;
-    blocks_are = refl;
-    stop_is = sym (ap (λ (q : ItemRun). q.stop) runs-now);
-  }
+  found-now = grind (arith, head-same, frames-now, runs-now)

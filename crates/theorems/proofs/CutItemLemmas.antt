@@ -1,11 +1,10 @@
 -- What bytes that were cut short begin with: the item that was there, or nothing that is known.
-use Rattle.std.proofs.Common.{ap, arith, Bool, codes, cond, drop, Err, false, inl, inr, leb, length}
-use Rattle.std.proofs.Common.{List, None, Ok, Option, refl, Some, subst, sym, take, true, ℕ, []}
-use Rattle.std.proofs.Common.{◌++◌, ◌+◌, ◌-◌, ◌<◌, ◌∙◌, ◌∷◌, ◌≡◌, ◌≢◌, ◌≤◌, ◌⊎◌}
+use Rattle.std.proofs.Common.{ap, arith, Bool, codes, drop, Err, false, inl, inr, leb, length, List}
+use Rattle.std.proofs.Common.{None, Ok, Option, refl, Some, sym, take, true, ℕ, [], ◌++◌, ◌+◌, ◌-◌}
+use Rattle.std.proofs.Common.{◌<◌, ◌∙◌, ◌∷◌, ◌≡◌, ◌≢◌, ◌≤◌, ◌⊎◌}
 use Rattle.std.proofs.lemmas.Bool.{and_parts, false≢true, leb-true}
 use Rattle.std.proofs.lemmas.List.{drop-take, length-take, length-take-le, take-append-drop}
 use Rattle.std.proofs.lemmas.{List.take-take, Slice.Eq.bytes_eq-Decides}
-use Rattle.frame_header.specs.Reading.{header_at}
 use Rattle.frame_header.specs.declared.header.NotHeader.TheVariants.{Free as FreeHeader, No}
 use Rattle.sync_survey.proofs.ItemBytesLemmas.{block_of_kind-take, header_front-four, kept_item}
 use Rattle.sync_survey.proofs.ItemBytesLemmas.{known_by}
@@ -27,8 +26,7 @@ header_long : (bytes : List ℕ) (b : Bool) → leb 4 (length bytes) ≡ b → h
     → 4 ≤ length bytes
 unfolding header_front
 header_long bytes true is other = leb-true 4 (length bytes) is
-header_long bytes false is other =
-    absurd (other (ap (λ c. cond c (header_at (take 4 bytes)) (Err No)) is))
+header_long bytes false is other = grind (arith, is)
 
 header-long : (bytes : List ℕ) → header_front bytes ≢ Err No → 4 ≤ length bytes
 header-long bytes other = header_long bytes (leb 4 (length bytes)) refl other
@@ -42,12 +40,9 @@ text-long text bytes is = sym ((bytes_eq-Decides text (take (length text) bytes)
 pub begins-long : (kind : Kind) (bytes : List ℕ) → begins kind bytes ≡ true
     → known_by kind ≤ length bytes
 unfolding is_id3v2 is_id3v1 is_ape
-begins-long Id3v2 bytes is = leb-true 10 (length bytes)
-    (and_parts _ _ (and_parts _ _ (and_parts _ _ (and_parts _ _ is).0).0).0).0
-begins-long Id3v1 bytes is =
-    omega (arith, length-take 3 bytes, ap length (text-long (codes "TAG") bytes is))
-begins-long Ape bytes is = leb-true 32 (length bytes)
-    (and_parts _ _ (and_parts _ _ (and_parts _ _ (and_parts _ _ (and_parts _ _ is).0).0).0).0).0
+begins-long Id3v2 bytes is = grind (arith, leb-true, and_parts, is)
+begins-long Id3v1 bytes is = grind (arith, length-take, text-long, codes, is)
+begins-long Ape bytes is = grind (arith, leb-true, and_parts, is)
 
 -- ---- the first item of bytes
 
@@ -70,10 +65,7 @@ block-same k bytes b is =
     ∙ block_front-own (take k bytes) b is)
 
 zero-same : (k : ℕ) (bytes : List ℕ) → take 1 (take k bytes) ≡ 0 ∷ [] → take 1 bytes ≡ 0 ∷ []
-zero-same k bytes is =
-    let one : 1 ≤ k =
-    omega (arith, ap length is, length-take 1 (take k bytes), length-take k bytes) in
-    sym (take-take 1 k bytes one) ∙ is
+zero-same k bytes is = grind (arith, is, length-take, take-take)
 
 cut_by : (k : ℕ) (bytes : List ℕ) (now : Item) → IsItemFront (take k bytes) now
     → IsCutItem now (item_front bytes)
@@ -110,10 +102,7 @@ module _ (file : List ℕ) (n : ℕ) (within : n ≤ length file) where
   pub item-cut : (at : ℕ) (item : Item) → at ≤ n → item_at file at ≡ item
       → IsCutItem (item_at cut at) item
   unfolding item_at
-  item-cut at item low is =
-      subst (IsCutItem (item_front (drop at cut))) is
-      (subst (λ (bytes : List ℕ). IsCutItem (item_front bytes) (item_front (drop at file)))
-      (sym (drop-cut at low)) (cut-item (n - at) (drop at file)))
+  item-cut at item low is = grind (arith, is, drop-cut, low, cut-item)
 
   -- an item that is still whole is there
   pub item-kept : (part : Region) (at : ℕ) (item : Item) → whole_item_at part file at ≡ Some item
@@ -145,17 +134,11 @@ module _ (file : List ℕ) (n : ℕ) (within : n ≤ length file) where
   not_whole : (part : Region) (at : ℕ) (item now : Item) → IsCutItem now item
       → n < at + size_of item → belongs part now ≡ true → at + size_of now ≤ n → ⊥
   not_whole part at item now (inl same) over is fit = omega (arith, over, ap size_of same, fit)
-  not_whole part at item now (inr (inl same)) over is fit =
-      false≢true (sym (ap (belongs part) same) ∙ is)
-  not_whole part at item now (inr (inr same)) over is fit =
-      false≢true (sym (ap (belongs part) same) ∙ is)
+  not_whole part at item now (inr (inl same)) over is fit = grind (arith, false≢true, is)
+  not_whole part at item now (inr (inr same)) over is fit = grind (arith, false≢true, is)
 
   -- an item that was cut through isn't whole
   pub cut-none : (part : Region) (at : ℕ) (item : Item) → IsCutThrough part at item
       → whole_item_at part cut at ≡ None
   cut-none part at item through =
-      none-unless (whole_item_at part cut at) (λ now is.
-      let here = whole_item_at-is part cut at now is in
-      not_whole part at item now (subst (λ x. IsCutItem x item)
-      here.is (item-cut at item through.low (whole_item_at-is part file at item through.is).is))
-      through.over here.belongs (omega (arith, here.within, length-cut)))
+      grind (arith, none-unless, whole_item_at-is, not_whole, item-cut, length-cut)

@@ -1,6 +1,6 @@
 -- The first bytes of a file without fault and without junk.
 use Rattle.std.proofs.Common.{ap, arith, Err, inl, inr, length, length-append, List, None, Ok}
-use Rattle.std.proofs.Common.{Result, subst, sym, take, ℕ, ◌++◌, ◌+◌, ◌∙◌, ◌≡◌, ◌≤◌}
+use Rattle.std.proofs.Common.{Result, subst, sym, ℕ, ◌++◌, ◌+◌, ◌∙◌, ◌≡◌, ◌≤◌}
 use Rattle.sync_survey.proofs.{FaultsLemmas.length-marked_rows, FoldersLemmas.survey_fields-by}
 use Rattle.sync_survey.proofs.PlacedRowLemmas.{survey_fields-placed}
 use Rattle.sync_survey.proofs.SurveyLemmas.{survey-stopped, survey-whole, told_by}
@@ -48,19 +48,13 @@ module _ (file : List ℕ) (n : ℕ) (within : n ≤ length file) (allowed : ℕ
     were = ap (marked_rows s.head) (rows-were file n within start start_now kept allowed read)
 
     few : length own ≤ length s.frames
-    few = omega
-        (arith, ap length were, length-marked_rows s.head (own ++ left), length-append own left)
+    few = grind (arith, were, length-marked_rows, length-append)
 
     whole : end_fault front (frames file n within start start_now kept allowed read)
         (fault_at (r file n within start start_now kept allowed read).stop (item_at front
         (r file n within start start_now kept allowed read).stop)) ≡ None
         → survey_fields front (length s.frames) ≡ Ok t
-    whole none =
-        survey-whole front (length s.frames) start (head file n within start start_now kept allowed
-        read) (frames file n within start start_now kept allowed read) (all_blocks front start)
-        (r file n within start start_now kept allowed read).stop
-        (found-now file n within start start_now kept allowed read) (ap first_of
-        (no-faults file n within start start_now kept allowed read (length s.frames) few)) none
+    whole none = grind (arith, survey-whole, frames, r, found-now, no-faults, few)
 
     stream-were : (allowed_now : ℕ) → survey_fields front allowed_now ≡ Ok t
         → IsStreamPrefix (stream_of_survey front t) (stream_of_survey file s)
@@ -114,9 +108,7 @@ module _ (file : List ℕ) (n : ℕ) (within : n ≤ length file) (allowed : ℕ
       → IsCutAnswer file front (survey_fields front (length s.frames))
   by_start (inl there) is =
       answer there.0 there.1 (end-now file n within start there.0 there.1 allowed read) is
-  by_start (inr found) is =
-      fault_answer file front (survey_fields front (length s.frames))
-      found.0 (survey_fields-by front (length s.frames) found.0 found.1) found.2
+  by_start (inr found) is = grind (arith, fault_answer, survey_fields-by)
 
   -- the survey returns what it should for a file that was cut short
   pub cut-answer : survey_fields file allowed ≡ Ok s
@@ -125,12 +117,4 @@ module _ (file : List ℕ) (n : ℕ) (within : n ≤ length file) (allowed : ℕ
 
 -- the first bytes of a file without fault and junk have the fault that the definition names
 pub prefix-fault : PrefixFault
-prefix-fault file allowed s n is no_junk within =
-    let parts = survey_fields-parts file allowed s is in
-    let start = parts.0 in
-    let told = parts.2 in
-    let junk : start.first.offset ≡ start.front_end = ap (λ (t : SurveyFields). t.first) told
-    ∙ sym no_junk ∙ sym (ap (λ (t : SurveyFields). t.junk) told) in
-    subst (λ (t : SurveyFields). IsCutAnswer file (take n file)
-    (survey_fields (take n file) (length t.frames))) told
-    (cut-answer file n within allowed start parts.1 junk (is ∙ ap Ok (sym told)))
+prefix-fault file allowed s n is no_junk within = grind (arith, survey_fields-parts, cut-answer)

@@ -1,7 +1,7 @@
 -- The items of a file that was cut short: the items that are still whole.
 use Rattle.std.proofs.Common.{ap, arith, Err, false, inl, inr, length, List, None, Ok, Option, refl}
-use Rattle.std.proofs.Common.{Some, subst, sym, true, ℕ, [], ◌++◌, ◌+◌, ◌-◌, ◌<◌, ◌∙◌, ◌∷◌, ◌≡◌}
-use Rattle.std.proofs.{Common.{◌≤◌, ◌⊎◌}, lemmas.Bool.{cases_lt, false≢true, le-leb, lt-leb}}
+use Rattle.std.proofs.Common.{Some, subst, sym, true, ℕ, [], ◌++◌, ◌+◌, ◌<◌, ◌∙◌, ◌∷◌, ◌≡◌, ◌≤◌}
+use Rattle.std.proofs.{Common.◌⊎◌, lemmas.Bool.{cases_lt, false≢true, le-leb, lt-leb}}
 use Rattle.std.proofs.lemmas.List.{drop_all}
 use Rattle.frame_header.specs.Fields.{HeaderFields}
 use Rattle.laying.proofs.LaidRunLemmas.{front_end-is}
@@ -10,10 +10,9 @@ use Rattle.sync_survey.proofs.RunsLemmas.{IsItemOf, item_run-ends, item_run-only
 use Rattle.sync_survey.proofs.RunsLemmas.{whole_item_at-whole}
 use Rattle.sync_survey.proofs.StartLemmas.{start-first, start-front, start_is}
 use Rattle.sync_survey.specs.Items.{item_at, item_fits, size_of}
-use Rattle.sync_survey.specs.Runs.{AreEndToEnd, belongs, item_if_whole, item_run, ItemRun}
-use Rattle.sync_survey.specs.Runs.{PlacedItem, whole_item_at}
-use Rattle.sync_survey.specs.{Start.{front_end_of, start_at, start_of}, Walk.fault_at}
-use Rattle.sync_survey.specs.declared.items.Item.{Item}
+use Rattle.sync_survey.specs.Runs.{AreEndToEnd, belongs, item_if_whole, item_run, PlacedItem}
+use Rattle.sync_survey.specs.{Runs.whole_item_at, Start.{front_end_of, start_at, start_of}}
+use Rattle.sync_survey.specs.{Walk.fault_at, declared.items.Item.Item}
 use Rattle.sync_survey.specs.declared.items.Item.TheVariants.{Block, End, Frame, Free, Nothing}
 use Rattle.sync_survey.specs.declared.{items.Item.TheVariants.Zero, places.Start.Start}
 use Rattle.sync_survey.specs.declared.runs.Region.{Region, TheVariants.{Front, Stream}}
@@ -57,14 +56,7 @@ module _ (file : List ℕ) (n : ℕ) (within : n ≤ length file) where
     split = refl;
     ends = refl;
     low = low;
-    last = inr (
-      p.item,
-      record {
-        is = ap (whole_item_at part file) (sym ends.0) ∙ ends.1;
-        low = low;
-        over = omega (arith, over, ends.0);
-      },
-    );
+    last = grind (arith, low);
   }
   run-more part from p ps to ends low later (inr kept) =
       let behind = later kept in
@@ -88,8 +80,7 @@ module _ (file : List ℕ) (n : ℕ) (within : n ≤ length file) where
     split = refl;
     ends = refl;
     low = low;
-    last =
-        inl (ends, refl);
+    last = grind (arith, ends);
   }
   cut-run part from (p ∷ ps) to ends low =
       run-more part from p ps to ends low (λ kept. cut-run part
@@ -111,18 +102,14 @@ module _ (file : List ℕ) (n : ℕ) (within : n ≤ length file) where
 
   fault_cases : (at : ℕ) (x item : Item) → belongs Stream item ≡ true → IsCutItem x item
       → MayBeCut (fault_at at x)
-  fault_cases at x item is (inl same) =
-      subst (λ y. MayBeCut (fault_at at y)) (sym same) (fault_by at item is)
+  fault_cases at x item is (inl same) = grind (arith, fault_by)
   fault_cases at x item is (inr (inl same)) = inl (ap (fault_at at) same)
   fault_cases at x item is (inr (inr same)) = inr (LostSync at, ap (fault_at at) same, tt)
 
   -- where the stream stops now
   pub stop-fault : (at : ℕ) (item : Item) → IsCutThrough file n within Stream at item
       → MayBeCut (fault_at at (item_at now at))
-  stop-fault at item through =
-      let here = whole_item_at-is Stream file at item through.is in
-      fault_cases at
-      (item_at now at) item here.belongs (item-cut file n within at item through.low here.is)
+  stop-fault at item through = grind (arith, whole_item_at-is, fault_cases, item-cut)
 
   -- ---- the start
 
@@ -164,9 +151,7 @@ module _ (file : List ℕ) (n : ℕ) (within : n ≤ length file) where
       unfit : (h : HeaderFields) → n < at + size_of (Frame h)
           → start_at now at (Frame h) ≡ Err (Truncated at)
       unfit h over =
-          let not : item_fits now at (Frame h) ≡ false =
-          lt-leb (size_of (Frame h)) (length now - at)
-          (omega (arith, over, length-cut file n within, through.low)) in
+          let not : item_fits now at (Frame h) ≡ false = grind (arith, lt-leb, length-cut) in
           rw not refl
 
       whole_start : (item : Item) → x ≡ item → belongs Stream item ≡ true
@@ -192,8 +177,7 @@ module _ (file : List ℕ) (n : ℕ) (within : n ≤ length file) where
   in_stream part at item through =
       let here = whole_item_at-is part file at item through.is in
       record {
-        is = whole_item_at-whole Stream file at item here.is (stream_belongs part item here.belongs)
-            here.within;
+        is = grind (arith, whole_item_at-whole, stream_belongs);
         low = through.low;
         over = through.over;
       }
@@ -201,9 +185,7 @@ module _ (file : List ℕ) (n : ℕ) (within : n ≤ length file) where
   -- the front ends at this offset now
   front-now : (front : List PlacedItem) (stop : ℕ) → AreEndToEnd Front now 0 front stop
       → whole_item_at Front now stop ≡ None → stop ≡ front_end_of now
-  front-now front stop ends none =
-      sym (ap (λ (r : ItemRun). r.stop) (item_run-only Front now 0 front stop ends none))
-      ∙ front_end-is now
+  front-now front stop ends none = grind (arith, item_run-only, ends, front_end-is)
 
   module _ (start : Start) (is : start_of file ≡ Ok start)
       (no_junk : start.first.offset ≡ start.front_end) where
@@ -234,10 +216,8 @@ module _ (file : List ℕ) (n : ℕ) (within : n ≤ length file) where
         let there = whole_item_at-whole Stream file at (Frame h) frame.is refl frame.within in
         let here = whole_item_at-is Stream now at (Frame h)
         (item-kept file n within Stream at (Frame h) there kept) in
-        let fit : item_fits now at (Frame h) ≡ true = le-leb (size_of (Frame h)) (length now - at)
-        (omega (arith, kept, length-cut file n within)) in
-        let same : Ok (record { front_end = at; first = start.first }) ≡ Ok start =
-        λ i. Ok (record { front_end = no_junk i; first = start.first }) in
+        let fit : item_fits now at (Frame h) ≡ true = grind (arith, le-leb, length-cut) in
+        let same : Ok (record { front_end = at; first = start.first }) ≡ Ok start = grind arith in
         inl (start_is now at (Frame h) front here.is ∙ rw fit refl ∙ same, kept)
 
     by_front : (r : IsCutRun Front 0 (item_run Front file 0).items (item_run Front file 0).stop)

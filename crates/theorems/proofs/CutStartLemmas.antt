@@ -1,14 +1,12 @@
 -- Where the stream of a file that was cut short starts.
 use Rattle.std.proofs.Common.{ap, arith, codes, drop, Err, get_or, inl, inr, length, List, lit<}
-use Rattle.std.proofs.Common.{None, Ok, Option, refl, Some, subst, suc, sym, take, true, zero, ℕ}
-use Rattle.std.proofs.Common.{◌+◌, ◌-◌, ◌<◌, ◌∙◌, ◌≡◌, ◌≤◌}
-use Rattle.std.proofs.lemmas.Bool.{and_parts, cases_lt, false≢true}
+use Rattle.std.proofs.Common.{None, Ok, Option, refl, Some, suc, sym, take, true, zero, ℕ, ◌+◌, ◌-◌}
+use Rattle.std.proofs.{Common.{◌<◌, ◌∙◌, ◌≡◌, ◌≤◌}, lemmas.Bool.{and_parts, cases_lt, false≢true}}
 use Rattle.std.proofs.lemmas.List.{get_or-drop, get_or-take, take-take}
 use Rattle.frame_header.proofs.HeaderLemmas.{IsClass-class_of}
 use Rattle.frame_header.proofs.LengthLemmas.{least_length, length-least}
 use Rattle.frame_header.specs.{Fields.{HeaderFields, IsHeader}, Tables.{class_of, length_of}}
-use Rattle.frame_header.specs.declared.{header.NotHeader.TheVariants.No, version.Version.Version}
-use Rattle.frame_header.specs.declared.version.Version.TheVariants.{One, Two, TwoFive}
+use Rattle.frame_header.specs.declared.header.NotHeader.TheVariants.{No}
 use Rattle.sync_survey.proofs.ItemBytesLemmas.{block_of_kind-take, header_front-four, known_by}
 use Rattle.sync_survey.proofs.ItemsLemmas.{header_front-in_range, stands-at}
 use Rattle.sync_survey.proofs.OneItemLemmas.{no_header, stands-only_at}
@@ -30,21 +28,11 @@ use Rattle.theorems.proofs.CutItemLemmas.{cut, drop-cut, IsCutThrough, length-cu
 -- ---- no frame after an item that was cut through and isn't known
 
 least-24 : (h : HeaderFields) → IsHeader h → 24 ≤ length_of (class_of h) h.slot
-least-24 h is = omega (
-  arith,
-  by_version (class_of h).version,
-  length-least (class_of h) h.slot (IsClass-class_of h is) is.slot,
-)
-  where
-    by_version : (v : Version) → 24 ≤ least_length v
-    by_version One = omega arith
-    by_version Two = omega arith
-    by_version TwoFive = omega arith
+least-24 h is = grind (arith, length-least, IsClass-class_of, least_length)
 
 ape-text : (bytes : List ℕ) → is_ape bytes ≡ true → take 8 bytes ≡ codes "APETAGEX"
 unfolding is_ape
-ape-text bytes is = text-long (codes "APETAGEX") bytes
-    (and_parts _ _ (and_parts _ _ (and_parts _ _ (and_parts _ _ (and_parts _ _ is).0).0).0).0).1
+ape-text bytes is = grind (arith, text-long, codes, and_parts)
 
 text-low : (j : ℕ) → j < 8 → get_or (codes "APETAGEX") j 0 < 255
 text-low zero within = lit< tt
@@ -93,14 +81,7 @@ module _ (file : List ℕ) (n : ℕ) (within : n ≤ length file) where
 
   byte-there : (at offset : ℕ) → at ≤ offset → offset < n
       → get_or (drop offset now) 0 0 ≡ get_or (drop at file) (offset - at) 0
-  byte-there at offset low high =
-      let none : offset + 0 ≡ offset = omega arith in
-      let split : at + (offset - at) ≡ offset = omega (arith, low) in
-      get_or-drop offset now 0 0
-      ∙ ap (λ i. get_or now i 0) none
-      ∙ get_or-take n file offset 0 high
-      ∙ ap (λ i. get_or file i 0) (sym split)
-      ∙ sym (get_or-drop at file (offset - at) 0)
+  byte-there at offset low high = grind (arith, low, get_or-drop, get_or-take, high)
 
   ape-none : (at : ℕ) (b : TagBlock) (h : HeaderFields) (offset : ℕ)
       → block_front (drop at file) ≡ Some b → IsLater at h offset → (b.kind ≡ Ape) × (n - at < 32)
@@ -108,8 +89,7 @@ module _ (file : List ℕ) (n : ℕ) (within : n ≤ length file) where
   ape-none at b h offset here later few =
       let bytes = drop at file in
       let j = offset - at in
-      let ape : begins Ape bytes ≡ true =
-      subst (λ kind. begins kind bytes ≡ true) few.0 (block_front-begins bytes b here).0 in
+      let ape : begins Ape bytes ≡ true = grind (arith, block_front-begins bytes b here, here) in
       let small : j < 8 = omega (arith, few.1, later.low, later.high) in
       let low : get_or (drop offset now) 0 0 < 255 =
       omega (
@@ -125,8 +105,7 @@ module _ (file : List ℕ) (n : ℕ) (within : n ≤ length file) where
   later-none : (at : ℕ) (item : Item) (h : HeaderFields) (offset : ℕ)
       → IsItemFront (drop at file) item → belongs Stream item ≡ true → n < at + size_of item
       → (item_at now at ≡ item → ⊥) → IsLater at h offset → ⊥
-  later-none at (Frame g) h offset here is over unknown later =
-      unknown (header-kept at g here (omega (arith, later.low, later.high)))
+  later-none at (Frame g) h offset here is over unknown later = grind (arith, header-kept, here)
   later-none at Free h offset here is over unknown later = false≢true is
   later-none at (Block b) h offset here is over unknown later =
       elim (cases_lt (n - at) (known_by b.kind)) as (λ _. ⊥) [
@@ -134,8 +113,7 @@ module _ (file : List ℕ) (n : ℕ) (within : n ≤ length file) where
             (few-known b.kind (n - at) (omega (arith, later.low, later.high)) few)
         | inr many ↦ unknown (block-kept at b here (omega (arith, many, later.low, later.high)))
       ]
-  later-none at Zero h offset here is over unknown later =
-      omega (arith, over, later.low, later.high)
+  later-none at Zero h offset here is over unknown later = grind arith
   later-none at End h offset here is over unknown later = false≢true is
   later-none at Nothing h offset here is over unknown later = false≢true is
 
@@ -165,6 +143,4 @@ module _ (file : List ℕ) (n : ℕ) (within : n ≤ length file) where
   pub no-start : (at : ℕ) (item : Item) → IsCutThrough file n within Stream at item
       → (item_at now at ≡ item → ⊥)
       → start_after_junk at (first_anchored longest_junk now (at + 1)) ≡ Err (NoFrame at)
-  no-start at item through unknown =
-      ap (start_after_junk at) (first_anchored-none longest_junk now (at + 1)
-      (λ offset low high. no-anchor at item through unknown offset (omega (arith, low))))
+  no-start at item through unknown = grind (arith, first_anchored-none, no-anchor)

@@ -75,8 +75,7 @@ module _ (file : List ℕ) (n : ℕ) (within : n ≤ length file) where
     over = overhead_of (class_of h) h.protected
 
     parts : length_of (class_of h) h.slot ≡ over + own_area h
-    parts =
-        omega (arith, (area-is (class_of h) h.slot h.protected (IsClass-class_of h is) is.slot).0)
+    parts = grind (arith, area-is, IsClass-class_of)
 
     area-same : area_bytes now at h ≡ area_bytes file at h
     area-same =
@@ -89,16 +88,7 @@ module _ (file : List ℕ) (n : ℕ) (within : n ≤ length file) where
         (omega (arith, parts, high))
 
     area-long : length (area_bytes now at h) ≡ own_area h
-    area-long =
-        length-take-le (own_area h) (drop over (drop at now))
-        (omega (
-          arith,
-          parts,
-          high,
-          length-drop over (drop at now),
-          length-drop at now,
-          length-cut file n within,
-        ))
+    area-long = grind (arith, length-take-le, parts, length-drop, length-cut)
 
   marks-in : (head : Option Head) (all : List Row) (k : ℕ) (rows : List Row)
       → AreIn file n within rows → AreIn file n within
@@ -119,8 +109,7 @@ module _ (file : List ℕ) (n : ℕ) (within : n ≤ length file) where
 
   areas-same : (rows : List Row) → AreIn file n within rows → areas now rows ≡ areas file rows
   areas-same [] are = refl
-  areas-same (r ∷ rows) are = ap₂ (λ (xs ys : List ℕ). xs ++ ys)
-      (area-same r.offset r.header are.0.header are.0.high) (areas-same rows are.1)
+  areas-same (r ∷ rows) are = grind (arith, area-same, areas-same rows are.1)
 
   areas-long : (rows : List Row) → AreIn file n within rows → length (areas now rows) ≡ all_own rows
   areas-long [] are = refl
@@ -159,10 +148,7 @@ module _ (file : List ℕ) (n : ℕ) (within : n ≤ length file) where
     head_by : (o : Option ℕ) → (head_bytes now (head_with o) ≡ head_bytes file (head_with o))
         × (length (head_bytes now (head_with o)) ≡ head_area (head_with o))
     head_by None = (refl, refl)
-    head_by (Some text) = (
-      area-same p.offset p.header is.header is.high,
-      area-long p.offset p.header is.header is.high,
-    )
+    head_by (Some text) = grind (arith, area-same, area-long)
 
     head-parts : (head_bytes now (head_of file p) ≡ head_bytes file (head_of file p))
         × (length (head_bytes now (head_of file p)) ≡ head_area (head_of file p))

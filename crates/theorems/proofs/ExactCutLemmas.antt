@@ -35,16 +35,16 @@ use Rattle.laying.specs.Laid.{frames_laid, info_laid, LaidPart, source_part}
 use Rattle.laying.specs.{LaidFiles.{AreStreamEntries, laid_file, stream_entry}, Needs.need_of}
 use Rattle.laying.specs.NeedsFit.{own_choice}
 use Rattle.laying.specs.Relaid.{FilePart, IsPart, lead_in_with_place, part_frames, relaid_frames}
-use Rattle.laying.specs.{Relaid.{rest_behind, silent_lead_in}, Surveys.CanBeRelaid}
+use Rattle.laying.specs.{Relaid.silent_lead_in, Surveys.CanBeRelaid}
 use Rattle.laying.specs.Written.{front_blocks, info_for, slot_in}
 use Rattle.seam_plan.proofs.{FitLemmas.fits-tested, LeadInLemmas.lead-in-is}
 use Rattle.seam_plan.{proofs.PieceRunLemmas.front-fits, specs.Frames.{needs_of, RunFrame}}
-use Rattle.seam_plan.specs.Joins.{fits_behind, has_lead_in, lead_in_header, lead_in_slot}
+use Rattle.seam_plan.specs.Joins.{fits_behind, has_lead_in, lead_in_header}
 use Rattle.slot_plan.proofs.{FreeByteLemmas.more-behind, LedLemmas.led-needed}
 use Rattle.slot_plan.proofs.OwnLeadInLemmas.{lead-where-wanted, own-none}
 use Rattle.slot_plan.specs.FreeBytes.{FitsBehind, IsLeadInHeader}
 use Rattle.slot_plan.specs.{Laws.{AreInOwnSlots, AreLedInOwnSlots}, Layouts.begins_of}
-use Rattle.slot_plan.specs.{LeastPlan.{least_plan, led_plan}, Lists.CanBeLaid}
+use Rattle.slot_plan.specs.{LeastPlan.led_plan, Lists.CanBeLaid}
 use Rattle.slot_plan.specs.Parts.{open_frame, own_frame, part_items}
 use Rattle.slot_plan.specs.{Plans.{AreItemSlots, IsLedPlan, IsPlan}, declared.needs.Need.Need}
 use Rattle.slot_plan.specs.declared.needs.Placed.{Placed}
@@ -78,8 +78,7 @@ use Rattle.theorems.specs.SeamlessLaws.{bare_file, bare_row_file, last_place}
 find-same : {X : Type 0} (f g : X → Bool) (xs : List X) → ((x : X) → f x ≡ g x)
     → find f xs ≡ find g xs
 find-same f g [] same = refl
-find-same f g (x ∷ xs) same =
-    ap₂ (λ (b : Bool) o. cond b (Some x) o) (same x) (find-same f g xs same)
+find-same f g (x ∷ xs) same = grind (arith, find-same f g xs same)
 
 -- ---- lead-ins
 
@@ -91,9 +90,7 @@ same-lead : (window : ℕ) (first : Need) (xs ys : List Need)
 unfolding lead_in_header
 same-lead window first xs ys one two =
     let all : (needs : List Need) → fits_behind window 0 needs ≡ true → (n : ℕ)
-    → fits_behind window n needs ≡ true =
-    λ needs fits n. (fits-tested window n needs).1
-    (more-behind window 0 n needs (omega arith) ((fits-tested window 0 needs).0 fits)) in
+    → fits_behind window n needs ≡ true = grind (arith, fits-tested, more-behind) in
     let class : ClassFields = class_of first.header in
     ap (option_map (λ slot. record first.header { protected = false; slot = slot }))
     (find-same
@@ -107,16 +104,7 @@ lead-header : (window : ℕ) (first : Need) (needs : List Need) (h : HeaderField
     → lead_in_header window (first ∷ needs) ≡ Some h
     → info_header_of h ≡ info_header_of first.header
 unfolding lead_in_header
-lead-header window first needs h is =
-    at (lead_in_slot window (class_of first.header) (first ∷ needs)) is
-  where
-    at : (o : Option SlotFields)
-        → option_map (λ slot. record first.header { protected = false; slot = slot }) o ≡ Some h
-        → info_header_of h ≡ info_header_of first.header
-    at None none = absurd cc
-    at (Some slot) some =
-        let same : record first.header { protected = false; slot = slot } ≡ h = cc in
-        ap info_header_of (sym same)
+lead-header window first needs h is = grind arith
 
 -- ---- the plan after an unconditional lead-in
 
@@ -155,20 +143,14 @@ led-relaid_frames : (lead : Placed) (rest : List Placed) (f : Frame) (fs : List 
     → lead.lead_in ≡ true
     → relaid_frames (lead_in_with_place lead f ∷ f ∷ fs) (record lead { lead_in = false } ∷ rest)
     ≡ relaid_frames (f ∷ fs) (lead ∷ rest)
-led-relaid_frames lead rest f fs leads =
-    relaid_frames-cons (record lead { lead_in = false }) rest (lead_in_with_place lead f) (f ∷ fs)
-    ∙ sym (relaid_frames-cons lead rest f fs
-    ∙ ap (λ b. one b lead f ∷ relaid_frames (rest_behind b f fs) rest) leads)
+led-relaid_frames lead rest f fs leads = grind (arith, relaid_frames-cons, lead, one, leads)
 
 -- ---- the first frame of the run
 
 -- a row needs what the list of needs has at its number
 row-need : (rows : List Row) (i : ℕ) (r : Row) (n : Need) → slice_get rows i ≡ Some r
     → slice_get (map need_of rows) i ≡ Some n → need_of r ≡ n
-row-need rows i r n found is =
-    let both : Some (need_of r) ≡ Some n =
-    sym (slice_get-map need_of rows i ∙ ap (option_map need_of) found) ∙ is in
-    cc
+row-need rows i r n found is = grind (arith, slice_get-map, found)
 
 -- ---- what the heads of pieces keep
 
@@ -282,9 +264,7 @@ module _ (file : List ℕ) (s : SurveyFields) (has : CanBeRelaid file s)
       (high file s has few known place next places first parts inputs files)
 
   run-needs : needs_of run_all ≡ needs
-  run-needs =
-      ap₂ (λ i j. needs_of (run_between file t i j)) first-same last-same
-      ∙ between-needs file t (has-own file s has) span.first span.last
+  run-needs = grind (arith, run_between, first-same, last-same, between-needs, has-own)
 
   part-is : IsPart s.class part
   part-is = record {
@@ -295,9 +275,7 @@ module _ (file : List ℕ) (s : SurveyFields) (has : CanBeRelaid file s)
   }
 
   part-streams : map stream_entry (part_frames part) ≡ stream_all
-  part-streams =
-      part-stream s.class part part-is
-      ∙ ap₂ (λ i j. slice_range (st file s has few) i j) (sym first-same) (sym last-same)
+  part-streams = grind (arith, part-stream s.class part part-is, part-is, first-same, last-same)
 
   own_inputs : AreInputs s.class (first ∷ parts)
   own_inputs = subst (λ d. AreInputs d (first ∷ parts)) class-same inputs
@@ -325,9 +303,7 @@ module _ (file : List ℕ) (s : SurveyFields) (has : CanBeRelaid file s)
   never-laid : fits_behind window 0 needs ≡ false
       → CanBeLaid window (map open_frame (part_items own_choice needs None)) → ⊥
   unfolding part_items
-  never-laid lacks can =
-      both_ways (fits_behind window 0 needs) lacks
-      ((fits-tested window 0 needs).1 (own-none window needs can))
+  never-laid lacks can = grind (arith, both_ways, fits-tested, own-none)
 
   plan-by : (led : Bool) → (led ≡ true → fits_behind window 0 needs ≡ false)
       → span_plan led s.class needs ≡ least
@@ -341,9 +317,7 @@ module _ (file : List ℕ) (s : SurveyFields) (has : CanBeRelaid file s)
       (led-needed window own_choice needs least (never-laid (lacks refl)) plan))
 
   run-least : needs_of (run first parts inputs) ≡ needs → run_plan first parts ≡ least
-  run-least same =
-      ap₂ (λ (d : ClassFields) (ns : List Need).
-      least_plan (window_of d.version) own_choice (ns ∷ [])) class-same same
+  run-least same = grind (arith, class-same)
 
   -- if the run has the stream and the plan of the cut,
   -- the frames of the join are the frames that are cut
@@ -359,11 +333,7 @@ module _ (file : List ℕ) (s : SurveyFields) (has : CanBeRelaid file s)
   -- the needs of the first piece's frames begin with the first need of these frames
   first-needs : slice_get (needs_of (run_between file t piece.0.first piece.0.last)) 0
       ≡ Some (need_of row)
-  first-needs =
-      ap (λ (l : List Need). slice_get l 0)
-      (between-needs file t (has-own file s has) piece.0.first piece.0.last)
-      ∙ ap (λ (rows : List Row). slice_get (map need_of rows) 0)
-      (range-next t.frames piece.0.first piece.0.last row piece.2.row_is piece.1.there.some)
+  first-needs = grind (arith, between-needs, has-own, range-next)
 
   -- ---- without a lead-in
 
@@ -380,10 +350,12 @@ module _ (file : List ℕ) (s : SurveyFields) (has : CanBeRelaid file s)
     same-own : IsSame
     same-own =
         let run_is : needs_of (run first parts inputs) ≡ needs =
-        ap needs_of
-        (run-frames file s has few known place next places first parts inputs files own-span
-        ∙ ap (λ n. drop n run_all) stays)
-        ∙ run-needs in
+        grind (
+          arith,
+          run-frames file s has few known place next places first parts inputs files
+              own-span,
+          run-needs,
+        ) in
         let streams : stream first parts inputs ≡ stream_all =
         run-stream file s has few known place next places first parts inputs files own-span
         ∙ ap (λ n. drop n stream_all) stays in
@@ -394,11 +366,7 @@ module _ (file : List ℕ) (s : SurveyFields) (has : CanBeRelaid file s)
         ap (λ b. span_plan b s.class needs) (sym led-same ∙ ways.1) in
         record {
           frames = bare-frames streams (run-least run_is ∙ sym plans);
-          header = λ r there.
-              ap (λ (n : Need). info_header_of n.header)
-              (row-need first.survey.frames front r (need_of row) there
-              (ap₂ (λ (ns : List Need) n. slice_get ns n) brings.rows_need stays
-              ∙ first-needs));
+          header = grind (arith, row-need, first-needs, first.survey.frames, brings.rows_need);
         }
 
   -- ---- after a lead-in
@@ -707,13 +675,7 @@ module _ (file : List ℕ) (s : SurveyFields) (has : CanBeRelaid file s)
 
   leads-many : length (seamless_frames first parts) ≡ length placed → span_lead_ins span placed
       ≡ many file s has few known place next places first parts inputs files
-  leads-many same =
-      omega (
-        arith,
-        same,
-        frames-many file s has few known place next places first parts inputs files,
-        inside.some,
-      )
+  leads-many same = grind (arith, frames-many)
 
   placed-many : length cut_frames ≡ length placed
   placed-many =
@@ -736,12 +698,7 @@ module _ (file : List ℕ) (s : SurveyFields) (has : CanBeRelaid file s)
     frames-are = is.frames
 
     extension-is : run_extension pieces_delay first parts ≡ (plain file s has span).extension
-    extension-is =
-        let many_is =
-        leads-many (ap (λ (l : List Frame). length l) frames-are ∙ placed-many) in
-        run-made ∙ made-is
-        ∙ ap (λ n. extension_of head_here (delay_of s.class n span) (padding_of span))
-        (sym many_is)
+    extension-is = grind (arith, leads-many, frames-are, placed-many, run-made, made-is)
 
     info-is : (r : Row) → slice_get first.survey.frames front ≡ Some r
         → info_frame r.header (seamless_info (delay_of_run first parts) r first parts)

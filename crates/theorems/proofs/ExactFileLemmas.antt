@@ -1,11 +1,10 @@
 -- The file of an exact piece as an input of a seamless join: it brings frames of
 -- the recording after its lead-in, and its head counts the samples of its span.
 use Rattle.std.proofs.Common.{ap, arith, Bool, drop, false, inl, inr, IsTrue, length, List, map}
-use Rattle.std.proofs.Common.{None, Ok, Option, refl, Some, sym, take, true, ℕ, [], ◌&&◌, ◌+◌, ◌-◌}
-use Rattle.std.proofs.{Common.{◌<◌, ◌∙◌, ◌∷◌, ◌≡◌, ◌≤◌, ◌⊎◌}, lemmas.Bool.{both_ways, le-leb}}
+use Rattle.std.proofs.Common.{None, Ok, Option, refl, Some, sym, true, ℕ, [], ◌&&◌, ◌+◌, ◌-◌, ◌<◌}
+use Rattle.std.proofs.{Common.{◌∙◌, ◌∷◌, ◌≡◌, ◌≤◌, ◌⊎◌}, lemmas.Bool.{both_ways, le-leb}}
 use Rattle.std.proofs.lemmas.List.{drop-map, length-drop, length-map, length-take-le, take-map}
-use Rattle.std.specs.List.{concat}
-use Rattle.std.specs.Prelude.{if◌then◌else◌, nat_le, nat_lt, option_map, slice_get, slice_range}
+use Rattle.std.specs.{List.concat, Prelude.{if◌then◌else◌, nat_le, nat_lt, slice_get, slice_range}}
 use Rattle.commands.proofs.RefusingLemmas.{refusal_or-ok}
 use Rattle.cut_edits.proofs.ChosenLemmas.{the-plan}
 use Rattle.cut_edits.proofs.HeadLemmas.{survey_without_head-had, survey_without_head-placed}
@@ -19,9 +18,9 @@ use Rattle.cut_edits.specs.Exact.{survey_without_head}
 use Rattle.exact_span.proofs.SealLemmas.{sealed-whole}
 use Rattle.exact_span.specs.Extensions.{counts_of, counts_with_frames, delay_in, has_encoder}
 use Rattle.exact_span.specs.{Extensions.padding_in, Laws.IsPieceHead}
-use Rattle.exact_span.specs.PlayedPositions.{counted_played, counted_positions, length_of_played}
-use Rattle.exact_span.specs.{PlayedPositions.{played_of, played_or_all, samples_in}, Spans.span_of}
-use Rattle.exact_span.specs.{TagWord.sealed_info, declared.exact_place.ExactPlace.ExactPlace}
+use Rattle.exact_span.specs.PlayedPositions.{counted_positions, length_of_played, played_of}
+use Rattle.exact_span.specs.{Spans.span_of, TagWord.sealed_info}
+use Rattle.exact_span.specs.declared.exact_place.ExactPlace.{ExactPlace}
 use Rattle.exact_span.specs.declared.{extensions.HeadCounts.HeadCounts, span.Span.Span}
 use Rattle.frame_header.specs.{Fields.ClassFields, Tables.window_of}
 use Rattle.info_header.specs.declared.fields.Info.{Info}
@@ -92,12 +91,7 @@ pub counted-is : (class : ClassFields) (leads : ℕ) (span : Span) (fields : Inf
     → span.first < span.last → IsPieceHead class leads span fields
     → counted_positions (Some fields) class frames ≡ Some (played_of (Some fields) class frames)
 unfolding counted_positions played_of
-counted-is class leads span fields frames some is =
-    let counts =
-    counts-there fields (leads + (span.last - span.first)) is.frames (omega (arith, some))
-    is.numbers.encoder in
-    ap (option_map (counted_played (samples_in class) frames)) counts.1
-    ∙ ap (λ o. Some (played_or_all (samples_in class) frames o)) (sym counts.1)
+counted-is class leads span fields frames some is = grind (arith, counts-there, some)
 
 -- ---- a span of the recording
 
@@ -203,8 +197,7 @@ module _ (file : List ℕ) (s : SurveyFields) (has : CanBeRelaid file s) where
 
   range-map : {X Y : Type 0} (f : X → Y) (from to : ℕ) (xs : List X)
       → map f (slice_range xs from to) ≡ slice_range (map f xs) from to
-  range-map f from to xs =
-      sym (ap (take (to - from)) (drop-map f from xs) ∙ take-map f (to - from) (drop from xs))
+  range-map f from to xs = grind (arith, drop-map, take-map)
 
   all-needs : needs_of all_run ≡ map need_of own.frames
   all-needs =
@@ -220,9 +213,7 @@ module _ (file : List ℕ) (s : SurveyFields) (has : CanBeRelaid file s) where
 
   -- the run has a frame for each frame of the recording
   pub all-many : length all_run ≡ length own.frames
-  all-many =
-      sym (length-map all_run (λ (f : RunFrame). f.need))
-      ∙ ap (λ (l : List Need). length l) all-needs ∙ length-map own.frames need_of
+  all-many = grind (arith, length-map, all-needs)
 
   -- a range of these frames is the run between the two numbers
   pub all-range : (i j : ℕ) → slice_range all_run i j ≡ run_between file own i j

@@ -2,7 +2,7 @@
 use Rattle.std.proofs.Common.{ap, append-nil, arith, Bool, false, length, List, map, None, Option}
 use Rattle.std.proofs.Common.{refl, Some, subst, sym, true, ℕ, [], ◌++◌, ◌∙◌, ◌∷◌, ◌≡◌}
 use Rattle.std.{proofs.lemmas.List.length-map, specs.Prelude.{flat_map, ◌<◌}}
-use Rattle.frame_header.specs.{Fields.{ClassFields, HeaderFields, SlotFields}, Tables.window_of}
+use Rattle.frame_header.specs.Fields.{ClassFields, HeaderFields, SlotFields}
 use Rattle.frame_writer.specs.Frames.{Frame}
 use Rattle.laying.proofs.HoldLemmas.{part-needs, part-some, part-stream}
 use Rattle.laying.proofs.PlannedFrameLemmas.{AreNeedsOf, one_in_stream, stream-cons}
@@ -34,8 +34,7 @@ pub part-sized : (c : ClassFields) (p : FilePart) → IsPart c p
 part-sized c p is =
     let needs = needs-length (part_needs p) (part_frames p) (part-needs c p is) in
     let stream : length (part_stream p) ≡ length (part_frames p) =
-    sym (ap (λ (l : List StreamFrame). length l) (part-stream c p is))
-    ∙ length-map (part_frames p) stream_entry in
+    grind (arith, part-stream c p is, length-map (part_frames p) stream_entry) in
     record { some = omega (arith, needs, part-some c p is); same = stream ∙ needs }
 
 -- ---- the stream from one place of the plan on
@@ -44,9 +43,7 @@ part-sized c p is =
 pub one-on : (b : Bool) (p : Placed) (placed : List Placed) (f : StreamFrame)
     (fs : List StreamFrame) → p.lead_in ≡ b → stream_with_lead_ins (p ∷ placed) (f ∷ fs)
     ≡ one_in_stream b f ∷ stream_with_lead_ins placed (rest_behind b f fs)
-one-on b p placed f fs is = stream-cons p placed f fs
-    ∙ ap (λ lead_in. one_in_stream lead_in f
-    ∷ stream_with_lead_ins placed (rest_behind lead_in f fs)) is
+one-on b p placed f fs is = grind (arith, stream-cons, one_in_stream)
 
 -- frames of a plan without lead-ins are as they are
 pub frames-on : (choices : HeaderFields → List SlotFields) (items : List PlanItem)
@@ -78,10 +75,8 @@ unfolding AreItemSlots part_items
 part-on choices items part None fs tail placed sized for_items =
     let on = frames-on choices items part fs tail placed sized.same for_items in
     ([], on.0, tt, on.1, on.2)
-part-on choices items [] (Some slot) fs tail placed sized for_items =
-    absurd (omega (arith, sized.some))
-part-on choices items (first ∷ part) (Some slot) [] tail placed sized for_items =
-    absurd (omega (arith, sized.same))
+part-on choices items [] (Some slot) fs tail placed sized for_items = grind arith
+part-on choices items (first ∷ part) (Some slot) [] tail placed sized for_items = grind arith
 part-on choices items (first ∷ part) (Some slot) (f ∷ fs) tail [] sized for_items = absurd for_items
 part-on choices items (first ∷ part) (Some slot) (f ∷ fs) tail (p ∷ placed) sized for_items =
     let on = frames-on choices items (first ∷ part) (f ∷ fs) tail placed sized.same for_items.2 in (
@@ -119,8 +114,7 @@ parts-on window c choices (p ∷ parts) (lead_in ∷ lead_ins) placed are alone 
 
 -- the stream of planned frames is exactly these, after at most one lead-in a part
 pub planned-exact : PlannedStreamsAreExact
-planned-exact c choices parts placed are plan = parts-on (window_of c.version) c choices parts
-    plan.lead_ins placed are plan.alone plan.whole.slots
+planned-exact c choices parts placed are plan = grind (arith, parts-on)
 
 -- ---- one part, whatever its frames choose among
 
@@ -144,8 +138,7 @@ module _ (choices : HeaderFields → List SlotFields) (needs : List Need) where
       → AreItemSlots (map (need_item choices) needs) placed
       → IsExactly (fs ∷ []) (stream_with_lead_ins placed fs)
   unfolding IsExactly
-  own-exact fs placed sized for_items =
-      let on = own-on choices needs fs placed sized.same for_items in ([], on.0, tt, on.1, on.2)
+  own-exact fs placed sized for_items = grind (arith, own-on)
 
   -- the stream of places that begin with a lead-in is exactly the frames, after that lead-in
   pub led-exact : (lead : PlanItem) → lead.lead_in ≡ true → (fs : List StreamFrame)

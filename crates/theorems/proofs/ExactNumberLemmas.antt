@@ -1,16 +1,13 @@
 -- The numbers in the Info frame of exact pieces that are joined in
 -- order: the numbers of the span from the first place to the last.
 use Rattle.std.proofs.Common.{ap, ap₂, arith, Bool, cond, drop, false, get_or, IsTrue, length, List}
-use Rattle.std.proofs.Common.{None, Ok, refl, replicate, Some, subst, sym, take, true, ℕ, [], ◌%◌}
-use Rattle.std.proofs.Common.{◌*◌, ◌++◌, ◌+◌, ◌-◌, ◌/◌, ◌<◌, ◌∙◌, ◌∷◌, ◌≡◌, ◌≤◌}
+use Rattle.std.proofs.Common.{None, Ok, refl, replicate, Some, subst, sym, take, true, ℕ, [], ◌*◌}
+use Rattle.std.proofs.Common.{◌++◌, ◌+◌, ◌-◌, ◌<◌, ◌∙◌, ◌∷◌, ◌≡◌, ◌≤◌}
 use Rattle.std.proofs.lemmas.Bool.{and_from, le-leb, lt-ltb}
 use Rattle.std.proofs.lemmas.List.{get_or-append-add, get_or-drop, length-append, length-drop}
 use Rattle.std.proofs.lemmas.List.{length-map, length-replicate, length-take-le, take-append-le}
-use Rattle.std.{proofs.lemmas.List.take-take, specs.List.list_all}
-use Rattle.std.specs.Prelude.{bytes_eq, codes, if◌then◌else◌, nat_le, nat_lt, option_and_then}
-use Rattle.std.specs.Prelude.{slice_range, ◌||◌}
-use Rattle.commands.specs.{Refusing.refusal_or, SingleOutput.most_frames}
-use Rattle.commands.specs.declared.fault.Refusal.TheVariants.{Span as NoSpan}
+use Rattle.std.{proofs.lemmas.List.take-take, specs.{List.list_all, Prelude.{nat_lt, slice_range}}}
+use Rattle.commands.specs.SingleOutput.{most_frames}
 use Rattle.cut_edits.proofs.{PieceLemmas.span-survey_without_head, SealedLemmas.for-whole}
 use Rattle.cut_edits.specs.Exact.{file_span, quality_of}
 use Rattle.exact_span.proofs.ExtensionLemmas.{extension-length, extension-says}
@@ -50,8 +47,7 @@ use Rattle.theorems.{proofs.SplitJoinLemmas.stream-many, specs.SeamlessLaws.last
 
 same-encoder : (xs ys : List ℕ) → take 4 xs ≡ take 4 ys → has_encoder xs ≡ has_encoder ys
 unfolding has_encoder
-same-encoder xs ys same = ap (λ (text : List ℕ). bytes_eq text (codes "LAME")
-    || bytes_eq text (codes "Lavf") || bytes_eq text (codes "Lavc")) same
+same-encoder xs ys same = grind arith
 
 -- without the bytes 11 to 18
 abbrev cleared : List ℕ → List ℕ
@@ -72,20 +68,7 @@ cleared-byte extension i long =
 cleared-says : (delay padding : ℕ) (extension : List ℕ) → length extension ≡ 36
     → SaysNumbers delay padding extension → SaysNumbers delay padding (cleared extension)
 cleared-says delay padding extension long says =
-    let eleven : length (take 11 extension) ≡ 11 =
-    length-take-le 11 extension (omega (arith, long)) in
-    let text : take 4 (cleared extension) ≡ take 4 extension =
-    take-append-le 4 (take 11 extension) (replicate 8 0 ++ drop 19 extension)
-    (omega (arith, eleven))
-    ∙ take-take 4 11 extension (omega arith) in
-    let first = cleared-byte extension 2 long in
-    let second = cleared-byte extension 3 long in
-    let third = cleared-byte extension 4 long in
-    record {
-      encoder = same-encoder (cleared extension) extension text ∙ says.encoder;
-      delay = ap₂ (λ a b. 16 * a + b / 16) first second ∙ says.delay;
-      padding = ap₂ (λ a b. 256 * (a % 16) + b) second third ∙ says.padding;
-    }
+    grind (arith, length-take-le, take-append-le, take-take, cleared-byte, same-encoder)
 
 either-says : (b : Bool) (delay padding : ℕ) (extension : List ℕ) → length extension ≡ 36
     → SaysNumbers delay padding extension
@@ -97,15 +80,7 @@ either-long : (b : Bool) (extension : List ℕ) → length extension ≡ 36
     → length (cond b extension (cleared extension)) ≡ 36
 either-long true extension long = long
 either-long false extension long =
-    omega (
-      arith,
-      length-append (take 11 extension) (replicate 8 0 ++ drop 19 extension),
-      length-append (replicate 8 0) (drop 19 extension),
-      length-take-le 11 extension (omega (arith, long)),
-      length-drop 19 extension,
-      length-replicate {A = ℕ} 8 0,
-      long,
-    )
+    grind (arith, length-append, length-take-le, length-drop, length-replicate)
 
 -- an extension that is made from a head has its numbers, and has 36 bytes
 made-says : (fields : Info) (delay padding : ℕ) → length fields.extension ≡ 36 → delay < 4096
@@ -123,10 +98,8 @@ delay-same : (v : Version) (start first p given leads front many : ℕ)
     → many + front ≡ given + leads
     → start + leads * samples_of v - front * samples_of v - decoder_delay
     ≡ many * samples_of v + (p - first * samples_of v) - decoder_delay
-delay-same One start first p given leads front many starts before same =
-    omega (arith, starts, before, same)
-delay-same _ start first p given leads front many starts before same =
-    omega (arith, starts, before, same)
+delay-same One start first p given leads front many starts before same = grind arith
+delay-same _ start first p given leads front many starts before same = grind arith
 
 -- what is left after the last position of a piece
 rest-same : (v : Version) (frames leads from to end q : ℕ) → frames ≡ leads + (to - from)
@@ -151,13 +124,7 @@ led-is class p q = refl
 
 -- an input is a whole file for the planner
 pub whole-file : (c : ClassFields) (p : FilePart) → IsInput c p → IsWholeFile c p
-whole-file c p is = record {
-  had = is.has;
-  same = is.of_class;
-  from = is.from;
-  to = is.to;
-  some = is.some;
-}
+whole-file c p is = grind arith
 
 -- all inputs are whole files
 pub whole-files : (c : ClassFields) (parts : List FilePart) → AreInputs c parts
@@ -217,8 +184,7 @@ module _ (file : List ℕ) (s : SurveyFields) (has : CanBeRelaid file s)
   places-within from to p piece [] (q ∷ parts) files = absurd files
   places-within from to p piece (next ∷ tos) [] files = absurd files
   places-within from to p piece (next ∷ tos) (q ∷ parts) files =
-      let later = places-within to next q files.0 tos parts files.1 in
-      (omega (arith, piece.1.some, later.0), later.1)
+      grind (arith, places-within to next q files.0 tos parts files.1)
 
   -- two places whose samples rise and are played have a span
   span-of-places : (from to : ExactPlace) → sample file s has from < sample file s has to
@@ -226,13 +192,7 @@ module _ (file : List ℕ) (s : SurveyFields) (has : CanBeRelaid file s)
       → file_span from to (head file s has) s
       ≡ Ok (span_of s.class (position file s has few from) (position file s has few to))
   unfolding file_span
-  span-of-places from to some most =
-      let a : ℕ = sample file s has from in
-      let b : ℕ = sample file s has to in
-      let n : ℕ = length_of_played (input_played file s) in
-      ap (λ t. refusal_or (if t then None else Some (NoSpan a b n))
-      (span_of s.class (position file s has few from) (position file s has few to)))
-      (and_from (nat_lt a b) (nat_le b n) (lt-ltb a b some) (le-leb b n most))
+  span-of-places from to some most = grind (arith, sample, position, and_from, lt-ltb, le-leb)
 
 -- ---- the join
 
@@ -283,15 +243,11 @@ module _ (file : List ℕ) (s : SurveyFields) (has : CanBeRelaid file s)
 
   first-span : HasSpan file s has few place next files.0.0 files.0.1 first.survey.class first
       inputs.0 files.0.2
-  first-span =
-      has-span file s has few place next files.0.0 files.0.1 first.survey.class first inputs.0
-      files.0.2
+  first-span = grind (arith, has-span)
 
   -- both the span and the first piece must have a lead-in, or neither
   pub led-same : files.0.0.led ≡ whole_span.led
-  led-same =
-      ap (λ (t : Span). t.led) (sym files.0.1.is)
-      ∙ led-is s.class p (position file s has few next) ∙ sym (led-is s.class p q)
+  led-same = grind (arith, led-is, position)
 
   first-led : IsTrue whole_span.led → leads file s has files.0.0 ≡ 1
   first-led led =
@@ -301,10 +257,7 @@ module _ (file : List ℕ) (s : SurveyFields) (has : CanBeRelaid file s)
 
   -- the lead-ins are those that the span must have
   pub many-leads : AreLeads whole_span many
-  many-leads = record {
-    one = joined.one;
-    led = λ led. omega (arith, first-led led, joined.led, joined.one);
-  }
+  many-leads = grind (arith, first-led)
 
   -- the delay of the span
   abbrev pub delay : ℕ
@@ -338,14 +291,7 @@ module _ (file : List ℕ) (s : SurveyFields) (has : CanBeRelaid file s)
 
   -- it is the delay of the join
   pub delay-is : delay_of_run first parts ≡ Some delay
-  delay-is =
-      ap (option_and_then (λ (t : Played).
-      if nat_le (seamless_delay t first parts) 4095 then Some (seamless_delay t first parts)
-      else None))
-      first-span.spans.counted
-      ∙ ap (λ d. if nat_le d 4095 then Some d else None) delay-value
-      ∙ ap (λ b. if b then Some delay else None)
-      (le-leb delay 4095 (omega (arith, delay-most)))
+  delay-is = grind (arith, delay-value, le-leb, delay-most)
 
   -- the padding of the join is the padding of the span
   pub padding-is : seamless_padding first parts ≡ padding_of whole_span
@@ -357,8 +303,7 @@ module _ (file : List ℕ) (s : SurveyFields) (has : CanBeRelaid file s)
 
   -- the padding is no less than the decoder's delay
   pub padding-least : 529 ≤ padding_of whole_span
-  padding-least =
-      (span-in_range s.class whole_span many whole-found.there.is many-leads).padding_least
+  padding-least = grind (arith, span-in_range, many-leads)
 
   -- the padding is at most a frame more than that
   pub padding-most : padding_of whole_span ≤ 1680
@@ -420,16 +365,10 @@ module _ (file : List ℕ) (s : SurveyFields) (has : CanBeRelaid file s)
       (omega (arith, delay-most)) (omega (arith, padding-most))))
 
   made-long : length made ≡ 36
-  made-long =
-      subst (λ o. length (extension_of o delay (seamless_padding first parts)) ≡ 36)
-      (sym first-head)
-      (extension-length (Some first_head) delay (seamless_padding first parts) head-long)
+  made-long = grind (arith, first-head, extension-length, head-long)
 
   run-says : SaysNumbers delay (padding_of whole_span) (run_extension delay first parts)
-  run-says =
-      either-says (list_all (part_says_gain (replay_gain made)) parts) delay
-      (padding_of whole_span) made
-      made-long made-said
+  run-says = grind (arith, either-says, made-long, made-said)
 
   -- its extension has 36 bytes
   pub run-long : length (run_extension delay first parts) ≡ 36

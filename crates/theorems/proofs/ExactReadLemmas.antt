@@ -51,10 +51,7 @@ module _ (file : List ℕ) (s : SurveyFields) (has : CanBeRelaid file s)
 
   front-row : (row : Row)
       × (slice_get first.survey.frames (join_of_parts first parts).front ≡ Some row)
-  front-row =
-      first-there first.survey.frames (join_of_parts first parts).front
-      (front-within first parts (whole-file first.survey.class first inputs.0)
-      (whole-files first.survey.class parts inputs.1))
+  front-row = grind (arith, first-there, front-within, whole-file, whole-files)
 
   abbrev header : HeaderFields
   header = front-row.0.header
@@ -118,13 +115,12 @@ module _ (file : List ℕ) (s : SurveyFields) (has : CanBeRelaid file s)
 
   count-small : leads + (span.last - span.first) < 256 ^ 4
   count-small =
-      let found = whole-found file s has few known place next places first parts inputs files in
-      omega (
+      grind (
         arith,
-        (many-leads file s has few known place next places first parts inputs files).one,
-        (span-survey_without_head s span found.there).within,
+        whole-found file s has few known place next places first parts inputs files,
+        many-leads file s has few known place next places first parts inputs files,
+        span-survey_without_head,
         survey_without_head-length s,
-        few,
       )
 
   -- it says what the Info frame says

@@ -2,8 +2,8 @@
 -- stream is at most one empty frame and then the recording's frames from
 -- the first frame of the first piece to the last frame of the last.
 use Rattle.std.proofs.Common.{ap, append_assoc, ap₂, arith, Bool, cond, drop, false, flat_map, inl}
-use Rattle.std.proofs.Common.{inr, length, List, map, not, refl, Some, subst, suc, sym, take, true}
-use Rattle.std.proofs.Common.{zero, ℕ, [], ◌&&◌, ◌*◌, ◌++◌, ◌+◌, ◌-◌, ◌<◌, ◌∙◌, ◌∷◌, ◌≡◌, ◌≤◌}
+use Rattle.std.proofs.Common.{inr, length, List, map, not, refl, Some, subst, suc, sym, true, zero}
+use Rattle.std.proofs.Common.{ℕ, [], ◌&&◌, ◌*◌, ◌++◌, ◌+◌, ◌-◌, ◌<◌, ◌∙◌, ◌∷◌, ◌≡◌, ◌≤◌}
 use Rattle.std.proofs.{Math.Seq.drop-append-add, lemmas.Bool.{and_from, and_parts, cases_lt}}
 use Rattle.std.proofs.lemmas.List.{drop-append-le, drop-drop, drop-take, length-append, length-drop}
 use Rattle.std.{proofs.lemmas.List.length-take-le, specs.List.list_all}
@@ -27,7 +27,6 @@ use Rattle.seam_plan.specs.Seams.{front_left_out_count, joint_of, JointFrames, j
 use Rattle.seam_plan.specs.{Seams.{joints_of, left_out_count, run_with}, declared.seam.Seam.Seam}
 use Rattle.seam_plan.specs.declared.seam.Seam.TheVariants.{Follows, LeadIn, Whole}
 use Rattle.slot_plan.{proofs.FreeByteLemmas.{cons-fits, more-behind}, specs.FreeBytes.FitsBehind}
-use Rattle.slot_plan.specs.{Parts.own_slot_area, Reserve.free_bytes_behind}
 use Rattle.slot_plan.specs.declared.needs.Need.{Need}
 use Rattle.sync_survey.specs.{Faults.SurveyFields, MainData.StreamFrame}
 use Rattle.theorems.proofs.ExactFileLemmas.{all-range, all_run, begin, has-own, IsExactFile}
@@ -51,18 +50,14 @@ use Rattle.theorems.specs.SeamlessLaws.{is_empty_frame, last_place}
 next-of : {X : Type 0} (n : ℕ) (xs ys : List X) (y : X) → drop n xs ≡ y ∷ ys
     → (slice_get xs n ≡ Some y) × (drop (suc n) xs ≡ ys)
 next-of zero [] ys y is = absurd cc
-next-of zero (x ∷ xs) ys y is = let here : x ≡ y = cc in
-    let more : xs ≡ ys = cc in (ap Some here, more)
+next-of zero (x ∷ xs) ys y is = grind arith
 next-of (suc n) [] ys y is = absurd cc
 next-of (suc n) (x ∷ xs) ys y is = next-of n xs ys y is
 
 range-drop : {X : Type 0} (xs : List X) (from to k : ℕ) → k ≤ to - from
     → drop k (slice_range xs from to) ≡ slice_range xs (from + k) to
 range-drop xs from to k few =
-    let many : to - from ≡ k + (to - (from + k)) = omega (arith, few) in
-    ap (λ n. drop k (take n (drop from xs))) many
-    ∙ drop-take k (to - (from + k)) (drop from xs)
-    ∙ ap (take (to - (from + k))) (drop-drop k from xs)
+    grind (arith, drop-take k (to - (from + k)) (drop from xs), drop-drop k from xs)
 
 -- ---- how many frames of a piece that follows are left out
 
@@ -146,9 +141,7 @@ module _ (file : List ℕ) (s : SurveyFields) (has : CanBeRelaid file s)
   ends-rise from [] parts files = omega arith
   ends-rise from (to ∷ tos) [] files = absurd files
   ends-rise from (to ∷ tos) (p ∷ parts) files =
-      let rises =
-      last-rises s.class.version (position from) (position to) (omega (arith, files.0.1.some)) in
-      omega (arith, rises, ends-rise to tos parts files.1)
+      grind (arith, last-rises, ends-rise to tos parts files.1)
 
   -- ---- spans, each from where the one before it ends
 
@@ -170,8 +163,7 @@ module _ (file : List ℕ) (s : SurveyFields) (has : CanBeRelaid file s)
       let v : Version = s.class.version in
       let sp = span-of c from to p inputs.0 piece in
       let later : position from ≤ position to = omega (arith, piece.1.some) in
-      let first : sp.spans.from ≡ begun_at from =
-      sp.from_is ∙ piece-begins from to p piece in
+      let first : sp.spans.from ≡ begun_at from = grind (arith, piece-begins from to p piece) in
       let to_is : sp.spans.to ≡ ended_at to = sp.to_is ∙ piece-ends from to p piece in
       let rises = first-rises v (position from) (position to) later in
       let more =
@@ -321,11 +313,7 @@ not-both false y is first = absurd cc
 -- fit with no free bytes before them, fits so too
 empty-before : (window : ℕ) (need : Need) (needs : List Need) → need.bytes ≡ 0
     → FitsBehind window 0 needs → FitsBehind window 0 (need ∷ needs)
-empty-before window need needs empty fits =
-    cons-fits window 0 need needs (omega arith) (omega (arith, empty))
-    (more-behind window 0 (free_bytes_behind window 0 need.bytes (own_slot_area need)) needs
-    (omega arith)
-    fits)
+empty-before window need needs empty fits = grind (arith, cons-fits, empty, more-behind)
 
 module _ (file : List ℕ) (s : SurveyFields) (has : CanBeRelaid file s)
     (few : length s.frames ≤ most_frames) (known : IsClass s.class)
@@ -371,9 +359,7 @@ module _ (file : List ℕ) (s : SurveyFields) (has : CanBeRelaid file s)
   joints = joints_of s.class (part_brought first) (map part_brought parts)
 
   joints-here : (join_of_parts first parts).joints ≡ joints
-  joints-here =
-      joints-are first parts inputs
-      ∙ ap (λ (d : ClassFields). joints_of d (part_brought first) (map part_brought parts)) class-is
+  joints-here = grind (arith, joints-are, class-is)
 
   -- by the span of the first piece, each later one follows, and the
   -- run is the lead-ins of the first and the frames of the recording
@@ -404,11 +390,7 @@ module _ (file : List ℕ) (s : SurveyFields) (has : CanBeRelaid file s)
       (between-fits file (own file s has) (has-own file s has) 0 own_rows) in
       record {
         follow = both.0;
-        run_is =
-            both.1
-            ∙ ap (λ (l : List RunFrame). sp.spans.lead_ins ++ l)
-            (ap₂ (λ i j. slice_range all_is i j) sp.from_is spans.to_is
-            ∙ all-range file s has low high);
+        run_is = grind (arith, all-range);
       }
 
   -- each later piece follows the one before it
@@ -448,17 +430,16 @@ module _ (file : List ℕ) (s : SurveyFields) (has : CanBeRelaid file s)
   -- the first piece has a frame of the recording
   pub first-some : 0 < length (slice_range (st file s has few) low piece.0.last)
   first-some =
-      let there = span-survey_without_head s piece.0 piece.1.there in
-      omega (
+      grind (
         arith,
-        length-take-le (piece.0.last - low) (drop low (st file s has few))
-            (omega (
-              arith,
-              length-drop low (st file s has few),
-              stream-many file (own file s has) (has-own file s has),
-              there.within,
-            )),
-        there.some,
+        span-survey_without_head s piece.0 piece.1.there,
+        length-take-le,
+        length-drop
+            low (st file s has few),
+        stream-many file (own file s has) (has-own file s has),
+        own file s
+            has,
+        has-own file s has,
       )
 
   -- the stream of the run is the lead-ins of the first piece and the
@@ -483,13 +464,7 @@ module _ (file : List ℕ) (s : SurveyFields) (has : CanBeRelaid file s)
   pub run-frames : (sp : FirstSpan)
       → run first parts inputs
       ≡ drop front (sp.spans.lead_ins ++ run_between file (own file s has) low high)
-  run-frames sp =
-      run-is first parts inputs
-      ∙ ap (drop front)
-      (ap (λ (d : ClassFields).
-      run_with (part_brought first) (joints_of d (part_brought first) (map part_brought parts)))
-      class-is
-      ∙ (one-run sp).run_is)
+  run-frames sp = grind (arith, run-is, class-is, one-run)
 
   -- ---- the stream of the join
 
@@ -505,8 +480,7 @@ module _ (file : List ℕ) (s : SurveyFields) (has : CanBeRelaid file s)
 
   silent-empty : (f : StreamFrame)
       → list_all (is_empty_frame s.class) (silent_lead_in f ∷ []) ≡ true
-  silent-empty f =
-      and_from (is_empty_frame s.class (silent_lead_in f)) true (none-zero s.class known) refl
+  silent-empty f = grind (arith, and_from, none-zero)
 
   run-lead : (out : 0 < front) → (f : StreamFrame) × (fs : List StreamFrame)
       × (stream first parts inputs ≡ f ∷ fs)
@@ -517,9 +491,7 @@ module _ (file : List ℕ) (s : SurveyFields) (has : CanBeRelaid file s)
   module _ (got left : List StreamFrame) (got_is : (run-leads first parts inputs).leads ≡ got)
       (left_is : stream first parts inputs ≡ left) where
     got-left : seamless_stream (first ∷ parts) ≡ got ++ left
-    got-left =
-        seamless-is first parts inputs
-        ∙ ap₂ (λ (x y : List StreamFrame). x ++ y) got_is left_is
+    got-left = grind (arith, seamless-is)
 
     many-got : run_lead_ins first parts ≡ length got
     many-got = leads-many first parts inputs ∙ ap (λ (l : List StreamFrame). length l) got_is
@@ -604,11 +576,7 @@ module _ (file : List ℕ) (s : SurveyFields) (has : CanBeRelaid file s)
 
     all-frames : run_with (part_brought first) (joints_of c (part_brought first)
         (map part_brought parts)) ≡ all_frames
-    all-frames =
-        ap (λ (d : ClassFields).
-        run_with (part_brought first) (joints_of d (part_brought first) (map part_brought parts)))
-        class-is
-        ∙ (one-run led-span).run_is
+    all-frames = grind (arith, class-is, one-run led-span)
 
     -- where the lead-in stays, the frames after it need none
     pub stays-fit : front ≡ 0 → fits_behind (window_of c.version) 0 (needs_of run_frames) ≡ true
@@ -624,8 +592,7 @@ module _ (file : List ℕ) (s : SurveyFields) (has : CanBeRelaid file s)
         brings.has
 
     run-whole : front ≡ 0 → run first parts inputs ≡ all_frames
-    run-whole stays =
-        run-is first parts inputs ∙ ap₂ (λ (n : ℕ) (fs : List RunFrame). drop n fs) stays all-frames
+    run-whole stays = grind (arith, run-is, all-frames)
 
     -- with its lead-in, the run then fits with no free bytes before it
     pub run-fits : front ≡ 0

@@ -100,16 +100,7 @@ module _ (file : List ℕ) (s : SurveyFields) (has : CanBeRelaid file s)
         → IsPieceHead s.class many span fields
         → KeepsPlaces s.class many span.first (sample file s has from) (sample file s has to)
         (played_of (Some fields) s.class (many + (span.last - span.first))) (input_played file s)
-    places-of many fields are is =
-        subst (λ (t : Span).
-        KeepsPlaces s.class many t.first (sample file s has from) (sample file s has to)
-        (played_of (Some fields) s.class (many + (t.last - t.first))) (input_played file s))
-        found.is
-        (places-kept (head file s has) fields s.class (length s.frames) (sample file s has from)
-        (sample file s has to) many
-        (record { some = found.some; most = found.within })
-        (subst (λ (t : Span). AreLeads t many) (sym found.is) are)
-        (subst (λ (t : Span). IsPieceHead s.class many t fields) (sym found.is) is))
+    places-of many fields are is = grind (arith, sample, places-kept)
 
     module _ (c : ClassFields) (p : FilePart) (is : IsInput c p)
         (made : IsExactFile file s has span p.file) where

@@ -1,8 +1,7 @@
 -- A file of chosen frames has the same blocks before its frames as the file that they are from.
-use Rattle.std.proofs.Common.{ap, append-nil, append_assoc, ap₂, arith, Bool, cond, drop, false}
-use Rattle.std.proofs.Common.{filter, length, List, map, None, Ok, Option, option_map}
-use Rattle.std.proofs.Common.{option_to_list, refl, Some, subst, sym, take, true, ℕ, [], ◌++◌, ◌+◌}
-use Rattle.std.proofs.Common.{◌∙◌, ◌∷◌, ◌≡◌, ◌≤◌}
+use Rattle.std.proofs.Common.{ap, append-nil, append_assoc, ap₂, arith, cond, drop, filter, length}
+use Rattle.std.proofs.Common.{List, map, None, Ok, Option, option_map, option_to_list, refl, Some}
+use Rattle.std.proofs.Common.{sym, take, true, ℕ, [], ◌++◌, ◌+◌, ◌∙◌, ◌∷◌, ◌≡◌, ◌≤◌}
 use Rattle.std.proofs.lemmas.Bool.{and_from, and_parts, and_right, le-ltb, lt-ltb}
 use Rattle.std.proofs.lemmas.List.{drop_at, length-append, length-drop, length-take-le, take_at}
 use Rattle.std.specs.{List.{concat, cons_option}, Prelude.nat_lt}
@@ -77,9 +76,7 @@ all-own file start =
 
 survey_fields-own : (file : List ℕ) (allowed : ℕ) (s : SurveyFields)
     → survey_fields file allowed ≡ Ok s → AreOwn file s.blocks
-survey_fields-own file allowed s e =
-    let parts = survey_fields-parts file allowed s e in
-    subst (λ (t : SurveyFields). AreOwn file t.blocks) parts.2 (all-own file parts.0)
+survey_fields-own file allowed s e = grind (arith, survey_fields-parts, all-own)
 
 -- the blocks that go before the frames
 abbrev AreFront : List ℕ → List Piece → Type 0
@@ -89,13 +86,7 @@ AreFront file (p ∷ ps) = IsOwn file p × (is_id3v2_kind p.block.kind ≡ true)
 front-of : (file : List ℕ) (s : SurveyFields) (ps : List Piece) → AreOwn file ps
     → AreFront file (filter (goes_in_front s) ps)
 front-of file s [] are = tt
-front-of file s (p ∷ ps) are = at (goes_in_front s p) refl (front-of file s ps are.1)
-  where
-    at : (b : Bool) → goes_in_front s p ≡ b → AreFront file (filter (goes_in_front s) ps)
-        → AreFront file (cond b (p ∷ filter (goes_in_front s) ps) (filter (goes_in_front s) ps))
-    at true goes more =
-        (are.0, (and_parts (is_id3v2_kind p.block.kind) (nat_lt p.offset s.first) goes).0, more)
-    at false stays more = more
+front-of file s (p ∷ ps) are = grind (arith, and_parts, front-of file s ps are.1)
 
 -- ---- before the bytes of another file
 
@@ -116,15 +107,10 @@ module _ (file : List ℕ) (t : SurveyFields) (bytes rest : List ℕ) where
       let later : List Piece = blocks_from (at + length own) (blocks ps) in
       let least = block_front-least own p.block are.0.block in
       let many = length-append own (concat (blocks ps)) in
-      let goes : goes_in_front t here ≡ true =
-      and_from (is_id3v2_kind p.block.kind) (nat_lt at t.first) are.1
-      (lt-ltb at t.first (omega (arith, early, least, are.0.long, many))) in
+      let goes : goes_in_front t here ≡ true = grind (arith, and_from, lt-ltb) in
       let bytes_are : bytes ≡ before ++ (own ++ (concat (blocks ps) ++ rest)) =
       is ∙ ap (λ (l : List ℕ). before ++ l) (append_assoc own (concat (blocks ps)) rest) in
-      let first : block_bytes bytes here ≡ own =
-      ap₂ (λ (n : ℕ) (l : List ℕ). take n (drop at l)) are.0.long bytes_are
-      ∙ ap (take (length own)) (drop_at before (own ++ (concat (blocks ps) ++ rest)) at refl)
-      ∙ take_at own (concat (blocks ps) ++ rest) (length own) refl in
+      let first : block_bytes bytes here ≡ own = grind (arith, drop_at, take_at) in
       let moved : at + length own ≡ length (before ++ own) = sym (length-append before own) in
       ap (λ (o : Option TagBlock).
       map (block_bytes bytes)
@@ -157,23 +143,13 @@ none-behind : (t : SurveyFields) (at : ℕ) (back : List (List ℕ)) → t.first
     → filter (goes_in_front t) (blocks_from at back) ≡ []
 none-behind t at [] late = refl
 none-behind t at (b ∷ back) late =
-    one-behind t at (block_front b) (blocks_from (at + length b) back) late
-    ∙ none-behind t (at + length b) back (omega (arith, late))
+    grind (arith, one-behind, none-behind t (at + length b) back (omega (arith, late)))
 
 filter-append : (t : SurveyFields) (xs ys : List Piece)
     → filter (goes_in_front t) (xs ++ ys)
     ≡ filter (goes_in_front t) xs ++ filter (goes_in_front t) ys
 filter-append t [] ys = refl
-filter-append t (x ∷ xs) ys = at (goes_in_front t x) (filter-append t xs ys)
-  where
-    at : (b : Bool)
-        → filter (goes_in_front t) (xs ++ ys)
-        ≡ filter (goes_in_front t) xs ++ filter (goes_in_front t) ys
-        → cond b (x ∷ filter (goes_in_front t) (xs ++ ys)) (filter (goes_in_front t) (xs ++ ys))
-        ≡ cond b (x ∷ filter (goes_in_front t) xs) (filter (goes_in_front t) xs)
-        ++ filter (goes_in_front t) ys
-    at true more = ap (λ (l : List Piece). x ∷ l) more
-    at false more = more
+filter-append t (x ∷ xs) ys = grind (arith, filter-append t xs ys)
 
 module _ (file : List ℕ) (s : SurveyFields) (allowed : ℕ) (e : survey_fields file allowed ≡ Ok s)
     (first : HeaderFields) (info : Info)

@@ -1,21 +1,17 @@
 -- Info frames of the same fields, and what an extension keeps of the head that it is made from.
 use Rattle.std.proofs.Common.{ap, ap₂, arith, Bool, cond, drop, false, length, List, None, Option}
-use Rattle.std.proofs.Common.{refl, replicate, Some, sym, take, true, ℕ, [], ◌%◌, ◌++◌, ◌-◌, ◌/◌}
-use Rattle.std.proofs.Common.{◌^◌, ◌∙◌, ◌∷◌, ◌≡◌}
+use Rattle.std.proofs.Common.{refl, Some, sym, take, true, ℕ, ◌%◌, ◌++◌, ◌^◌, ◌∙◌, ◌≡◌}
 use Rattle.std.proofs.lemmas.List.{drop-drop, drop-take, drop_at, length-append, length-drop}
 use Rattle.std.proofs.lemmas.List.{length-take-le, take-append-le, take-take, take_at}
-use Rattle.std.specs.Prelude.{IfSome, if◌then◌else◌, IsTrue}
+use Rattle.std.specs.Prelude.{IfSome, IsTrue}
 use Rattle.bit_fields.specs.Bits.{bytes}
 use Rattle.byteorder.specs.Endian.{big_bytes}
 use Rattle.exact_span.specs.Extensions.{extension_of, has_encoder, kept_extension, plain_extension}
-use Rattle.exact_span.specs.Extensions.{three_bytes}
-use Rattle.exact_span.specs.TagWord.{arc_of, crc_place, sealed_info, tag_crc_of, with_length_field}
-use Rattle.frame_header.specs.{Fields.{ClassFields, HeaderFields}, HeaderBits.header_bits}
-use Rattle.frame_header.specs.Tables.{area_of, class_of, side_size_of}
+use Rattle.exact_span.specs.TagWord.{sealed_info, tag_crc_of, with_length_field}
+use Rattle.frame_header.specs.Fields.{ClassFields, HeaderFields}
 use Rattle.frame_writer.specs.Frames.{Frame}
 use Rattle.info_header.specs.Info.{info_bytes, number_or_zero, table_or_zeros, vbr_text}
-use Rattle.info_header.specs.InfoFrame.{info_frame, info_header_of, info_slot_of}
-use Rattle.info_header.specs.declared.fields.Info.{Info}
+use Rattle.info_header.specs.{InfoFrame.{info_frame, info_header_of}, declared.fields.Info.Info}
 use Rattle.join_edits.specs.Seamless.{replay_gain}
 use Rattle.laying.specs.Written.{info_for}
 
@@ -25,11 +21,7 @@ use Rattle.laying.specs.Written.{info_for}
 frame-same : (g h : HeaderFields) (a b : Info) → info_header_of g ≡ info_header_of h
     → info_bytes a ≡ info_bytes b → info_frame g a ≡ info_frame h b
 unfolding info_frame
-frame-same g h a b headers same =
-    ap₂ (λ (k : HeaderFields) (l : List ℕ).
-    bytes (header_bits k) ++ (replicate (side_size_of (class_of k)) 0
-    ++ (l ++ replicate (area_of (class_of k) (info_slot_of (class_of k)) false - 156) 0)))
-    headers same
+frame-same g h a b headers same = grind arith
 
 -- the bytes that are written for a quality
 abbrev pub quality_bytes : Option ℕ → List ℕ
@@ -56,30 +48,11 @@ module _ (c : ClassFields) (frames : List Frame) (first second : Option ℕ)
       → info_header_of g ≡ info_header_of h
       → info_frame g (sealed_info g (info_for c frames first extension))
       ≡ info_frame h (sealed_info h (info_for c frames second extension))
-  sealed-same g h extension headers =
-      let one : Info = with_length_field (info_for c frames first extension) in
-      let two : Info = with_length_field (info_for c frames second extension) in
-      let lengths : info_frame g one ≡ info_frame h two =
-      frame-same g h one two headers (fields-same extension one.extension two.extension refl) in
-      let crc : tag_crc_of g one ≡ tag_crc_of h two =
-      ap₂ (λ (d : HeaderFields) (l : List ℕ). arc_of 0 (take (crc_place (class_of d)) l)) headers
-      lengths in
-      frame-same g h (sealed_info g (info_for c frames first extension))
-      (sealed_info h (info_for c frames second extension)) headers
-      (fields-same extension (sealed_info g (info_for c frames first extension)).extension
-      (sealed_info h (info_for c frames second extension)).extension
-      (ap (λ n. take 34 one.extension ++ big_bytes 2 n) crc))
+  sealed-same g h extension headers = grind (arith, frame-same, fields-same)
 
 -- a quality that was read back is written alike
 pub quality-again : (q : ℕ) → big_bytes 4 (q % 256 ^ 4) ≡ big_bytes 4 q
-quality-again q =
-    let third : q % 256 ^ 4 / 256 ^ 3 % 256 ≡ q / 256 ^ 3 % 256 = omega arith in
-    let second : q % 256 ^ 4 / 256 ^ 2 % 256 ≡ q / 256 ^ 2 % 256 = omega arith in
-    let first : q % 256 ^ 4 / 256 ^ 1 % 256 ≡ q / 256 ^ 1 % 256 = omega arith in
-    let last : q % 256 ^ 4 % 256 ≡ q % 256 = omega arith in
-    ap₂ (λ (a : ℕ) (l : List ℕ). a ∷ l) third
-    (ap₂ (λ (a : ℕ) (l : List ℕ). a ∷ l) second
-    (ap₂ (λ (a : ℕ) (l : List ℕ). a ∷ l) first (ap (λ (a : ℕ). a ∷ []) last)))
+quality-again q = grind arith
 
 -- ---- what an extension keeps
 
@@ -132,8 +105,7 @@ module _ (head : Option Info) (long : IfSome head (λ (i : Info). length i.exten
   made = extension_of head delay padding
 
   front-long : length (take 21 (kept_extension head)) ≡ 21
-  front-long =
-      length-take-le 21 (kept_extension head) (omega (arith, kept_extension-long head long))
+  front-long = search (arith, length-take-le, kept_extension-long)
 
   mid-long : length (take 4 (drop 24 (kept_extension head))) ≡ 4
   mid-long =
@@ -143,22 +115,12 @@ module _ (head : Option Info) (long : IfSome head (λ (i : Info). length i.exten
   -- what is made from a head keeps its first 21 bytes
   pub made-front : take 21 made ≡ take 21 (kept_extension head)
   unfolding extension_of
-  made-front =
-      take-append-le 21 (take 21 (kept_extension head))
-      (three_bytes delay padding ++ (take 4 (drop 24 (kept_extension head)) ++ replicate 8 0))
-      (omega (arith, front-long))
-      ∙ take-take 21 21 (kept_extension head) (omega arith)
+  made-front = grind (arith, take-append-le, front-long, take-take)
 
   -- what is made from a head keeps its bytes 24 to 27
   pub made-mid : take 4 (drop 24 made) ≡ take 4 (drop 24 (kept_extension head))
   unfolding extension_of
-  made-mid =
-      let rest : List ℕ = take 4 (drop 24 (kept_extension head)) ++ replicate 8 0 in
-      ap (take 4)
-      (sym (drop-drop 3 21 made)
-      ∙ ap (drop 3)
-      (drop_at (take 21 (kept_extension head)) (three_bytes delay padding ++ rest) 21 front-long))
-      ∙ take_at (take 4 (drop 24 (kept_extension head))) (replicate 8 0) 4 mid-long
+  made-mid = grind (arith, drop-drop, drop_at, front-long, take_at, mid-long)
 
   -- any extension that begins with the same 28 bytes keeps them
   pub keeps-by : (extension : List ℕ) → take 28 extension ≡ take 28 made
@@ -176,14 +138,7 @@ pub made-again : (head : Option Info) (fields : Info) (delay padding : ℕ)
     → Keeps head fields.extension
     → extension_of (Some fields) delay padding ≡ extension_of head delay padding
 unfolding extension_of
-made-again head fields delay padding keeps =
-    ap (λ b.
-    take 21 (if b then fields.extension else plain_extension)
-    ++ (three_bytes delay padding
-    ++ (take 4 (drop 24 (if b then fields.extension else plain_extension)) ++ replicate 8 0)))
-    keeps.encoder
-    ∙ ap₂ (λ (x y : List ℕ). x ++ (three_bytes delay padding ++ (y ++ replicate 8 0)))
-    keeps.front keeps.mid
+made-again head fields delay padding keeps = grind arith
 
 -- peak and gains are in the first 21 bytes
 pub gain-same : (x y : List ℕ) → take 21 x ≡ take 21 y → replay_gain x ≡ replay_gain y

@@ -1,14 +1,14 @@
 -- All frames of several files, in one file.
-use Rattle.std.proofs.Common.{All, ap, ap₂, arith, false, length, List, map, None, Ok, Option, refl}
+use Rattle.std.proofs.Common.{All, ap, arith, false, length, List, map, None, Ok, Option, refl}
 use Rattle.std.proofs.Common.{Some, subst, sym, ℕ, [], ◌+◌, ◌-◌, ◌∙◌, ◌∷◌, ◌≡◌}
-use Rattle.std.{proofs.lemmas.List.{length-map, Elements.All-cons}, specs.Prelude.unwrap_or}
+use Rattle.std.proofs.lemmas.List.{length-map, Elements.All-cons}
 use Rattle.commands.proofs.{MadeLemmas.{makes-parts, some-frames}, RefusingLemmas.then_ok}
 use Rattle.commands.specs.SingleOutput.{most_frames}
 use Rattle.frame_header.specs.{Fields.ClassFields, Tables.window_of}
 use Rattle.job_words.specs.Request.{Join}
 use Rattle.join_edits.proofs.PartLemmas.{part-is}
-use Rattle.join_edits.specs.Join.{join_command, join_part, join_parts, join_parts_from, join_stream}
-use Rattle.join_edits.specs.Join.{join_task, joined_file, joined_plan, joined_stream, whole_part}
+use Rattle.join_edits.specs.Join.{join_command, join_part, join_parts, join_parts_from, joined_plan}
+use Rattle.join_edits.specs.Join.{joined_stream, whole_part}
 use Rattle.laying.proofs.{PartsLemmas.{parts-fit, parts-plan}, SurveyFrameLemmas.survey-had}
 use Rattle.laying.specs.Needs.{need_of, plan_input}
 use Rattle.laying.specs.NeedsFit.{IsFitPlanInput, IsPartOf, own_choice}
@@ -16,8 +16,7 @@ use Rattle.laying.specs.Relaid.{AreParts, FilePart, IsPart, part_needs, part_row
 use Rattle.outside.specs.Files.{Contents}
 use Rattle.salvage_edits.proofs.StreamLemmas.{whole-stream}
 use Rattle.slot_plan.specs.{LeastPlan.least_plan, Plans.IsPlan, declared.needs.Need.Need}
-use Rattle.sync_survey.specs.{Faults.{stream_of, SurveyFields}, MainData.StreamFrame}
-use Rattle.sync_survey.specs.Survey.{survey_of}
+use Rattle.sync_survey.specs.{Faults.SurveyFields, Survey.survey_of}
 use Rattle.theorems.proofs.{CaseLemmas.stream-is, ExactLemmas.planned-exact}
 use Rattle.theorems.{proofs.SeamlessInputLemmas.more-inputs, specs.Chosen.named_frames}
 use Rattle.theorems.specs.Exact.{IsExactly}
@@ -26,20 +25,7 @@ use Rattle.theorems.specs.Laws.{HoldsChosen, JoinedPlansAreFirst, JoinedStreamsA
 rows-each : (class : ClassFields) (parts : List FilePart) → AreParts class parts
     → All (IsPartOf class) (map part_rows parts)
 rows-each class [] are = λ k d lt. absurd (omega (arith, lt))
-rows-each class (p ∷ parts) are =
-    let is = are.0 in
-    All-cons (IsPartOf class) (part_rows p) (map part_rows parts)
-    (record {
-      survey = p.survey;
-      from = p.from;
-      to = p.to;
-      placed = is.has.placed;
-      same = is.class;
-      some = is.some;
-      within = is.within;
-      are = refl;
-    })
-    (rows-each class parts are.1)
+rows-each class (p ∷ parts) are = grind (arith, All-cons, are, rows-each class parts are.1)
 
 needs-each : (parts : List FilePart)
     → map (map need_of) (map part_rows parts) ≡ map part_needs parts
@@ -65,8 +51,7 @@ module _ (first : FilePart) (parts : List FilePart)
   -- the plan is the plan of all parts
   pub join-plan : IsPlan (window_of class.version) own_choice (map part_needs all)
       (joined_plan class all)
-  join-plan = subst (λ (parts : List (List Need)). IsPlan (window_of class.version) own_choice parts
-      (least_plan (window_of class.version) own_choice parts)) (needs-each all) one_plan
+  join-plan = grind (arith, needs-each, one_plan)
 
   -- the stream is exactly the frames of the parts
   pub join-exact : IsExactly (map part_stream all) (joined_stream all)
@@ -86,20 +71,12 @@ joined-first = join-plan
 -- a part of all frames of an input
 part-of : (c : ClassFields) (file : List ℕ) (allowed : ℕ) (s : SurveyFields)
     → survey_of file allowed ≡ Ok s → s.class ≡ c → IsPart c (whole_part file s)
-part-of c file allowed s is same = record {
-  has = survey-had file allowed s is;
-  class = same;
-  some = some-frames file allowed s is;
-  within =
-      omega arith;
-}
+part-of c file allowed s is same = search (arith, survey-had, is, some-frames)
 
 part-stream : (files : Contents) (name file : List ℕ) (allowed : ℕ) (s : SurveyFields)
     → files name ≡ Some file → survey_of file allowed ≡ Ok s
     → part_stream (whole_part file s) ≡ named_frames files name
-part-stream files name file allowed s there is =
-    whole-stream file s ∙ sym (stream-is file allowed s is)
-    ∙ sym (ap (λ (o : Option (List ℕ)). stream_of (unwrap_or o [])) there)
+part-stream files name file allowed s there is = grind (arith, whole-stream, stream-is, is)
 
 -- each part is the frames of the input at its place
 pub record AreFramesOf (files : Contents) (c : ClassFields) (names : List (List ℕ))
@@ -119,9 +96,7 @@ frames-more files c place first allowed name names part parts e same more =
             is.survey is.surveyed (ap (λ (p : FilePart). p.survey.class) is.whole ∙ same)),
         more.are,
       );
-      frames = ap₂ (λ (l : List StreamFrame) (ls : List (List StreamFrame)). l ∷ ls)
-          (ap part_stream (sym is.whole)
-          ∙ part-stream files name is.file allowed is.survey is.there is.surveyed) more.frames;
+      frames = grind (arith, part-stream);
     }
 
 -- the inputs after the first, which are of its class
@@ -172,24 +147,11 @@ parts-exact : (files : Contents) (names : List (List ℕ)) (parts : List FilePar
     → join_parts files names
     ≡ Ok parts → IsExactly (map (named_frames files) names) (joined_stream parts)
 unfolding join_parts_from joined_stream IsExactly
-parts-exact files [] parts e = let none : [] ≡ parts = cc in
-    subst (λ (l : List FilePart). IsExactly [] (joined_stream l)) none refl
+parts-exact files [] parts e = grind arith
 parts-exact files (name ∷ names) parts e =
-    let is = parts-join files name names parts e in
-    subst (λ (l : List FilePart). IsExactly (map (named_frames files) (name ∷ names))
-    (joined_stream l))
-    is.is
-    (subst (λ (l : List (List StreamFrame)). IsExactly l (joined_stream (is.first ∷ is.more)))
-    is.all.frames (join-exact is.first is.more is.all.are))
+    grind (arith, parts-join files name names parts e, join-exact)
 
 -- a join holds the frames that its job chooses
 pub join-holds : (output : List ℕ) (inputs : List (List ℕ))
     → HoldsChosen (Join false output inputs) (join_command output inputs)
-join-holds output inputs files made e =
-    let bytes = makes-parts (join_task inputs) output files made e in
-    let parts =
-    then_ok (join_parts files inputs) (λ parts. Ok (joined_file parts)) bytes.1 bytes.2 in (
-      subst (λ (l : List StreamFrame). IsExactly (map (named_frames files) inputs) l)
-          (sym (ap join_stream parts.1)) (parts-exact files inputs parts.0 parts.1),
-      tt,
-    )
+join-holds output inputs files made e = grind (arith, makes-parts, then_ok, parts-exact)

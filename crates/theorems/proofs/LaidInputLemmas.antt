@@ -1,11 +1,11 @@
 -- A file of laid frames as an input of a seamless join: it brings these frames, after the lead-in
 -- that their plan gives them.
-use Rattle.std.proofs.Common.{ap, ap₂, arith, Bool, cond, Contains, drop, false, length, List, map}
-use Rattle.std.proofs.Common.{Ok, refl, Some, subst, suc, sym, true, zip, ℕ, [], ◌+◌, ◌-◌, ◌<◌}
-use Rattle.std.proofs.{Common.{◌==◌, ◌∙◌, ◌∷◌, ◌≡◌, ◌≤◌}, lemmas.Bool.and_from}
+use Rattle.std.proofs.Common.{ap, ap₂, arith, Bool, cond, Contains, false, length, List, map, Ok}
+use Rattle.std.proofs.Common.{refl, Some, subst, suc, sym, true, zip, ℕ, [], ◌+◌, ◌-◌, ◌<◌, ◌∙◌}
+use Rattle.std.proofs.{Common.{◌∷◌, ◌≡◌, ◌≤◌}, lemmas.Bool.and_from}
 use Rattle.std.proofs.lemmas.List.{length-drop, length-map, length-take-le}
 use Rattle.std.proofs.lemmas.{List.FromFn.length-range_with_len, Slice.Eq.bytes_eq-Decides}
-use Rattle.std.specs.{List.{concat, list_all, range_with_len}, Prelude.{slice_get, slice_range}}
+use Rattle.std.specs.{List.concat, Prelude.{slice_get, slice_range}}
 use Rattle.cut_edits.specs.Exact.{survey_without_head}
 use Rattle.frame_header.proofs.HeaderLemmas.{IsClass-class_of}
 use Rattle.frame_header.specs.Fields.{ClassFields, HeaderFields, IsClass, SlotFields}
@@ -26,12 +26,11 @@ use Rattle.laying.specs.{LaidFiles.rows_from, LaidLaws.HasNoneLost, Laws.AreFram
 use Rattle.laying.specs.{Needs.need_of, NeedsFit.own_choice}
 use Rattle.laying.specs.Relaid.{FilePart, frame_with_place, IsPart, part_frames, part_stream}
 use Rattle.laying.specs.Relaid.{relaid_frames, rest_behind, silent_lead_in, stream_with_lead_ins}
-use Rattle.laying.specs.{Surveys.CanBeRelaid, Written.{front_blocks, slot_in, table_entry}}
+use Rattle.laying.specs.{Surveys.CanBeRelaid, Written.{front_blocks, slot_in}}
 use Rattle.seam_plan.proofs.{FollowLemmas.sounds, LeadInLemmas.lead-in-is}
 use Rattle.seam_plan.specs.Frames.{needs_of, RunFrame}
 use Rattle.seam_plan.specs.Joins.{has_lead_in, lead_in_header, leads_others, matches_header}
-use Rattle.side_info.specs.Side.{no_side, payload_bits, payload_bytes, side_bits}
-use Rattle.side_info.specs.declared.side.Side.{Side}
+use Rattle.side_info.specs.{Side.{no_side, payload_bits, payload_bytes}, declared.side.Side.Side}
 use Rattle.slot_plan.{proofs.AreaLemmas.only_one, specs.FreeBytes.IsLeadInHeader}
 use Rattle.slot_plan.specs.{Laws.{AreInOwnSlots, AreLedInOwnSlots}, Plans.AreItemSlots}
 use Rattle.slot_plan.specs.declared.needs.{Need.Need, Placed.Placed}
@@ -52,10 +51,8 @@ use Rattle.theorems.proofs.SeamlessRunLemmas.{own-frames, own-many}
 pub frames-same : (xs ys : List RunFrame) → needs_of xs ≡ needs_of ys → sounds xs ≡ sounds ys
     → xs ≡ ys
 frames-same [] [] needs sounding = refl
-frames-same [] (y ∷ ys) needs sounding =
-    absurd (omega (arith, ap (λ (l : List Need). length l) needs))
-frames-same (x ∷ xs) [] needs sounding =
-    absurd (omega (arith, ap (λ (l : List Need). length l) needs))
+frames-same [] (y ∷ ys) needs sounding = grind arith
+frames-same (x ∷ xs) [] needs sounding = grind arith
 frames-same (x ∷ xs) (y ∷ ys) needs sounding =
     let need : x.need ≡ y.need = cc in
     let sound : x.sound ≡ y.sound = cc in
@@ -83,8 +80,7 @@ frame_need f = record { header = f.kept.header; bytes = payload_bytes f.kept.sid
 -- rows of laid frames need what the frames do
 pub rows-needs : (at : ℕ) (fs : List Frame) → map need_of (rows_from at fs) ≡ map frame_need fs
 rows-needs at [] = refl
-rows-needs at (f ∷ fs) =
-    ap (λ (l : List Need). frame_need f ∷ l) (rows-needs (at + frame_length f) fs)
+rows-needs at (f ∷ fs) = grind (arith, rows-needs (at + frame_length f) fs)
 
 begun-bytes : (s : Side) (begin : ℕ)
     → payload_bytes (record s { main_data_begin = begin }) ≡ payload_bytes s
@@ -95,18 +91,12 @@ moved-need : (class : ClassFields) (need : Need) (f : Frame) (p : Placed) → Is
     → need.header ≡ f.kept.header
     → need.bytes ≡ length f.payload → Contains (own_choice need.header) p.slot
     → frame_need (frame_with_place p f) ≡ need
-moved-need class need f p entry header bytes slot =
-    let same : p.slot ≡ need.header.slot = sym (only_one need.header.slot p.slot slot) in
-    ap₂ (λ (h : HeaderFields) (n : ℕ). record { header = h; bytes = n })
-    (ap₂ (λ (s : SlotFields) (h : HeaderFields). record h { slot = s }) same (sym header))
-    (begun-bytes f.kept.side p.begin ∙ sym entry.size ∙ sym bytes)
+moved-need class need f p entry header bytes slot = grind (arith, only_one, header, begun-bytes)
 
 relaid_frames-cons-by : (b : Bool) (p : Placed) (placed : List Placed) (f : Frame) (fs : List Frame)
     → p.lead_in ≡ b
     → relaid_frames (f ∷ fs) (p ∷ placed) ≡ one b p f ∷ relaid_frames (rest_behind b f fs) placed
-relaid_frames-cons-by b p placed f fs is =
-    relaid_frames-cons p placed f fs
-    ∙ ap (λ lead_in. one lead_in p f ∷ relaid_frames (rest_behind lead_in f fs) placed) is
+relaid_frames-cons-by b p placed f fs is = grind (arith, relaid_frames-cons, one)
 
 -- frames that are laid in their own slots need what the plan was made for
 pub own-needs : (class : ClassFields) (needs : List Need) (fs : List Frame) (placed : List Placed)
@@ -155,12 +145,7 @@ led-needs class window at (need ∷ needs) (f ∷ fs) (p ∷ placed) known entri
           (own-needs class (need ∷ needs) (f ∷ fs) placed entries are led.2);
       lead = lead-in-is window need needs header
           (subst (λ (h : HeaderFields). IsClass (class_of h)) (sym are.0) of_class) (led.1, refl);
-      blank = ap (λ (l : List Frame). begins_blank (rows_from at l)) cons
-          ∙ ap (λ n.
-          list_all (λ bit. bit == 0)
-          (side_bits (class_of f.kept.header) (record no_side { main_data_begin = n })))
-          none
-          ∙ none-zero (class_of f.kept.header) of_class;
+      blank = grind (arith, none-zero);
     }
 
 -- ---- one file
@@ -182,15 +167,14 @@ unfolding AreLedInOwnSlots
 led-frames window [] placed stream same led = absurd led
 led-frames window (need ∷ needs) [] stream same led = absurd led
 led-frames window (need ∷ needs) (p ∷ placed) [] same led = absurd (omega (arith, same))
-led-frames window (need ∷ needs) (p ∷ placed) (f ∷ fs) same led = (
-  f,
-  fs,
-  refl,
-  one-on true p placed f fs led.0
-      ∙ ap (λ (l : List StreamFrame). silent_lead_in f ∷ l)
-      (own-frames (need ∷ needs) (f ∷ fs) placed same led.2),
-  omega (arith, own-many (need ∷ needs) placed led.2),
-)
+led-frames window (need ∷ needs) (p ∷ placed) (f ∷ fs) same led =
+    grind (
+      arith,
+      one-on true p placed f fs led.0,
+      own-frames (need ∷ needs) (f ∷ fs) placed same
+          led.2,
+      own-many (need ∷ needs) placed led.2,
+    )
 
 -- these frames and no lead-in
 pub record BringsOwn (class : ClassFields) (p : FilePart) (is : IsInput class p)
@@ -248,10 +232,7 @@ module _ (laid : LaidPart) (file : List ℕ) (s : SurveyFields) (has : CanBeRela
 
   -- there are as many needs as frames
   pub needs-many : length needs ≡ laid.to - laid.from
-  needs-many =
-      length-map (slice_range s.frames laid.from laid.to) need_of
-      ∙ length-take-le (laid.to - laid.from) (drop laid.from s.frames)
-      (omega (arith, length-drop laid.from s.frames, within))
+  needs-many = grind (arith, length-map, length-take-le, length-drop)
 
   frames-some : 0 < length frames
   frames-some =
@@ -271,9 +252,7 @@ module _ (laid : LaidPart) (file : List ℕ) (s : SurveyFields) (has : CanBeRela
         some = frames-some;
         entries = are.entries;
         fit = are.fit;
-        stream_is =
-            are.stream_is
-            ∙ ap (stream_with_lead_ins laid.placed) (part-stream s.class part part-is);
+        stream_is = grind (arith, part-stream s.class part part-is, part-is);
       }
 
   class-known : IsClass s.class
@@ -306,11 +285,7 @@ module _ (laid : LaidPart) (file : List ℕ) (s : SurveyFields) (has : CanBeRela
           blocks_before = (blocks-kept file s has).0;
           header = placed_row.known;
           class = placed_row.class_is;
-          sizes = record {
-            table = length-map (range_with_len 0 100) (table_entry s.class frames)
-                ∙ length-range_with_len 0 100;
-            extension = long;
-          };
+          sizes = grind (arith, length-map, length-range_with_len);
           some = laid-as.some;
           entries = laid-as.entries;
           laid = laid-as.fit;

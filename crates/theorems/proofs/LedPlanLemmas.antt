@@ -1,8 +1,7 @@
 -- The plan of a part after an unconditional lead-in, and the plan of a part that needs none: the
 -- lead-in has the least slot whose area the frames fit after.
-use Rattle.std.proofs.Common.{ap, ap₂, arith, Contains, false, inl, inr, List, map, None, Option}
-use Rattle.std.proofs.Common.{refl, Some, subst, sym, ℕ, [], ◌-◌, ◌∙◌, ◌∷◌, ◌≡◌, ◌≤◌}
-use Rattle.std.proofs.lemmas.List.{append-nil}
+use Rattle.std.proofs.Common.{ap, ap₂, arith, Contains, false, List, map, None, Option, refl, Some}
+use Rattle.std.proofs.{Common.{subst, sym, ℕ, [], ◌∙◌, ◌∷◌, ◌≡◌, ◌≤◌}, lemmas.List.append-nil}
 use Rattle.frame_header.specs.{Fields.{ClassFields, HeaderFields, SlotFields}, Slots.all_slots}
 use Rattle.frame_header.specs.Tables.{area_of, class_of}
 use Rattle.laying.specs.NeedsFit.{own_choice}
@@ -26,11 +25,7 @@ unfolding AreItemSlots item_areas
 own-areas [] [] own = refl
 own-areas [] (p ∷ placed) own = absurd own
 own-areas (need ∷ needs) [] own = absurd own
-own-areas (need ∷ needs) (p ∷ placed) own =
-    let slot : need.header.slot ≡ p.slot = only_one need.header.slot p.slot own.1 in
-    ap₂ (λ (n : ℕ) (ns : List ℕ). n ∷ ns)
-    (ap (λ (t : SlotFields). area_of (class_of need.header) t need.header.protected) (sym slot))
-    (own-areas needs placed own.2)
+own-areas (need ∷ needs) (p ∷ placed) own = grind (arith, only_one, own-areas needs placed own.2)
 
 own-laid : (needs : List Need) → frames_with_areas (map open_frame
     (map (need_item own_choice) needs)) (map own_slot_area needs)
@@ -46,13 +41,7 @@ OwnBegins window needs placed =
 
 own-begins : (window : ℕ) (needs : List Need) (placed : List Placed)
     → IsPlanFor window (map (need_item own_choice) needs) placed → OwnBegins window needs placed
-own-begins window needs placed plan =
-    plan.begins
-    ∙ ap (λ (areas : List ℕ).
-    begins_of window 0 0
-    (frames_with_areas (map open_frame (map (need_item own_choice) needs)) areas))
-    (own-areas needs placed plan.slots)
-    ∙ ap (begins_of window 0 0) (own-laid needs)
+own-begins window needs placed plan = grind (arith, own-areas, own-laid)
 
 alone-begins : (window : ℕ) (needs : List Need) (lead_in : Option SlotFields)
     (placed : List Placed) → IsLeadIn window own_choice needs lead_in
@@ -71,17 +60,14 @@ leads-begins : (window : ℕ) (needs : List Need) (lead_ins : List (Option SlotF
 unfolding AreLeadIns all_items
 leads-begins window needs [] placed alone plan fits = absurd alone
 leads-begins window needs (lead_in ∷ lead_ins) placed alone plan fits =
-    alone-begins window needs lead_in placed alone.0
-    (subst (λ items. IsPlanFor window items placed)
-    (append-nil (part_items own_choice needs lead_in)) plan) fits
+    grind (arith, alone-begins, append-nil)
 
 -- in the plan of frames that fit with no free bytes
 -- before them, main data begin as early as they may
 pub plan-begins : (window : ℕ) (needs : List Need) (placed : List Placed)
     → IsPlan window own_choice (needs ∷ []) placed → FitsBehind window 0 needs
     → OwnBegins window needs placed
-plan-begins window needs placed plan fits =
-    leads-begins window needs plan.lead_ins placed plan.alone plan.whole fits
+plan-begins window needs placed plan fits = grind (arith, leads-begins)
 
 -- frames in their own slots whose main data begin alike are placed alike
 pub own-same : (needs : List Need) (xs ys : List Placed) → AreInOwnSlots needs xs
@@ -124,21 +110,11 @@ lead-fits window h slot needs fits =
 pub fits-lead : (window : ℕ) (h : HeaderFields) (slot : SlotFields) (needs : List Need)
     → FitsBehind window (area_of (class_of h) slot false) needs
     → FitsBehind window 0 (lead_need h slot ∷ needs)
-fits-lead window h slot needs fits =
-    let area : ℕ = area_of (class_of h) slot false in
-    let near : area - (area - window) ≡ free_bytes_behind window 0 0 area = omega arith in
-    cons-fits window 0 (lead_need h slot) needs (omega arith) (omega arith)
-    (subst (λ n. FitsBehind window n needs) near
-    (within-fit window (area - (area - window)) (map own_frame needs) (omega arith)
-    (fit-feasible window area (map own_frame needs) fits)))
+fits-lead window h slot needs fits = grind (arith, slot, cons-fits, within-fit, fit-feasible)
 
 not-behind : (m n : ℕ) (ms ns : List ℕ) → IsNotBehind (m ∷ ms) (n ∷ ns) → m ≤ n
 unfolding IsNotBehind
-not-behind m n ms ns is =
-    elim is as (λ _. m ≤ n) [
-      | inl less ↦ omega (arith, less)
-      | inr same ↦ omega (arith, same.0)
-    ]
+not-behind m n ms ns is = grind arith
 
 module _ (window : ℕ) (first : Need) (needs : List Need) where
   abbrev class : ClassFields
@@ -153,8 +129,7 @@ module _ (window : ℕ) (first : Need) (needs : List Need) where
       (area_of class slot false ∷ map own_slot_area all)
       ≡ map own_frame (lead_need first.header slot ∷ all)
   unfolding frames_with_areas led_items
-  led-laid slot =
-      ap (λ (l : List FrameLengths). own_frame (lead_need first.header slot) ∷ l) (own-laid all)
+  led-laid slot = grind (arith, slot, own-laid)
 
   led-chosen : (slot : SlotFields) → Contains all_slots slot
       → AreChosenAreas (map open_frame (led_items own_choice all))
@@ -177,8 +152,7 @@ module _ (window : ℕ) (first : Need) (needs : List Need) where
       → item_areas (led_items own_choice all) (p ∷ placed)
       ≡ area_of class p.slot false ∷ map own_slot_area all
   unfolding AreItemSlots item_areas led_items
-  led-areas p placed slots =
-      ap (λ (l : List ℕ). area_of class p.slot false ∷ l) (own-areas all placed slots.2)
+  led-areas p placed slots = grind (arith, own-areas)
 
   led-cons : (p : Placed) (placed : List Placed) → IsLedPlan window own_choice all (p ∷ placed)
       → IsLedAs (p ∷ placed)

@@ -1,10 +1,10 @@
 -- A packing, in each of its modes.
-use Rattle.std.proofs.Common.{ap, arith, Bool, false, inr, length, List, Ok, refl, subst, sym, true}
-use Rattle.std.{proofs.Common.{ℕ, [], ◌∙◌, ◌∷◌, ◌≡◌}, specs.Prelude.{◌<◌, ◌≤◌}}
+use Rattle.std.proofs.Common.{arith, Bool, false, length, List, Ok, refl, subst, sym, true, ℕ, []}
+use Rattle.std.{proofs.Common.{◌∷◌, ◌≡◌}, specs.Prelude.{◌<◌, ◌≤◌}}
 use Rattle.best_plan.specs.Best.{items_with_lead_in}
 use Rattle.commands.{proofs.RefusingLemmas.{refusal_or-ok, then_ok}, specs.Refusing.refusal_or}
 use Rattle.commands.specs.SingleOutput.{most_frames}
-use Rattle.cut_edits.specs.Chosen.{Chosen, chosen_file_part, chosen_needs, first_plan}
+use Rattle.cut_edits.specs.Chosen.{Chosen, chosen_file_part, chosen_needs}
 use Rattle.frame_header.specs.{Fields.{ClassFields, IsClass, SlotFields}, Slots.all_slots}
 use Rattle.frame_header.specs.Tables.{class_of, window_of}
 use Rattle.laying.{proofs.SurveyFrameLemmas.survey-had, specs.NeedsFit.{any_choice, IsPlacedSurvey}}
@@ -37,8 +37,7 @@ rates-menu mode class needs placed sound same some planned =
     (λ menu. fitted_plan (least_menu_plan window menu needs)) placed planned in
     let ok = refusal_or-ok (no_rate mode class) (menu_in mode class) made.0 made.1 in
     let is : least_menu_plan window (menu_in mode class) needs ≡ Ok placed =
-    fitted_plan-ok (least_menu_plan window (menu_in mode class) needs) placed
-    (ap (λ menu. fitted_plan (least_menu_plan window menu needs)) ok.1 ∙ made.2) in
+    grind (arith, fitted_plan-ok) in
     ((least_menu_plan-is window class (menu_in mode class) needs same some
     (menu-ascends mode class sound) (menu-some mode class ok.0)).0 placed).1 is
 
@@ -48,8 +47,7 @@ menu-exact : (lead_in : Bool) (menu : List SlotFields) (needs : List Need) (fs :
     (placed : List Placed) → IsSized needs fs → AreItemSlots (menu_items lead_in menu needs) placed
     → IsExactly (fs ∷ []) (stream_with_lead_ins placed fs)
 unfolding menu_items
-menu-exact false menu needs fs placed sized for_items =
-    own-exact (menu_choices menu) needs fs placed sized for_items
+menu-exact false menu needs fs placed sized for_items = grind (arith, own-exact, sized)
 menu-exact true menu [] fs placed sized for_items = absurd (omega (arith, sized.some))
 menu-exact true menu (first ∷ needs) fs placed sized for_items = led-exact (menu_choices menu)
     (first ∷ needs) (lead_in_item (class_of first.header) menu) refl fs placed sized for_items
@@ -59,8 +57,7 @@ behind-exact : (lead_in : Bool) (needs : List Need) (fs : List StreamFrame) (pla
     → IsSized needs fs → AreItemSlots (items_with_lead_in lead_in any_choice needs) placed
     → IsExactly (fs ∷ []) (stream_with_lead_ins placed fs)
 unfolding items_with_lead_in
-behind-exact false needs fs placed sized for_items =
-    own-exact any_choice needs fs placed sized for_items
+behind-exact false needs fs placed sized for_items = grind (arith, own-exact, sized)
 behind-exact true [] fs placed sized for_items = absurd (omega (arith, sized.some))
 behind-exact true (first ∷ needs) fs placed sized for_items = led-exact any_choice (first ∷ needs)
     (lead_in_item (class_of first.header) all_slots) refl fs placed sized for_items
@@ -90,13 +87,9 @@ module _ (chosen : Chosen) (file : List ℕ) (s : SurveyFields) (is : survey_of 
   mode-exact : (mode : PackMode) (placed : List Placed)
       → mode_planning mode s.class (chosen_needs chosen s)
       ≡ Ok placed → IsExactly (fs ∷ []) (stream_with_lead_ins placed fs)
-  mode-exact Least placed planned =
-      let same : first_plan any_choice s.class (chosen_needs chosen s) ≡ placed = cc in
-      subst (λ (l : List Placed). IsExactly (fs ∷ []) (stream_with_lead_ins l fs)) same
-      (had-exact chosen file s (survey-had file most_frames s is) some within any_choice (inr refl))
+  mode-exact Least placed planned = grind (arith, had-exact, survey-had)
   mode-exact Best placed planned =
-      let plan = best-is chosen s placed_rows some within placed planned in
-      behind-exact plan.lead_in (chosen_needs chosen s) fs placed sized plan.whole.slots
+      grind (arith, best-is chosen s placed_rows some within placed planned, behind-exact, sized)
   mode-exact (Constant rate) placed planned = rates-exact (Constant rate) placed planned
   mode-exact (Floor rate) placed planned = rates-exact (Floor rate) placed planned
 

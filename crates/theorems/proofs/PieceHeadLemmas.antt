@@ -4,18 +4,15 @@ use Rattle.std.proofs.Common.{ap, append_assoc, arith, Bool, cond, drop, false, 
 use Rattle.std.proofs.Common.{Option, refl, replicate, Some, sym, take, true, ℕ, [], ◌%◌, ◌++◌, ◌-◌}
 use Rattle.std.proofs.{Common.{◌<◌, ◌^◌, ◌∙◌, ◌≡◌, ◌≤◌}, lemmas.Bool.{and_right, le-leb}}
 use Rattle.std.proofs.lemmas.List.{drop-drop, drop_at, length-append, length-replicate, length-take}
-use Rattle.std.{proofs.lemmas.List.{take-append-le, take_at}, specs.List.concat}
-use Rattle.std.specs.Prelude.{IfSome, if◌then◌else◌, nat_le, option_map}
+use Rattle.std.{proofs.lemmas.List.{take-append-le, take_at}, specs.{List.concat, Prelude.IfSome}}
 use Rattle.bit_fields.specs.Bits.{bytes}
-use Rattle.byteorder.specs.Endian.{big_bytes, big_number}
-use Rattle.byteorder.specs.Numbers.{big_from-bytes, big_number-reads_back}
+use Rattle.byteorder.specs.{Endian.{big_bytes, big_number}, Numbers.big_from-bytes}
 use Rattle.exact_span.proofs.SealLemmas.{extension-there}
-use Rattle.exact_span.specs.Extensions.{counts_with_frames, delay_in, has_encoder, padding_in}
-use Rattle.exact_span.specs.Laws.{AreInfoFields}
-use Rattle.exact_span.specs.PlayedPositions.{counted_played, counted_positions, samples_in}
+use Rattle.exact_span.specs.{Extensions.{counts_with_frames, has_encoder}, Laws.AreInfoFields}
+use Rattle.exact_span.specs.PlayedPositions.{counted_positions}
 use Rattle.frame_header.specs.{Fields.{ClassFields, HeaderFields, IsHeader}, HeaderBits.header_bits}
 use Rattle.frame_header.specs.Tables.{area_of, class_of, length_of, side_size_of}
-use Rattle.frame_writer.specs.Frames.{bytes_of_frames, Frame}
+use Rattle.frame_writer.specs.Frames.{Frame}
 use Rattle.info_header.specs.HeadText.{low_place}
 use Rattle.info_header.specs.Info.{field_in, field_place, flags_in, info_bytes, info_in, number_of}
 use Rattle.info_header.specs.Info.{number_or_zero, padded_bytes, table_or_zeros, vbr_text}
@@ -63,17 +60,7 @@ module _ (first : HeaderFields) (info : Info) (known : IsHeader first)
 
   flags-is : flags_in fields ≡ 15
   unfolding info_bytes
-  flags-is =
-      let behind : List ℕ =
-      big_bytes 4 (number_or_zero info.frames) ++ (big_bytes 4 (number_or_zero info.bytes)
-      ++ (table_or_zeros info.table ++
-      (big_bytes 4 (number_or_zero info.quality) ++ info.extension))) in
-      ap (λ b. cond b (big_number 4 (take 4 (drop 4 fields))) 0)
-      (le-leb 8 (length fields) fields-long)
-      ∙ ap (λ (l : List ℕ). big_number 4 (take 4 (drop 4 l)))
-      (append_assoc (vbr_text info.vbr) (big_bytes 4 15 ++ behind) zeros
-      ∙ ap (λ (l : List ℕ). vbr_text info.vbr ++ l) (append_assoc (big_bytes 4 15) behind zeros))
-      ∙ ap (big_number 4) (flags-by info.vbr (behind ++ zeros))
+  flags-is = grind (arith, le-leb, fields-long, append_assoc, flags-by)
 
   place-is : field_place 15 4 ≡ 120
   unfolding field_place
@@ -113,28 +100,12 @@ module _ (first : HeaderFields) (info : Info) (known : IsHeader first)
 
   frames-at : take 4 (drop 8 fields) ≡ big_bytes 4 (number_or_zero info.frames)
   unfolding info_bytes
-  frames-at =
-      let four : List ℕ = big_bytes 4 (number_or_zero info.frames) in
-      let behind : List ℕ = big_bytes 4 (number_or_zero info.bytes)
-      ++ (table_or_zeros info.table
-      ++ (big_bytes 4 (number_or_zero info.quality) ++ info.extension)) in
-      ap (λ (l : List ℕ). take 4 (drop 8 l))
-      (append_assoc (vbr_text info.vbr) (big_bytes 4 15 ++ (four ++ behind)) zeros
-      ∙ ap (λ (l : List ℕ). vbr_text info.vbr ++ l)
-      (append_assoc (big_bytes 4 15) (four ++ behind) zeros
-      ∙ ap (λ (l : List ℕ). big_bytes 4 15 ++ l) (append_assoc four behind zeros)))
-      ∙ frames-by info.vbr (number_or_zero info.frames) (behind ++ zeros)
+  frames-at = grind (arith, append_assoc, frames-by)
 
   -- the number of frames of an Info frame is read back
   frames-in : (n : ℕ) → info.frames ≡ Some n → n < 256 ^ 4 → (info_in fields).frames ≡ Some n
   unfolding info_in field_in field_place
-  frames-in n is small =
-      ap (λ flags. number_of (field_in flags 0 fields)) flags-is
-      ∙ ap (λ b. number_of (cond b (Some (take 4 (drop 8 fields))) None))
-      (le-leb 12 (length fields) frames-long)
-      ∙ ap (λ (l : List ℕ). Some (big_number 4 l))
-      (frames-at ∙ ap (λ (o : Option ℕ). big_bytes 4 (number_or_zero o)) is)
-      ∙ ap Some (big_number-reads_back 4 n [] small)
+  frames-in n is small = grind (arith, flags-is, le-leb, frames-long, frames-at)
 
   -- the quality, after the table
   behind-by : (vbr : Bool) (m n : ℕ) (rest : List ℕ)
@@ -159,16 +130,7 @@ module _ (first : HeaderFields) (info : Info) (known : IsHeader first)
       let rest : List ℕ = table ++ (four ++ (info.extension ++ zeros)) in
       let assoc : fields
       ≡ vbr_text info.vbr ++ (big_bytes 4 15 ++ (frames ++ (bytes ++ rest))) =
-      append_assoc (vbr_text info.vbr) (big_bytes 4 15 ++ (frames ++ (bytes ++ last))) zeros
-      ∙ ap (λ (l : List ℕ). vbr_text info.vbr ++ l)
-      (append_assoc (big_bytes 4 15) (frames ++ (bytes ++ last)) zeros
-      ∙ ap (λ (l : List ℕ). big_bytes 4 15 ++ l)
-      (append_assoc frames (bytes ++ last) zeros
-      ∙ ap (λ (l : List ℕ). frames ++ l)
-      (append_assoc bytes last zeros
-      ∙ ap (λ (l : List ℕ). bytes ++ l)
-      (append_assoc table (four ++ info.extension) zeros
-      ∙ ap (λ (l : List ℕ). table ++ l) (append_assoc four info.extension zeros))))) in
+      grind (arith, append_assoc) in
       ap (λ (l : List ℕ). take 4 (drop 116 l)) assoc
       ∙ ap (take 4)
       (sym (drop-drop 100 16 (vbr_text info.vbr ++ (big_bytes 4 15 ++ (frames ++ (bytes ++ rest)))))
@@ -199,31 +161,19 @@ module _ (first : HeaderFields) (info : Info) (known : IsHeader first)
     head-there : take (length_of (class_of (info_header_of first)) (info_slot_of c))
         (drop (length (concat front)) file) ≡ info_frame first info
     unfolding laid_file
-    head-there =
-        let behind : List ℕ = bytes_of_frames frames ++ concat back in
-        ap (take (length_of (class_of (info_header_of first)) (info_slot_of c)))
-        (drop_at (concat front) (info_frame first info ++ behind) (length (concat front)) refl)
-        ∙ take_at (info_frame first info) behind
-        (length_of (class_of (info_header_of first)) (info_slot_of c))
-        (length-info_frame first info known sizes)
+    head-there = grind (arith, drop_at, take_at, length-info_frame, sizes)
 
     -- the head of the file has the extension that it was laid with
     pub laid-extension : (head_info file (Some (head_at (length (concat front)) first))).extension
         ≡ info.extension
     unfolding head_info
-    laid-extension =
-        ap (λ (l : List ℕ). (info_in (drop (low_place (info_header_of first)) l)).extension)
-        head-there
-        ∙ ap (λ (l : List ℕ). (info_in l).extension) fields-there ∙ extension-in
+    laid-extension = grind (arith, head-there, fields-there, extension-in)
 
     -- the head of the file has the number of frames that it was laid with
     pub laid-count : (n : ℕ) → info.frames ≡ Some n → n < 256 ^ 4
         → (head_info file (Some (head_at (length (concat front)) first))).frames ≡ Some n
     unfolding head_info
-    laid-count n is small =
-        ap (λ (l : List ℕ). (info_in (drop (low_place (info_header_of first)) l)).frames)
-        head-there
-        ∙ ap (λ (l : List ℕ). (info_in l).frames) fields-there ∙ frames-in n is small
+    laid-count n is small = grind (arith, head-there, fields-there, frames-in)
 
     -- the head of the file has the quality that it was laid with
     pub laid-quality
@@ -240,19 +190,11 @@ module _ (first : HeaderFields) (info : Info) (known : IsHeader first)
 none-counted : (info : Info) (frames : Option ℕ) → has_encoder info.extension ≡ false
     → counts_with_frames info frames ≡ None
 none-counted info None none = refl
-none-counted info (Some frames) none =
-    ap (λ b. if b then Some (record {
-      frames = frames;
-      delay = delay_in info.extension;
-      padding = padding_in info.extension;
-    }) else None) (and_right (nat_le 1 frames) (has_encoder info.extension) none)
+none-counted info (Some frames) none = grind (arith, and_right)
 
 -- a head whose extension is all zeros counts nothing
 pub zero-counts : (file : List ℕ) (head : Head) (class : ClassFields) (frames : ℕ)
     → (head_info file (Some head)).extension ≡ replicate 36 0
     → counted_positions (fields_of_head file (Some head)) class frames ≡ None
 unfolding counted_positions has_encoder
-zero-counts file head class frames is =
-    let info : Info = head_info file (Some head) in
-    let none : has_encoder info.extension ≡ false = ap has_encoder is in
-    ap (option_map (counted_played (samples_in class) frames)) (none-counted info info.frames none)
+zero-counts file head class frames is = grind (arith, none-counted)

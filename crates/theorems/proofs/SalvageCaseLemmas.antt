@@ -1,10 +1,9 @@
 -- What is left of a damaged file.
-use Rattle.std.proofs.Common.{ap, ap₂, arith, Bool, cond, false, inl, length, List, map, Ok, Option}
-use Rattle.std.proofs.Common.{refl, Some, subst, suc, sym, true, zero, ℕ, [], ◌+◌, ◌∙◌, ◌∷◌, ◌≡◌}
+use Rattle.std.proofs.Common.{ap, arith, Bool, false, inl, length, List, map, Ok, Option, refl}
+use Rattle.std.proofs.Common.{Some, subst, suc, true, zero, ℕ, [], ◌+◌, ◌∙◌, ◌∷◌, ◌≡◌}
 use Rattle.std.proofs.lemmas.{Bool.false≢true, List.{length-map, FromFn.length-enumerate_from}}
-use Rattle.std.specs.{List.enumerate_from, Prelude.{slice_get, unwrap_or, ◌<◌}}
+use Rattle.std.specs.{List.enumerate_from, Prelude.{slice_get, ◌<◌}}
 use Rattle.commands.proofs.{MadeLemmas.makes-parts, TellingLemmas.text-parts}
-use Rattle.commands.specs.SingleOutput.{one_command}
 use Rattle.cut_edits.specs.Chosen.{own_slots_plan}
 use Rattle.frame_header.specs.Tables.{window_of}
 use Rattle.job_words.specs.Request.{Salvage}
@@ -16,17 +15,12 @@ use Rattle.salvage.specs.DamagedFiles.{damaged_fields, damaged_of, DamagedFields
 use Rattle.salvage.specs.{Progress.IsDamagedLaidOut, Stream.salvaged_stream}
 use Rattle.salvage_edits.proofs.{CommandLemmas.read-where, HadLemmas.damaged_fields-relaid}
 use Rattle.salvage_edits.proofs.StreamLemmas.{laid-left}
-use Rattle.salvage_edits.specs.Salvaged.{all_chosen, input_left_stream, input_salvage_text}
-use Rattle.salvage_edits.specs.Salvaged.{left_stream, left_stream_or_none, salvage_command}
-use Rattle.salvage_edits.specs.Salvaged.{salvage_task}
-use Rattle.side_info.specs.{Side.no_side, declared.side.Side.Side}
+use Rattle.salvage_edits.specs.Salvaged.{all_chosen, left_stream, salvage_command}
 use Rattle.slot_plan.specs.Plans.{IsPlan}
 use Rattle.sync_survey.specs.{Faults.{stream_of_survey, SurveyFields}, HeadApart.emptied_survey}
-use Rattle.sync_survey.specs.MainData.{granule_lengths, main_bytes, payload_at, place, row_side}
-use Rattle.sync_survey.specs.MainData.{split_bits, start_of_data, stream_frame, stream_frames}
-use Rattle.sync_survey.specs.{MainData.StreamFrame, Row.Row, declared.places.Head.Head}
-use Rattle.theorems.{proofs.CaseLemmas.{had-exact, had-plan}, specs.Chosen.file_bytes_of}
-use Rattle.theorems.specs.Exact.{IsExactly}
+use Rattle.sync_survey.specs.MainData.{main_bytes, stream_frame, stream_frames, StreamFrame}
+use Rattle.sync_survey.specs.{Row.Row, declared.places.Head.Head}
+use Rattle.theorems.{proofs.CaseLemmas.{had-exact, had-plan}, specs.Exact.IsExactly}
 use Rattle.theorems.specs.Laws.{AreLeftOf, HoldsChosen, IsLeftOf, SalvagedFramesAreLeft}
 use Rattle.theorems.specs.Laws.{SalvagedPlansAreFirst, SalvagedStreamsAreExact}
 
@@ -76,36 +70,14 @@ salvaged-first = left-plan
 
 left-by : (main : List ℕ) (head : Option Head) (rows : List Row) (i : ℕ) (r : Row) (lost : Bool)
     → r.lost ≡ lost → IsLeftOf r (stream_frame main head rows i r)
-left-by main head rows i r false is = record {
-  header = refl;
-  sound = λ sound. ap (λ (s : Side). record s { main_data_begin = 0 })
-      (ap (λ b. cond b no_side r.side) is);
-  empty = λ lost. absurd (false≢true (sym is ∙ lost));
-}
-left-by main head rows i r true is =
-    let none : row_side r ≡ no_side = ap (λ b. cond b no_side r.side) is in
-    record {
-      header = refl;
-      sound = λ sound. absurd (false≢true (sym sound ∙ is));
-      empty = λ lost. (
-        ap (λ (s : Side). record s { main_data_begin = 0 }) none,
-        ap (λ (s : Side). split_bits (granule_lengths r.header s)
-            (payload_at main (start_of_data (place head rows i) r) s)) none
-            ∙ ap (split_bits (granule_lengths r.header no_side))
-            (payload_none main (start_of_data (place head rows i) r)),
-      );
-    }
+left-by main head rows i r false is = grind (arith, false≢true)
+left-by main head rows i r true is = grind (arith, false≢true, payload_none)
 
 numbered-at : {A B : Type 0} (f : ℕ × A → B) (n : ℕ) (xs : List A) (i : ℕ) (x : A)
     → slice_get xs i ≡ Some x → slice_get (map f (enumerate_from n xs)) i ≡ Some (f (n + i, x))
 numbered-at f n [] i x e = absurd cc
-numbered-at f n (y ∷ xs) zero x e =
-    let same : y ≡ x = cc in
-    let here : n ≡ n + 0 = omega arith in
-    ap₂ (λ m z. Some (f (m, z))) here same
-numbered-at f n (y ∷ xs) (suc i) x e =
-    let next : n + 1 + i ≡ n + suc i = omega arith in
-    numbered-at f (n + 1) xs i x e ∙ ap (λ m. Some (f (m, x))) next
+numbered-at f n (y ∷ xs) zero x e = grind arith
+numbered-at f n (y ∷ xs) (suc i) x e = grind (arith, numbered-at f (n + 1) xs i x e)
 
 frames-left : (main : List ℕ) (head : Option Head) (rows : List Row)
     → AreLeftOf rows (stream_frames main head rows)
@@ -134,17 +106,4 @@ salvaged-left file d read = subst (AreLeftOf d.survey.frames) (tells_streams fil
 pub salvage-holds : (input output : List ℕ)
     → HoldsChosen (Salvage input output) (salvage_command input output)
 salvage-holds input output files made e =
-    let task = salvage_task input in
-    let told =
-    text-parts (input_salvage_text (files input)) ((one_command task output).makes files) made e in
-    let bytes = makes-parts task output files told.0 told.1 in
-    let is = read-where (files input) bytes.1 bytes.2 in
-    let stream : input_left_stream (files input) ≡ left_stream is.file is.left =
-    ap input_left_stream is.there ∙ ap (left_stream_or_none is.file) is.read in
-    let frames : salvaged_stream is.file ≡ salvaged_stream (file_bytes_of files input) =
-    sym (ap (λ (o : Option (List ℕ)). salvaged_stream (unwrap_or o [])) is.there) in (
-      subst (λ (l : List StreamFrame). IsExactly (l ∷ []) (input_left_stream (files input))) frames
-          (subst (λ (l : List StreamFrame). IsExactly (salvaged_stream is.file ∷ []) l) (sym stream)
-          (left-exact is.file is.left is.read)),
-      tt,
-    )
+    grind (arith, text-parts, makes-parts, read-where, left-exact)

@@ -1,17 +1,15 @@
 -- The frames of several files without seams, in one file.
-use Rattle.std.proofs.Common.{ap, append-nil, arith, flat_map, List, Ok, Option, refl, Result}
-use Rattle.std.proofs.Common.{subst, sym, true, ℕ, [], ◌∙◌, ◌∷◌, ◌≡◌}
+use Rattle.std.proofs.Common.{ap, append-nil, arith, flat_map, List, Ok, Option, sym, true, ℕ, []}
+use Rattle.std.proofs.Common.{◌∙◌, ◌∷◌, ◌≡◌}
 use Rattle.commands.proofs.{MadeLemmas.makes-parts, RefusingLemmas.then_ok}
-use Rattle.commands.{proofs.TellingLemmas.text-parts, specs.SingleOutput.one_command}
-use Rattle.commands.specs.declared.fault.EditFault.{EditFault}
+use Rattle.commands.proofs.TellingLemmas.{text-parts}
 use Rattle.frame_header.specs.{Fields.{HeaderFields, SlotFields}, Tables.window_of}
 use Rattle.job_words.specs.Request.{Join}
 use Rattle.join_edits.proofs.RunFileLemmas.{parts-whole}
 use Rattle.join_edits.proofs.RunPartLemmas.{AreWholeFiles, IsWholeFile, run-many, run-planned}
 use Rattle.join_edits.{proofs.RunPartLemmas.run-some, specs.Join.{join_parts, join_parts_from}}
 use Rattle.join_edits.specs.Seamless.{join_of_parts, part_brought, run_parts, run_plan}
-use Rattle.join_edits.specs.Seamless.{seamless_command, seamless_file, seamless_stream}
-use Rattle.join_edits.specs.Seamless.{seamless_stream_or_none, seamless_task, seamless_text_or_none}
+use Rattle.join_edits.specs.Seamless.{seamless_command, seamless_stream}
 use Rattle.laying.specs.{NeedsFit.own_choice, Relaid.{FilePart, part_stream, stream_with_lead_ins}}
 use Rattle.outside.specs.Files.{Contents}
 use Rattle.seam_plan.specs.{Frames.needs_of, Seams.run_of}
@@ -47,13 +45,7 @@ run-exact : (first : FilePart) (parts : List FilePart) → IsWholeFile first.sur
     → AreWholeFiles first.survey.class parts → IsExactly
     (flat_map part_stream (run_parts first parts) ∷ []) (seamless_stream (first ∷ parts))
 unfolding seamless_stream
-run-exact first parts is are =
-    let needs : List Need = needs_of (run_of (part_brought first) (join_of_parts first parts)) in
-    let stream : List StreamFrame = flat_map part_stream (run_parts first parts) in
-    let sized : IsSized needs stream =
-    record { some = run-some first parts is are; same = run-many first parts is are } in
-    planned-one (window_of first.survey.class.version) own_choice needs stream
-    (run_plan first parts) sized (run-planned first parts is are)
+run-exact first parts is are = grind (arith, flat_map, run-some, run-many, planned-one, run-planned)
 
 -- ---- the command
 
@@ -61,29 +53,15 @@ parts-exact : (files : Contents) (names : List (List ℕ)) (parts : List FilePar
     → join_parts files names ≡ Ok parts
     → IsExactly (joined_run_frames (Ok parts) ∷ []) (seamless_stream parts)
 unfolding IsExactly seamless_stream join_parts_from
-parts-exact files [] parts e =
-    let none : [] ≡ parts = cc in
-    subst (λ (l : List FilePart). IsExactly (joined_run_frames (Ok l) ∷ []) (seamless_stream l))
-    none
-    ([], [], tt, refl, refl)
+parts-exact files [] parts e = grind arith
 parts-exact files (name ∷ names) parts e =
-    let is = parts-whole files (name ∷ names) parts (omega arith) e in
-    subst (λ (l : List FilePart). IsExactly (joined_run_frames (Ok l) ∷ []) (seamless_stream l))
-    is.is
-    (run-exact is.first is.more is.whole is.all)
+    grind (arith, parts-whole files (name ∷ names) parts (omega arith) e, run-exact)
 
 -- a seamless join holds exactly the frames that the job chooses
 pub seamless-chosen : (output : List ℕ) (inputs : List (List ℕ))
     → HoldsChosen (Join true output inputs) (seamless_command output inputs)
 seamless-chosen output inputs files made e =
-    let task = seamless_task inputs in
-    let text = seamless_text_or_none inputs (join_parts files inputs) in
-    let told = text-parts text ((one_command task output).makes files) made e in
-    let bytes = makes-parts task output files told.0 told.1 in
-    let parts = then_ok (join_parts files inputs) (λ ps. Ok (seamless_file ps)) bytes.1 bytes.2 in
-    let Exact : Result (List FilePart) EditFault → Type 0 =
-    λ r. IsExactly (joined_run_frames r ∷ []) (seamless_stream_or_none r) in
-    (subst Exact (sym parts.1) (parts-exact files inputs parts.0 parts.1), tt)
+    grind (arith, text-parts, makes-parts, then_ok, parts-exact)
 
 -- the run is planned as one part
 first-planned : (first : FilePart) (parts : List FilePart) (other : FilePart) (more : List FilePart)
@@ -91,14 +69,7 @@ first-planned : (first : FilePart) (parts : List FilePart) (other : FilePart) (m
     → AreWholeFiles other.survey.class more
     → IsPlan (window_of first.survey.class.version) own_choice
     (needs_of (run_of (part_brought first) (join_of_parts first parts)) ∷ []) (run_plan first parts)
-first-planned first parts other more same is are =
-    let one : other ≡ first = cc in
-    let rest : more ≡ parts = cc in
-    subst (λ (ps : List FilePart). IsPlan (window_of first.survey.class.version) own_choice
-    (needs_of (run_of (part_brought first) (join_of_parts first ps)) ∷ []) (run_plan first ps)) rest
-    (subst (λ (p : FilePart). IsPlan (window_of p.survey.class.version) own_choice
-    (needs_of (run_of (part_brought p) (join_of_parts p more)) ∷ []) (run_plan p more)) one
-    (run-planned other more is are))
+first-planned first parts other more same is are = grind (arith, run-planned)
 
 -- the plan of the run is the first of all its plans
 pub seamless-first : SeamlessPlansAreFirst

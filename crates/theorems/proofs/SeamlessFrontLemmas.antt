@@ -1,22 +1,19 @@
 -- The lead-in that a run gets again is like the one that left it.
-use Rattle.std.proofs.Common.{ap, ap₂, arith, Bool, cond, Contains, drop, false, find, flat_map}
-use Rattle.std.proofs.Common.{length, List, map, None, Option, refl, Some, subst, suc, sym, take}
-use Rattle.std.proofs.Common.{true, zero, ℕ, [], ◌*◌, ◌++◌, ◌+◌, ◌<◌, ◌==◌, ◌∙◌, ◌∷◌, ◌≡◌}
+use Rattle.std.proofs.Common.{ap, ap₂, arith, Bool, cond, Contains, false, find, flat_map, length}
+use Rattle.std.proofs.Common.{List, map, None, Option, refl, Some, subst, suc, sym, true, zero, ℕ}
+use Rattle.std.proofs.Common.{[], ◌++◌, ◌<◌, ◌==◌, ◌∙◌, ◌∷◌, ◌≡◌}
 use Rattle.std.proofs.lemmas.{Bool.{and_parts, eqb-true}, Option.slice_get-map}
-use Rattle.std.proofs.lemmas.Slice.Eq.{bytes_eq-Decides}
-use Rattle.std.specs.{List.{concat, enumerate_from, list_all}, Prelude.{option_map, slice_get}}
-use Rattle.bit_fields.specs.{Bits.{bits, bits_of}, Groups.group_bits}
+use Rattle.std.{proofs.lemmas.Slice.Eq.bytes_eq-Decides, specs.List.{concat, list_all}}
+use Rattle.std.specs.Prelude.{option_map, slice_get}
+use Rattle.bit_fields.specs.{Bits.bits_of, Groups.group_bits}
 use Rattle.cut_edits.specs.Exact.{survey_without_head}
-use Rattle.frame_header.proofs.HeaderLemmas.{good, header_in-header_bits, IsClass-class_of}
+use Rattle.frame_header.proofs.HeaderLemmas.{header_in-header_bits, IsClass-class_of}
 use Rattle.frame_header.specs.Fields.{ClassFields, HeaderFields, IsClass, IsHeader, SlotFields}
-use Rattle.frame_header.specs.{HeaderBits.header_bits, Reading.header_in, Slots.all_slots}
-use Rattle.frame_header.specs.Tables.{area_of, class_of}
-use Rattle.join_edits.specs.Seamless.{begins_blank, is_side_blank, later_parts, sound_of}
-use Rattle.join_edits.specs.Seamless.{without_gains}
+use Rattle.frame_header.specs.{HeaderBits.header_bits, Slots.all_slots, Tables.{area_of, class_of}}
+use Rattle.join_edits.specs.Seamless.{begins_blank, is_side_blank, sound_of, without_gains}
 use Rattle.laying.proofs.{EntryByteLemmas.shaped, LaidLemmas.first-there}
 use Rattle.laying.{proofs.PlannedFrameLemmas.slot_among, specs.Needs.need_of}
-use Rattle.laying.specs.Relaid.{FilePart, part_stream, silent_lead_in}
-use Rattle.laying.specs.Surveys.{AreWholeRows, IsWholeRow}
+use Rattle.laying.specs.{Relaid.{FilePart, silent_lead_in}, Surveys.{AreWholeRows, IsWholeRow}}
 use Rattle.seam_plan.proofs.{FollowLemmas.sounds, RunSoundLemmas.{run-sounds, sounds_left}}
 use Rattle.seam_plan.specs.Frames.{needs_of, RunFrame}
 use Rattle.seam_plan.specs.Joins.{fits_behind, has_lead_in, lead_in_header, lead_in_slot}
@@ -28,10 +25,9 @@ use Rattle.side_info.specs.Side.{granules_in, no_side, side_at, side_bits, SideF
 use Rattle.side_info.specs.declared.side.Side.{Side}
 use Rattle.slot_plan.specs.declared.needs.Need.{Need}
 use Rattle.sync_survey.{proofs.EmptiedLemmas.no_bits, specs.Faults.{stream_of_survey, SurveyFields}}
-use Rattle.sync_survey.specs.HeadApart.{apart_row, apart_rows, emptied_row, rows_set_apart}
-use Rattle.sync_survey.specs.MainData.{granule_lengths, main_bytes, no_slot, payload_at, place}
-use Rattle.sync_survey.specs.MainData.{row_side, split_bits, start_of_data, stream_frame}
-use Rattle.sync_survey.specs.{MainData.{stream_frames, StreamFrame}, Row.Row}
+use Rattle.sync_survey.specs.HeadApart.{apart_rows, emptied_row, rows_set_apart}
+use Rattle.sync_survey.specs.MainData.{granule_lengths, main_bytes, no_slot, row_side, split_bits}
+use Rattle.sync_survey.specs.{MainData.{stream_frame, stream_frames, StreamFrame}, Row.Row}
 use Rattle.sync_survey.specs.declared.places.Head.{Head}
 use Rattle.theorems.proofs.SeamlessInputLemmas.{AreInputs, brought-fit, brought-needs}
 use Rattle.theorems.proofs.SeamlessInputLemmas.{brought-sounds, has-apart, inputs-fit, IsInput}
@@ -91,27 +87,16 @@ whole-first file (q ∷ rows) r are is = let same : q ≡ r = cc in subst (IsWho
 
 emptied-side : (r : Row) (lost : Bool) → r.lost ≡ lost → r.side ≡ no_side
     → row_side (emptied_row r) ≡ no_side
-emptied-side r true is none =
-    ap (λ b. row_side (cond b (record r { side = no_side; lost = false }) r)) is
-emptied-side r false is none =
-    ap (λ b. row_side (cond b (record r { side = no_side; lost = false }) r)) is
-    ∙ ap (λ b. cond b no_side r.side) is ∙ none
+emptied-side r true is none = grind arith
+emptied-side r false is none = grind arith
 
 apart-side : (head : Option Head) (rows : List Row) (q r : Row) → slice_get rows 0 ≡ Some q
     → q.side ≡ no_side
     → slice_get (map emptied_row (rows_set_apart head rows)) 0 ≡ Some r → row_side r ≡ no_side
 unfolding apart_rows
 apart-side head [] q r first none is = absurd cc
-apart-side None (p ∷ rows) q r first none is =
-    let here : p ≡ q = cc in
-    let there : emptied_row p ≡ r = cc in
-    ap row_side (sym there) ∙ emptied-side p p.lost refl (ap (λ (x : Row). x.side) here ∙ none)
-apart-side (Some head) (p ∷ rows) q r first none is =
-    let here : p ≡ q = cc in
-    let moved : Row = apart_row (p ∷ rows) 0 p in
-    let there : emptied_row moved ≡ r = cc in
-    ap row_side (sym there)
-    ∙ emptied-side moved moved.lost refl (ap (λ (x : Row). x.side) here ∙ none)
+apart-side None (p ∷ rows) q r first none is = grind (arith, emptied-side)
+apart-side (Some head) (p ∷ rows) q r first none is = grind (arith, emptied-side)
 
 -- ---- its header
 
@@ -127,9 +112,7 @@ find-contains test (s ∷ slots) slot is = at (test s) (find-contains test slots
 
 one-header : (g h : HeaderFields) → IsHeader g → IsHeader h → header_bits g ≡ header_bits h → g ≡ h
 one-header g h first second same =
-    let both : good g ≡ good h = sym (header_in-header_bits g first) ∙ ap header_in same
-    ∙ header_in-header_bits h second in
-    cc
+    grind (arith, header_in-header_bits g first, header_in-header_bits h second, second)
 
 -- two frames, where the first has the header of a lead-in before the second, but for its slot
 record AreLed (rows : List Row) : Type 0 where
@@ -162,14 +145,7 @@ rows-led window (r ∷ q ∷ rows) known leads =
         let is_slot = slot_among slot (find-contains fits all_slots slot found) in
         let of = known 1 q refl in
         let lead : HeaderFields = record q.header { protected = false; slot = slot } in
-        let lead_known : IsHeader lead =
-        record {
-          slot = is_slot;
-          frequency_index = of.frequency_index;
-          mode = of.mode;
-          mode_extension = of.mode_extension;
-          emphasis = of.emphasis;
-        } in
+        let lead_known : IsHeader lead = grind arith in
         let equal : r.header ≡ lead =
         one-header r.header lead (known 0 r refl) lead_known
         ((bytes_eq-Decides (header_bits r.header) (header_bits lead)).0 same) in
@@ -178,8 +154,7 @@ rows-led window (r ∷ q ∷ rows) known leads =
           second = q;
           rest = rows;
           are = refl;
-          like =
-              ap (λ (h : HeaderFields). record h { slot = no_slot }) equal;
+          like = grind arith;
         }
 
 -- ---- sounds
@@ -198,18 +173,7 @@ empty-sound : (c : ClassFields) (main : List ℕ) (head : Option Head) (rows : L
     (r : Row) → row_side r ≡ no_side
     → sound_of c (stream_frame main head rows i r)
     ≡ silent_sound c (record r.header { slot = no_slot })
-empty-sound c main head rows i r none =
-    let start : ℕ = start_of_data (place head rows i) r in
-    ap (λ (s : Side).
-    header_bits (record r.header { slot = no_slot })
-    ++ (side_bits c (without_gains (record s { main_data_begin = 0 })) ++ concat
-    (split_bits (granule_lengths r.header s) (payload_at main start s)))) none
-    ∙ ap (λ (l : List ℕ). header_bits (record r.header { slot = no_slot }) ++
-    (side_bits c (without_gains no_side) ++ l))
-    (ap (λ n.
-    concat (split_bits (granule_lengths r.header no_side) (take n (drop (8 * start) (bits main)))))
-    no_bits
-    ∙ no-parts (granule_lengths r.header no_side))
+empty-sound c main head rows i r none = grind (arith, no_bits, no-parts)
 
 -- a frame without main data, with this header
 abbrev silent_frame : HeaderFields → StreamFrame
@@ -220,26 +184,11 @@ silent_frame h =
 empty-frame : (main : List ℕ) (head : Option Head) (rows : List Row) (i : ℕ)
     (r : Row) → row_side r ≡ no_side
     → stream_frame main head rows i r ≡ silent_frame (record r.header { slot = no_slot })
-empty-frame main head rows i r none =
-    let start : ℕ = start_of_data (place head rows i) r in
-    ap (λ (s : Side). record {
-      header = record r.header { slot = no_slot };
-      side = record s { main_data_begin = 0 };
-      payload = split_bits (granule_lengths r.header s) (payload_at main start s);
-    }) none
-    ∙ ap (λ n. record {
-      header = record r.header { slot = no_slot };
-      side = no_side;
-      payload =
-          split_bits (granule_lengths r.header no_side) (take n (drop (8 * start) (bits main)));
-    }) no_bits
+empty-frame main head rows i r none = grind (arith, no_bits)
 
 silent-sound : (c : ClassFields) (f : StreamFrame)
     → sound_of c (silent_lead_in f) ≡ silent_sound c (record f.header { protected = false })
-silent-sound c f =
-    ap (λ (l : List ℕ). header_bits (record f.header { protected = false }) ++
-    (side_bits c (without_gains no_side) ++ l))
-    (no-parts (granule_lengths f.header no_side))
+silent-sound c f = grind (arith, no-parts)
 
 -- an input that begins with side information that is all 0
 module _ (c : ClassFields) (p : FilePart) (is : IsInput c p)
@@ -295,29 +244,14 @@ module _ (first : FilePart) (parts : List FilePart)
       × (whole_stream first.survey.class first are.0
       ≡ w ∷ stream_frame main survey.head survey.frames n two.second ∷ more)
   unfolding stream_of_survey stream_frames
-  begins-two =
-      let f : ℕ × Row → StreamFrame = λ p. stream_frame main survey.head survey.frames p.0 p.1 in (
-        0 + 1,
-        map f (enumerate_from (0 + 1 + 1) two.rest),
-        ap (λ (l : List Row). map f (enumerate_from 0 l)) two.are,
-      )
+  begins-two = grind (arith, survey.head, survey.frames, two.rest, two.are)
 
   abbrev v : StreamFrame
   v = stream_frame main survey.head survey.frames begins-two.0 two.second
 
   -- the stream of the run begins with the second
   second : (f : StreamFrame) (fs : List StreamFrame) → stream first parts are ≡ f ∷ fs → v ≡ f
-  second f fs streams =
-      let c : ClassFields = first.survey.class in
-      let k : ℕ = (joined first parts are).front in
-      let one : k ≡ 1 = omega (arith, out, front-few first parts are) in
-      let behind = flat_map part_stream (later_parts (joined first parts are).joints parts) in
-      let next : v ∷ begins-two.1 ++ behind ≡ f ∷ fs =
-      ap (λ (l : List StreamFrame). l ++ behind)
-      (sym (stream-from c first are.0 k ∙ ap (λ n. drop n (whole_stream c first are.0)) one
-      ∙ ap (drop 1) begins-two.2))
-      ∙ streams in
-      cc
+  second f fs streams = grind (arith, joined, are, front-few, flat_map, stream-from, whole_stream)
 
   -- what the run begins with, and what its stream begins with
   pub front-alike : (g : RunFrame) (f : StreamFrame) (fs : List StreamFrame)
@@ -334,10 +268,7 @@ module _ (first : FilePart) (parts : List FilePart)
       (inputs-fit c parts are.1)
       ∙ ap (λ (l : List (List ℕ)). l ++ others_sounds)
       (brought-sounds c first are.0 ∙ ap (map (sound_of c)) begins-two.2) in
-      let own : Some g.sound ≡ Some (sound_of c w) =
-      sym (slice_get-map (λ (x : RunFrame). x.sound) (all first parts are) 0
-      ∙ ap (option_map (λ (x : RunFrame). x.sound)) begins)
-      ∙ ap (λ (l : List (List ℕ)). slice_get l 0) sounding in
+      let own : Some g.sound ≡ Some (sound_of c w) = search (arith, slice_get-map, are) in
       let sound : g.sound ≡ sound_of c w = cc in
       silent-sound c f
       ∙ ap (λ (x : StreamFrame). silent_sound c (record x.header { protected = false }))
@@ -350,12 +281,4 @@ module _ (first : FilePart) (parts : List FilePart)
   pub front-silent : (f : StreamFrame) (fs : List StreamFrame) → stream first parts are ≡ f ∷ fs
       → (more : List StreamFrame)
       × (whole_stream first.survey.class first are.0 ≡ silent_lead_in f ∷ more)
-  front-silent f fs streams =
-      let silent : w ≡ silent_lead_in v =
-      empty-frame main survey.head survey.frames 0 two.first first-none ∙ ap silent_frame two.like
-      in (
-        v ∷ begins-two.1,
-        begins-two.2
-            ∙ ap (λ (x : StreamFrame). x ∷ v ∷ begins-two.1)
-            (silent ∙ ap silent_lead_in (second f fs streams)),
-      )
+  front-silent f fs streams = grind (arith, empty-frame, first-none, second)

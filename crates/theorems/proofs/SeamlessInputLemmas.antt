@@ -1,25 +1,21 @@
 -- What the inputs of a seamless join bring.
-use Rattle.std.proofs.Common.{ap, ap₂, arith, Bool, cond, drop, Err, false, length, List, ltb, map}
-use Rattle.std.proofs.Common.{min, None, Ok, Option, refl, Result, Some, subst, sym, true, zip, ℕ}
-use Rattle.std.proofs.Common.{[], ◌*◌, ◌+◌, ◌-◌, ◌<◌, ◌∙◌, ◌∷◌, ◌≡◌, ◌≤◌}
-use Rattle.std.proofs.lemmas.List.{length-drop, length-map, take_all}
+use Rattle.std.proofs.Common.{ap, arith, drop, Err, length, List, map, None, Ok, Option, refl}
+use Rattle.std.proofs.Common.{Result, Some, subst, sym, zip, ℕ, [], ◌*◌, ◌+◌, ◌-◌, ◌<◌, ◌∙◌, ◌∷◌}
+use Rattle.std.proofs.{Common.{◌≡◌, ◌≤◌}, lemmas.List.{length-drop, length-map, take_all}}
 use Rattle.std.specs.Prelude.{option_map, slice_range}
 use Rattle.commands.proofs.{MadeLemmas.some-frames, RefusingLemmas.then_ok}
-use Rattle.commands.specs.{Refusing.then_made, SingleOutput.most_frames}
-use Rattle.commands.specs.declared.fault.EditFault.{EditFault}
+use Rattle.commands.specs.{Refusing.then_made, declared.fault.EditFault.EditFault}
 use Rattle.cut_edits.proofs.HeadLemmas.{survey_without_head-had, survey_without_head-length}
 use Rattle.cut_edits.{proofs.HeadLemmas.survey_without_head-placed, specs.Exact.survey_without_head}
-use Rattle.exact_span.specs.Extensions.{counts_of}
-use Rattle.exact_span.specs.PlayedPositions.{counted_played, counted_positions, decoder_delay}
-use Rattle.exact_span.specs.{PlayedPositions.samples_in, declared.extensions.HeadCounts.HeadCounts}
-use Rattle.exact_span.specs.declared.played.Played.{Played}
+use Rattle.exact_span.specs.PlayedPositions.{counted_played, counted_positions, samples_in}
+use Rattle.exact_span.specs.declared.{extensions.HeadCounts.HeadCounts, played.Played.Played}
 use Rattle.frame_header.specs.Fields.{ClassFields}
 use Rattle.join_edits.proofs.PartLemmas.{part-is}
 use Rattle.join_edits.proofs.RunPartLemmas.{AreWholeFiles, brought-alone, brought-many as file-many}
 use Rattle.join_edits.proofs.RunPartLemmas.{IsWholeFile, needs-are}
 use Rattle.join_edits.specs.Join.{join_part, join_parts, join_parts_from}
-use Rattle.join_edits.specs.Seamless.{part_brought, part_from, part_head, part_without_head}
-use Rattle.join_edits.specs.Seamless.{run_frame, sound_of}
+use Rattle.join_edits.specs.Seamless.{part_brought, part_from, part_without_head, run_frame}
+use Rattle.join_edits.specs.Seamless.{sound_of}
 use Rattle.laying.proofs.{HoldLemmas.all-length, NeedsFitLemmas.part-fits, PlacesLemmas.range-whole}
 use Rattle.laying.{proofs.SurveyFrameLemmas.{frames-of, survey-had}, specs.LaidFiles.stream_entry}
 use Rattle.laying.specs.{Needs.need_of, Relaid.{all_frames, FilePart, part_rows, part_stream}}
@@ -90,8 +86,7 @@ inputs-behind : (files : Contents) (class : ClassFields) (place allowed : ℕ) (
     (parts : List FilePart)
     → join_parts_from place (Some class) allowed files names ≡ Ok parts → AreInputs class parts
 unfolding join_parts_from
-inputs-behind files class place allowed [] parts e =
-    let none : [] ≡ parts = cc in subst (AreInputs class) none tt
+inputs-behind files class place allowed [] parts e = grind arith
 inputs-behind files class place allowed (name ∷ names) parts e =
     let one = then_ok (join_part place (Some class) allowed (files name)) _ parts e in
     let part : FilePart = one.0 in
@@ -100,8 +95,7 @@ inputs-behind files class place allowed (name ∷ names) parts e =
     (join_parts_from (place + 1) (Some class) (allowed - length part.survey.frames) files names)
     parts one.2 in
     let is = part-is place (Some class) allowed (files name) part one.1 in
-    let same : part.survey.class ≡ class = ap (λ (p : FilePart). p.survey.class) (sym is.whole)
-    ∙ is.follows in
+    let same : part.survey.class ≡ class = grind arith in
     subst (AreInputs class) more.2 (
       input-is class place (Some class) allowed (files name) part one.1 same,
       inputs-behind files class (place + 1) (allowed - length part.survey.frames) names more.0
@@ -115,22 +109,7 @@ pub inputs-are : (files : Contents) (names : List (List ℕ)) (first : FilePart)
 unfolding join_parts_from
 inputs-are files [] first parts e = absurd cc
 inputs-are files (name ∷ names) first parts e =
-    let one = then_ok (join_part 0 None most_frames (files name)) _ (first ∷ parts) e in
-    let part : FilePart = one.0 in
-    let more = more-inputs part
-    (join_parts_from (0 + 1) (Some part.survey.class)
-    (most_frames - length part.survey.frames) files
-    names) (first ∷ parts) one.2 in
-    let same : part ≡ first = cc in
-    let rest : more.0 ≡ parts = cc in
-    let is = input-is part.survey.class 0 None most_frames (files name) part one.1 refl in
-    let behind =
-    inputs-behind files part.survey.class (0 + 1) (most_frames - length part.survey.frames)
-    names more.0 more.1 in (
-      subst (λ (p : FilePart). IsInput p.survey.class p) same is,
-      subst (λ (p : FilePart). AreInputs p.survey.class parts) same
-          (subst (AreInputs part.survey.class) rest behind),
-    )
+    grind (arith, then_ok, more-inputs, input-is, inputs-behind)
 
 -- ---- what they bring
 
@@ -151,23 +130,13 @@ run-sounds class [] [] same = refl
 run-sounds class [] (f ∷ stream) same = absurd (omega (arith, same))
 run-sounds class (r ∷ rows) [] same = absurd (omega (arith, same))
 run-sounds class (r ∷ rows) (f ∷ stream) same =
-    ap (λ (l : List (List ℕ)). sound_of class f ∷ l)
-    (run-sounds class rows stream (omega (arith, same)))
+    grind (arith, run-sounds class rows stream (omega (arith, same)))
 
 counted-end : (samples frames : ℕ) (o : Option HeadCounts) (played : Played)
     → option_map (counted_played samples frames) o ≡ Some played
     → played.end ≤ frames * samples
 counted-end samples frames None played e = absurd cc
-counted-end samples frames (Some counts) played e =
-    let same : counted_played samples frames counts ≡ played = cc in
-    subst (λ (p : Played). p.end ≤ frames * samples) same (at (ltb counts.frames frames))
-  where
-    at : (b : Bool)
-        → cond b (frames * samples)
-        (min (frames * samples) (counts.frames * samples + decoder_delay - counts.padding)) ≤
-        frames * samples
-    at true = omega arith
-    at false = omega arith
+counted-end samples frames (Some counts) played e = grind arith
 
 module _ (class : ClassFields) (p : FilePart) (is : IsInput class p) where
   abbrev survey : SurveyFields
@@ -196,14 +165,11 @@ module _ (class : ClassFields) (p : FilePart) (is : IsInput class p) where
   to-apart = is.to ∙ sym (survey_without_head-length p.survey)
 
   rows-whole : part_rows (part_without_head p) ≡ survey.frames
-  rows-whole = ap₂ (λ m n. slice_range survey.frames m n) is.from to-apart
-      ∙ range-whole survey.frames
+  rows-whole = grind (arith, to-apart, range-whole)
 
   -- what is left of an input without its first k frames is its stream without its first k frames
   pub stream-from : (k : ℕ) → part_stream (part_from k p) ≡ drop k whole_stream
-  stream-from k =
-      take_all (p.to - k) (drop k whole_stream)
-      (omega (arith, length-drop k whole_stream, stream-many, is.to))
+  stream-from k = grind (arith, take_all, length-drop, stream-many)
 
   -- all that the input holds, when its head is set apart, is this stream
   pub stream-whole : part_stream (part_without_head p) ≡ whole_stream
@@ -211,9 +177,7 @@ module _ (class : ClassFields) (p : FilePart) (is : IsInput class p) where
 
   frames-whole : (part_brought p).frames
       ≡ map (run_frame p.survey.class) (zip survey.frames whole_stream)
-  frames-whole =
-      ap₂ (λ (x : List Row) (y : List StreamFrame). map (run_frame p.survey.class) (zip x y))
-      rows-whole stream-whole
+  frames-whole = grind (arith, rows-whole, stream-whole)
 
   -- the frames that it brings need what the rows do
   pub brought-needs : needs_of (part_brought p).frames ≡ map need_of survey.frames
@@ -221,9 +185,7 @@ module _ (class : ClassFields) (p : FilePart) (is : IsInput class p) where
 
   -- the frames that it brings sound as the stream does
   pub brought-sounds : sounds (part_brought p).frames ≡ map (sound_of class) whole_stream
-  brought-sounds =
-      ap sounds frames-whole ∙ run-sounds p.survey.class survey.frames whole_stream stream-length
-      ∙ ap (λ c. map (sound_of c) whole_stream) is.of_class
+  brought-sounds = grind (arith, sounds, frames-whole, run-sounds, stream-length)
 
   -- the input brings as many frames as the survey has
   pub brought-many : length (part_brought p).frames ≡ length p.survey.frames
@@ -246,10 +208,7 @@ module _ (class : ClassFields) (p : FilePart) (is : IsInput class p) where
   pub played-end : (played : Played) → (part_brought p).played ≡ Some played
       → played.end ≤ length p.survey.frames * samples_in class
   unfolding counted_positions
-  played-end played e =
-      subst (λ c. played.end ≤ length p.survey.frames * samples_in c) is.of_class
-      (counted-end (samples_in p.survey.class) (length p.survey.frames) (counts_of (part_head p))
-      played e)
+  played-end played e = grind (arith, counted-end)
 
 -- all inputs bring frames that fit
 pub inputs-fit : (class : ClassFields) (parts : List FilePart) → AreInputs class parts

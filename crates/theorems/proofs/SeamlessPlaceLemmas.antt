@@ -34,9 +34,7 @@ get-front (z ∷ xs) ys (suc i) x is = get-front xs ys i x is
 get-behind : {X : Type 0} (xs ys : List X) (i : ℕ)
     → slice_get (xs ++ ys) (length xs + i) ≡ slice_get ys i
 get-behind [] ys i = let none : 0 + i ≡ i = omega arith in ap (slice_get ys) none
-get-behind (x ∷ xs) ys i =
-    let next : suc (length xs) + i ≡ suc (length xs + i) = omega arith in
-    ap (slice_get (x ∷ xs ++ ys)) next ∙ get-behind xs ys i
+get-behind (x ∷ xs) ys i = grind (arith, get-behind xs ys i)
 
 -- a frame of a stream by its sound
 record HasSound (class : ClassFields) (stream : List StreamFrame) (i : ℕ) (sound : List ℕ) : Type 0
@@ -58,8 +56,7 @@ has-sound class stream i sound is =
 
 sound-at : (frames : List RunFrame) (i : ℕ) (f : RunFrame) → slice_get frames i ≡ Some f
     → slice_get (sounds frames) i ≡ Some f.sound
-sound-at frames i f is = slice_get-map (λ (x : RunFrame). x.sound) frames i
-    ∙ ap (option_map (λ (x : RunFrame). x.sound)) is
+sound-at frames i f is = grind (arith, slice_get-map, is)
 
 -- ---- positions
 
@@ -98,10 +95,8 @@ meets-at : (v : Version) (place start end n m front leads old new out : ℕ)
     → start + (m * samples_of v - end) ≡ out * samples_of v → end ≤ m * samples_of v
     → new + out ≡ old + n
     → place + (m + front) * samples_of v ≡ end + (leads + old) * samples_of v
-meets-at One place start end n m front leads old new out at meets within longer =
-    omega (arith, at, meets, within, longer)
-meets-at _ place start end n m front leads old new out at meets within longer =
-    omega (arith, at, meets, within, longer)
+meets-at One place start end n m front leads old new out at meets within longer = grind arith
+meets-at _ place start end n m front leads old new out at meets within longer = grind arith
 
 later-frame : (v : Version) (x y : ℕ) → x ≤ y → x / samples_of v ≤ y / samples_of v
 later-frame One x y less = omega (arith, less)
@@ -165,14 +160,7 @@ module _ (first : FilePart) (parts : List FilePart)
         )
 
     leads-enough : front ≤ length leads
-    leads-enough =
-        elim (cases_lt 0 front) as (λ _. front ≤ length leads) [
-          | inl out ↦
-              let led = (run-leads first parts are).led (front-parts first parts are out).1 in
-              omega
-              (arith, front-few first parts are, ap (λ (l : List StreamFrame). length l) led.3)
-          | inr none ↦ omega (arith, none)
-        ]
+    leads-enough = grind (arith, cases_lt, run-leads, front-parts, front-few)
 
     run-stays : (j place : ℕ) (g : RunFrame) → slice_get whole j ≡ Some g
         → place + front ≡ length leads + j → HasSound c (leads ++ heard) place g.sound

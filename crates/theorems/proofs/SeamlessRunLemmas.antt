@@ -1,7 +1,7 @@
 -- The stream of a seamless join: at most one lead-in, and the frames of the run.
 use Rattle.std.proofs.Common.{ap, append-nil, ap₂, arith, Bool, cond, drop, false, flat_map, length}
-use Rattle.std.proofs.Common.{List, map, not, refl, subst, sym, true, ℕ, [], ◌&&◌, ◌++◌, ◌-◌, ◌<◌}
-use Rattle.std.proofs.{Common.{◌∙◌, ◌∷◌, ◌≡◌, ◌≤◌}, lemmas.Bool.{and_parts, both_ways}}
+use Rattle.std.proofs.Common.{List, map, not, refl, subst, sym, true, ℕ, [], ◌++◌, ◌-◌, ◌<◌, ◌∙◌}
+use Rattle.std.proofs.{Common.{◌∷◌, ◌≡◌, ◌≤◌}, lemmas.Bool.{and_parts, both_ways}}
 use Rattle.std.proofs.lemmas.List.{drop-append-le, drop-map, length-map, map-append}
 use Rattle.cut_edits.proofs.SpanLemmas.{for_length}
 use Rattle.frame_header.specs.{Fields.ClassFields, Tables.window_of}
@@ -57,8 +57,7 @@ own-frames needs stream placed same own =
 -- a plan of frames in their own slots has a place for each
 pub own-many : (needs : List Need) (placed : List Placed) → AreInOwnSlots needs placed
     → length placed ≡ length needs
-own-many needs placed own = for_length (map (need_item own_choice) needs) placed own
-    ∙ length-map needs (need_item own_choice)
+own-many needs placed own = grind (arith, for_length, own, length-map)
 
 led-leads : (window : ℕ) (needs : List Need) (placed : List Placed) (stream : List StreamFrame)
     → length stream ≡ length needs
@@ -165,36 +164,23 @@ module _ (first : FilePart) (parts : List FilePart)
 
     -- the run is all of these frames but for those that leave it at the end
     pub run-is : run ≡ drop joined.front all
-    run-is =
-        ap (λ (joints : List JointFrames). drop joined.front (run_with brought joints)) joints-are
+    run-is = grind (arith, joints-are)
 
     -- no more than one frame leaves it
     pub front-few : joined.front ≤ 1
     unfolding front_left_out_count
-    front-few =
-        subst (λ n. n ≤ 1) (sym front-is)
-        (cond-few (has_lead_in window brought
-        && not (fits_behind window 0 (needs_of (drop 1 all)))))
+    front-few = grind (arith, front-is, cond-few)
 
     -- where a frame leaves the run, the first input has a
     -- lead-in at its front, and the frames that stay need one
     pub front-parts : 0 < joined.front
         → (has_lead_in window brought ≡ true) × (fits_behind window 0 (needs_of run) ≡ false)
     unfolding front_left_out_count
-    front-parts some =
-        let lacks : Bool = not (fits_behind window 0 (needs_of (drop 1 all))) in
-        let both = and_parts (has_lead_in window brought) lacks
-        (cond-some (has_lead_in window brought && lacks) (subst (λ n. 0 < n) front-is some)) in
-        let one : joined.front ≡ 1 = omega (arith, some, front-few) in (
-          both.0,
-          ap (λ (l : List RunFrame). fits_behind window 0 (needs_of l))
-              (run-is ∙ ap (λ n. drop n all) one) ∙ not-true _ both.1,
-        )
+    front-parts some = grind (arith, and_parts, cond-some, front-is, front-few, run-is, not-true)
 
     -- its plan
     pub run-planned : IsPlan window own_choice (needs_of run ∷ []) (run_plan first parts)
-    run-planned =
-        files-planned first parts (input-whole class first are.0) (inputs-whole class parts are.1)
+    run-planned = grind (arith, files-planned, input-whole, inputs-whole)
 
     abbrev pub stream : List StreamFrame
     stream = flat_map part_stream (run_parts first parts)
@@ -226,16 +212,11 @@ module _ (first : FilePart) (parts : List FilePart)
 
     -- the stream is as long as the run
     pub stream-length : length stream ≡ length (needs_of run)
-    stream-length =
-        sym (length-map stream (sound_of class))
-        ∙ ap (λ (l : List (List ℕ)). length l) stream-sounds
-        ∙ length-map run (λ (f : RunFrame). f.sound)
-        ∙ sym (length-map run (λ (f : RunFrame). f.need))
+    stream-length = grind (arith, length-map, stream-sounds)
 
     -- the lead-ins that the plan of the run puts before the stream
     pub run-leads : HasLeads window (needs_of run) (run_plan first parts) stream
-    run-leads =
-        has-leads window (needs_of run) (run_plan first parts) stream run-planned stream-length
+    run-leads = grind (arith, has-leads, run-planned, stream-length)
 
     -- the stream of the join is these lead-ins, and then the stream of the run
     pub seamless-is : seamless_stream (first ∷ parts) ≡ run-leads.leads ++ stream
@@ -244,7 +225,4 @@ module _ (first : FilePart) (parts : List FilePart)
 
     -- this is the number of lead-ins of the run
     pub leads-many : run_lead_ins first parts ≡ length run-leads.leads
-    leads-many =
-        ap (λ n. length (run_plan first parts) - n)
-        (sym (length-map run (λ (f : RunFrame). f.need)))
-        ∙ run-leads.many
+    leads-many = grind (arith, length-map)

@@ -1,16 +1,14 @@
 -- Exact pieces: the frames of their spans, by the survey whose head is set apart.
-use Rattle.std.proofs.Common.{ap, arith, Bool, false, inl, length, List, None, Ok, Option, refl}
-use Rattle.std.proofs.Common.{Some, subst, sym, true, ℕ, [], ◌+◌, ◌∙◌, ◌∷◌, ◌≡◌}
-use Rattle.std.specs.Prelude.{slice_get, slice_range, unwrap_or}
+use Rattle.std.proofs.Common.{arith, Bool, false, inl, length, List, None, Ok, Option, refl, Some}
+use Rattle.std.{proofs.Common.{subst, sym, true, ℕ, [], ◌+◌, ◌∷◌, ◌≡◌}, specs.Prelude.slice_range}
 use Rattle.commands.proofs.{MadeLemmas.{made-of, makes-parts}, RefusingLemmas.refusal_or-ok}
 use Rattle.commands.specs.SingleOutput.{most_frames}
 use Rattle.cut_edits.proofs.PieceLemmas.{piece-parts, span-survey_without_head, span-there}
 use Rattle.cut_edits.proofs.{PieceLemmas.survey_without_head-relaid, SpanLemmas.led-is}
 use Rattle.cut_edits.specs.Chosen.{Chosen, chosen_file_part, chosen_needs}
-use Rattle.cut_edits.specs.Exact.{exact_command, exact_making, exact_stream, exact_stream_or_none}
-use Rattle.cut_edits.specs.Exact.{exact_surveyed_stream, exact_task, file_span, IsSpanIn}
-use Rattle.cut_edits.specs.Exact.{row_sealed_part, samples_fault, span_needs, span_part, span_piece}
-use Rattle.cut_edits.specs.Exact.{span_plan, survey_without_head}
+use Rattle.cut_edits.specs.Exact.{exact_command, exact_making, exact_task, file_span, IsSpanIn}
+use Rattle.cut_edits.specs.Exact.{row_sealed_part, span_needs, span_piece, span_plan}
+use Rattle.cut_edits.specs.Exact.{survey_without_head}
 use Rattle.exact_span.specs.{Places.sample_at, PlayedPositions.{length_of_played, played_of}}
 use Rattle.exact_span.specs.{Spans.span_of, declared.exact_place.ExactPlace.ExactPlace}
 use Rattle.exact_span.specs.declared.{played.Played.Played, span.Span.Span}
@@ -24,12 +22,12 @@ use Rattle.slot_plan.specs.{LeastPlan.led_plan, Parts.{lead_in_item, led_items},
 use Rattle.slot_plan.specs.declared.needs.{Need.Need, Placed.Placed}
 use Rattle.sync_survey.proofs.SurveyPartsLemmas.{survey_fields-allowed}
 use Rattle.sync_survey.proofs.SurveyedFileLemmas.{survey_of-parts}
-use Rattle.sync_survey.specs.Faults.{stream_of_survey, SurveyFields, unbounded_survey}
-use Rattle.sync_survey.specs.{MainData.StreamFrame, Row.Row, Survey.survey_of}
+use Rattle.sync_survey.specs.{Faults.{stream_of_survey, SurveyFields}, MainData.StreamFrame}
+use Rattle.sync_survey.specs.{Row.Row, Survey.survey_of}
 use Rattle.theorems.proofs.CaseLemmas.{had-exact, had-part}
 use Rattle.theorems.proofs.ExactLemmas.{IsSized, led-exact, part-sized}
-use Rattle.theorems.specs.Chosen.{file_bytes_of, frames_needed, span_frames, surveyed_span_frames}
-use Rattle.theorems.specs.{Exact.IsExactly, Laws.HoldsChosen}
+use Rattle.theorems.specs.{Chosen.{file_bytes_of, frames_needed, span_frames}, Exact.IsExactly}
+use Rattle.theorems.specs.Laws.{HoldsChosen}
 
 -- ---- in the slots of their plan
 
@@ -75,9 +73,7 @@ module _ (span : Span) (file : List ℕ) (s : SurveyFields) (had : CanBeRelaid f
       → IsExactly (slice_range (stream_of_survey file s) span.first span.last ∷ [])
       (stream_laid (span_piece head span file s) file s)
   unfolding span_piece
-  piece-exact head = subst (λ (l : List StreamFrame). IsExactly (fs ∷ []) l)
-      (sym (sealed-stream (slice_get s.frames span.first) (span_part head span s)))
-      (span-exact span.led)
+  piece-exact head = grind (arith, sealed-stream, span-exact)
 
 -- ---- the span of the samples
 
@@ -94,24 +90,17 @@ module _ (from to : ExactPlace) (file : List ℕ) (s : SurveyFields) where
   span-is : (span : Span) → file_span from to head s ≡ Ok span
       → span_of s.class (played.start + number from) (played.start + number to) ≡ span
   unfolding file_span
-  span-is span e =
-      (refusal_or-ok (samples_fault (number from) (number to) (length_of_played played))
-      (span_of s.class (played.start + number from) (played.start + number to)) span e).1
+  span-is span e = grind (arith, refusal_or-ok)
 
   -- the frames of the job are the frames of the span
   pub frames-are : (span : Span) → file_span from to head s ≡ Ok span → span_frames from to file s
       ≡ slice_range (stream_of_survey file (survey_without_head s)) span.first span.last
-  frames-are span e = ap
-      (λ (p : Span). slice_range (stream_of_survey file (survey_without_head s)) p.first p.last)
-      (span-is span e)
+  frames-are span e = grind (arith, span-is)
 
   -- the frames of the span are the frames that are needed by the file's survey
   pub needed-is : survey_of file most_frames ≡ Ok s
       → frames_needed from to file ≡ span_frames from to file s
-  needed-is is =
-      let freely : unbounded_survey file ≡ Ok s = survey_fields-allowed file most_frames
-      (length file + 1) s (omega arith) (survey_of-parts file most_frames s is).1 in
-      ap (surveyed_span_frames from to file) freely
+  needed-is is = search (arith, survey_fields-allowed, survey_of-parts)
 
 -- ---- the command
 
@@ -131,16 +120,14 @@ exact-holds input from to output files made e =
     piece-exact by.span is.file own
     (survey_without_head-relaid is.file is.survey is.surveyed) there head in
     let stream : (exact_task from to input).stream files
-    ≡ stream_laid (span_piece head by.span is.file own) is.file own =
-    ap (λ (o : Option (List ℕ)). exact_stream from to (unwrap_or o [])) is.there
-    ∙ ap (exact_surveyed_stream from to is.file) is.surveyed
-    ∙ ap (exact_stream_or_none is.file is.survey) by.laid in
+    ≡ stream_laid (span_piece head by.span is.file own) is.file own = grind arith in
     let frames : slice_range (stream_of_survey is.file own) by.span.first by.span.last
     ≡ frames_needed from to (file_bytes_of files input) =
-    sym (
-    ap (λ (o : Option (List ℕ)). frames_needed from to (unwrap_or o [])) is.there
-    ∙ needed-is from to is.file is.survey is.surveyed
-    ∙ frames-are from to is.file is.survey by.span by.span_is
+    grind (
+      arith,
+      needed-is from to is.file is.survey is.surveyed,
+      frames-are from to is.file
+          is.survey by.span by.span_is,
     ) in (
       subst (λ (l : List StreamFrame). IsExactly (l ∷ []) ((exact_task from to input).stream files))
           frames

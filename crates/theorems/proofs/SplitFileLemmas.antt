@@ -1,8 +1,8 @@
 -- The pieces of a split, joined in order, are the file
 -- that was cut, but for its blocks after the frames.
 use Rattle.std.proofs.Common.{ap, ap₂, arith, drop, flat_map, length, List, map, None, Ok, refl}
-use Rattle.std.proofs.Common.{replicate, Some, subst, suc, sym, take, zero, ℕ, [], ◌++◌, ◌-◌, ◌<◌}
-use Rattle.std.proofs.{Common.{◌∙◌, ◌∷◌, ◌≡◌, ◌≤◌}, lemmas.List.{drop-map, map-append, take-map}}
+use Rattle.std.proofs.Common.{Some, subst, suc, sym, take, zero, ℕ, [], ◌++◌, ◌<◌, ◌∙◌, ◌∷◌, ◌≡◌}
+use Rattle.std.proofs.{Common.◌≤◌, lemmas.List.{drop-map, map-append, take-map}}
 use Rattle.std.specs.Prelude.{if◌then◌else◌, nat_le, option_and_then}
 use Rattle.cut_edits.specs.{Chosen.own_slots_part, Exact.survey_without_head}
 use Rattle.exact_span.specs.{Laws.last_point, declared.played.Played.Played}
@@ -16,8 +16,7 @@ use Rattle.laying.proofs.{HoldLemmas.{part-entries, part-stream}, SurveyFrameLem
 use Rattle.laying.specs.Laid.{frames_laid, info_laid, LaidPart, source_part}
 use Rattle.laying.specs.LaidFiles.{AreStreamEntries, laid_file, stream_entry}
 use Rattle.laying.specs.Relaid.{all_frames, FilePart, IsPart, part_frames, part_stream}
-use Rattle.laying.specs.{Relaid.relaid_frames, Surveys.CanBeRelaid}
-use Rattle.laying.specs.Written.{front_blocks, info_for}
+use Rattle.laying.specs.{Relaid.relaid_frames, Surveys.CanBeRelaid, Written.front_blocks}
 use Rattle.seam_plan.specs.Seams.{JointFrames, left_out_count}
 use Rattle.sync_survey.specs.{Faults.{survey_fields, SurveyFields}, MainData.StreamFrame, Row.Row}
 use Rattle.theorems.proofs.BareFrameLemmas.{bare-same, relaid_frames-same}
@@ -68,11 +67,8 @@ module _ (c : ClassFields) where
       let are = frames-of p.file (survey_without_head p.survey) (has-apart c p is) in
       let all = all_frames p.file (survey_without_head p.survey) in
       record {
-        entries = subst (λ d. AreStreamEntries d (part_frames (part_from k p))) is.of_class
-            (entries-take p.survey.class (p.to - k) (drop k all)
-            (entries-drop p.survey.class k all are.entries));
-        is = sym (take-map stream_entry (p.to - k) (drop k all))
-            ∙ ap (take (p.to - k)) (sym (drop-map stream_entry k all) ∙ ap (drop k) are.stream_is);
+        entries = grind (arith, entries-take, entries-drop);
+        is = grind (arith, take-map, drop-map);
       }
 
   parts-read : (joints : List JointFrames) (parts : List FilePart) → AreInputs c parts
@@ -91,13 +87,7 @@ module _ (c : ClassFields) where
   pub run-read : (first : FilePart) (parts : List FilePart) → AreInputs c (first ∷ parts)
       → AreRead c (flat_map part_frames (run_parts first parts))
       (flat_map part_stream (run_parts first parts))
-  run-read first parts are =
-      let joined = join_of_parts first parts in
-      read-append c (part_frames (part_from joined.front first))
-      (flat_map part_frames (later_parts joined.joints parts))
-      (part_stream (part_from joined.front first))
-      (flat_map part_stream (later_parts joined.joints parts))
-      (part-read first are.0 joined.front) (parts-read joined.joints parts are.1)
+  run-read first parts are = search (arith, read-append, flat_map, part-read, parts-read)
 
 -- ---- the file
 
@@ -166,10 +156,7 @@ module _ (file : List ℕ) (s : SurveyFields) (allowed : ℕ) (e : survey_fields
 
   infos-are : (row : Row)
       → seamless_info (delay_of_run first parts) row first parts ≡ info_laid whole file s
-  infos-are row =
-      ap (λ o. seamless_info o row first parts) none-counted
-      ∙ ap₂ (λ (d : ClassFields) (fs : List Frame). info_for d fs None (replicate 36 0)) same
-      frames-are
+  infos-are row = search (arith, none-counted, same, frames-are)
 
   front_row : FrontRow s first a front
   front_row =
@@ -179,10 +166,7 @@ module _ (file : List ℕ) (s : SurveyFields) (allowed : ℕ) (e : survey_fields
       made.blocks s.class first own_inputs.0 made.file_is)
 
   blocks-are : front_blocks first.file first.survey ≡ front_blocks file s
-  blocks-are =
-      front-blocks-same (chosen_between a b) file s has are.0 are.1 refl
-      made.row made.row_is made.back
-      made.blocks s.class first own_inputs.0 made.file_is allowed e
+  blocks-are = search (arith, front-blocks-same, chosen_between)
 
   -- the join of the pieces is the file of the whole without the blocks after its frames
   pub seamless-file : seamless_file (first ∷ parts) ≡ bare_file whole file s

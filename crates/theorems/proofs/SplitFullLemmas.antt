@@ -1,18 +1,16 @@
 -- The pieces of a split, joined in order, have all frames that were cut, but for empty ones.
-use Rattle.std.proofs.Common.{ap, ap₂, arith, Bool, cond, drop, false, filter, flat_map, inl, inr}
-use Rattle.std.proofs.Common.{length, List, map, None, not, refl, subst, sym, true, ℕ, [], ◌++◌}
-use Rattle.std.proofs.Common.{◌+◌, ◌<◌, ◌==◌, ◌∙◌, ◌∷◌, ◌≡◌, ◌≤◌}
-use Rattle.std.{proofs.lemmas.Bool.{and_parts, cases_lt}, specs.List.{enumerate_from, list_all}}
-use Rattle.std.specs.Prelude.{slice_get, slice_range}
+use Rattle.std.proofs.Common.{ap, ap₂, arith, Bool, cond, drop, filter, flat_map, inl, inr, length}
+use Rattle.std.proofs.Common.{List, map, None, not, refl, subst, sym, true, ℕ, [], ◌++◌, ◌+◌, ◌<◌}
+use Rattle.std.proofs.{Common.{◌==◌, ◌∙◌, ◌∷◌, ◌≡◌, ◌≤◌}, lemmas.Bool.{and_parts, cases_lt}}
+use Rattle.std.specs.{List.{enumerate_from, list_all}, Prelude.{slice_get, slice_range}}
 use Rattle.cut_edits.specs.Exact.{survey_without_head}
 use Rattle.exact_span.specs.Laws.{last_point}
 use Rattle.frame_header.specs.{Fields.{ClassFields, IsClass}, Tables.window_of}
 use Rattle.join_edits.specs.Seamless.{begins_blank, join_of_parts, later_parts, part_brought}
 use Rattle.join_edits.specs.Seamless.{part_from, seamless_stream}
-use Rattle.laying.specs.{Relaid.{FilePart, part_stream, silent_lead_in}, Surveys.CanBeRelaid}
+use Rattle.laying.specs.{Relaid.{FilePart, part_stream}, Surveys.CanBeRelaid}
 use Rattle.seam_plan.proofs.PieceRunLemmas.{uncounted-joint}
-use Rattle.seam_plan.specs.Frames.{Brought, needs_of, RunFrame}
-use Rattle.seam_plan.specs.Joins.{fits_behind, has_lead_in, leads_others}
+use Rattle.seam_plan.specs.{Frames.{Brought, needs_of, RunFrame}, Joins.{has_lead_in, leads_others}}
 use Rattle.seam_plan.specs.Seams.{joint_of, JointFrames, joints_from, left_out_count}
 use Rattle.side_info.specs.{Side.side_bits, declared.side.Side.Side}
 use Rattle.slot_plan.specs.declared.needs.{Need.Need, Placed.Placed}
@@ -33,13 +31,7 @@ use Rattle.theorems.specs.SeamlessLaws.{full_frames, is_empty_frame}
 filter-append : {X : Type 0} (p : X → Bool) (xs ys : List X)
     → filter p (xs ++ ys) ≡ filter p xs ++ filter p ys
 filter-append p [] ys = refl
-filter-append p (x ∷ xs) ys = at (p x) (filter-append p xs ys)
-  where
-    at : (b : Bool) → filter p (xs ++ ys) ≡ filter p xs ++ filter p ys
-        → cond b (x ∷ filter p (xs ++ ys)) (filter p (xs ++ ys))
-        ≡ cond b (x ∷ filter p xs) (filter p xs) ++ filter p ys
-    at true more = ap (λ l. x ∷ l) more
-    at false more = more
+filter-append p (x ∷ xs) ys = grind (arith, filter-append p xs ys)
 
 module _ (c : ClassFields) (known : IsClass c) where
   abbrev full : List StreamFrame → List StreamFrame
@@ -56,13 +48,7 @@ module _ (c : ClassFields) (known : IsClass c) where
   leads-full : (window : ℕ) (needs : List Need) (placed : List Placed) (frames : List StreamFrame)
       (leads : HasLeads window needs placed frames)
       → full leads.leads ≡ []
-  leads-full window needs placed frames leads = at (fits_behind window 0 needs) refl
-    where
-      at : (b : Bool) → fits_behind window 0 needs ≡ b → full leads.leads ≡ []
-      at true fits = ap full (leads.own fits)
-      at false lacks =
-          let led = leads.led lacks in
-          ap full led.3 ∙ full-empty (silent_lead_in led.0) [] (none-zero c known)
+  leads-full window needs placed frames leads = grind (arith, full-empty, none-zero)
 
   -- ---- one input
 
@@ -122,15 +108,7 @@ module _ (c : ClassFields) (known : IsClass c) where
         (part_stream (part_from (left_out_count (joint_of c run before (part_brought p)).seam) p))
         ≡ full (whole_stream c p is)
     joint-full run before none =
-        elim (uncounted-joint c run before (part_brought p) none) as (λ _.
-        full
-        (part_stream (part_from (left_out_count (joint_of c run before (part_brought p)).seam) p))
-        ≡ full (whole_stream c p is)) [
-          | inl seam ↦
-              ap (λ s. full (part_stream (part_from (left_out_count s) p))) seam ∙ whole-full
-          | inr without ↦ ap (λ s. full (part_stream (part_from (left_out_count s) p))) without.0
-              ∙ without-full without.1
-        ]
+        grind (arith, uncounted-joint c run before (part_brought p) none, whole-full, without-full)
 
 -- ---- the pieces
 
@@ -163,8 +141,7 @@ module _ (file : List ℕ) (s : SurveyFields) (has : CanBeRelaid file s)
       (later_parts (joints_from s.class run before (map part_brought parts)) parts))
       ≡ filled (slice_range (all_stream file s) a (last_point a bs))
   unfolding joints_from
-  pieces-full run before a [] [] are inputs files =
-      sym (ap filled (range-none (all_stream file s) a))
+  pieces-full run before a [] [] are inputs files = grind (arith, range-none, all_stream)
   pieces-full run before a [] (p ∷ parts) are inputs files = absurd files
   pieces-full run before a (b ∷ bs) [] are inputs files = absurd files
   pieces-full run before a (b ∷ bs) (p ∷ parts) are inputs files =
@@ -218,13 +195,7 @@ module _ (file : List ℕ) (s : SurveyFields) (has : CanBeRelaid file s)
     joints-full : filled
         (flat_map part_stream (later_parts (join_of_parts first parts).joints parts))
         ≡ filled (slice_range (all_stream file s) b (last_point b bs))
-    joints-full =
-        ap (λ (js : List JointFrames). filled (flat_map part_stream (later_parts js parts)))
-        (joints-are first parts inputs
-        ∙ ap (λ (d : ClassFields). joints_from d (part_brought first).frames (part_brought first)
-        (map part_brought parts)) same)
-        ∙ pieces-full (part_brought first).frames (part_brought first) b bs parts are.2
-        own_inputs.1 files.1
+    joints-full = grind (arith, flat_map, joints-are, pieces-full)
 
     -- the join has the full frames of the file from the first number to the last
     pub all-full : filled (seamless_stream (first ∷ parts))

@@ -1,18 +1,15 @@
 -- The pieces of a split, joined in order, are the frames that were cut.
-use Rattle.std.proofs.Common.{ap, ap₂, arith, Bool, drop, false, flat_map, length, List, map, min}
-use Rattle.std.proofs.Common.{None, Ok, Option, refl, replicate, Some, subst, sym, take, take-add}
-use Rattle.std.proofs.Common.{true, zip, ℕ, [], ◌&&◌, ◌++◌, ◌+◌, ◌-◌, ◌<◌, ◌==◌, ◌∙◌, ◌∷◌, ◌≡◌, ◌≤◌}
+use Rattle.std.proofs.Common.{ap, ap₂, arith, Bool, drop, false, flat_map, length, List, map, None}
+use Rattle.std.proofs.Common.{Ok, Option, refl, replicate, Some, subst, sym, take, take-add, true}
+use Rattle.std.proofs.Common.{zip, ℕ, [], ◌++◌, ◌+◌, ◌-◌, ◌<◌, ◌∙◌, ◌∷◌, ◌≡◌, ◌≤◌}
 use Rattle.std.proofs.lemmas.Bool.{and_from, le-leb, lt-ltb}
 use Rattle.std.proofs.lemmas.List.{drop-drop, length-drop, length-map, length-take, length-take-le}
 use Rattle.std.proofs.lemmas.List.{map-append}
-use Rattle.std.specs.Prelude.{if◌then◌else◌, nat_le, nat_lt, slice_range, unwrap_or}
+use Rattle.std.specs.Prelude.{if◌then◌else◌, slice_range, unwrap_or}
 use Rattle.commands.proofs.RefusingLemmas.{refusal_or-ok, then_ok}
-use Rattle.commands.specs.Refusing.{refusal_or, then_made}
-use Rattle.commands.specs.declared.fault.Refusal.TheVariants.{Range}
 use Rattle.cue_sheet.specs.{Places.frame_at, declared.place.Place.Place}
 use Rattle.cut_edits.proofs.ChosenLemmas.{chosen-within}
-use Rattle.cut_edits.specs.Chosen.{Chosen, cut_choice, first_planning, laying_part, outside_fault}
-use Rattle.cut_edits.specs.Chosen.{own_slots_part, planned_part}
+use Rattle.cut_edits.specs.Chosen.{Chosen, cut_choice, laying_part, own_slots_part}
 use Rattle.exact_span.specs.Laws.{last_point}
 use Rattle.frame_header.specs.{Fields.ClassFields, Tables.window_of}
 use Rattle.join_edits.{proofs.PartLemmas.part-is, specs.Join.{join_part, join_parts_from}}
@@ -49,11 +46,7 @@ use Rattle.theorems.specs.SeamlessLaws.{is_look_alike, last_place}
 pub range-append : {X : Type 0} (xs : List X) (a b c : ℕ) → a ≤ b → b ≤ c
     → slice_range xs a b ++ slice_range xs b c ≡ slice_range xs a c
 range-append xs a b c first second =
-    let there : a + (b - a) ≡ b = omega (arith, first) in
-    let many : (b - a) + (c - b) ≡ c - a = omega (arith, first, second) in
-    ap (λ l. take (b - a) (drop a xs) ++ take (c - b) l)
-    (ap (λ n. drop n xs) (sym there) ∙ sym (drop-drop (b - a) a xs))
-    ∙ sym (take-add (b - a) (c - b) (drop a xs)) ∙ ap (λ n. take n (drop a xs)) many
+    grind (arith, drop-drop (b - a) a xs, take-add (b - a) (c - b) (drop a xs))
 
 -- nothing is between a place and itself
 pub range-none : {X : Type 0} (xs : List X) (a : ℕ) → slice_range xs a a ≡ []
@@ -83,24 +76,13 @@ module _ (file : List ℕ) (s : SurveyFields) where
       → (number from < number to) × (number to ≤ length s.frames)
       × (l ≡ own_slots_part (chosen_between (number from) (number to)) s)
   unfolding laying_part cut_choice
-  cut-one from to l e =
-      let parts =
-      then_ok (cut_choice from to file s) (planned_part (first_planning own_choice) s) l e in
-      let there =
-      chosen-within None (replicate 36 0) (number from) (number to) (length s.frames) parts.0
-      parts.1 in
-      let chosen =
-      (refusal_or-ok (outside_fault (number from) (number to) (length s.frames))
-      (chosen_between (number from) (number to)) parts.0 parts.1).1 in
-      let is : own_slots_part parts.0 s ≡ l = cc in
-      (there.0, there.1, sym is ∙ ap (λ (c : Chosen). own_slots_part c s) (sym chosen))
+  cut-one from to l e = grind (arith, then_ok, chosen-within, refusal_or-ok)
 
   -- the numbers of the places of a split rise, and the pieces are laid from each to the next
   pub pieces-cut : (points : Points) (place : Place) (places : List Place) (laid : List LaidPart)
       → piece_parts_from (cutting_of points) file s place places ≡ Ok laid
       → Rise (number place) (map number places) × AreLaid (number place) (map number places) laid
-  pieces-cut points place [] laid e =
-      let none : [] ≡ laid = cc in (tt, subst (AreLaid (number place) []) none tt)
+  pieces-cut points place [] laid e = grind arith
   pieces-cut points place (to ∷ places) laid e =
       let parts =
       then_ok (cut_part place to file s)
@@ -141,13 +123,7 @@ module _ (file : List ℕ) (s : SurveyFields) where
   pub whole-cut : (from to : Place) → number from < number to → number to ≤ length s.frames
       → cut_part from to file s ≡ Ok (own_slots_part (chosen_between (number from) (number to)) s)
   unfolding laying_part cut_choice
-  whole-cut from to some within =
-      let test : (nat_lt (number from) (number to) && nat_le (number to) (length s.frames)) ≡ true =
-      and_from _ _ (lt-ltb (number from) (number to) some)
-      (le-leb (number to) (length s.frames) within) in
-      ap (λ b. then_made
-      (refusal_or (if b then None else Some (Range (number from) (number to) (length s.frames)))
-      (chosen_between (number from) (number to))) (planned_part (first_planning own_choice) s)) test
+  whole-cut from to some within = grind (arith, and_from, lt-ltb, le-leb)
 
   -- ---- their frames
 
@@ -176,23 +152,17 @@ module _ (file : List ℕ) (s : SurveyFields) where
     -- between two numbers, there are as many frames of the stream as rows
     pub same-many : (a b : ℕ)
         → length (slice_range all_stream a b) ≡ length (slice_range s.frames a b)
-    same-many a b =
-        length-take (b - a) (drop a all_stream)
-        ∙ ap (min (b - a)) (length-drop a all_stream ∙ ap (λ n. n - a) stream-many
-        ∙ sym (length-drop a s.frames))
-        ∙ sym (length-take (b - a) (drop a s.frames))
+    same-many a b = grind (arith, length-take, length-drop, stream-many)
 
     -- the frames between two numbers need what the rows there do
     pub between-needs : (a b : ℕ)
         → needs_of (run_between a b) ≡ map need_of (slice_range s.frames a b)
-    between-needs a b =
-        run-needs s.class (slice_range s.frames a b) (slice_range all_stream a b) (same-many a b)
+    between-needs a b = grind (arith, run-needs, same-many)
 
     -- the frames between two numbers sound as the stream does
     pub between-sounds : (a b : ℕ)
         → sounds (run_between a b) ≡ map (sound_of s.class) (slice_range all_stream a b)
-    between-sounds a b =
-        run-sounds s.class (slice_range s.frames a b) (slice_range all_stream a b) (same-many a b)
+    between-sounds a b = grind (arith, run-sounds, same-many)
 
     -- the frames of two neighbouring ranges are the frames from the first number to the last
     pub between-append : (a b c : ℕ) → a ≤ b → b ≤ c
@@ -211,17 +181,13 @@ module _ (file : List ℕ) (s : SurveyFields) where
         ∙ sym (between-sounds a c))
 
     between-none : (a : ℕ) → run_between a a ≡ []
-    between-none a =
-        ap (λ (rows : List Row). map (run_frame s.class) (zip rows (slice_range all_stream a a)))
-        (range-none s.frames a)
+    between-none a = grind (arith, range-none)
 
     -- all of them are the frames from the first number to the last
     pub runs-all : (a : ℕ) (bs : List ℕ) → Rise a bs
         → concat_frames (runs_from a bs) ≡ run_between a (last_point a bs)
     runs-all a [] are = sym (between-none a)
-    runs-all a (b ∷ bs) are =
-        ap (λ (l : List RunFrame). run_between a b ++ l) (runs-all b bs are.2)
-        ∙ between-append a b (last_point b bs) (omega (arith, are.0)) (cut-last b bs are.2)
+    runs-all a (b ∷ bs) are = grind (arith, between-append, cut-last, runs-all b bs are.2)
 
     known-run : (rows : List Row) (stream : List StreamFrame) → AreKnown rows
         → AreHeadersKnown (map (run_frame s.class) (zip rows stream))
@@ -231,9 +197,7 @@ module _ (file : List ℕ) (s : SurveyFields) where
 
     -- their headers are headers of the standard
     pub between-known : (a b : ℕ) → AreHeadersKnown (run_between a b)
-    between-known a b =
-        known-run (slice_range s.frames a b) (slice_range all_stream a b)
-        (part-known s a b has.placed)
+    between-known a b = grind (arith, known-run, part-known)
 
     -- they fit after a whole window
     pub between-fits : (a b : ℕ) → fits_behind window window (needs_of (run_between a b)) ≡ true
@@ -267,10 +231,7 @@ module _ (file : List ℕ) (s : SurveyFields) where
     -- no look-alike begins the piece
     one-alike : (l : LaidPart) (p : FilePart) → is_look_alike l p ≡ false → piece_lead_ins l ≡ 0
         → has_lead_in (window_of p.survey.class.version) (part_brought p) ≡ false
-    one-alike l p none leads =
-        sym (ap (λ n. n == 0 && has_lead_in (window_of p.survey.class.version) (part_brought p))
-        leads)
-        ∙ none
+    one-alike l p none leads = grind arith
 
     module _ (c : ClassFields) (a b : ℕ) (some : a < b) (within : b ≤ length s.frames)
         (p : FilePart)
@@ -408,8 +369,7 @@ pub parts-files : (contents : Contents) (place : ℕ) (class : Option ClassField
     → join_parts_from place class allowed contents names ≡ Ok parts
     → map contents names ≡ map (λ (p : FilePart). Some p.file) parts
 unfolding join_parts_from
-parts-files contents place class allowed [] parts e =
-    let none : [] ≡ parts = cc in ap (map (λ (p : FilePart). Some p.file)) none
+parts-files contents place class allowed [] parts e = grind arith
 parts-files contents place class allowed (name ∷ names) parts e =
     let one = then_ok (join_part place class allowed (contents name)) _ parts e in
     let part : FilePart = one.0 in

@@ -1,7 +1,6 @@
 -- The law of pieces of a split that are joined in order.
-use Rattle.std.proofs.Common.{ap, ap₂, arith, length, List, map, None, not, Ok, Some, subst, sym}
-use Rattle.std.proofs.{Common.{true, ℕ, [], ◌<◌, ◌∙◌, ◌∷◌, ◌≡◌, ◌≤◌}, lemmas.Bool.and_parts}
-use Rattle.std.specs.Prelude.{slice_range}
+use Rattle.std.proofs.Common.{ap, arith, length, List, map, None, not, Ok, Some, subst, sym, true}
+use Rattle.std.proofs.{Common.{ℕ, [], ◌<◌, ◌∙◌, ◌∷◌, ◌≡◌, ◌≤◌}, lemmas.Bool.and_parts}
 use Rattle.commands.{proofs.MadeLemmas.some-frames, specs.SingleOutput.most_frames}
 use Rattle.cue_sheet.specs.declared.place.Place.{Place}
 use Rattle.cut_edits.specs.Chosen.{own_slots_part}
@@ -12,15 +11,15 @@ use Rattle.laying.specs.{Laid.{file_laid, LaidPart, stream_laid}, Relaid.FilePar
 use Rattle.laying.specs.Surveys.{CanBeRelaid}
 use Rattle.sync_survey.proofs.SurveyedFileLemmas.{survey_of-parts}
 use Rattle.sync_survey.specs.Faults.{stream_of, stream_of_survey, survey_fields, SurveyFields}
-use Rattle.sync_survey.specs.{MainData.StreamFrame, Survey.survey_of}
+use Rattle.sync_survey.specs.Survey.{survey_of}
 use Rattle.theorems.proofs.{CaseLemmas.stream-is, PiecePartLemmas.{IsPieceFile, laid-piece}}
 use Rattle.theorems.proofs.{SeamlessInputLemmas.{AreInputs, inputs-are}, SeamlessRunLemmas.not-true}
 use Rattle.theorems.proofs.{SplitFileLemmas.seamless-file, SplitFullLemmas.all-full}
 use Rattle.theorems.proofs.SplitJoinLemmas.{AreFiles, AreLaid, chosen_between, class-is, cut-last}
 use Rattle.theorems.proofs.SplitJoinLemmas.{cut-within, last-number, NoneAlike, number, parts-files}
 use Rattle.theorems.proofs.SplitJoinLemmas.{pieces-cut, Rise, seamless-stream, whole-cut}
-use Rattle.theorems.specs.SeamlessLaws.{bare_file, full_frames, has_no_look_alike, is_look_alike}
-use Rattle.theorems.specs.SeamlessLaws.{JoinsTheFrames, last_place, SplitThenSeamlessJoin}
+use Rattle.theorems.specs.SeamlessLaws.{bare_file, has_no_look_alike, is_look_alike, JoinsTheFrames}
+use Rattle.theorems.specs.SeamlessLaws.{last_place, SplitThenSeamlessJoin}
 
 -- pieces that were laid, as inputs
 module _ (file : List ℕ) (s : SurveyFields) (has : CanBeRelaid file s) where
@@ -76,8 +75,7 @@ module _ (file : List ℕ) (s : SurveyFields) (allowed : ℕ) (e : survey_fields
       last-number file s next places in
       let last : ℕ = number file s (last_place next places) in
       let some : a < last = omega (arith, are.0, cut-last file s b bs are.2, end_is) in
-      let within : last ≤ length s.frames =
-      subst (λ n. n ≤ length s.frames) (sym end_is) (cut-within file s b bs are.1 are.2) in
+      let within : last ≤ length s.frames = grind (arith, cut-within) in
       record {
         whole = own_slots_part (chosen_between a last) s;
         is = whole-cut file s place (last_place next places) some within;
@@ -89,11 +87,7 @@ module _ (file : List ℕ) (s : SurveyFields) (allowed : ℕ) (e : survey_fields
                   ∙ ap (λ n. stream_laid (own_slots_part (chosen_between a n) s) file s)
                   (sym end_is),
             );
-        full =
-            all-full file s has known a b bs first parts are inputs files
-            (class-is file s has a b bs first parts are inputs files)
-            ∙ ap₂ (λ (f : List StreamFrame) (n : ℕ). full_frames s.class (slice_range f a n))
-            (sym streams) (sym end_is);
+        full = grind (arith, all-full, class-is);
       }
 
 -- the class of a survey is a class that frames can have

@@ -11,8 +11,7 @@ use Rattle.frame_header.specs.{Fields.{ClassFields, IsClass}, Tables.window_of}
 use Rattle.join_edits.specs.Seamless.{begins_blank, part_brought, seamless_file}
 use Rattle.laying.proofs.{LaidLemmas.first-there, SurveyFrameLemmas.survey-had}
 use Rattle.laying.specs.{Laid.LaidPart, Needs.need_of, Relaid.FilePart, Surveys.CanBeRelaid}
-use Rattle.seam_plan.{proofs.FollowLemmas.get-drop, specs.Frames.needs_of}
-use Rattle.seam_plan.specs.Joins.{has_lead_in, leads_others}
+use Rattle.seam_plan.{proofs.FollowLemmas.get-drop, specs.Joins.has_lead_in}
 use Rattle.split_edits.specs.Recording.{piece_lead_ins}
 use Rattle.sync_survey.proofs.SurveyedFileLemmas.{survey_of-parts}
 use Rattle.sync_survey.specs.{Faults.{survey_fields, SurveyFields}, MainData.StreamFrame}
@@ -24,8 +23,8 @@ use Rattle.theorems.proofs.SplitJoinLemmas.{all_stream, AreFiles, chosen_between
 use Rattle.theorems.proofs.SplitJoinLemmas.{cut-last, cut-within, laid_between, NoneAlike, number}
 use Rattle.theorems.proofs.SplitJoinLemmas.{parts-files, pieces-cut, Rise, same-many}
 use Rattle.theorems.proofs.SplitLemmas.{class-of, laid-files}
-use Rattle.theorems.specs.SeamlessLaws.{bare_file, bare_row_file, full_frames, is_empty_frame}
-use Rattle.theorems.specs.SeamlessLaws.{is_look_alike, IsJoinedInSteps, StepsJoinTheSame}
+use Rattle.theorems.specs.SeamlessLaws.{bare_file, full_frames, is_empty_frame, is_look_alike}
+use Rattle.theorems.specs.SeamlessLaws.{IsJoinedInSteps, StepsJoinTheSame}
 
 -- ---- streams without an empty frame
 
@@ -44,9 +43,7 @@ pub none-empty : (c : ClassFields) (stream : List StreamFrame) (i : ℕ) (f : St
 none-empty c [] i f full found empty = absurd cc
 none-empty c (g ∷ stream) zero f full found empty =
     let same : g ≡ f = cc in
-    let dropped : full_frames c stream ≡ g ∷ stream =
-    sym (ap (λ b. cond (not b) (g ∷ full_frames c stream) (full_frames c stream))
-    (ap (is_empty_frame c) same ∙ empty)) ∙ full in
+    let dropped : full_frames c stream ≡ g ∷ stream = grind arith in
     omega (
       arith,
       filter-few (λ x. not (is_empty_frame c x)) stream,
@@ -91,16 +88,11 @@ module _ (file : List ℕ) (s : SurveyFields) (has : CanBeRelaid file s) (known 
         let both = and_parts (piece_lead_ins l == 0)
         (has_lead_in (window_of p.survey.class.version) (part_brought p)) alike in
         let none : piece_lead_ins l ≡ 0 = eqb-true (piece_lead_ins l) 0 both.0 in
-        let blank : begins_blank p.survey.frames ≡ true =
-        (and_parts (part_brought p).blank
-        (leads_others (window_of p.survey.class.version) (needs_of (part_brought p).frames))
-        both.1).0
+        let blank : begins_blank p.survey.frames ≡ true = grind (arith, and_parts)
         in
         let leads = own_leads (chosen_between a b) file s has some within refl in
         let many : length (map need_of (slice_range s.frames a b)) ≡ b - a =
-        length-map (slice_range s.frames a b) need_of
-        ∙ length-take-le (b - a) (drop a s.frames)
-        (omega (arith, length-drop a s.frames, within)) in
+        grind (arith, length-map, length-take-le, length-drop) in
         let no_lead : length leads.leads ≡ 0 = omega (arith, leads.many, many, none) in
         let whole : whole_stream s.class p is ≡ leads.leads ++ slice_range (all_stream file s) a b =
         piece-stream (chosen_between a b) file s has some within refl made.row made.row_is made.back
@@ -144,10 +136,8 @@ module _ (file : List ℕ) (s : SurveyFields) (has : CanBeRelaid file s) (known 
       → AreInputs s.class parts → AreFiles file s a bs parts → NoneAlike file s has a bs parts
   none-alike a [] parts are inputs files = tt
   none-alike a (b ∷ bs) [] are inputs files = absurd files
-  none-alike a (b ∷ bs) (p ∷ parts) are inputs files = (
-    one-none a b are.0 are.1 p inputs.0 files.0,
-    none-alike b bs parts are.2 inputs.1 files.1,
-  )
+  none-alike a (b ∷ bs) (p ∷ parts) are inputs files =
+      grind (arith, one-none, none-alike b bs parts are.2 inputs.1 files.1)
 
 -- ---- the pieces in two lists
 
@@ -217,14 +207,11 @@ pub step-files : (first : FilePart) (parts others : List FilePart)
     → (steps.joined.file ≡ seamless_file (first ∷ parts))
     × (map (λ (p : FilePart). Some p.file) others ≡ map (λ (p : FilePart). Some p.file) steps.more)
 step-files first parts others steps =
-    let names : map steps.files steps.names
-    ≡ map (λ (p : FilePart). Some p.file) (steps.joined ∷ steps.more) =
-    parts-files steps.files 0 None most_frames steps.names (steps.joined ∷ steps.more)
-    steps.taken in
-    let both : Some steps.joined.file ∷ map (λ (p : FilePart). Some p.file) steps.more
-    ≡ Some (seamless_file (first ∷ parts)) ∷ map (λ (p : FilePart). Some p.file) others =
-    sym names ∙ steps.are in
-    (cc, cc)
+    grind (
+      arith,
+      parts-files steps.files 0 None most_frames steps.names (steps.joined ∷ steps.more)
+          steps.taken,
+    )
 
 module _ (file : List ℕ) (s : SurveyFields) (allowed : ℕ) (e : survey_fields file allowed ≡ Ok s)
     (has : CanBeRelaid file s) (known : IsClass s.class)
@@ -246,14 +233,7 @@ module _ (file : List ℕ) (s : SurveyFields) (allowed : ℕ) (e : survey_fields
       → bytes ≡ bare_file (laid_between file s has a last) file s
       → IsPieceFile (chosen_between a last) file s bytes
   joined-piece a last bytes within is =
-      let first = first-there s.frames a within in
-      record {
-        row = first.0;
-        row_is = first.1;
-        back = [];
-        blocks = tt;
-        file_is = is ∙ ap (λ o. bare_row_file o (laid_between file s has a last) file s) first.1;
-      }
+      grind (arith, first-there s.frames a within, laid_between file s has a last)
 
   two-steps : (a b : ℕ) (bs : List ℕ) (first : FilePart) (parts others : List FilePart)
       → Rise file s a (b ∷ bs) → AreInputs first.survey.class (first ∷ (parts ++ others))
@@ -265,8 +245,7 @@ module _ (file : List ℕ) (s : SurveyFields) (allowed : ℕ) (e : survey_fields
       let mid : ℕ = last_point b cut.first in
       let front_rise : Rise file s a (b ∷ cut.first) = (are.0, are.1, cut.rise) in
       let step : seamless_file (first ∷ parts) ≡ bare_file (laid_between file s has a mid) file s =
-      all-joined a b cut.first first parts front_rise
-      (inputs.0, inputs-front first.survey.class parts others inputs.1) (files.0, cut.files) in
+      grind (arith, all-joined, inputs-front) in
       let stepped = step-files first parts others steps in
       let early : b ≤ mid = cut-last file s b cut.first cut.rise in
       let later : mid ≤ length s.frames = cut-within file s b cut.first are.1 cut.rise in

@@ -1,13 +1,12 @@
 -- No frame of a written file is lost, whether its head is set apart or not.
 use Rattle.std.proofs.Common.{ap, arith, Bool, Err, inl, length, List, None, Ok, Option, refl}
-use Rattle.std.proofs.Common.{Result, Some, subst, sym, ℕ, [], ◌+◌, ◌∙◌, ◌∷◌, ◌≡◌}
-use Rattle.std.proofs.lemmas.List.{length-map, FromFn.length-range_with_len}
-use Rattle.std.specs.{List.range_with_len, Prelude.◌≤◌}
+use Rattle.std.proofs.Common.{Result, Some, subst, sym, ℕ, [], ◌+◌, ◌∷◌, ◌≡◌}
+use Rattle.std.{proofs.lemmas.List.{length-map, FromFn.length-range_with_len}, specs.Prelude.◌≤◌}
 use Rattle.commands.{proofs.{InputLemmas.made_parts, RefusingLemmas.then_ok}, specs.Command.Made}
 use Rattle.commands.specs.Refusing.{then_made}
-use Rattle.commands.specs.SingleOutput.{clash_in, clash_or, command_result, input_result}
-use Rattle.commands.specs.SingleOutput.{most_frames, one_command, Task, task_result}
-use Rattle.commands.specs.{WithText.with_text, declared.fault.EditFault.EditFault}
+use Rattle.commands.specs.SingleOutput.{clash_or, command_result, input_result, most_frames}
+use Rattle.commands.specs.{SingleOutput.{one_command, Task, task_result}, WithText.with_text}
+use Rattle.commands.specs.declared.fault.EditFault.{EditFault}
 use Rattle.cue_sheet.specs.declared.place.Place.{Place}
 use Rattle.cut_edits.proofs.ChosenLemmas.{all_choosing, by_usual, cut_choosing, first_is_planning}
 use Rattle.cut_edits.proofs.ChosenLemmas.{IsChoosing, IsPlanning, laid-parts, plan-fitting}
@@ -15,38 +14,30 @@ use Rattle.cut_edits.proofs.ChosenLemmas.{usual_slots}
 use Rattle.cut_edits.proofs.PieceLemmas.{head_long, piece-loses-none, piece-parts}
 use Rattle.cut_edits.proofs.PieceLemmas.{span-survey_without_head, span-there}
 use Rattle.cut_edits.proofs.PieceLemmas.{survey_without_head-relaid}
-use Rattle.cut_edits.specs.Chosen.{all_choice, Choosing, chosen_file, cut_choice, cut_command}
-use Rattle.cut_edits.specs.Chosen.{cut_refuses, first_planning, laying_making, laying_task}
-use Rattle.cut_edits.specs.Chosen.{own_slots_part, placed_part, Planning, slot_choices}
-use Rattle.cut_edits.specs.Exact.{exact_command, exact_making, exact_part, exact_task, file_span}
-use Rattle.cut_edits.specs.Exact.{span_piece, survey_without_head}
+use Rattle.cut_edits.specs.Chosen.{Choosing, chosen_file, cut_choice, cut_command, first_planning}
+use Rattle.cut_edits.specs.Chosen.{laying_making, own_slots_part, placed_part, Planning}
+use Rattle.cut_edits.specs.Exact.{exact_command, exact_making, exact_part, file_span, span_piece}
+use Rattle.cut_edits.specs.Exact.{survey_without_head}
 use Rattle.exact_span.specs.declared.{exact_place.ExactPlace.ExactPlace, span.Span.Span}
 use Rattle.frame_header.specs.Fields.{ClassFields}
 use Rattle.frame_writer.specs.Frames.{Frame}
 use Rattle.join_edits.proofs.RunFileLemmas.{files-lose-none}
-use Rattle.join_edits.specs.Join.{join_command, join_parts, join_task, joined_file, joined_frames}
-use Rattle.join_edits.specs.Join.{joined_plan, joined_row_file}
-use Rattle.join_edits.specs.Seamless.{seamless_command, seamless_file, seamless_task}
-use Rattle.join_edits.specs.Seamless.{seamless_text_or_none}
+use Rattle.join_edits.specs.Join.{join_command, join_parts, joined_file, joined_frames, joined_plan}
+use Rattle.join_edits.specs.{Join.joined_row_file, Seamless.seamless_command}
 use Rattle.laying.proofs.{FittingFrameLemmas.planned-frames-stay, HoldLemmas.blocks-kept}
 use Rattle.laying.proofs.{LaidLemmas.{first-there, laid-loses-none}, SurveyFrameLemmas.survey-had}
 use Rattle.laying.specs.{KeptFields.fields_of_head, Laid.{file_laid, LaidPart}}
 use Rattle.laying.specs.{LaidFiles.HasInfoSizes, LaidLaws.LosesNoFrame, NeedsFit.own_choice}
-use Rattle.laying.specs.Relaid.{AreParts, FilePart}
-use Rattle.laying.specs.Written.{front_blocks, plain_info, table_entry}
+use Rattle.laying.specs.{Relaid.{AreParts, FilePart}, Written.{front_blocks, plain_info}}
 use Rattle.outside.specs.Files.{Contents}
-use Rattle.pack_edits.proofs.ModeLemmas.{planning}
-use Rattle.pack_edits.specs.Modes.{mode_planning, pack_mode_command, pack_task}
+use Rattle.pack_edits.{proofs.ModeLemmas.planning, specs.Modes.pack_mode_command}
 use Rattle.requests.specs.declared.mode.PackMode.{PackMode}
 use Rattle.salvage.specs.DamagedFiles.{damaged_of, DamagedFields}
-use Rattle.salvage_edits.specs.Salvaged.{all_chosen, input_salvage_text, input_salvaged}
-use Rattle.salvage_edits.specs.Salvaged.{salvage_command, salvage_task, salvaged_file}
+use Rattle.salvage_edits.specs.Salvaged.{all_chosen, input_salvaged, salvage_command, salvaged_file}
 use Rattle.salvage_edits.specs.Salvaged.{salvaged_or_fault}
 use Rattle.split_edits.proofs.{CommandLemmas.first-parts, PartsLemmas.split-parts}
 use Rattle.split_edits.specs.Cutting.{Cutting, piece_parts, piece_parts_from, pieces_from}
-use Rattle.split_edits.specs.Cutting.{split_command, with_first}
-use Rattle.split_edits.specs.Split.{cut_part, given_cutting, given_exact_cutting, sheet_cutting}
-use Rattle.split_edits.specs.Split.{sheet_exact_cutting}
+use Rattle.split_edits.specs.{Cutting.{split_command, with_first}, Split.cut_part}
 use Rattle.sync_survey.specs.{Faults.SurveyFields, HeadApart.emptied_survey, Row.Row}
 use Rattle.sync_survey.specs.{Survey.survey_of, declared.survey_fault.SurveyFault.SurveyFault}
 use Rattle.theorems.proofs.{ChosenCaseLemmas.packed-made, JoinCaseLemmas.{join-plan, parts-join}}
@@ -69,8 +60,7 @@ one_writes : (task : Task) (output : List ℕ)
     → ((files : Contents) (bytes : List ℕ) → task.makes files ≡ Ok bytes → LosesNoFrame bytes)
     → WritesAllFrames (one_command task output)
 unfolding task_result
-one_writes task output stays files made e =
-    one-stays output (clash_in task output) (task.makes files) (stays files) made e
+one_writes task output stays files made e = grind (arith, one-stays)
 
 -- ---- frames that are chosen from one file, in the slots of a plan
 
@@ -97,20 +87,12 @@ module _ (choose : Choosing) (plan : Planning) (choosing : IsChoosing choose)
 cut-stay : (from to : Place) (least : Bool) (input output : List ℕ)
     → WritesAllFrames (cut_command from to least input output)
 cut-stay from to least input output =
-    one_writes (laying_task (cut_choice from to)
-    (first_planning (slot_choices least)) cut_refuses input) output
-    (λ files bytes e. where-stay (cut_choice from to) (first_planning (slot_choices least))
-    (cut_choosing from to) (first_is_planning (slot_choices least) (by_usual least))
-    (files input) bytes e)
+    search (arith, one_writes, where-stay, cut_choosing, first_is_planning, by_usual)
 
 pack-stay : (mode : PackMode) (input output : List ℕ)
     → WritesAllFrames (pack_mode_command mode input output)
 pack-stay mode input output =
-    one_writes (pack_task mode input) output
-    (λ files bytes e.
-    where-stay all_choice (mode_planning mode) all_choosing (planning mode) (files input) bytes
-    (packed-made mode (files input)
-    (input_result (laying_making all_choice (mode_planning mode)) (files input)) bytes e))
+    grind (arith, one_writes, where-stay, all_choosing, planning, packed-made)
 
 -- ---- the frames that a decoder needs for some samples
 
@@ -129,14 +111,7 @@ module _ (from to : ExactPlace) (file : List ℕ) (s : SurveyFields)
   samples-stay : (laid : LaidPart) → exact_part from to file s ≡ Ok laid
       → LosesNoFrame (file_laid laid file (survey_without_head s))
   unfolding exact_part
-  samples-stay laid e =
-      let head = fields_of_head file s.head in
-      let one =
-      then_ok (file_span from to head s)
-      (λ span. Ok (span_piece head span file (survey_without_head s))) laid e in
-      let same : span_piece head one.0 file (survey_without_head s) ≡ laid = cc in
-      subst (λ (l : LaidPart). LosesNoFrame (file_laid l file (survey_without_head s))) same
-      (span-stays one.0 one.1)
+  samples-stay laid e = grind (arith, then_ok, span-stays)
 
 exact-stays : (from to : ExactPlace) (o : Option (List ℕ)) (made : List ℕ)
     → input_result (exact_making from to) o ≡ Ok made → LosesNoFrame made
@@ -148,8 +123,7 @@ exact-stays from to (Some file) made e =
 
 exact-stay : (input : List ℕ) (from to : ExactPlace) (output : List ℕ)
     → WritesAllFrames (exact_command from to input output)
-exact-stay input from to output = one_writes (exact_task from to input) output
-    (λ files bytes e. exact-stays from to (files input) bytes e)
+exact-stay input from to output = search (arith, one_writes, exact-stays)
 
 -- ---- the pieces of a split
 
@@ -186,11 +160,7 @@ module _ {P : Type 0} (cut : Cutting P) (prefix : List ℕ)
     pieces-stay (place ∷ places) all e = from-stay 1 place places all e
 
   split-stays : (input : List ℕ) → WritesAllFrames (split_command cut input prefix)
-  split-stays input files made e =
-      let parts = (split-parts cut files prefix input made e).1 in
-      let is = parts.0 in
-      subst (λ (m : Made). AllLoseNoFrame m.outputs)
-      parts.1 (pieces-stay is.file is.survey is.surveyed is.found is.laid is.picked)
+  split-stays input files made e = grind (arith, split-parts, pieces-stay)
 
 -- ---- all frames of several files
 
@@ -203,11 +173,7 @@ module _ (first : FilePart) (more : List FilePart)
   frames = joined_frames class (first ∷ more)
 
   info-sizes : HasInfoSizes (plain_info class frames)
-  info-sizes = record {
-    table = length-map (range_with_len 0 100) (table_entry class frames)
-        ∙ length-range_with_len 0 100;
-    extension = refl;
-  }
+  info-sizes = grind (arith, length-map, length-range_with_len)
 
   joined-stays : LosesNoFrame (joined_file (first ∷ more))
   unfolding joined_file
@@ -226,18 +192,11 @@ inputs-stay : (files : Contents) (inputs : List (List ℕ)) → 1 ≤ length inp
     (parts : List FilePart) → join_parts files inputs ≡ Ok parts → LosesNoFrame (joined_file parts)
 inputs-stay files [] some parts e = absurd (omega (arith, some))
 inputs-stay files (name ∷ names) some parts e =
-    let is = parts-join files name names parts e in
-    subst (λ (l : List FilePart). LosesNoFrame (joined_file l))
-    is.is (joined-stays is.first is.more is.all.are)
+    grind (arith, parts-join files name names parts e, joined-stays)
 
 join-stay : (output : List ℕ) (inputs : List (List ℕ)) → 1 ≤ length inputs
     → WritesAllFrames (join_command output inputs)
-join-stay output inputs some =
-    one_writes (join_task inputs) output
-    (λ files bytes e.
-    let parts = then_ok (join_parts files inputs) (λ parts. Ok (joined_file parts)) bytes e in
-    let same : joined_file parts.0 ≡ bytes = cc in
-    subst LosesNoFrame same (inputs-stay files inputs some parts.0 parts.1))
+join-stay output inputs some = grind (arith, one_writes, then_ok, inputs-stay)
 
 -- ---- what is left of a damaged file
 
@@ -266,44 +225,32 @@ text-stays : (text : List ℕ) (r : Result Made EditFault)
     → ((made : Made) → r ≡ Ok made → AllLoseNoFrame made.outputs) → (made : Made)
     → with_text text r ≡ Ok made → AllLoseNoFrame made.outputs
 text-stays text (Err fault) stays made e = absurd cc
-text-stays text (Ok m) stays made e = let same : record m { text = text } ≡ made = cc in
-    subst (λ (m : Made). AllLoseNoFrame m.outputs) same (stays m refl)
+text-stays text (Ok m) stays made e = grind arith
 
 salvage-stay : (input output : List ℕ) → WritesAllFrames (salvage_command input output)
-salvage-stay input output files made e =
-    text-stays (input_salvage_text (files input))
-    ((one_command (salvage_task input) output).makes files)
-    (one_writes (salvage_task input) output
-    (λ files bytes e. read-stays (files input) bytes e) files) made e
+salvage-stay input output files made e = grind (arith, text-stays, one_writes, read-stays)
 
 -- ---- several files without seams
 
 seamless-stay : (output : List ℕ) (inputs : List (List ℕ)) → 1 ≤ length inputs
     → WritesAllFrames (seamless_command output inputs)
 seamless-stay output inputs some files made e =
-    let task = seamless_task inputs in
-    let text = seamless_text_or_none inputs (join_parts files inputs) in
-    text-stays text ((one_command task output).makes files)
-    (one_writes task output (λ files bytes e.
-    let parts = then_ok (join_parts files inputs) (λ parts. Ok (seamless_file parts)) bytes e in
-    let same : seamless_file parts.0 ≡ bytes = cc in
-    subst LosesNoFrame same (files-lose-none files inputs parts.0 some parts.1)) files) made e
+    grind (arith, text-stays, one_writes, then_ok, files-lose-none)
 
 -- ---- all commands
 
 -- no frame of a written file is lost
 pub frames-stay : WrittenFramesStay
-frames-stay = record {
-  cut = cut-stay;
-  cut_exact = exact-stay;
-  pack = pack-stay;
-  split_at = λ input prefix places. split-stays (given_cutting places) prefix range-stays input;
-  split_by = λ input prefix sheet. split-stays (sheet_cutting sheet) prefix range-stays input;
-  split_exact =
-      λ input prefix places. split-stays (given_exact_cutting places) prefix samples-stay input;
-  split_exact_by =
-      λ input prefix sheet. split-stays (sheet_exact_cutting sheet) prefix samples-stay input;
-  join = join-stay;
-  join_seamless = seamless-stay;
-  salvage = salvage-stay;
-}
+frames-stay =
+    search (
+      arith,
+      cut-stay,
+      exact-stay,
+      pack-stay,
+      split-stays,
+      range-stays,
+      samples-stay,
+      join-stay,
+      seamless-stay,
+      salvage-stay,
+    )

@@ -1,69 +1,38 @@
 -- The list that the table gives, after the lead-in that its sums give.
-use Rattle.std.proofs.Common.{ap, arith, get_or, length, map, subst, sym, [], ◌++◌, ◌∙◌, ◌∷◌, ◌≡◌}
+use Rattle.std.proofs.Common.{ap, arith, subst, [], ◌++◌, ◌∙◌, ◌∷◌, ◌≡◌}
 use Rattle.best_plan.proofs.PlanLemmas.{first-sum, plan-behind, plan-without, whole-sum}
 use Rattle.best_plan.proofs.{WalkLemmas.table-width, shortest.best.Goals.In_ok-table}
 use Rattle.best_plan.specs.{Best.IsBestPlan, Table.IsLeadInOfSums}
-use Rattle.slot_plan.{proofs.PartLemmas.{one-class, window-first}, specs.Layouts.HasLayout}
-use Rattle.slot_plan.specs.{Parts.{own_frame, window_in}, Plans.entries, Reserve.free_bytes_behind}
+use Rattle.slot_plan.{proofs.PartLemmas.{one-class, window-first}, specs.Parts.window_in}
+use Rattle.slot_plan.specs.{Plans.entries, Reserve.free_bytes_behind}
 use Rattle.best_plan.proofs.shortest.best.Given as given
 use Rattle.best_plan.proofs.shortest.best.Goals as goal
 
 pub table_of-requires-clause-class : goal.table_of-requires-clause-class
-table_of-requires-clause-class g c = one-class c.new-lengths.result c.args.needs.now
-    c.index-needs-0.result c.requires.class (c.new-lengths.ensures.class ∙ c.class-class.ensures)
+table_of-requires-clause-class g c = grind (arith, one-class)
 
 pub walk-requires-clause-class : goal.walk-requires-clause-class
-walk-requires-clause-class g c = one-class c.new-lengths.result c.args.needs.now
-    c.index-needs-0.result c.requires.class (c.new-lengths.ensures.class ∙ c.class-class.ensures)
+walk-requires-clause-class g c = grind (arith, one-class)
 
 pub walk-requires-2-clause-class : goal.walk-requires-2-clause-class
-walk-requires-2-clause-class g c = one-class c.new-lengths.result c.args.needs.now
-    c.index-needs-0.result c.requires.class (c.new-lengths.ensures.class ∙ c.class-class.ensures)
+walk-requires-2-clause-class g c = grind (arith, one-class)
 
 -- the window of the first frame is the window of all
 whole_window : (g : given.Over) (c : In_ok-table g)
     → c.window-window.result ≡ window_in c.args.needs.now
-whole_window g c =
-    window-first c.args.needs.now c.index-needs-0.result c.class-class.result c.window-window.result
-    c.requires.class c.requires.some c.class-class.ensures c.window-window.ensures.window
+whole_window g c = grind (arith, window-first)
 
 pub index-requires : goal.index-requires
-index-requires g c = omega (
-  arith,
-  table-width c.window-window.result (g.P.Policy.choices_of c.args.policy.now) c.args.needs.now
-      c.in_ok-table.table.sums.items c.in_ok-table.table.places.items c.in_ok-table.ensures,
-)
+index-requires g c = grind (arith, table-width)
 
 pub returns-then-index-lt-NOTHING : goal.returns-then-index-lt-NOTHING
-returns-then-index-lt-NOTHING g c =
-    let needs = c.args.needs.now in
-    let choices = g.P.Policy.choices_of c.args.policy.now in
-    let sums = c.in_ok-table.table.sums.items in
-    let window = whole_window g (goal.at.returns-then-index-lt-NOTHING g c).In_ok-table in
-    let first = first-sum c.window-window.result choices needs sums
-    c.in_ok-table.table.places.items c.index.result.now c.in_ok-table.ensures c.index.ensures in
-    subst (λ n. IsBestPlan n choices needs (entries c.from_placed.result)) window
-    (plan-without c.window-window.result choices needs sums c.in_ok-table.table.places.items
-    c.in_ok-placed.placed.items c.walk.new.placed.items (entries c.from_placed.result)
-    c.in_ok-table.ensures (omega (arith, first, c.if-index-lt-NOTHING.true))
-    c.in_ok-placed.ensures.items c.in_ok-walk.ensures c.from_placed.ensures)
+returns-then-index-lt-NOTHING g c = grind (arith, whole_window, first-sum, plan-without)
 
 pub lead_in-frame-requires-clause-sums : goal.lead_in-frame-requires-clause-sums
-lead_in-frame-requires-clause-sums g c =
-    ap length c.as_slice.ensures.value
-    ∙ table-width c.window-window.result (g.P.Policy.choices_of c.args.policy.now) c.args.needs.now
-    c.in_ok-table.table.sums.items c.in_ok-table.table.places.items c.in_ok-table.ensures
+lead_in-frame-requires-clause-sums g c = grind (arith, table-width)
 
 pub lead_in-frame-requires-clause-some : goal.lead_in-frame-requires-clause-some
-lead_in-frame-requires-clause-some g c =
-    let needs = c.args.needs.now in
-    let window = whole_window g (goal.at.lead_in-frame-requires-clause-some g c).In_ok-table in
-    let feasible =
-    subst (λ n. HasLayout n n (map own_frame needs)) (sym window) c.requires.feasible in
-    let whole = whole-sum c.window-window.result (g.P.Policy.choices_of c.args.policy.now) needs
-    c.in_ok-table.table.sums.items c.in_ok-table.table.places.items c.requires.few feasible
-    c.in_ok-table.ensures in
-    omega (arith, whole, ap (λ l. get_or l c.window-window.result 0) c.as_slice.ensures.value)
+lead_in-frame-requires-clause-some g c = grind (arith, whole_window, whole-sum)
 
 pub returns : goal.returns
 returns g c =

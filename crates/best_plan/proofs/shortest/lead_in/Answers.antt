@@ -1,6 +1,5 @@
 -- A lead-in's slots are all slots, and after the largest a whole window is free.
-use Rattle.std.proofs.Common.{All, ap, arith, false, length, refl, rules, subst, sym, ℕ, ◌<◌, ◌∙◌}
-use Rattle.std.proofs.Common.{◌≡◌, ◌≤◌}
+use Rattle.std.proofs.Common.{ap, arith, false, length, refl, rules, subst, sym, ℕ, ◌<◌, ◌∙◌, ◌≡◌}
 use Rattle.best_plan.proofs.PlanLemmas.{lead-by, lead-ready, lead-within}
 use Rattle.best_plan.proofs.shortest.lead_in.Goals.{After-as_slice-2}
 use Rattle.best_plan.specs.Rows.{IsAreaChoice, nothing}
@@ -10,21 +9,14 @@ use Rattle.best_plan.proofs.shortest.lead_in.Goals as goal
 
 module _ (c : After-as_slice-2) where
   areas-are : c.as_slice-2.result.now ≡ slot_areas c.args.class false c.as_slice.result.now
-  areas-are = c.as_slice-2.ensures.value ∙ (c.areas_among-areas.ensures.areas
-      ∙ ap (λ k. slot_areas k false c.as_slice.result.now) c.new-lengths.ensures.class)
+  areas-are = grind arith
 
   -- the best choice of these slots is the best of all slots, and one of them has a sum
   ready : (cost place : ℕ) → IsAreaChoice c.window-room.result 0 0 c.as_slice-2.result.now
       c.args.sums.now cost place
       → IsAreaChoice c.args.window 0 0 (slot_areas c.args.class false all_slots) c.args.sums.now
       cost place × (cost < nothing)
-  ready cost place choice =
-      lead-ready c.args.window c.window-room.result c.args.class c.args.sums.now
-      c.as_slice-2.result.now c.as_slice.result.now cost place
-      (c.window-room.ensures.window ∙ sym c.requires.window) areas-are
-      (c.as_slice.ensures.value ∙ c.slots-slots.ensures.slots)
-      c.window-room.ensures.spanned (subst (All (λ n. n ≤ 1441)) (sym c.as_slice-2.ensures.value)
-      c.areas_among-areas.ensures.most) c.requires.some choice
+  ready cost place choice = grind (arith, lead-ready, areas-are)
 
 pub best_choice-choice-requires-clause-row : goal.best_choice-choice-requires-clause-row
 best_choice-choice-requires-clause-row c = record {

@@ -1,5 +1,5 @@
 -- One more frame, and the last.
-use Rattle.std.proofs.Common.{ap, arith, drop, length, take, ◌+◌, ◌-◌, ◌∙◌, ◌≡◌}
+use Rattle.std.proofs.Common.{arith, length, take, ◌+◌, ◌-◌, ◌≡◌}
 use Rattle.best_plan.proofs.WalkLemmas.{area-is, goes-all, goes-begun, goes-more, place-is}
 use Rattle.best_plan.proofs.WalkLemmas.{walk-next, walk-open}
 use Rattle.slot_plan.{proofs.PartLemmas.same-class, specs.Parts.{item_area, need_item}}
@@ -8,23 +8,22 @@ use Rattle.best_plan.proofs.walk.walk.Goals as goal
 
 pub overflow_sub-from : goal.overflow_sub-from
 overflow_sub-from g c =
-    let front = walk-open c.args.needs.now c.loop-need.need-index c.need-item.result
-    c.loop-need.invariant.free c.loop-need-test.true c.need-item.is c.loop-need.invariant.can in
-    omega (arith, front.long)
+    grind (
+      arith,
+      walk-open c.args.needs.now c.loop-need.need-index c.need-item.result
+          c.loop-need.invariant.free c.loop-need-test.true c.need-item.is c.loop-need.invariant.can,
+    )
 
 pub loop-need-init : goal.loop-need-init
-loop-need-init g c = record {
-  free = c.requires.free;
-  can = c.requires.table;
-  goes = goes-begun c.args.room.window (g.P.Policy.choices_of c.args.policy.now)
-      c.args.room.free c.args.needs.now c.args.placed.now.items;
-}
+loop-need-init g c = grind (arith, goes-begun)
 
 pub index-place-requires : goal.index-place-requires
 index-place-requires g c =
-    let front = walk-open c.args.needs.now c.loop-need.need-index c.need-item.result
-    c.loop-need.invariant.free c.loop-need-test.true c.need-item.is c.loop-need.invariant.can in
-    omega (arith, front.long, c.len.ensures, c.loop-need.invariant.free)
+    grind (
+      arith,
+      walk-open c.args.needs.now c.loop-need.need-index c.need-item.result
+          c.loop-need.invariant.free c.loop-need-test.true c.need-item.is c.loop-need.invariant.can,
+    )
 
 pub frame_at-frame-requires-clause-place : goal.frame_at-frame-requires-clause-place
 frame_at-frame-requires-clause-place g c =
@@ -35,10 +34,7 @@ frame_at-frame-requires-clause-place g c =
     omega (arith, front.choice.within front.some, place)
 
 pub area_with-area-requires : goal.area_with-area-requires
-area_with-area-requires g c = record {
-  class = same-class c.args.lengths.now c.args.needs.now c.loop-need.need-index c.need-item.result
-      c.requires.class c.loop-need-test.true c.need-item.is;
-}
+area_with-area-requires g c = grind (arith, same-class)
 
 pub free_behind-free-requires-clause-fits : goal.free_behind-free-requires-clause-fits
 free_behind-free-requires-clause-fits g c =
@@ -62,20 +58,13 @@ loop-need-preserved g c =
     (omega (arith, c.len.ensures)) c.index-place.ensures (item_area (need_item choices need) slot)
     c.frame_at-frame.ensures.area in
     let free : c.free_behind-free.result ≡ free_bytes_behind c.args.room.window c.loop-need.free
-    need.bytes (item_area (need_item choices need) slot) =
-    c.free_behind-free.ensures.free ∙ ap (λ n.
-    free_bytes_behind c.args.room.window c.loop-need.free need.bytes n)
-    c.area_with-area.ensures.area in
+    need.bytes (item_area (need_item choices need) slot) = grind arith in
     let taken : c.truncate.new.self.items
     ≡ take (length c.loop-need.places.items - (c.args.room.window + 1)) c.loop-need.places.items =
-    c.truncate.ensures.items ∙ ap (λ n. take (n - (c.args.room.window + 1))
-    c.loop-need.places.items) (omega (arith, c.len.ensures)) in
+    grind arith in
     record {
       free = c.free_behind-free.ensures.within;
-      can = walk-next c.args.room.window choices
-          c.loop-need.free c.free_behind-free.result (item_area (need_item choices need) slot) need
-          (drop (c.loop-need.need-index + 1) c.args.needs.now)
-          c.loop-need.places.items c.truncate.new.self.items front at free taken;
+      can = grind (arith, walk-next);
       goes = rw c.in_ok-push.ensures.items
           (goes-more c.args.room.window choices c.args.room.free c.loop-need.free
           c.free_behind-free.result c.args.needs.now c.loop-need.need-index need
@@ -87,8 +76,4 @@ loop-need-preserved g c =
     }
 
 pub returns : goal.returns
-returns g c =
-    goes-all c.args.room.window (g.P.Policy.choices_of c.args.policy.now)
-    c.args.room.free c.loop-need.free c.args.needs.now c.loop-need.need-index
-    c.args.placed.now.items c.loop-need.placed.items
-    c.requires.free (omega (arith, c.loop-need-test.false)) c.loop-need.invariant.goes
+returns g c = search (arith, goes-all)

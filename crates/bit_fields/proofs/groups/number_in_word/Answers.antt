@@ -8,11 +8,16 @@ returns c =
     let few : c.args.n < 64 = omega arith in
     let word : c.min-first.result + 8 - c.min-first.result ≡ 8 = omega arith in
     record {
-      value = rw (one_shl c.args.n 64 few)
-          (read_group c.args.bytes.now c.args.at c.args.n c.min-first.result
-          (c.min-first.result + 8) c.word_at.result
-          (omega (arith, c.min-first.ensures)) (omega (arith, c.min-first.ensures)) (omega arith)
-          (omega (arith, c.min-first.ensures))
-          (rw word c.word_at.ensures));
+      value =
+          grind (
+            arith,
+            one_shl c.args.n 64 few,
+            read_group c.args.bytes.now c.args.at c.args.n
+                c.min-first.result (c.min-first.result + 8) c.word_at.result (omega (
+                  arith,
+                  c.min-first.ensures,
+                )) (omega (arith, c.min-first.ensures)) (omega arith) (omega
+                (arith, c.min-first.ensures)) (rw word c.word_at.ensures),
+          );
       below = search rules;
     }

@@ -1,6 +1,6 @@
 -- No bit is lost.
-use Rattle.std.proofs.Common.{ap, arith, pow_mono, refl, ◌+◌, ◌-◌, ◌/◌, ◌<◌, ◌^◌, ◌∙◌, ◌≡◌, ◌≤◌}
-use Rattle.std.proofs.{Math.Nat.add_comm, lemmas.Nat.{one_shl, shr-shr}}
+use Rattle.std.proofs.Common.{arith, pow_mono, ◌+◌, ◌-◌, ◌/◌, ◌<◌, ◌^◌, ◌≡◌, ◌≤◌}
+use Rattle.std.proofs.lemmas.Nat.{one_shl, shr-shr}
 use Rattle.bit_fields.proofs.GroupBytesLemmas.{above_whole, upper_small, upper_whole, whole_small}
 use Rattle.bit_fields.proofs.groups.with_group.Goals.{After-from}
 use Rattle.bit_fields.proofs.groups.with_group.Goals as goal
@@ -10,8 +10,7 @@ small c = omega arith
 
 above : (c : After-from)
     → c.args.window / 2 ^ c.args.low / 2 ^ c.args.n ≡ c.args.window / 2 ^ (c.args.n + c.args.low)
-above c = shr-shr c.args.window c.args.low c.args.n
-    ∙ ap (λ k. c.args.window / 2 ^ k) (add_comm c.args.low c.args.n)
+above c = grind (arith, shr-shr)
 
 pub overflow_add-result : goal.overflow_add-result
 overflow_add-result c =
@@ -38,9 +37,10 @@ overflow_add-result-2 c =
 
 pub returns : goal.returns
 returns c =
-    let kept = above_whole 64 c.args.window c.args.n c.args.low c.args.value (small c)
-    (omega arith) c.requires.fits (omega arith) in
-    let upper = upper_whole 64 c.args.window c.args.n c.args.low c.args.value (small c)
-    (omega arith) c.requires.fits (omega arith) in
-    let one = one_shl c.args.low 64 (omega arith) in
-    rw (c.from.ensures, above c, kept, upper, one) refl
+    grind (
+      arith,
+      upper_whole 64 c.args.window c.args.n c.args.low c.args.value (small c) (omega
+          arith) c.requires.fits (omega arith),
+      one_shl c.args.low 64 (omega arith),
+      above c,
+    )

@@ -1,14 +1,11 @@
 -- All bytes of the sheet are read, or the cause is that of the read.
-use Rattle.std.proofs.Common.{ap, rules, subst, sym}
+use Rattle.std.proofs.Common.{ap, rules}
 use Rattle.commands.proofs.SheetLemmas.{read-stops}
 use Rattle.commands.specs.declared.fault.EditFault.TheVariants.{Input}
-use Rattle.outside.specs.Files.{Holds}
 use Rattle.commands.proofs.sheet.sheet_bytes.Goals as goal
 
 pub read_exact-requires-clause-found : goal.read_exact-requires-clause-found
-read_exact-requires-clause-found g c = λ bytes holds.
-    sym (c.in_ok-length.ensures.length bytes
-    (subst (λ f. Holds f c.args.sheet.now bytes) c.sheet_length.ensures.sheet.reads.files holds))
+read_exact-requires-clause-found g c = search rules
 
 pub returns-in-Err-clause-sheet : goal.returns-in-Err-clause-sheet
 returns-in-Err-clause-sheet g c =

@@ -1,28 +1,20 @@
 -- The frames of the span have their plan, with at most one place more than frames.
-use Rattle.std.proofs.Common.{ap, ap₂, arith, length, List, None, Option, refl, subst, sym, ◌∙◌}
-use Rattle.std.{proofs.Common.◌≡◌, specs.Prelude.option_copied}
+use Rattle.std.proofs.Common.{ap, arith, length, List, None, Option, refl, subst, sym, ◌≡◌}
 use Rattle.cut_edits.proofs.PieceLemmas.{span_chosen}
 use Rattle.cut_edits.proofs.SpanLemmas.{with-few, with-fitting, with-leads, with-many}
 use Rattle.cut_edits.specs.Chosen.{chosen_needs}
-use Rattle.cut_edits.specs.Exact.{quality_of, sealed_part, span_extension, span_needs, span_part}
-use Rattle.cut_edits.specs.Exact.{span_piece, span_plan}
+use Rattle.cut_edits.specs.Exact.{quality_of, span_extension, span_needs, span_part, span_piece}
+use Rattle.cut_edits.specs.Exact.{span_plan}
 use Rattle.exact_span.specs.declared.span.Span.{Span}
 use Rattle.frame_header.specs.{Fields.ClassFields, Tables.window_of}
 use Rattle.info_header.specs.declared.fields.Info.{Info}
-use Rattle.laying.specs.{Fits.IsFittingPlan, Laid.{laid_part, LaidPart}, declared.info.Kept.Kept}
-use Rattle.slot_plan.specs.{Plans.entries, declared.needs.Placed.Placed}
+use Rattle.laying.specs.{Fits.IsFittingPlan, Laid.laid_part, declared.info.Kept.Kept}
+use Rattle.slot_plan.specs.declared.needs.Placed.{Placed}
 use Rattle.sync_survey.specs.Faults.{survey_view, SurveyFields}
 use Rattle.cut_edits.proofs.pieces.select_piece.Goals as goal
 
 pub plan_piece-requires : goal.plan_piece-requires
-plan_piece-requires c = record {
-  there = record {
-    laid = c.requires.laid;
-    few = c.requires.few;
-    some = c.requires.there.some;
-    within = c.requires.there.within;
-  };
-}
+plan_piece-requires c = grind arith
 
 pub kept_of-kept-requires-clause-span : goal.kept_of-kept-requires-clause-span
 kept_of-kept-requires-clause-span c = rw (c.class.ensures) c.requires.there.is
@@ -70,21 +62,8 @@ same_laid : (head : Option Info) (span : Span) (s : SurveyFields) (kept : Kept)
     → kept ≡ record { quality = quality_of head; extension = span_extension head class span given }
     → class ≡ s.class → given ≡ placed → placed ≡ span_plan span.led s.class (span_needs span s)
     → laid_part span.first span.last kept placed ≡ span_part head span s
-same_laid head span s kept placed given class is same own planned =
-    ap (λ (k : Kept). laid_part span.first span.last k placed) is
-    ∙ ap₂ (λ (c : ClassFields) (g : List Placed). laid_part span.first span.last
-    (record { quality = quality_of head; extension = span_extension head c span g }) placed) same
-    own
-    ∙ ap (λ (p : List Placed). laid_part span.first span.last
-    (record { quality = quality_of head; extension = span_extension head s.class span p }) p)
-    planned
+same_laid head span s kept placed given class is same own planned = grind arith
 
 pub returns-clause-laid : goal.returns-clause-laid
 unfolding span_piece
-returns-clause-laid c = λ file has.
-    let s = survey_view c.args.survey.now in
-    c.select_sealed.ensures.laid file has
-    ∙ ap (λ (l : LaidPart). sealed_part l file s)
-    (same_laid (option_copied c.args.head) c.args.span.now s
-    c.kept_of-kept.result (entries c.in_ok-plan.plan) c.placed.result.now c.class.result
-    c.kept_of-kept.ensures c.class.ensures c.placed.ensures c.in_ok-plan.ensures)
+returns-clause-laid c = grind (arith, same_laid)

@@ -1,8 +1,8 @@
 -- The chosen frames can be laid by their plan, which has at most one place more than frames.
-use Rattle.std.proofs.Common.{ap, arith, drop, length, subst, sym, ◌-◌, ◌∙◌}
+use Rattle.std.proofs.Common.{ap, arith, drop, length, subst, sym, ◌-◌}
 use Rattle.std.proofs.lemmas.List.{length-map, length-take}
 use Rattle.cut_edits.proofs.ChosenLemmas.{by_usual, plan-few, plan-fitting}
-use Rattle.cut_edits.specs.Chosen.{chosen_in, chosen_needs, chosen_rows, placed_part, slot_choices}
+use Rattle.cut_edits.specs.Chosen.{chosen_in, chosen_needs, chosen_rows, slot_choices}
 use Rattle.frame_header.specs.Tables.{window_of}
 use Rattle.laying.specs.{Fits.IsFittingPlan, Needs.need_of}
 use Rattle.sync_survey.specs.Faults.{survey_view}
@@ -34,7 +34,4 @@ new-requires-clause-fitting c =
     (slot_choices c.args.least) (by_usual c.args.least))
 
 pub returns : goal.returns
-returns c = record {
-  laid = c.new.ensures.laid ∙ ap (placed_part (chosen_in c.args.chosen.now)) c.in_ok-plan.ensures;
-  writable = c.new.ensures.writable;
-}
+returns c = grind arith

@@ -1,5 +1,5 @@
 -- The played positions are within a file that isn't too long, and the frames of the span are there.
-use Rattle.std.proofs.Common.{ap, ap₂, arith, Err, length, Ok, Option, Result, sym, ℕ, ◌∙◌, ◌≡◌}
+use Rattle.std.proofs.Common.{ap, arith, Err, length, Ok, Option, Result, ℕ, ◌≡◌}
 use Rattle.std.proofs.lemmas.Result.{MatchResult-weaker}
 use Rattle.std.specs.Prelude.{IfOk, MatchResult, option_copied}
 use Rattle.commands.specs.declared.fault.EditFault.{EditFault}
@@ -22,12 +22,7 @@ found : (from to : ExactPlace) (head : Option Info) (s : SurveyFields) (class : 
     → played ≡ played_of head class n → MatchResult r (λ span. span_between class played from to
     ≡ Ok span) (λ fault. span_between class played from to ≡ Err fault) → IsFound from to head s r
 unfolding file_span
-found from to head s class played n r same count is clause =
-    let whole : span_between s.class (played_of head s.class (length s.frames)) from to
-    ≡ span_between class played from to =
-    sym (ap₂ (λ (k : ClassFields) (p : Played). span_between k p from to) same
-    (is ∙ ap₂ (played_of head) same count)) in
-    MatchResult-weaker r clause (λ span found. whole ∙ found) (λ fault found. whole ∙ found)
+found from to head s class played n r same count is clause = grind (arith, MatchResult-weaker)
 
 there : (from to : ExactPlace) (head : Option Info) (s : SurveyFields) (r : Result Span EditFault)
     → IsFound from to head s r → IfOk r (IsSpanIn s)
@@ -35,16 +30,10 @@ there from to head s (Ok span) is = span-there from to head s span is
 there from to head s (Err fault) is = tt
 
 pub span_between-requires-clause-most : goal.span_between-requires-clause-most
-span_between-requires-clause-most c =
-    rw (c.of-played.ensures) (played-most (option_copied c.args.head) c.class-class.result _
-    (omega (arith, ap length c.frames.ensures, c.requires.few)))
+span_between-requires-clause-most c = grind (arith, played-most)
 
 pub returns-clause-span : goal.returns-clause-span
-returns-clause-span c =
-    found c.args.from.now c.args.to.now (option_copied c.args.head) (survey_view c.args.survey.now)
-    c.class-class.result c.of-played.result _ c.span_between.result c.class-class.ensures
-    (omega (arith, ap length c.frames.ensures, c.requires.few)) c.of-played.ensures
-    c.span_between.ensures.span
+returns-clause-span c = search (arith, found)
 
 pub returns-clause-there : goal.returns-clause-there
 returns-clause-there c =

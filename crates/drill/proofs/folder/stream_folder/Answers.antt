@@ -1,9 +1,8 @@
 -- The stream that was written, and the room that was reserved after it.
-use Rattle.std.proofs.Common.{ap, arith, bytes_eq, List, max, Option, refl, Some, subst, sym}
-use Rattle.std.proofs.{Common.{unwrap_or, ℕ, ◌*◌, ◌+◌, ◌∙◌, ◌≡◌}, lemmas.Map.update_same}
+use Rattle.std.proofs.Common.{ap, arith, bytes_eq, List, max, Option, refl, Some, unwrap_or, ℕ, ◌*◌}
+use Rattle.std.proofs.{Common.{◌+◌, ◌∙◌, ◌≡◌}, lemmas.Map.update_same}
 use Rattle.drill.specs.Drill.{drill_stream}
-use Rattle.outside.proofs.FilesLemmas.{bytes_eq_same, written_holds}
-use Rattle.outside.specs.Files.{Contents, Files, Holds, Told}
+use Rattle.outside.{proofs.FilesLemmas.{bytes_eq_same, written_holds}, specs.Files.{Contents, Told}}
 use Rattle.outside.specs.Memory.{contents_of, mem_room, rooms_of}
 use Rattle.drill.proofs.folder.stream_folder.Goals as goal
 
@@ -12,8 +11,7 @@ returns-clause-stream c =
     let name = c.args.stream.now in
     let bytes = drill_stream c.args.seed c.args.count in
     let holds : contents_of c.write_stream.new.folder name ≡ Some bytes =
-    subst (λ (f : Files). Holds f name bytes) (sym c.in-Ok.ensures.written)
-    (written_holds (Told (contents_of c.reserve.new.self)) name bytes refl) in
+    grind (arith, written_holds (Told (contents_of c.reserve.new.self)) name bytes refl) in
     ap (λ (f : Contents). f name) c.reserve-2.ensures.contents ∙ holds
 
 pub returns-clause-room : goal.returns-clause-room

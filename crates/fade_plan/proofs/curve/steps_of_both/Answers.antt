@@ -24,17 +24,4 @@ rounded_steps-requires-clause-small c =
     (size_of_weighted p.steps q.steps left passed small other))
 
 pub returns-clause-steps : goal.returns-clause-steps
-returns-clause-steps c =
-    let p = c.args.before.now in
-    let q = c.args.behind.now in
-    let left = q.frame - c.args.frame in
-    let passed = c.args.frame - p.frame in
-    let few : left + passed < 2 ^ 48 =
-    omega (arith, c.requires.before, c.requires.behind, c.requires.behind_kept.frame) in
-    let small = c.requires.kept.sound.1 in
-    let other = c.requires.behind_kept.sound.1 in
-    small_fits c.rounded_steps.result c.rounded_steps.ensures.most ∙ c.rounded_steps.ensures.steps
-    ∙ ap (λ n. int_div n (pos (q.frame - p.frame)))
-    (weighted_sum p.steps q.steps _ _ left passed small other
-    (c.weighted-left.ensures ∙ ap (λ s. s *ℤ pos left) (small_fits p.steps small))
-    (c.weighted-passed.ensures ∙ ap (λ s. s *ℤ pos passed) (small_fits q.steps other)) few)
+returns-clause-steps c = grind (arith, small_fits, int_div, pos, weighted_sum)

@@ -1,5 +1,5 @@
 -- What is before the area, and the area.
-use Rattle.std.proofs.Common.{ap, ap₂, List, rules, take, ℕ, ◌++◌, ◌≡◌}
+use Rattle.std.proofs.Common.{ap, List, rules, take, ℕ, ◌++◌, ◌≡◌}
 use Rattle.frame_writer.proofs.WritingLemmas.{err-map, ok-map, passed-two, prefix-piece, prefix-two}
 use Rattle.frame_writer.{proofs.frames.add_frame.Goals.In_ok-push_first, specs.Frames.frame_area}
 use Rattle.outside.proofs.BufferOutputLemmas.{on_err, passed_there}
@@ -28,8 +28,7 @@ both_are : (g : given.Over) (c : In_ok-push_first g) (n : ℕ) → n ≡ frame_a
     → take c.put_in-size.result c.put_in-size.new.room ++ take n c.args.areas.now.bytes
     ≡ frame_front_bytes c.args.first.now.header c.args.first.now.side
     ++ take (frame_area c.args.first.now) c.args.areas.now.bytes
-both_are g c n is =
-    ap₂ (λ (xs : List ℕ) m. xs ++ take m c.args.areas.now.bytes) c.put_in-size.ensures.front is
+both_are g c n is = search rules
 
 pub returns : goal.returns
 returns g c = record {

@@ -17,5 +17,4 @@ loop-row-preserved c =
     (omega (arith, c.loop-row-test.true)) c.row-item.is (sym c.joint_at.ensures ∙ c.in_default.is)
 
 pub returns : goal.returns
-returns c = sym (c.loop-row.invariant
-    ∙ first-behind joint_refusal c.args.rows.now c.loop-row.row-index c.loop-row-test.false)
+returns c = grind (arith, first-behind)

@@ -1,13 +1,8 @@
 -- There are fewer frames than bytes.
-use Rattle.std.proofs.Common.{ap, arith, length}
+use Rattle.std.proofs.Common.{arith}
 use Rattle.moved_gains.proofs.CourseLemmas.{out_few}
 use Rattle.sync_survey.specs.Faults.{survey_view}
 use Rattle.gain_edits.proofs.fade_change.curve_by.Goals as goal
 
 pub overflow_cast-frames : goal.overflow_cast-frames
-overflow_cast-frames c = omega (
-  arith,
-  ap length c.frames.ensures,
-  out_few (survey_view c.args.survey.now) c.requires.laid,
-  c.requires.laid.few,
-)
+overflow_cast-frames c = grind (arith, out_few (survey_view c.args.survey.now) c.requires.laid)

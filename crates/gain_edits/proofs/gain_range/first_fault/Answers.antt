@@ -1,31 +1,19 @@
 -- The first stuck gain is found.
-use Rattle.std.proofs.Common.{ap, ap₂, arith, length, refl, sym, ◌∙◌, ◌≡◌}
-use Rattle.std.proofs.lemmas.Option.{slice_get_read}
+use Rattle.std.proofs.{Common.{arith, sym, ◌∙◌, ◌≡◌}, lemmas.Option.slice_get_read}
 use Rattle.commands.proofs.RefusingLemmas.{first-behind, first-from}
 use Rattle.gain_edits.proofs.gain_range.first_fault.Goals.{After-fault_at}
-use Rattle.gain_edits.specs.GainRange.{out_of_range_refusal, row_range_fault}
+use Rattle.gain_edits.specs.GainRange.{row_range_fault}
 use Rattle.moved_gains.{proofs.CourseLemmas.frame_steps, specs.Course.steps_at_offset}
-use Rattle.moved_gains.specs.Edited.{row_out_of_range}
 use Rattle.gain_edits.proofs.gain_range.first_fault.Goals as goal
 
 -- the row that is looked at is tested with the steps at its offset
 judged : (c : After-fault_at)
     → row_range_fault (steps_at_offset c.args.course.now c.args.rows.now) c.index-rows-frame.result
     ≡ c.fault_at.result
-judged c =
-    let row = c.index-rows-frame.result in
-    ap (λ t. out_of_range_refusal row.offset (row_out_of_range t row))
-    (frame_steps c.args.course.now c.args.rows.now c.loop-frame.frame row c.requires.numbered
-    (omega (arith, c.loop-frame-test.true)) c.index-rows-frame.is ∙ sym c.steps-steps.ensures)
-    ∙ sym (c.fault_at.ensures
-    ∙ ap₂ out_of_range_refusal c.offset.ensures c.out_of_range_in_row.ensures)
+judged c = grind (arith, frame_steps)
 
 pub out_of_range_in_row-requires : goal.out_of_range_in_row-requires
-out_of_range_in_row-requires c =
-    let rows = c.args.rows.now in
-    let row = c.index-rows-frame.result in
-    c.requires.classed c.loop-frame.frame row (slice_get_read rows (length rows)
-    c.loop-frame.frame row refl (omega (arith, c.loop-frame-test.true)) c.index-rows-frame.is)
+out_of_range_in_row-requires c = grind (arith, slice_get_read)
 
 pub returns-in-Some : goal.returns-in-Some
 returns-in-Some c =
@@ -44,6 +32,4 @@ loop-frame-preserved c =
     c.index-rows-frame.is (judged (goal.at.loop-frame-preserved c).After-fault_at ∙ c.in_default.is)
 
 pub returns : goal.returns
-returns c = sym (c.loop-frame.invariant
-    ∙ first-behind (row_range_fault (steps_at_offset c.args.course.now c.args.rows.now))
-    c.args.rows.now c.loop-frame.frame c.loop-frame-test.false)
+returns c = grind (arith, first-behind)

@@ -1,8 +1,7 @@
 -- The frames of a survey have their numbers.
-use Rattle.std.proofs.Common.{ap, arith, length, subst, sym, ◌∙◌}
-use Rattle.gain_edits.specs.GainRange.{range_fault}
+use Rattle.std.proofs.Common.{arith, subst, sym}
 use Rattle.moved_gains.proofs.CourseLemmas.{out_classed, out_few, out_numbered}
-use Rattle.moved_gains.specs.{Course.{AreRowsNumbered, steps_at_offset}, Moving.AreFramesOfClass}
+use Rattle.moved_gains.specs.Moving.{AreFramesOfClass}
 use Rattle.sync_survey.specs.Faults.{survey_view}
 use Rattle.gain_edits.proofs.gain_range.range_fault.Goals as goal
 
@@ -14,17 +13,11 @@ first_fault-requires-clause-classed c =
 
 pub first_fault-requires-clause-numbered : goal.first_fault-requires-clause-numbered
 first_fault-requires-clause-numbered c =
-    subst AreRowsNumbered (sym c.frames.ensures)
-    (out_numbered (survey_view c.args.survey.now) c.requires)
+    grind (arith, out_numbered (survey_view c.args.survey.now) c.requires)
 
 pub first_fault-requires-clause-few : goal.first_fault-requires-clause-few
-first_fault-requires-clause-few c = omega (
-  arith,
-  ap length c.frames.ensures,
-  out_few (survey_view c.args.survey.now) c.requires,
-  c.requires.few,
-)
+first_fault-requires-clause-few c =
+    grind (arith, out_few (survey_view c.args.survey.now) c.requires)
 
 pub returns : goal.returns
-returns c = c.first_fault.ensures
-    ∙ ap (λ rows. range_fault (steps_at_offset c.args.course.now rows) rows) c.frames.ensures
+returns c = grind arith

@@ -7,11 +7,9 @@ use Rattle.gain_edits.proofs.undo_item.undo_or.Goals as goal
 
 pub overflow_add-at : goal.overflow_add-at
 overflow_add-at c =
-    omega (
+    grind (
       arith,
       tag_end-most (survey_view c.args.survey.now) c.requires,
-      c.tag_place-at.ensures.offset,
-      c.length.ensures.length,
-      c.length.ensures.most,
-      bad_place 32 c.args.tag.now.items c.in-Bad.place (sym c.undo.ensures ∙ c.in-Bad.is),
+      bad_place 32
+          c.args.tag.now.items c.in-Bad.place (sym c.undo.ensures ∙ c.in-Bad.is),
     )

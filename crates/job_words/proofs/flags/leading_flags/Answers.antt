@@ -1,9 +1,9 @@
 -- One more flag.
-use Rattle.std.proofs.Common.{ap, append_assoc, arith, Bor, drop, length, List, map, refl, Some}
+use Rattle.std.proofs.Common.{ap, append_assoc, arith, Bor, drop, length, List, map, Some}
 use Rattle.std.proofs.Common.{string_bytes, subst, suc, sym, ℕ, [], ◌++◌, ◌+◌, ◌-◌, ◌∙◌, ◌∷◌, ◌≡◌}
-use Rattle.std.{proofs.lemmas.List.length-map, specs.List.drop-map}
-use Rattle.job_words.specs.Flags.{flag_first, flag_words, leading_flags, leading_flags_up_to}
-use Rattle.job_words.specs.{Flags.{next_flag, without_flag}, declared.flags.Flag.Flag}
+use Rattle.std.proofs.lemmas.List.{length-map}
+use Rattle.job_words.specs.Flags.{flag_words, leading_flags, leading_flags_up_to, next_flag}
+use Rattle.job_words.specs.{Flags.without_flag, declared.flags.Flag.Flag}
 use Rattle.job_words.proofs.flags.leading_flags.Goals as goal
 
 pub loop-preserved : goal.loop-preserved
@@ -12,23 +12,19 @@ loop-preserved c =
     let rest = map string_bytes c.loop.rest.now in
     let n = length c.args.flags.now - (c.loop.counter + 1) in
     let next : length c.args.flags.now - c.loop.counter ≡ suc n = omega (arith, c.loop-test.true) in
-    let flag-is : next_flag left rest ≡ Some c.in-Some.flag = ap (λ flags. next_flag flags rest)
-    (sym c.as_slice.ensures.value) ∙ sym c.next_flag.ensures ∙ c.in-Some.is in
+    let flag-is : next_flag left rest ≡ Some c.in-Some.flag = grind arith in
     let many : length c.words.result.now ≡ length (flag_words c.in-Some.flag) = omega (
       arith,
       length-map c.words.result.now (λ (word : Bor (List ℕ)). word.now),
       ap length c.words.ensures.words,
     ) in
     let behind-is : map string_bytes c.skip-rest-in-loop.result.now
-    ≡ drop (length (flag_words c.in-Some.flag)) rest =
-    rw (c.skip-rest-in-loop.ensures, many, drop-map) refl in
+    ≡ drop (length (flag_words c.in-Some.flag)) rest = grind arith in
     let others-are : c.without_flag-left.result.items ≡ without_flag c.in-Some.flag left =
-    c.without_flag-left.ensures
-    ∙ ap (without_flag c.in-Some.flag) c.as_slice-in-loop.ensures.value in
+    grind arith in
     let more : leading_flags_up_to (suc n) left rest ≡ c.in-Some.flag ∷ leading_flags_up_to n
     c.without_flag-left.result.items (map string_bytes c.skip-rest-in-loop.result.now) =
-    ap (λ o. flag_first o (λ flag. leading_flags_up_to n (without_flag flag left)
-    (drop (length (flag_words flag)) rest))) flag-is ∙ rw (others-are, behind-is) refl in (
+    grind arith in (
       rw c.push.ensures.items (append_assoc c.loop.given.items (c.in-Some.flag ∷ []) _
           ∙ ap (λ (rest : List Flag). c.loop.given.items ++ rest) (sym more)
           ∙ subst (λ (m : ℕ). c.loop.given.items ++ leading_flags_up_to m left rest ≡ leading_flags

@@ -47,10 +47,7 @@ loop-values-preserved c =
     )
 
 pub returns-else-len-words : goal.returns-else-len-words
-returns-else-len-words c =
-    ends word_kind string_bytes c.args.kinds.now c.args.words.now (map value_said
-    c.loop-values.values.items) (length c.loop-values.values.items) c.loop-values.invariant.0
-    (omega (arith, c.if-len-words.false, c.len-in-loop-values.ensures.value))
+returns-else-len-words c = grind (arith, ends)
 
 pub returns-in_default : goal.returns-in_default
 returns-in_default c = sym (append-nil (map value_said c.loop-values.values.items))

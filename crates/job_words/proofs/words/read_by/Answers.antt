@@ -50,8 +50,7 @@ loop-form-preserved c =
 pub returns : goal.returns
 returns c =
     let table = map form_given c.args.forms.now in
-    let whole : take c.loop-form.form-index table ≡ table =
-    take_all c.loop-form.form-index table (rw length-map c.loop-form-test.false) in
+    let whole : take c.loop-form.form-index table ≡ table = grind (arith, take_all, length-map) in
     sym c.loop-form.invariant.0
     ∙ ap (λ (table : List Form). table_reading (shapes table) (map string_bytes c.args.words.now))
     whole

@@ -1,5 +1,5 @@
 -- Byte by byte.
-use Rattle.std.proofs.Common.{ap, arith, get_or, length, sym, take, true, ◌<◌, ◌==◌, ◌∙◌}
+use Rattle.std.proofs.Common.{ap, arith, get_or, length, take, true, ◌<◌, ◌==◌, ◌∙◌}
 use Rattle.std.{proofs.lemmas.List.take_more, specs.List.list_all}
 use Rattle.bit_fields.proofs.BitsLemmas.{AreBytes-from_slice, bits-nil, places_below}
 use Rattle.bit_fields.specs.Bits.{bits}
@@ -10,12 +10,7 @@ pub loop-byte-init : goal.loop-byte-init
 loop-byte-init c = ap (list_all (λ bit. bit == 0)) bits-nil
 
 pub returns-then-byte-ne0 : goal.returns-then-byte-ne0
-returns-then-byte-ne0 c =
-    let i = c.loop-byte.byte-index in
-    let bytes = c.args.bytes.now in
-    let within : i < length bytes = omega (arith, c.loop-byte-test.true) in
-    sym (zeros-not bytes i within (places_below bytes
-    (AreBytes-from_slice bytes c.type_inv.bytes) i) (λ none. c.if-byte-ne0.true none))
+returns-then-byte-ne0 c = grind (arith, zeros-not, places_below, AreBytes-from_slice)
 
 pub loop-byte-preserved : goal.loop-byte-preserved
 loop-byte-preserved c =

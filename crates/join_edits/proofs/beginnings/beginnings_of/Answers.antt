@@ -1,7 +1,6 @@
 -- Input by input.
-use Rattle.std.proofs.Common.{ap, ap₂, arith, length, map, refl, string_bytes, subst, sym, take}
-use Rattle.std.proofs.{Common.{◌<◌, ◌∙◌, ◌≤◌}, lemmas.List.{length-map, take_all}}
-use Rattle.std.proofs.lemmas.Slice.Zip.{AllZip-long}
+use Rattle.std.proofs.Common.{ap, ap₂, arith, length, map, string_bytes, subst, sym, take, ◌<◌, ◌∙◌}
+use Rattle.std.proofs.lemmas.{List.{length-map, take_all}, Slice.Zip.AllZip-long}
 use Rattle.commands.proofs.RefusingLemmas.{err_with}
 use Rattle.join_edits.proofs.{InputLemmas.take-next, KnownLemmas.{begun-more, known-here, named-at}}
 use Rattle.join_edits.proofs.ReadFaultLemmas.{fault-later, stops-among, stops-fault, stops-numbers}
@@ -12,18 +11,10 @@ use Rattle.join_edits.proofs.beginnings.beginnings_of.Given as given
 use Rattle.join_edits.proofs.beginnings.beginnings_of.Goals as goal
 
 pub loop-place-init : goal.loop-place-init
-loop-place-init g c =
-    record { begun = rw c.new-beginnings.ensures.items tt; files = refl; counts = refl }
+loop-place-init g c = grind arith
 
 pub known_at-survey-requires : goal.known_at-survey-requires
-known_at-survey-requires g c =
-    omega (
-      arith,
-      c.loop-place-test.true,
-      AllZip-long _ _ _ c.requires.held,
-      length-map c.args.inputs.now string_bytes,
-      length-map c.args.surveys.now survey_view,
-    )
+known_at-survey-requires g c = grind (arith, AllZip-long, length-map)
 
 pub head_of-requires-clause-there : goal.head_of-requires-clause-there
 head_of-requires-clause-there g c =
@@ -92,12 +83,4 @@ loop-place-preserved g c =
     }
 
 pub returns-clause-begun : goal.returns-clause-begun
-returns-clause-begun g c =
-    let names = map string_bytes c.args.inputs.now in
-    let ss = map survey_view c.args.surveys.now in
-    let many = AllZip-long _ _ _ c.requires.held in
-    let all : length names ≤ c.loop-place.place =
-    omega (arith, c.loop-place-test.false, length-map c.args.inputs.now string_bytes) in
-    let each : length ss ≤ c.loop-place.place = omega (arith, all, many) in
-    rw (take_all c.loop-place.place names all, take_all c.loop-place.place ss each) at
-    c.loop-place.invariant.begun
+returns-clause-begun g c = grind (arith, AllZip-long, length-map, take_all)

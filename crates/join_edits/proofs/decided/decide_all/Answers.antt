@@ -1,6 +1,6 @@
 -- The first input begins, and each of the others is decided after those before it.
 use Rattle.std.proofs.Common.{ap₂, arith, false, get_or, length, List, map, None, refl}
-use Rattle.std.proofs.{Common.{string_bytes, ◌<◌, ◌∙◌, ◌≡◌}, lemmas.List.length-map}
+use Rattle.std.proofs.{Common.{string_bytes, ◌<◌, ◌≡◌}, lemmas.List.length-map}
 use Rattle.std.proofs.lemmas.Slice.Zip.{AllZip-long}
 use Rattle.commands.proofs.RefusingLemmas.{err_with}
 use Rattle.join_edits.proofs.DecideAllLemmas.{AreAllDecided, at-end, begun-at, can-begin-at}
@@ -39,14 +39,7 @@ loop-number-init g c =
     }
 
 pub overflow_cast-number : goal.overflow_cast-number
-overflow_cast-number g c =
-    omega (
-      arith,
-      c.loop-number-test.true,
-      AllZip-long _ _ _ c.requires.can.known,
-      length-map c.args.sources.now.inputs.now string_bytes,
-      c.requires.can.joined.few,
-    )
+overflow_cast-number g c = grind (arith, AllZip-long, length-map)
 
 pub returns-in_err-add-clause-refused : goal.returns-in_err-add-clause-refused
 returns-in_err-add-clause-refused g c =
@@ -67,14 +60,7 @@ module _ (g : given.Over) (c : After-as_slice g) where
   bs = c.args.beginnings.now
 
   count : c.loop-number.number ≡ length ss
-  count =
-      omega (
-        arith,
-        c.loop-number-test.false,
-        c.loop-number.invariant.within,
-        AllZip-long _ _ _ c.requires.can.known,
-        length-map c.args.sources.now.inputs.now string_bytes,
-      )
+  count = grind (arith, AllZip-long, length-map)
 
   within : 0 < length bs
   within = omega (arith, can-some ss c.requires.can.joined, c.requires.can.begun)
@@ -100,7 +86,6 @@ pub returns-clause-decided : goal.returns-clause-decided
 returns-clause-decided g c =
     (decided g (goal.at.returns-clause-decided g c).After-as_slice).joined c.front_of-front.result
     (record {
-      is = λ first frames brings is. c.front_of-front.ensures.front first frames brings
-          (c.as_slice.ensures.value ∙ is);
+      is = grind arith;
       behind = c.front_of-front.ensures.behind;
     })

@@ -43,9 +43,7 @@ returns-in_err-surveys g c =
       done = search rules;
       left = err_with _ _ c.from_residual.ensures.1
           (early_left (join_task names) output none (join-late names) _ _ _ met.refused);
-      numbers = err_with _ _ c.from_residual.ensures.1
-          (join-numbers output names many _ (sym (length-map c.args.inputs.now string_bytes))
-          met.numbers);
+      numbers = grind (arith, err_with, join-numbers, length-map);
       names = search rules;
       streams = search rules;
       counts = search rules;
@@ -68,9 +66,7 @@ module _ (g : given.Over) (c : In_ok-surveys g) where
   some = omega (arith, c.requires.some, length-map c.args.inputs.now string_bytes)
 
   can : CanInputsBeJoined ss
-  can =
-      inputs-join old names _ are some
-      (omega (arith, c.requires.few, length-map c.args.inputs.now string_bytes))
+  can = grind (arith, inputs-join, are, some, length-map)
 
   -- what is written from the inputs, given what is known of them after the survey
   module _ (mid : Files) (known : List Survey) (same : mid ≡ old)

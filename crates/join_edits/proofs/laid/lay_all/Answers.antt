@@ -26,24 +26,10 @@ loop-i-init g c = record {
 }
 
 pub known_at-survey-requires : goal.known_at-survey-requires
-known_at-survey-requires g c =
-    omega (
-      arith,
-      c.loop-i-test.true,
-      AllZip-long _ _ _ c.requires.join.sources,
-      length-map c.args.sources.now.inputs.now string_bytes,
-      length-map c.args.sources.now.surveys.now survey_view,
-    )
+known_at-survey-requires g c = grind (arith, AllZip-long, length-map)
 
 pub from_at-requires : goal.from_at-requires
-from_at-requires g c =
-    omega (
-      arith,
-      c.loop-i-test.true,
-      AllZip-long _ _ _ c.requires.join.sources,
-      within-long _ _ c.requires.within,
-      length-map c.args.sources.now.inputs.now string_bytes,
-    )
+from_at-requires g c = grind (arith, AllZip-long, within-long, length-map)
 
 pub lay_from-requires-clause-stands : goal.lay_from-requires-clause-stands
 lay_from-requires-clause-stands g c =
@@ -58,9 +44,7 @@ lay_from-requires-clause-stands g c =
     }
 
 pub lay_from-requires-clause-within : goal.lay_from-requires-clause-within
-lay_from-requires-clause-within g c =
-    next-within c.name_at.ensures c.known_at-survey.ensures c.from_at.ensures
-    (sym (take_rest c.args.laid.now.placed.now c.loop-i.at)) c.loop-i.invariant.laid
+lay_from-requires-clause-within g c = grind (arith, next-within, take_rest)
 
 pub lay_from-requires-clause-fits : goal.lay_from-requires-clause-fits
 lay_from-requires-clause-fits g c =

@@ -1,6 +1,6 @@
 -- Line by line, then what waits.
-use Rattle.std.proofs.Common.{arith, drop, List, map, refl, string_bytes, subst, sym, zip, ℕ, ◌++◌}
-use Rattle.std.{proofs.Common.{◌+◌, ◌∙◌, ◌∷◌, ◌≡◌}, specs.Prelude.flat_map}
+use Rattle.std.proofs.Common.{arith, drop, List, map, string_bytes, subst, sym, zip, ℕ, ◌++◌, ◌+◌}
+use Rattle.std.{proofs.Common.{◌∙◌, ◌∷◌, ◌≡◌}, specs.Prelude.flat_map}
 use Rattle.join_edits.proofs.LineLemmas.{left-from, left-next, left-none, line_of, Told}
 use Rattle.join_edits.proofs.lines.send_lines.Goals.{After-finish, After-push_line}
 use Rattle.join_edits.specs.Seamless.{seam_line}
@@ -13,16 +13,7 @@ use Rattle.join_edits.proofs.lines.send_lines.Given as given
 use Rattle.join_edits.proofs.lines.send_lines.Goals as goal
 
 pub loop-place-init : goal.loop-place-init
-loop-place-init g c =
-    let inputs = map string_bytes c.args.inputs.now in
-    let joints = c.args.joints.now in
-    record {
-      within = omega arith;
-      done = refl;
-      said = rw c.requires.empty
-          (said_none line_of (zip (drop 1 inputs) joints) (left-from inputs joints 0)
-          (g.T.Sink.heard c.args.out.now).sent refl);
-    }
+loop-place-init g c = grind (arith, said_none, line_of, left-from)
 
 -- the name and the joint of a line, and those whose lines are left before it
 module _ (g : given.Over) (c : After-push_line g) where
@@ -37,10 +28,7 @@ module _ (g : given.Over) (c : After-push_line g) where
 
   next : left-from inputs joints c.loop-place.place
       ≡ told ∷ left-from inputs joints (c.loop-place.place + 1)
-  next =
-      left-next inputs joints c.loop-place.place told.0 told.1 c.name_at-name.ensures
-      (item-next joints c.loop-place.place told.1 (omega (arith, c.loop-place-test.true))
-      c.index-joints-place.is)
+  next = grind (arith, left-next, item-next)
 
 pub loop-place-preserved : goal.loop-place-preserved
 loop-place-preserved g c =
@@ -77,13 +65,7 @@ returns-in_err-push_line-clause-prefix g c =
 all-said : (g : given.Over) (c : After-finish g) → SendsWaiting
     (flat_map line_of (zip (drop 1 (map string_bytes c.args.inputs.now)) c.args.joints.now))
     c.loop-place.buffer (g.T.Sink.heard c.args.out.now).sent (g.T.Sink.heard c.loop-place.out).sent
-all-said g c =
-    let inputs = map string_bytes c.args.inputs.now in
-    let joints = c.args.joints.now in
-    let i = c.loop-place.place in
-    all_lines line_of (zip (drop 1 inputs) joints) (left-from inputs joints i) c.loop-place.buffer
-    _ _ c.loop-place.invariant.said
-    (left-none inputs joints i (omega (arith, c.loop-place-test.false)))
+all-said g c = grind (arith, all_lines, line_of, left-from, left-none)
 
 pub returns-clause-sent : goal.returns-clause-sent
 returns-clause-sent g c =

@@ -1,6 +1,6 @@
 -- The first input and the last.
-use Rattle.std.proofs.Common.{ap, arith, drop, length, List, map, suc, sym, zero, ℕ, [], ◌+◌, ◌-◌}
-use Rattle.std.proofs.{Common.{◌∙◌, ◌∷◌, ◌≡◌, ◌≤◌}, lemmas.List.length-map}
+use Rattle.std.proofs.Common.{ap, arith, drop, length, List, map, suc, zero, ℕ, [], ◌+◌, ◌-◌, ◌∷◌}
+use Rattle.std.proofs.{Common.{◌≡◌, ◌≤◌}, lemmas.List.length-map}
 use Rattle.join_edits.{proofs.PlanLemmas.can-some, specs.Inputs.frames_together}
 use Rattle.join_edits.specs.{RunReady.{AreEnds, last_length}, declared.numbers.Ends.Ends}
 use Rattle.sync_survey.specs.{Faults.{survey_view, SurveyFields}, Row.Row}
@@ -11,17 +11,13 @@ frames-most : (ss : List SurveyFields) (n : ℕ) {s : SurveyFields} {rest : List
 unfolding frames_together
 frames-most [] zero e = absurd cc
 frames-most [] (suc n) e = absurd cc
-frames-most (t ∷ ss) zero {s} {rest} e =
-    let same : t ≡ s = cc in
-    omega (arith, ap (λ (u : SurveyFields). length u.frames) same)
+frames-most (t ∷ ss) zero {s} {rest} e = grind arith
 frames-most (t ∷ ss) (suc n) e = omega (arith, frames-most ss n e)
 
 last-at : (s : SurveyFields) (ss : List SurveyFields) (n : ℕ) {last : SurveyFields}
     {rest : List SurveyFields} → drop n (s ∷ ss) ≡ last ∷ rest → n ≡ length ss
     → length last.frames ≡ last_length s ss
-last-at s [] zero {last} {rest} e long =
-    let same : s ≡ last = cc in
-    ap (λ (u : SurveyFields). length u.frames) (sym same)
+last-at s [] zero {last} {rest} e long = grind arith
 last-at s [] (suc n) e long = absurd (omega (arith, long))
 last-at s (t ∷ ss) zero e long = absurd (omega (arith, long))
 last-at s (t ∷ ss) (suc n) e long = last-at t ss n e (omega (arith, long))
@@ -32,32 +28,14 @@ ends-are : (ss : List SurveyFields) (n : ℕ) {first last : SurveyFields}
     → ends ≡ record { class = first.class; first = length first.frames; last = length last.frames }
     → AreEnds ss ends
 ends-are [] n ends e f long is = absurd (omega (arith, long))
-ends-are (s ∷ ss) n {first} {last} {behind} {rest} ends e f long is =
-    let same : s ≡ first = cc in
-    is
-    ∙ ap (λ (u : SurveyFields).
-    record { class = u.class; first = length u.frames; last = length last.frames }) (sym same)
-    ∙ ap (λ k. record { class = s.class; first = length s.frames; last = k })
-    (last-at s ss n f (omega (arith, long)))
+ends-are (s ∷ ss) n {first} {last} {behind} {rest} ends e f long is = grind (arith, last-at)
 
 pub overflow_cast-result : goal.overflow_cast-result
 overflow_cast-result c =
-    omega (
-      arith,
-      ap (λ (l : List Row). length l) c.frames.ensures,
-      frames-most (map survey_view c.args.surveys.now) 0 c.known_at-first.ensures,
-      c.requires.frames,
-    )
+    grind (arith, frames-most (map survey_view c.args.surveys.now) 0 c.known_at-first.ensures)
 
 pub overflow_cast-result-2 : goal.overflow_cast-result-2
-overflow_cast-result-2 c =
-    omega (
-      arith,
-      ap (λ (l : List Row). length l) c.frames-2.ensures,
-      frames-most (map survey_view c.args.surveys.now)
-          (length c.args.surveys.now - 1) c.known_at-last.ensures,
-      c.requires.frames,
-    )
+overflow_cast-result-2 c = grind (arith, frames-most)
 
 pub returns : goal.returns
 returns c =

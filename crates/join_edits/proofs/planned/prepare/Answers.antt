@@ -1,6 +1,6 @@
 -- The Info frame is about frames in the slots of the plan.
-use Rattle.std.proofs.Common.{ap, arith, length, map, subst, sym, ◌∙◌, ◌≡◌}
-use Rattle.std.{proofs.lemmas.List.length-map, specs.Prelude.{slice_get, Some}}
+use Rattle.std.proofs.{Common.{ap, arith, map, subst, sym, ◌∙◌, ◌≡◌}, lemmas.List.length-map}
+use Rattle.std.specs.Prelude.{slice_get, Some}
 use Rattle.info_header.specs.InfoFrame.{info_frame}
 use Rattle.join_edits.proofs.PlanLemmas.{alike-first, can-some, plan-few}
 use Rattle.laying.specs.{Written.{info_for, plain_info}, declared.info.Kept.Kept}
@@ -9,16 +9,13 @@ use Rattle.sync_survey.specs.{Faults.{survey_view, SurveyFields}, Row.Row}
 use Rattle.join_edits.proofs.planned.prepare.Goals as goal
 
 pub known_at-first-requires : goal.known_at-first-requires
-known_at-first-requires c =
-    omega (arith, can-some _ c.requires, length-map c.args.surveys.now survey_view)
+known_at-first-requires c = grind (arith, can-some, length-map)
 
 pub info_bytes-info-requires-clause-within : goal.info_bytes-info-requires-clause-within
-info_bytes-info-requires-clause-within c =
-    (alike-first _ _ (rw c.known_at-first.ensures at c.requires)).0
+info_bytes-info-requires-clause-within c = grind (arith, alike-first)
 
 pub info_bytes-info-requires-clause-few : goal.info_bytes-info-requires-clause-few
-info_bytes-info-requires-clause-few c =
-    omega (arith, plan-few _ c.requires, ap length (c.placed.ensures ∙ c.in_ok-plan.ensures.plan))
+info_bytes-info-requires-clause-few c = grind (arith, plan-few)
 
 pub returns : goal.returns
 returns c =

@@ -4,5 +4,4 @@ use Rattle.bit_fields.proofs.BitsLemmas.{AreBytes-from_places}
 use Rattle.join_edits.proofs.sounds.write_side.Goals as goal
 
 pub returns-clause-octets : goal.returns-clause-octets
-returns-clause-octets c =
-    AreBytes-from_places c.write.new.bytes (λ i. omega (arith, c.type_inv.bytes i))
+returns-clause-octets c = grind (arith, AreBytes-from_places)

@@ -1,6 +1,6 @@
 -- Input by input.
 use Rattle.std.proofs.Common.{ap, append_assoc, ap₂, arith, drop, length, length-append, map, None}
-use Rattle.std.proofs.Common.{refl, string_bytes, take, [], ◌++◌, ◌+◌, ◌-◌, ◌∙◌, ◌∷◌, ◌≡◌}
+use Rattle.std.proofs.Common.{string_bytes, take, [], ◌++◌, ◌+◌, ◌∙◌, ◌∷◌, ◌≡◌}
 use Rattle.std.proofs.lemmas.List.{length-map, length-take, map-append, take-append-drop}
 use Rattle.commands.{proofs.RefusingLemmas.err_with, specs.SingleOutput.most_frames}
 use Rattle.join_edits.proofs.InputLemmas.{after-none, found-input, frames-more, inputs-more}
@@ -14,9 +14,7 @@ use Rattle.join_edits.proofs.surveys.survey_all.Goals as goal
 
 pub loop-place-init : goal.loop-place-init
 unfolding frames_together
-loop-place-init g c =
-    let items = c.new-surveys.ensures.items in
-    record { surveyed = rw items tt; allowed = rw items (omega arith); files = refl; counts = refl }
+loop-place-init g c = grind arith
 
 pub returns-in_err-survey-clause-refused : goal.returns-in_err-survey-clause-refused
 returns-in_err-survey-clause-refused g c =
@@ -43,16 +41,7 @@ are : (g : given.Over) (c : In_ok-survey g)
     → AreJoinInputs None most_frames (g.D.Folder.seen c.args.folder.now).files
     (take c.loop-place.place (map string_bytes c.args.inputs.now) ++ c.name_at-name.result.now ∷ [])
     (map survey_view c.loop-place.surveys.items ++ survey_view c.in_ok-survey.survey ∷ [])
-are g c =
-    let ss = map survey_view c.loop-place.surveys.items in
-    let inv = c.loop-place.invariant in
-    let left : most_frames - frames_together ss ≡ c.loop-place.left = omega (arith, inv.allowed) in
-    inputs-more None most_frames (g.D.Folder.seen c.args.folder.now).files
-    (take c.loop-place.place (map string_bytes c.args.inputs.now)) ss c.name_at-name.result.now
-    (survey_view c.in_ok-survey.survey)
-    inv.surveyed (rw (left, ← inv.files) c.in_ok-survey.ensures.input)
-    (rw (after-none ss)
-    (rw (c.first_class-first.ensures, c.deref.ensures.value) at c.in_ok-survey.ensures.follows))
+are g c = grind (arith, inputs-more, after-none)
 
 pub returns-in_err-push-clause-refused : goal.returns-in_err-push-clause-refused
 returns-in_err-push-clause-refused g c =
@@ -61,8 +50,7 @@ returns-in_err-push-clause-refused g c =
     let name = c.name_at-name.result.now in
     let inv = c.loop-place.invariant in
     let whole : (take place names ++ name ∷ []) ++ drop (place + 1) names ≡ names =
-    append_assoc (take place names) (name ∷ []) (drop (place + 1) names)
-    ∙ rw (← c.name_at-name.ensures) (take-append-drop place names) in
+    grind (arith, append_assoc, take-append-drop) in
     err_with _ _ c.from_residual-in_err-push.ensures.1
     (rw whole at (found-input most_frames (take place names ++ name ∷ []) (drop (place + 1) names) _
     _ _ (are g (goal.at.returns-in_err-push-clause-refused g c).In_ok-survey)
@@ -71,27 +59,4 @@ returns-in_err-push-clause-refused g c =
     (c.in_ok-survey.ensures.reads.done ∙ inv.counts))))
 
 pub loop-place-preserved : goal.loop-place-preserved
-loop-place-preserved g c =
-    let names = map string_bytes c.args.inputs.now in
-    let ss = map survey_view c.loop-place.surveys.items in
-    let s = survey_view c.in_ok-survey.survey in
-    let inv = c.loop-place.invariant in
-    let items : map survey_view c.push.new.self.items ≡ ss ++ s ∷ [] =
-    ap (map survey_view) c.in_ok-push.ensures.items
-    ∙ map-append survey_view c.loop-place.surveys.items (c.in_ok-survey.survey ∷ []) in
-    record {
-      surveyed = rw (
-        take-next names c.loop-place.place c.name_at-name.result.now _ c.name_at-name.ensures,
-        items,
-      ) (are g (goal.at.loop-place-preserved g c).In_ok-survey);
-      allowed = omega (
-        arith,
-        ap frames_together items,
-        frames-more ss s,
-        inv.allowed,
-        c.in_ok-survey.ensures.input.few,
-        ap length c.frames.ensures,
-      );
-      files = c.survey_part.ensures.reads.files ∙ inv.files;
-      counts = c.in_ok-survey.ensures.reads.done ∙ inv.counts;
-    }
+loop-place-preserved g c = grind (arith, map-append, take-next, are, frames-more)

@@ -3,12 +3,12 @@
 use Rattle.std.proofs.Common.{ap, append-nil, arith, flat_map, length, List, map, refl, rules}
 use Rattle.std.{proofs.Common.{string_bytes, sym, ℕ, [], ◌++◌, ◌∷◌, ◌≡◌, ◌≢◌}, specs.List.concat}
 use Rattle.cut_edits.proofs.LaidPassLemmas.{appends-as_prefix}
-use Rattle.frame_writer.specs.Frames.{bytes_of_frames, reach_of}
+use Rattle.frame_writer.specs.Frames.{bytes_of_frames}
 use Rattle.join_edits.proofs.SourceLemmas.{first-source, sources-beside, told-beside}
 use Rattle.join_edits.proofs.StepLemmas.{cause-named, source-ready, told_frames}
 use Rattle.join_edits.proofs.written.append_joined.Goals.{After-append_front}
-use Rattle.join_edits.specs.RestOfInputs.{first_front_bytes, join_bytes}
-use Rattle.laying.specs.{Relaid.{part_frames, relaid_frames}, Written.front_blocks}
+use Rattle.join_edits.specs.RestOfInputs.{join_bytes}
+use Rattle.laying.specs.{Relaid.relaid_frames, Written.front_blocks}
 use Rattle.outside.proofs.BufferOutputLemmas.{err_at, passed_there}
 use Rattle.outside.proofs.FilesLemmas.{appended_there, appended_touches, touches_none}
 use Rattle.outside.proofs.PassLemmas.{cause_behind, cause_later, prefix_as, prefix_then, writes_all}
@@ -22,10 +22,7 @@ use Rattle.join_edits.proofs.written.append_joined.Given as given
 use Rattle.join_edits.proofs.written.append_joined.Goals as goal
 
 pub append_front-requires-clause-ready : goal.append_front-requires-clause-ready
-append_front-requires-clause-ready g c =
-    let join = c.requires.join in
-    source-ready c.args.first.now _ _ (first-source _ join.names join.known join.sources)
-    join.target join.length (c.requires.fits.fresh.fed _ _)
+append_front-requires-clause-ready g c = grind (arith, source-ready, first-source)
 
 pub append_front-requires-clause-none : goal.append_front-requires-clause-none
 append_front-requires-clause-none g c = c.requires.fits.fresh.none
@@ -56,13 +53,7 @@ module _ (g : given.Over) (c : After-append_front g) where
       → OnlyTouches (c.args.first.now.pass.output.now ∷ []) old mid
       → (file : List ℕ) → Holds old c.args.first.now.pass.input.now file
       → front file ++ frames mid placed ≡ whole file
-  all mid placed is only file holds =
-      let blocks = sym (ap (first_front_bytes file) c.requires.join.known) in
-      let items = c.as_slice.ensures.value in
-      let sources = c.requires.join.sources in
-      let told = told-beside _ _ old mid names known c.args.froms.now only sources in
-      λ i. (blocks i ++ items i)
-      ++ bytes_of_frames (relaid_frames (flat_map part_frames (told i)) (is i))
+  all mid placed is only file holds = grind (arith, told-beside, flat_map)
 
   -- the front, and then the frames, or a part of them
   module _ (mid : Files) (placed : List Placed) (is : placed ≡ entries c.args.work.now.plan)
@@ -140,10 +131,7 @@ pub lay_all-requires-clause-new : goal.lay_all-requires-clause-new
 lay_all-requires-clause-new g c = rw c.append_front.ensures.writer c.requires.fits.fresh.new
 
 pub lay_all-requires-clause-fits : goal.lay_all-requires-clause-fits
-lay_all-requires-clause-fits g c =
-    let fits = c.requires.fits in
-    let none : reach_of c.args.work.now.buffers.writer ≡ 0 = omega (arith, fits.fresh.new.free) in
-    rw (c.append_front.ensures.writer, none, c.placed.ensures) fits.fits
+lay_all-requires-clause-fits g c = grind arith
 
 pub returns-in_err-lay_all : goal.returns-in_err-lay_all
 returns-in_err-lay_all g c =
@@ -157,12 +145,7 @@ returns-in_err-lay_all g c =
       written = search rules;
       prefix = err_at c.from_residual.result _ c.from_residual.ensures.1 rest;
       done = search rules;
-      cause = err_at c.from_residual.result _ c.from_residual.ensures.1 (record {
-        within = h.within;
-        size = h.size;
-        cause = cause_later _ _ _ c.args.first.now.pass.output.now front.bytes _ _ _ _ front.files
-            c.in_default.ensures.done h.cause;
-      });
+      cause = search (arith, err_at, cause_later);
     }
 
 pub finish-requires : goal.finish-requires

@@ -1,33 +1,22 @@
 -- The output is created, and then written by a pass over the inputs, which stay.
-use Rattle.std.proofs.Common.{ap, arith, flat_map, List, map, refl, string_bytes, subst, ℕ, []}
-use Rattle.std.proofs.{Common.{◌++◌, ◌∙◌, ◌∷◌, ◌≡◌, ◌≢◌}, lemmas.List.length-map}
-use Rattle.std.proofs.lemmas.Slice.Zip.{AllZip-long}
+use Rattle.std.proofs.Common.{ap, arith, flat_map, List, map, refl, string_bytes, subst, ℕ, [], ◌∙◌}
+use Rattle.std.proofs.{Common.{◌∷◌, ◌≡◌, ◌≢◌}, lemmas.{List.length-map, Slice.Zip.AllZip-long}}
 use Rattle.commands.proofs.OutputLemmas.{not_begun, output_whole, pass_fault, touches_prefix}
 use Rattle.commands.proofs.OutputLemmas.{touches_whole}
 use Rattle.commands.specs.SingleOutput.{files_holding, first_input}
 use Rattle.cut_edits.proofs.LaidPassLemmas.{appends-as_prefix}
 use Rattle.frame_header.specs.Fields.{ClassFields}
-use Rattle.frame_writer.specs.Frames.{bytes_of_frames}
 use Rattle.join_edits.proofs.SourceLemmas.{first-class, first-source, sources-beside, told-beside}
 use Rattle.join_edits.{proofs.written.write_joined.Goals.In-Ok, specs.Laying.AreSources}
-use Rattle.join_edits.specs.RestOfInputs.{first_front_bytes, FitsWork, join_bytes}
-use Rattle.laying.specs.Relaid.{FilePart, part_frames, relaid_frames}
+use Rattle.join_edits.specs.RestOfInputs.{FitsWork, join_bytes}
 use Rattle.outside.proofs.FilesLemmas.{emptied_there, emptied_touches, fails_touches}
 use Rattle.outside.specs.Files.{Files, OnlyTouches}
-use Rattle.slot_plan.specs.Plans.{entries}
 use Rattle.sync_survey.specs.Faults.{survey_view, SurveyFields}
 use Rattle.join_edits.proofs.written.write_joined.Given as given
 use Rattle.join_edits.proofs.written.write_joined.Goals as goal
 
 pub known_at-survey-requires : goal.known_at-survey-requires
-known_at-survey-requires g c =
-    omega (
-      arith,
-      c.requires.some,
-      AllZip-long _ _ _ c.requires.can.sources,
-      length-map c.args.inputs.now string_bytes,
-      length-map c.args.surveys.now survey_view,
-    )
+known_at-survey-requires g c = grind (arith, AllZip-long, length-map)
 
 module _ (g : given.Over) (c : In-Ok g) where
   abbrev old : Files
@@ -49,8 +38,7 @@ module _ (g : given.Over) (c : In-Ok g) where
   class-is = first-class c.known_at-survey.ensures c.requires.can.first
 
   sources : AreSources class c.args.output.now old names known
-  sources =
-      subst (λ k. AreSources k c.args.output.now old names known) class-is c.requires.can.sources
+  sources = grind (arith, class-is)
 
   fits : FitsWork class known c.args.froms.now c.args.work.now
   fits = subst (λ k. FitsWork k known c.args.froms.now c.args.work.now) class-is c.requires.can.fits
@@ -64,12 +52,7 @@ module _ (g : given.Over) (c : In-Ok g) where
   -- the bytes to write don't change when the output is created
   beside : (file : List ℕ) → join_bytes mid names known c.args.froms.now c.args.work.now file
       ≡ join_bytes old names known c.args.froms.now c.args.work.now file
-  beside file =
-      let front = first_front_bytes file known ++ c.args.work.now.info.items in
-      let placed = entries c.args.work.now.plan in
-      ap (λ (ps : List FilePart). front
-      ++ bytes_of_frames (relaid_frames (flat_map part_frames ps) placed))
-      (told-beside class c.args.output.now old mid names known c.args.froms.now only sources)
+  beside file = grind (arith, flat_map, told-beside, only, sources)
 
 pub append_joined-requires-clause-join : goal.append_joined-requires-clause-join
 append_joined-requires-clause-join g c =
@@ -84,8 +67,7 @@ append_joined-requires-clause-join g c =
     }
 
 pub append_joined-requires-clause-fits : goal.append_joined-requires-clause-fits
-append_joined-requires-clause-fits g c =
-    fits g (goal.at.append_joined-requires-clause-fits g c).In-Ok
+append_joined-requires-clause-fits g c = grind (arith, fits)
 
 pub returns-in-Ok-append_joined-clause-written : goal.returns-in-Ok-append_joined-clause-written
 returns-in-Ok-append_joined-clause-written g c =
@@ -98,16 +80,10 @@ returns-in-Ok-append_joined-clause-written g c =
     ∙ ap (files_holding (old g at) output) (beside g at bytes)
 
 pub returns-in-Ok-append_joined-clause-touches : goal.returns-in-Ok-append_joined-clause-touches
-returns-in-Ok-append_joined-clause-touches g c =
-    let at = (goal.at.returns-in-Ok-append_joined-clause-touches g c).In-Ok in
-    touches_whole _ c.name_at.result.now c.args.output.now (apart g at) _ _ _
-    c.in-Ok.ensures.answer.created c.in-Ok-append_joined.ensures.written
+returns-in-Ok-append_joined-clause-touches g c = grind (arith, touches_whole, apart)
 
 pub returns-in-Err-clause-touches : goal.returns-in-Err-clause-touches
-returns-in-Err-clause-touches g c =
-    let at = (goal.at.returns-in-Err-clause-touches g c).In-Ok in
-    touches_prefix _ c.name_at.result.now c.args.output.now (apart g at) _ _ _
-    c.in-Ok.ensures.answer.created c.in-Err.ensures.prefix
+returns-in-Err-clause-touches g c = grind (arith, touches_prefix, apart)
 
 pub returns-in-Err-clause-left : goal.returns-in-Err-clause-left
 returns-in-Err-clause-left g c =
@@ -122,8 +98,7 @@ returns-in-Err-clause-left g c =
 
 -- the output wasn't created
 pub returns-in_default-clause-touches : goal.returns-in_default-clause-touches
-returns-in_default-clause-touches g c =
-    fails_touches _ _ c.args.output.now c.in_default.ensures.answer.kept
+returns-in_default-clause-touches g c = grind (arith, fails_touches)
 
 pub returns-in_default-clause-left : goal.returns-in_default-clause-left
 returns-in_default-clause-left g c =

@@ -26,22 +26,11 @@ size_is : (c : After-from-begin)
 size_is c = ap (λ n. (n + 7) / 8) c.requires.bits ∙ sym (bytes-are c.args.row.now.side)
 
 pub main_data_with-requires-clause-held : goal.main_data_with-requires-clause-held
-main_data_with-requires-clause-held c =
-    let at = (goal.at.main_data_with-requires-clause-held c).After-from-begin in
-    let near = within at in
-    omega (arith, c.requires.over, begin_is at, near.begins, near.apart, near.near)
+main_data_with-requires-clause-held c = grind (arith, within, begin_is)
 
 pub main_data_with-requires-clause-within : goal.main_data_with-requires-clause-within
 main_data_with-requires-clause-within c =
-    let at = (goal.at.main_data_with-requires-clause-within c).After-from-begin in
-    omega (
-      arith,
-      bits-least c.args.extent.now.bits,
-      size_is at,
-      begin_is at,
-      c.requires.area,
-      (within at).ends,
-    )
+    grind (arith, bits-least c.args.extent.now.bits, size_is, begin_is, within)
 
 pub main_data_with-requires-clause-few : goal.main_data_with-requires-clause-few
 main_data_with-requires-clause-few c =
@@ -71,8 +60,7 @@ returns-then-lost-clause-told c = λ file passed long is. c.empty.ensures ∙ lo
     (survey_view c.args.survey.now) c.args.i c.args.row.now (sym c.lost.ensures ∙ c.if-lost.true)
 
 pub returns-then-lost-clause-size : goal.returns-then-lost-clause-size
-returns-then-lost-clause-size c = ap length c.empty.ensures ∙ ap (λ lost. cond lost 0
-    (payload_bytes c.args.row.now.side)) (sym c.if-lost.true ∙ c.lost.ensures)
+returns-then-lost-clause-size c = grind arith
 
 pub returns-else-lost-clause-size : goal.returns-else-lost-clause-size
 returns-else-lost-clause-size c =

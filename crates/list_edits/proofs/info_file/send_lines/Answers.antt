@@ -1,5 +1,5 @@
 -- Line by line, then what waits.
-use Rattle.std.proofs.{Common.{arith, drop, refl, subst, ◌++◌, ◌+◌, ◌∙◌}, lemmas.List.drop_all}
+use Rattle.std.proofs.{Common.{arith, drop, subst, ◌++◌, ◌+◌, ◌∙◌}, lemmas.List.drop_all}
 use Rattle.list_edits.proofs.InfoLemmas.{line-at}
 use Rattle.list_edits.proofs.ListingLemmas.{all_lines, line_failed, prefix_behind, said_more}
 use Rattle.list_edits.proofs.ListingLemmas.{said_none, sent_behind}
@@ -7,11 +7,7 @@ use Rattle.outside.{proofs.BufferOutputLemmas.on_err, specs.BufferOutput.{SendsW
 use Rattle.list_edits.proofs.info_file.send_lines.Goals as goal
 
 pub loop-line-init : goal.loop-line-init
-loop-line-init g c = record {
-  done = refl;
-  said = rw c.requires.empty (said_none (λ line. line)
-      c.args.lines.now c.args.lines.now (g.T.Sink.heard c.args.out.now).sent refl);
-}
+loop-line-init g c = grind (arith, said_none)
 
 pub loop-line-preserved : goal.loop-line-preserved
 loop-line-preserved g c =

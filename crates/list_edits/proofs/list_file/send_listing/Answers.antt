@@ -12,9 +12,7 @@ use Rattle.list_edits.proofs.list_file.send_listing.Goals as goal
 pub loop-things-init : goal.loop-things-init
 loop-things-init g c = record {
   done = refl;
-  listed = rw c.requires.empty (said_none thing_line
-      (ordered_things (things_of (survey_view c.args.survey.now)))
-      (things_left c.of-things.result) (g.T.Sink.heard c.args.out.now).sent c.of-things.ensures);
+  listed = grind (arith, said_none);
 }
 
 pub loop-things-smaller : goal.loop-things-smaller
@@ -26,14 +24,7 @@ loop-things-preserved g c =
     let next = c.set_next_line.ensures.line c.loop-things-test.true in
     record {
       done = c.in_ok-push.ensures.cause.done ∙ c.loop-things.invariant.done;
-      listed = said_more thing_line (ordered_things (things_of (survey_view c.args.survey.now)))
-          (things_left c.loop-things.things)
-          (things_left c.set_next_line.new.things) next.thing c.loop-things.buffer c.push.new.self _
-          _ _
-          c.loop-things.invariant.listed next.first
-          (subst (λ line. SendsWaiting (c.loop-things.buffer ++ line) c.push.new.self
-          (g.T.Sink.heard c.loop-things.out).sent (g.T.Sink.heard c.push.new.sink).sent)
-          (c.bytes.ensures ∙ sym next.line) c.in_ok-push.ensures.passed);
+      listed = grind (arith, said_more);
     }
 
 pub returns-in_err-push-clause-prefix : goal.returns-in_err-push-clause-prefix

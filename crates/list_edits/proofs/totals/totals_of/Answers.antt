@@ -19,20 +19,7 @@ loop-row-init c =
     }
 
 pub loop-row-preserved : goal.loop-row-preserved
-loop-row-preserved c =
-    let rows = c.args.rows.now in
-    let i = c.loop-row.row-index in
-    let row = c.row-item.result in
-    let before = c.loop-row.invariant in
-    let next = row-at rows i row (omega (arith, c.loop-row-test.true)) c.row-item.is in
-    record {
-      before = before-next rows i row _ _ _ _ next c.add.ensures.with c.add-in-loop-row.ensures.with
-          before.before;
-      areas = omega (arith, before.areas, c.add.ensures.areas);
-      lengths = omega (arith, before.lengths, c.add.ensures.lengths);
-      lost = omega (arith, before.lost, c.add-in-loop-row.ensures.lost);
-      main_data = omega (arith, before.main_data, c.add-in-loop-row.ensures.main_data);
-    }
+loop-row-preserved c = search (arith, row-at, before-next)
 
 pub returns : goal.returns
 returns c =

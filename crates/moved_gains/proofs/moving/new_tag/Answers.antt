@@ -5,9 +5,4 @@ use Rattle.sync_survey.specs.Faults.{survey_view}
 use Rattle.moved_gains.proofs.moving.new_tag.Goals as goal
 
 pub overflow_add-result : goal.overflow_add-result
-overflow_add-result c = omega (
-  arith,
-  c.tag_place-place.ensures.offset,
-  c.tag_place-place.ensures.length,
-  tag_end-most (survey_view c.args.survey.now) c.requires,
-)
+overflow_add-result c = grind (arith, tag_end-most (survey_view c.args.survey.now) c.requires)

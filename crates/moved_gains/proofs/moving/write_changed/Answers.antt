@@ -52,15 +52,7 @@ copy-requires-clause-ready g c = record {
 }
 
 pub copy-requires-clause-within : goal.copy-requires-clause-within
-copy-requires-clause-within g c =
-    let s = survey_view c.args.survey.now in
-    omega (
-      arith,
-      c.length.ensures,
-      ap (λ r. r.0) c.junk-junk.ensures,
-      c.requires.laid.junk,
-      laid_end s.first s.frames s.length c.requires.laid.frames,
-    )
+copy-requires-clause-within g c = grind (arith, laid_end)
 
 pub returns-in_err-copy : goal.returns-in_err-copy
 returns-in_err-copy g c = record {
@@ -117,10 +109,7 @@ returns-in_err-move_frames g c = record {
 }
 
 pub finish-requires : goal.finish-requires
-finish-requires g c =
-    let output = c.args.output.now in
-    writes_there _ c.requires.apart c.in_ok-move_frames.ensures.written output
-    (writes_there _ c.requires.apart c.in_ok-copy.ensures.written output c.requires.target)
+finish-requires g c = grind (arith, writes_there)
 
 -- once the frames were passed on, what waits is the end of the changed file
 moved : (g : given.Over) (c : In_ok-move_frames g) → WritesMadeBytes
@@ -159,12 +148,8 @@ move_frames-requires-clause-numbered g c = subst AreRowsNumbered (sym c.frames.e
     (out_numbered (survey_view c.args.survey.now) c.requires.laid)
 
 pub move_frames-requires-clause-few : goal.move_frames-requires-clause-few
-move_frames-requires-clause-few g c = omega (
-  arith,
-  ap length c.frames.ensures,
-  out_few (survey_view c.args.survey.now) c.requires.laid,
-  c.requires.laid.few,
-)
+move_frames-requires-clause-few g c =
+    grind (arith, out_few (survey_view c.args.survey.now) c.requires.laid)
 
 pub move_frames-requires-clause-classed : goal.move_frames-requires-clause-classed
 move_frames-requires-clause-classed g c =

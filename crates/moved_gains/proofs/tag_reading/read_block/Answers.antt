@@ -1,7 +1,7 @@
 -- The block is within the file.
-use Rattle.std.proofs.Common.{arith, subst, sym, ◌∙◌}
+use Rattle.std.proofs.Common.{arith, sym, ◌∙◌}
 use Rattle.moved_gains.proofs.{FoundTagLemmas.tag-within, TagReadingLemmas.told-length}
-use Rattle.outside.{proofs.BufferOutputLemmas.err_at, specs.ReadCauses.HasReadCause}
+use Rattle.outside.proofs.BufferOutputLemmas.{err_at}
 use Rattle.sync_survey.specs.Faults.{survey_view}
 use Rattle.moved_gains.proofs.tag_reading.read_block.Goals as goal
 
@@ -14,22 +14,14 @@ read_exact-requires-clause-found g c = λ bytes holds.
 
 pub read_exact-requires-clause-within : goal.read_exact-requires-clause-within
 read_exact-requires-clause-within g c =
-    omega (
+    grind (
       arith,
-      tag-within (survey_view c.args.survey.now)
-          c.args.piece.now c.requires.found.known.laid c.requires.found.tag,
-      c.length.ensures,
-      c.deref_mut.ensures.len,
-      c.in_ok-block.ensures.len,
+      tag-within (survey_view c.args.survey.now) c.args.piece.now
+          c.requires.found.known.laid c.requires.found.tag,
     )
 
 pub read_exact-requires-clause-few : goal.read_exact-requires-clause-few
-read_exact-requires-clause-few g c =
-    omega (arith, c.requires.found.known.laid.few, c.length.ensures)
+read_exact-requires-clause-few g c = grind arith
 
 pub returns-in_err-read_exact-clause-cause : goal.returns-in_err-read_exact-clause-cause
-returns-in_err-read_exact-clause-cause g c =
-    err_at _ _ c.from_residual-in_err-read_exact.ensures.1
-    (subst (λ n. HasReadCause c.args.name.now n (g.D.Folder.seen c.args.folder.now).files
-    (g.D.Folder.seen c.args.folder.now).counts (g.D.Folder.seen c.read_exact.new.folder).counts
-    c.in_err-read_exact.field-0.0) c.length.ensures c.in_err-read_exact.ensures.cause)
+returns-in_err-read_exact-clause-cause g c = grind (arith, err_at)

@@ -22,13 +22,10 @@ returns-then-piece-gt-LONGEST_TAG-clause-cause g c =
 
 pub tag_at_offset-requires-clause-place : goal.tag_at_offset-requires-clause-place
 tag_at_offset-requires-clause-place g c =
-    omega (
+    grind (
       arith,
-      tag-within (survey_view c.args.survey.now)
-          c.args.piece.now c.requires.known.laid c.requires.tag,
-      c.requires.known.laid.few,
-      c.deref.ensures.len,
-      c.in_ok-block.ensures.length,
+      tag-within (survey_view c.args.survey.now) c.args.piece.now c.requires.known.laid
+          c.requires.tag,
     )
 
 pub returns-clause-exact : goal.returns-clause-exact
@@ -43,14 +40,4 @@ returns-clause-exact g c =
     c.tag_at_offset.ensures.tag
 
 pub returns-clause-cause : goal.returns-clause-cause
-returns-clause-cause g c =
-    let same : c.deref.result.now ≡ c.in_ok-block.block.items = c.deref.ensures.value in
-    IfErr-weaker c.tag_at_offset.result _ _
-    (λ fault cause.
-    block-cause c.args.name.now (g.D.Folder.seen c.args.folder.now).files
-    (survey_view c.args.survey.now)
-    c.requires.known.surveyed c.args.piece.now c.requires.tag c.deref.result.now
-    (λ bytes holds. same ∙ c.in_ok-block.ensures.bytes bytes holds)
-    (ap length same ∙ c.in_ok-block.ensures.length) (g.D.Folder.seen c.args.folder.now).counts
-    (g.D.Folder.seen c.read_block.new.folder).counts fault c.in_ok-block.ensures.done cause)
-    c.tag_at_offset.ensures.cause
+returns-clause-cause g c = grind (arith, IfErr-weaker, block-cause)

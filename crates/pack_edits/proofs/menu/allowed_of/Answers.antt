@@ -4,9 +4,10 @@ use Rattle.pack_edits.specs.Rates.{allows}
 use Rattle.pack_edits.proofs.menu.allowed_of.Goals as goal
 
 pub loop-slot-preserved : goal.loop-slot-preserved
-loop-slot-preserved c = grind (
-  arith,
-  filter_more (allows c.args.mode c.args.class)
-      c.args.slots.now c.loop-slot.slot-index c.slot-item.result c.loop-slot-test.true,
-  append-nil,
-)
+loop-slot-preserved c =
+    grind (
+      arith,
+      filter_more (allows c.args.mode c.args.class) c.args.slots.now
+          c.loop-slot.slot-index c.slot-item.result c.loop-slot-test.true,
+      append-nil,
+    )

@@ -1,30 +1,26 @@
 -- One more frame, and the first that doesn't fit.
 use Rattle.std.proofs.Common.{ap, arith, false, subst, true, ◌∙◌, ◌≡◌}
 use Rattle.rate_plan.proofs.FitLemmas.{area-at, most_area, to-all, to-begun, to-more, to-unfit}
-use Rattle.rate_plan.proofs.unfit.first_unfit.Goals.{After-area-area}
-use Rattle.rate_plan.specs.LargestAreas.{menu_largest_area}
-use Rattle.rate_plan.specs.Menus.{CanBeLaidFromMenu, IsFirstUnfitFrame}
+use Rattle.rate_plan.{proofs.unfit.first_unfit.Goals.After-area-area, specs.Menus.IsFirstUnfitFrame}
 use Rattle.slot_plan.specs.Reserve.{free_bytes_behind}
 use Rattle.rate_plan.proofs.unfit.first_unfit.Goals as goal
 
 pub loop-i-init : goal.loop-i-init
-loop-i-init c = record {
-  free = c.free_behind-free.ensures.within;
-  fit = to-begun c.window-window.result c.args.class c.args.menu.now c.args.needs.now
-      c.free_behind-free.result
-      (c.free_behind-free.ensures.free ∙ ap (λ n. free_bytes_behind c.window-window.result 0 0 n)
-      (c.area.ensures ∙ c.of_menu-largest.ensures.are false));
-}
+loop-i-init c =
+    omega (
+      arith,
+      to-begun,
+      c.free_behind-free.ensures.within,
+      c.window-window.result,
+      c.free_behind-free.result,
+      c.free_behind-free.ensures.free,
+      c.area.ensures,
+      c.of_menu-largest.ensures.are,
+    )
 
 -- the frame's area is the largest on the menu
 most : (c : After-area-area) → c.area-area.result ≡ most_area c.args.menu.now c.index-needs-i.result
-most c =
-    let need = c.index-needs-i.result in
-    c.area-area.ensures
-    ∙ ap (λ n. menu_largest_area c.of_menu-largest.result n.header.protected) c.need.view_is
-    ∙ c.of_menu-largest.ensures.are need.header.protected
-    ∙ area-at c.args.class c.args.menu.now c.args.needs.now c.loop-i.i need
-    c.requires.needs.class_is c.loop-i-test.true c.index-needs-i.is
+most c = grind (arith, area-at)
 
 pub returns-then-need-free : goal.returns-then-need-free
 returns-then-need-free c =
@@ -56,9 +52,4 @@ loop-i-preserved c =
     }
 
 pub returns : goal.returns
-returns c =
-    subst (λ n. CanBeLaidFromMenu n true c.args.menu.now c.args.needs.now)
-    c.window-window.ensures.window
-    (to-all c.window-window.result c.args.class c.args.menu.now c.args.needs.now c.loop-i.i
-    c.loop-i.free (omega (arith, c.loop-i-test.false))
-    c.requires.needs.class_is c.requires.needs.some c.requires.menu.slots c.loop-i.invariant.fit)
+returns c = grind (arith, to-all)

@@ -1,5 +1,5 @@
 -- Where the file begins, or why that isn't known: there is no first frame, or a call failed.
-use Rattle.std.proofs.Common.{arith, IfSome, refl, subst, sym, ◌∙◌}
+use Rattle.std.proofs.Common.{arith, refl, subst, sym, ◌∙◌}
 use Rattle.outside.{proofs.BufferOutputLemmas.err_at, specs.Files.Holds}
 use Rattle.salvage.proofs.{ProgressLemmas.no_first, ReadFaultLemmas.{bytes_refusal, look_refusal}}
 use Rattle.sync_survey.{proofs.FoldersLemmas.{none_read, read_more}, specs.Survey.IsWholeFrom}
@@ -33,21 +33,20 @@ returns-in_err-head-clause-refused g c =
 pub returns-clause-begun : goal.returns-clause-begun
 returns-clause-begun g c =
     let placed : IsWholeFrom c.in_ok-front_end.front_end c.args.size c.in-Some.first =
-    subst (λ o. IfSome o (IsWholeFrom c.in_ok-front_end.front_end c.args.size))
-    c.in-Some.is c.in_ok-first.ensures.placed in
+    grind arith in
     record {
       known = c.requires.known;
       whole = placed.within;
       junk = placed.behind;
       same = c.in_ok-head.ensures.same;
-      told = λ bytes holds.
-          let passed = subst (λ f. Holds f c.args.name.now bytes)
-          (sym c.in_ok-front_end.ensures.reads.files) holds in
-          let found = subst (λ f. Holds f c.args.name.now bytes)
-          (sym c.in_ok-first.ensures.reads.files) passed in
-          record {
-            front = c.in_ok-front_end.ensures.front_end bytes holds;
-            first = sym (c.in_ok-first.ensures.first bytes passed) ∙ c.in-Some.is;
-            head = c.in_ok-head.ensures.head bytes found;
-          };
+      told =
+          grind (
+            arith,
+            c.in_ok-front_end.ensures.reads.files,
+            c.in_ok-first.ensures.reads.files,
+            c.in_ok-front_end.ensures.front_end,
+            c.in_ok-first.ensures.first,
+            c.in-Some.is,
+            c.in_ok-head.ensures.head,
+          );
     }

@@ -1,12 +1,9 @@
 -- What was found up to the end is all that is read.
-use Rattle.std.proofs.Common.{ap, arith, Ok, refl, rules, subst, sym, [], ◌∙◌, ◌≡◌}
+use Rattle.std.proofs.Common.{arith, refl, rules, subst, sym, [], ◌∙◌, ◌≡◌}
 use Rattle.std.proofs.lemmas.Result.{IfErr-weaker}
 use Rattle.salvage.proofs.ProgressLemmas.{all_read, begun_laid, begun_read, IsFirst, laid_out}
 use Rattle.salvage.proofs.{ProgressLemmas.{no_frames, read_whole}, ReadFaultLemmas.bytes_refusal}
-use Rattle.salvage.proofs.ResultLemmas.{if_ok, on_ok}
-use Rattle.salvage.specs.DamagedFiles.{damaged_view, IsDamagedFault}
-use Rattle.salvage.specs.Progress.{found_view, IsDamagedLaidOut}
-use Rattle.sync_survey.specs.{Survey.BlocksAreLaid, SurveyFaultKinds.HasRightNumbers}
+use Rattle.salvage.{proofs.ResultLemmas.{if_ok, on_ok}, specs.DamagedFiles.IsDamagedFault}
 use Rattle.sync_survey.specs.declared.survey_fault.SurveyFault.TheVariants.{NoFrame}
 use Rattle.salvage.proofs.reading.read_on.Goals as goal
 
@@ -14,44 +11,17 @@ pub read_things-requires-clause-reading : goal.read_things-requires-clause-readi
 read_things-requires-clause-reading g c =
     let begun = c.args.begun.now in
     let found = c.in-Ok.found in
-    let first : IsFirst begun found = record {
-      rows = c.in-Ok.ensures.rows;
-      gaps = c.in-Ok.ensures.gaps;
-      before = c.in-Ok.ensures.before;
-      at = c.in-Ok.ensures.at;
-    } in
+    let first : IsFirst begun found = grind arith in
     record {
       told = λ bytes holds. begun_read bytes begun found (c.requires.begun.told bytes holds) first
           (c.in-Ok.ensures.pieces ∙ c.requires.blocks bytes holds);
-      laid =
-          begun_laid begun found first
-          c.requires.begun.junk (subst (λ l. BlocksAreLaid 0 l begun.start.front_end)
-          (sym c.in-Ok.ensures.pieces) c.requires.laid) c.in-Ok.ensures.low c.in-Ok.ensures.behind
-          (omega (arith, c.in-Ok.ensures.within, c.requires.begun.whole));
+      laid = search (arith, begun_laid);
     }
 
 pub returns : goal.returns
 returns g c = record {
-  exact = let begun = c.args.begun.now in
-      let found = c.read_things.new.found in
-      let reading = c.in_ok-read_things.ensures.reading in
-      if_ok c.damaged_by.result (λ d. damaged_view d ≡ found_view begun found) _
-      (found.rows.items ≡ [] → ⊥)
-      c.damaged_by.ensures.told c.damaged_by.ensures.some (λ d told some. λ bytes holds.
-      let known = c.requires.begun.known.long bytes holds in
-      all_read bytes begun found (c.requires.begun.told bytes holds)
-      (omega (arith, known, c.requires.begun.known.few)) (sym known)
-      (read_whole bytes begun found (reading.told bytes holds)
-      (omega (arith, known, c.in_ok-read_things.ensures.end))) some reading.laid.few
-      ∙ ap Ok (sym told));
-  laid = let begun = c.args.begun.now in
-      let found = c.read_things.new.found in
-      if_ok c.damaged_by.result (λ d. damaged_view d ≡ found_view begun found)
-      (λ d. IsDamagedLaidOut (damaged_view d)) (found.rows.items ≡ [] → ⊥)
-      c.damaged_by.ensures.told c.damaged_by.ensures.some (λ d told some.
-      subst IsDamagedLaidOut (sym told)
-      (laid_out begun found c.requires.begun.junk c.requires.begun.whole c.requires.begun.same
-      c.in_ok-read_things.ensures.reading.laid some c.requires.begun.known.few));
+  exact = grind (arith, if_ok, all_read, read_whole);
+  laid = grind (arith, if_ok, laid_out);
   there = on_ok c.damaged_by.result _ c.requires.begun.known.there;
   octets = on_ok c.damaged_by.result _ c.requires.octets;
   done = search rules;
@@ -72,11 +42,7 @@ returns g c = record {
       (read_whole bytes begun found (c.in_ok-read_things.ensures.reading.told bytes holds)
       (omega (arith, known, c.in_ok-read_things.ensures.end))) is.1)).cause)
       c.damaged_by.ensures.none;
-  numbers =
-      IfErr-weaker c.damaged_by.result (λ fault. (fault ≡ NoFrame c.args.begun.now.start.front_end)
-      × (c.read_things.new.found.rows.items ≡ [])) HasRightNumbers
-      (λ fault is. subst HasRightNumbers (sym is.0) tt)
-      c.damaged_by.ensures.none;
+  numbers = grind (arith, IfErr-weaker);
   files = search rules;
   counts = search rules;
 }

@@ -1,10 +1,13 @@
 -- The shift and the remainder are the group.
-use Rattle.std.proofs.{Common.{arith, sym, ◌%◌, ◌*◌, ◌^◌, ◌≡◌}, lemmas.Nat.one_shl}
+use Rattle.std.proofs.{Common.arith, lemmas.Nat.one_shl}
 use Rattle.frame_header.proofs.HeaderLemmas.{group-bits_of}
 use Rattle.side_info.proofs.frame_front.group_of.Goals as goal
 
 pub returns : goal.returns
 returns c =
-    let mask : 1 * 2 ^ c.args.n % 2 ^ 32 ≡ 2 ^ c.args.n =
-    one_shl c.args.n 32 (omega (arith, c.requires.few)) in
-    rw mask (sym (group-bits_of 32 c.args.at c.args.n c.args.word c.requires.within))
+    grind (
+      arith,
+      one_shl c.args.n 32 (omega (arith, c.requires.few)),
+      group-bits_of 32 c.args.at
+          c.args.n c.args.word c.requires.within,
+    )

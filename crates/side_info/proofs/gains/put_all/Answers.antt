@@ -2,13 +2,12 @@
 use Rattle.std.proofs.Common.{ap, ap₂, arith, get_or, length, rules, subst, sym, [], ◌*◌, ◌+◌, ◌-◌}
 use Rattle.std.proofs.Common.{◌∙◌, ◌≡◌, ◌≤◌}
 use Rattle.bit_fields.{proofs.BitsLemmas.{AreBits-bits, length-bits}, specs.Bits.bits}
-use Rattle.frame_header.specs.{Fields.IsClass, Tables.{granules_of, side_size_of}}
+use Rattle.frame_header.specs.{Fields.IsClass, Tables.granules_of}
 use Rattle.side_info.proofs.GainsLemmas.{all_put_gains}
 use Rattle.side_info.proofs.ReadLemmas.{parts_size, second_room, side_size-small}
 use Rattle.side_info.proofs.SideLemmas.{IsShaped, IsShaped-side_at, side_bits-side_at}
 use Rattle.side_info.{proofs.gains.put_all.Goals.After-from, specs.Granule.granule_size}
-use Rattle.side_info.specs.Parts.{class_with, front_size, pair_bits, PutsPair, second_pair_bits}
-use Rattle.side_info.specs.Side.{side_at}
+use Rattle.side_info.specs.{Parts.{front_size, pair_bits, PutsPair, second_pair_bits}, Side.side_at}
 use Rattle.side_info.proofs.gains.put_all.Goals as goal
 
 -- the parts take up all the bits
@@ -16,10 +15,7 @@ size : (c : After-from)
     → 8 * length c.args.bytes.now ≡ front_size c.class.inside.version c.class.inside.channels
     + (c.class.inside.channels * granule_size c.class.inside.version + (granules_of
     c.class.inside.version - 1) * (c.class.inside.channels * granule_size c.class.inside.version))
-size c =
-    ap (λ n. 8 * n) (c.requires.size ∙ sym (ap side_size_of c.class.view_is))
-    ∙ sym (parts_size (class_with c.class.inside.version c.class.inside.frequency_index
-    c.class.inside.channels) c.class.invariant)
+size c = grind (arith, parts_size)
 
 short : (c : After-from) → length c.args.bytes.now ≤ 32
 short c = omega (arith, c.requires.size, side_size-small c.args.class)
@@ -27,8 +23,7 @@ short c = omega (arith, c.requires.size, side_size-small c.args.class)
 next : (c : After-from) → c.front_size-begin.result + c.granule_width.result * c.from.result
     ≡ front_size c.class.inside.version c.class.inside.channels
     + c.class.inside.channels * granule_size c.class.inside.version
-next c = ap₂ (λ m n. m + n) c.front_size-begin.ensures
-    (ap₂ (λ m n. m * n) c.granule_width.ensures c.from.ensures ∙ omega arith)
+next c = grind arith
 
 pub put_pair-requires-clause-room : goal.put_pair-requires-clause-room
 put_pair-requires-clause-room c = omega

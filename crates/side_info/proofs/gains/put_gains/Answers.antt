@@ -1,11 +1,10 @@
 -- The side information has the other gains, and the check word, where there is one, is right for
 -- it.
-use Rattle.std.proofs.Common.{ap, ap₂, arith, drop, false, List, rules, subst, sym, take, true, ℕ}
-use Rattle.std.proofs.{Common.{◌++◌, ◌+◌, ◌∙◌, ◌≡◌}, lemmas.List.drop-drop}
+use Rattle.std.proofs.Common.{ap, arith, drop, false, List, rules, subst, sym, take, true, ℕ, ◌++◌}
+use Rattle.std.proofs.{Common.{◌+◌, ◌∙◌, ◌≡◌}, lemmas.List.drop-drop}
 use Rattle.bit_fields.proofs.BitsLemmas.{AreBelow-drop, AreBytes-from_places}
 use Rattle.bit_fields.specs.Bits.{AreBytes, bits, bits_of, bytes}
-use Rattle.frame_header.specs.Fields.{ClassFields, HeaderFields}
-use Rattle.frame_header.specs.Tables.{class_of, overhead_of, side_size_of}
+use Rattle.frame_header.specs.{Fields.{ClassFields, HeaderFields}, Tables.{class_of, side_size_of}}
 use Rattle.side_info.proofs.FrameLemmas.{overhead-protected, overhead-unprotected}
 use Rattle.side_info.proofs.GainsLemmas.{gains-protected, gains-unprotected}
 use Rattle.side_info.specs.{CheckWord.check_word_of, Frame.{side_in, side_part, side_place}}
@@ -13,70 +12,26 @@ use Rattle.side_info.specs.Side.{HasOtherGains, side_at, side_bits}
 use Rattle.side_info.proofs.gains.put_gains.Goals as goal
 
 pub put_at_place-requires : goal.put_at_place-requires
-put_at_place-requires c =
-    let is : c.args.front.now.header.protected ≡ true =
-    sym c.protected.ensures ∙ c.if-protected.true in
-    record {
-      room = omega (
-        arith,
-        c.requires.room,
-        overhead-protected c.args.front.now.header is,
-        ap side_size_of c.requires.class,
-      );
-    }
+put_at_place-requires c = grind (arith, overhead-protected)
 
 pub put_right_crc-requires : goal.put_right_crc-requires
-put_right_crc-requires c =
-    let is : c.args.front.now.header.protected ≡ true =
-    sym c.protected.ensures ∙ c.if-protected.true in
-    omega (
-      arith,
-      c.requires.room,
-      overhead-protected c.args.front.now.header is,
-      c.put_at_place.auto.frame,
-      ap (λ h. side_size_of (class_of h)) c.header.ensures,
-    )
+put_right_crc-requires c = grind (arith, overhead-protected)
 
 pub put_at_place-requires-else-protected : goal.put_at_place-requires-else-protected
-put_at_place-requires-else-protected c =
-    let is : c.args.front.now.header.protected ≡ false =
-    sym c.protected.ensures ∙ c.if-protected.false in
-    record {
-      room = omega (
-        arith,
-        c.requires.room,
-        overhead-unprotected c.args.front.now.header is,
-        ap side_size_of c.requires.class,
-      );
-    }
+put_at_place-requires-else-protected c = grind (arith, overhead-unprotected)
 
 -- the side information of a frame, read at its place
 side_read : (h : HeaderFields) (d : ClassFields) (place : ℕ) (frame : List ℕ) → d ≡ class_of h
     → side_place h.protected ≡ place
     → side_in h frame ≡ side_at d (bits (take (side_size_of d) (drop place frame)))
 unfolding side_in side_part
-side_read h d place frame class at = ap₂ (λ (d : ClassFields) k. side_at d
-    (bits (take (side_size_of d) (drop k frame)))) (sym class) at
+side_read h d place frame class at = grind arith
 
 pub returns-then-protected : goal.returns-then-protected
 returns-then-protected c = record {
   length = search rules;
   header = search rules;
-  behind = let h = c.args.front.now.header in
-      let old = c.args.frame.now in
-      let middle = c.put_at_place.new.frame in
-      let new = c.put_right_crc.new.frame in
-      let size = side_size_of (class_of h) in
-      let class = c.requires.class in
-      let is : h.protected ≡ true = sym c.protected.ensures ∙ c.if-protected.true in
-      let over : overhead_of (class_of h) h.protected ≡ 6 + size = overhead-protected h is in
-      ap (λ n. drop n new) over
-      ∙ sym (drop-drop size 6 new)
-      ∙ ap (drop size) c.put_right_crc.ensures.behind
-      ∙ drop-drop size 6 middle
-      ∙ subst (λ d. drop (6 + side_size_of d) middle ≡ drop (6 + side_size_of d) old) class
-      c.put_at_place.ensures.behind
-      ∙ sym (ap (λ n. drop n old) over);
+  behind = grind (arith, overhead-protected, drop-drop);
   gains = λ other. let h = c.args.front.now.header in
       let t = c.args.side.now in
       let old = c.args.frame.now in
@@ -103,16 +58,7 @@ pub returns-else-protected : goal.returns-else-protected
 returns-else-protected c = record {
   length = search rules;
   header = search rules;
-  behind = let h = c.args.front.now.header in
-      let old = c.args.frame.now in
-      let new = c.put_at_place-else-protected.new.frame in
-      let is : h.protected ≡ false = sym c.protected.ensures ∙ c.if-protected.false in
-      let over : overhead_of (class_of h) h.protected ≡ 4 + side_size_of (class_of h) =
-      overhead-unprotected h is in
-      ap (λ n. drop n new) over
-      ∙ subst (λ d. drop (4 + side_size_of d) new ≡ drop (4 + side_size_of d) old)
-      c.requires.class c.put_at_place-else-protected.ensures.behind
-      ∙ sym (ap (λ n. drop n old) over);
+  behind = grind (arith, overhead-unprotected);
   gains = λ other. let h = c.args.front.now.header in
       let t = c.args.side.now in
       let old = c.args.frame.now in

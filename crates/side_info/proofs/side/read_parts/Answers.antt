@@ -13,8 +13,7 @@ class c = (lit≤ tt, c.requires.channels.some, c.requires.channels.few)
 
 -- all the bytes
 whole : (c : After-from) → take c.side_size.result c.args.bytes.now ≡ c.args.bytes.now
-whole c = take_all c.side_size.result c.args.bytes.now
-    (omega (arith, c.requires.size, c.side_size.ensures))
+whole c = grind (arith, take_all)
 
 size : (c : After-from) → 8 * length (take c.side_size.result c.args.bytes.now)
     ≡ front_size c.args.version c.args.channels + (c.args.channels * granule_size c.args.version
@@ -23,20 +22,13 @@ size c = ap (λ xs. 8 * length xs) (whole c) ∙ ap (λ n. 8 * n) c.requires.siz
     ∙ sym (parts_size (class_with c.args.version 0 c.args.channels) (class c))
 
 short : (c : After-from) → length (take c.side_size.result c.args.bytes.now) ≤ 32
-short c = omega (
-  arith,
-  ap length (whole c),
-  c.requires.size,
-  side_size-small (class_with c.args.version 0 c.args.channels),
-)
+short c = grind (arith, whole, side_size-small)
 
 pub read_front-front-requires-clause-enough : goal.read_front-front-requires-clause-enough
-read_front-front-requires-clause-enough c =
-    omega (arith, size (goal.at.read_front-front-requires-clause-enough c).After-from)
+read_front-front-requires-clause-enough c = grind (arith, size)
 
 pub read_front-front-requires-clause-short : goal.read_front-front-requires-clause-short
-read_front-front-requires-clause-short c =
-    omega (arith, short (goal.at.read_front-front-requires-clause-short c).After-from)
+read_front-front-requires-clause-short c = grind (arith, short)
 
 pub read_pair-requires-clause-enough : goal.read_pair-requires-clause-enough
 read_pair-requires-clause-enough c = omega (
@@ -51,8 +43,7 @@ read_pair-requires-clause-short c =
 
 next : (c : After-from) → c.front_size-begin.result + c.granule_width.result * c.from.result
     ≡ front_size c.args.version c.args.channels + c.args.channels * granule_size c.args.version
-next c = ap₂ (λ m n. m + n) c.front_size-begin.ensures
-    (ap₂ (λ m n. m * n) c.granule_width.ensures c.from.ensures ∙ omega arith)
+next c = grind arith
 
 pub read_second-requires-clause-enough : goal.read_second-requires-clause-enough
 read_second-requires-clause-enough c two =

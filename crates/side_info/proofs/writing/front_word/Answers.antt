@@ -1,6 +1,5 @@
 -- The fields are joined to one number.
-use Rattle.std.proofs.Common.{ap, arith, get_or, rules, subst, sum, sym, ℕ, [], ◌+◌, ◌<◌, ◌^◌, ◌∙◌}
-use Rattle.std.proofs.Common.{◌∷◌, ◌≡◌}
+use Rattle.std.proofs.Common.{ap, arith, rules, sum, sym, ℕ, [], ◌<◌, ◌^◌, ◌∙◌, ◌∷◌, ◌≡◌}
 use Rattle.bit_fields.{proofs.GroupsLemmas.joined, specs.{Bits.bits_of, Groups.group_bits}}
 use Rattle.side_info.proofs.WriteLemmas.{front-group_bits, front_of_one, front_of_two}
 use Rattle.side_info.{proofs.writing.front_word.Goals.After-from-second, specs.Side.front_widths_of}
@@ -15,17 +14,7 @@ word_of : (c : After-from-second) (begin private first second n : ℕ)
     → bits_of (sum (front_widths_of c.args.version c.args.channels)) n
     ≡ group_bits (front_widths_of c.args.version c.args.channels)
     (c.args.side.now.main_data_begin ∷ c.args.side.now.private_bits ∷ c.args.side.now.scfsi)
-word_of c begin private first second n is joins =
-    let side = c.args.side.now in
-    let scfsi = λ (k : ℕ). subst (λ vs. get_or side.scfsi k 0 < 2 ^ get_or vs (2 + k) 0) (sym is)
-    (c.requires.scfsi k) in
-    front-group_bits begin private first second (front_widths_of c.args.version c.args.channels) is
-    side.main_data_begin side.private_bits side.scfsi n
-    c.requires.begin c.requires.private_bits c.requires.scfsi (omega arith)
-    (joins (omega (arith, c.from-first.ensures, scfsi 0))
-    (omega (arith, c.from-second.ensures, scfsi 1))
-    ∙ (λ i. joined (begin ∷ private ∷ first ∷ second ∷ []) (c.from-begin.ensures i
-    ∷ c.from-private_bits.ensures i ∷ c.from-first.ensures i ∷ c.from-second.ensures i ∷ [])))
+word_of c begin private first second n is joins = grind (arith, front-group_bits, joined)
 
 pub returns-in-One-true : goal.returns-in-One-true
 unfolding joined

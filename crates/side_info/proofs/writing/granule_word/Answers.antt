@@ -14,26 +14,12 @@ middle : (c : After-preflag_width)
     → c.from-4.result * 8388608 + c.from-5.result * 4194304 + c.from-6.result
     ≡ c.args.granule.now.scalefac_compress * 8388608
     + flag_of c.args.granule.now.window_switching * 4194304 + c.args.granule.now.detail
-middle c = omega (
-  arith,
-  c.from-4.ensures,
-  c.from-5.ensures,
-  c.from-6.ensures,
-  bool_byte-is c.args.granule.now.window_switching,
-)
+middle c = grind (arith, bool_byte-is)
 
 last : (c : After-preflag_width) → c.from-7.result * 4 + c.from-8.result * 2 + c.from-9.result
     ≡ flag_of c.args.granule.now.preflag * 4 + flag_of c.args.granule.now.scalefac_scale * 2
     + flag_of c.args.granule.now.count1table_select
-last c = omega (
-  arith,
-  c.from-7.ensures,
-  c.from-8.ensures,
-  c.from-9.ensures,
-  bool_byte-is c.args.granule.now.preflag,
-  bool_byte-is c.args.granule.now.scalefac_scale,
-  bool_byte-is c.args.granule.now.count1table_select,
-)
+last c = grind (arith, bool_byte-is)
 
 fits : (c : After-preflag_width)
     → ((c.from.result * 131072 + c.from-2.result * 256 + c.from-3.result)
@@ -49,17 +35,7 @@ upper : (c : After-compress_width)
     → (c.from.result * 131072 + c.from-2.result * 256 + c.from-3.result)
     * (1 * 2 ^ (c.compress_width.result + 23) % 18446744073709551616)
     + (c.from-4.result * 8388608 + c.from-5.result * 4194304 + c.from-6.result) < 2 ^ 64
-upper c =
-    upper_fits c.args.version c.args.granule.now c.requires.fits c.compress_width.result _ _
-    c.compress_width.ensures.width
-    (omega (arith, c.from.ensures, c.from-2.ensures, c.from-3.ensures))
-    (omega (
-      arith,
-      c.from-4.ensures,
-      c.from-5.ensures,
-      c.from-6.ensures,
-      bool_byte-is c.args.granule.now.window_switching,
-    ))
+upper c = search (arith, upper_fits, bool_byte-is)
 
 pub overflow_mul-upper : goal.overflow_mul-upper
 overflow_mul-upper c = omega (arith, upper (goal.at.overflow_mul-upper c).After-compress_width)
@@ -74,11 +50,7 @@ pub overflow_add-result-2 : goal.overflow_add-result-2
 overflow_add-result-2 c = omega (arith, fits (goal.at.overflow_add-result-2 c).After-preflag_width)
 
 pub returns-clause-word : goal.returns-clause-word
-returns-clause-word c =
-    let at = (goal.at.returns-clause-word c).After-preflag_width in
-    word_bits c.args.version c.args.granule.now c.requires.fits c.compress_width.result
-    c.preflag_width.result _ _ _
-    c.compress_width.ensures.width c.preflag_width.ensures.width (first at) (middle at) (last at)
+returns-clause-word c = grind (arith, word_bits, first, middle)
 
 pub returns-clause-below : goal.returns-clause-below
 returns-clause-below c =

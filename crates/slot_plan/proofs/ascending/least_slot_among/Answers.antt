@@ -1,5 +1,5 @@
 -- The first slot that isn't too small, or the last.
-use Rattle.std.proofs.Common.{arith, length, ◌-◌}
+use Rattle.std.proofs.Common.{arith}
 use Rattle.slot_plan.proofs.AreaLemmas.{area-last, least-first}
 use Rattle.slot_plan.proofs.ascending.least_slot_among.Goals as goal
 
@@ -12,12 +12,4 @@ returns-then-wanted-from c =
     (omega (arith, c.if-wanted-from.true, c.from.ensures, c.area_of.ensures.area))
 
 pub returns : goal.returns
-returns c =
-    let slot = c.index-slots-slots.result in
-    let last = area-last c.args.class c.args.protected c.args.slots.now slot slot
-    c.requires.rising.some c.requires.rising.ascending c.index-slots-slots.is in
-    least-first c.args.wanted c.args.class c.args.protected c.args.slots.now
-    (length c.args.slots.now - 1) slot
-    (omega (arith, c.requires.rising.some)) c.index-slots-slots.is c.requires.rising.ascending
-    (λ k before. c.loop-place.invariant k slot (omega (arith, before, c.loop-place-test.false)))
-    (omega (arith, c.requires.enough, last))
+returns c = grind (arith, area-last, least-first)

@@ -24,11 +24,13 @@ overflow_add-first c =
     )
 
 pub largest_area_of-requires : goal.largest_area_of-requires
-largest_area_of-requires c = record {
-  rising = rising-all c.class-class.result c.header.inside.protected c.as_slice.result.now
-      (c.as_slice.ensures.value ∙ c.slots-slots.ensures.slots)
-      (c.slots-slots.ensures.ascending c.header.inside.protected);
-}
+largest_area_of-requires c =
+    grind (
+      arith,
+      rising-all c.class-class.result c.header.inside.protected c.as_slice.result.now
+          (c.as_slice.ensures.value ∙ c.slots-slots.ensures.slots) (c.slots-slots.ensures.ascending
+          c.header.inside.protected),
+    )
 
 pub returns-then-largest_area_of-wanted : goal.returns-then-largest_area_of-wanted
 returns-then-largest_area_of-wanted c = λ class same.

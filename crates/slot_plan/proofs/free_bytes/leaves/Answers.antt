@@ -10,20 +10,10 @@ pub loop-need-init : goal.loop-need-init
 loop-need-init c = leaves-none c.args.free c.args.needs.now
 
 pub free_behind-left-requires-clause-free : goal.free_behind-left-requires-clause-free
-free_behind-left-requires-clause-free c =
-    let fit = c.requires in
-    let window = window-read fit.class c.class.result c.args.needs.now c.loop-need.need-index
-    c.window-window.result c.need-item.result fit.same c.loop-need-test.true c.need-item.is
-    c.class.ensures c.window-window.ensures.window in
-    omega (arith, window, (c.loop-need.invariant fit.class fit.same fit.within fit.fits).within)
+free_behind-left-requires-clause-free c = grind (arith, window-read)
 
 pub free_behind-left-requires-clause-fits : goal.free_behind-left-requires-clause-fits
-free_behind-left-requires-clause-fits c =
-    let fit = c.requires in
-    leaves-room (window_of fit.class.version)
-    c.args.free c.args.needs.now c.loop-need.need-index c.need-item.result c.loop-need.left
-    c.area.result c.loop-need-test.true c.need-item.is c.area.ensures.area
-    (c.loop-need.invariant fit.class fit.same fit.within fit.fits)
+free_behind-left-requires-clause-fits c = grind (arith, leaves-room)
 
 pub loop-need-preserved : goal.loop-need-preserved
 loop-need-preserved c = λ class same within fits.

@@ -1,11 +1,9 @@
 -- One more frame.
-use Rattle.std.proofs.Common.{ap, arith, drop, map, subst, sym, ℕ, ◌+◌, ◌∙◌, ◌≡◌}
-use Rattle.std.proofs.lemmas.List.{length-drop}
+use Rattle.std.proofs.{Common.{ap, arith, drop, ℕ, ◌+◌, ◌≡◌}, lemmas.List.length-drop}
 use Rattle.frame_header.specs.Tables.{area_of, class_of}
 use Rattle.slot_plan.proofs.PartLemmas.{area-in, next-reserve_before, next-wanted, next-within}
 use Rattle.slot_plan.proofs.{PartLemmas.same-class, PlacedLemmas.{places-begun, places-next}}
-use Rattle.slot_plan.specs.Parts.{need_item}
-use Rattle.slot_plan.specs.Reserve.{free_bytes_behind, open_frames, PlacesMore, reserve_before}
+use Rattle.slot_plan.specs.Reserve.{free_bytes_behind, open_frames, reserve_before}
 use Rattle.slot_plan.proofs.placing.place_frames.Goals as goal
 
 pub place_frame-frame-requires-clause-enough : goal.place_frame-frame-requires-clause-enough
@@ -21,11 +19,12 @@ place_frame-frame-requires-clause-enough g c =
     omega (arith, all, here, c.loop-need.invariant.enough)
 
 pub place_frame-frame-requires-clause-table : goal.place_frame-frame-requires-clause-table
-place_frame-frame-requires-clause-table g c = record {
-  class_is = same-class c.args.table.now.lengths c.args.part.now c.loop-need.need-index
-      c.need-item.result c.requires.table.class c.loop-need-test.true c.need-item.is;
-  of_slots = c.requires.table.of_slots;
-}
+place_frame-frame-requires-clause-table g c =
+    grind (
+      arith,
+      same-class c.args.table.now.lengths c.args.part.now c.loop-need.need-index
+          c.need-item.result c.requires.table.class c.loop-need-test.true c.need-item.is,
+    )
 
 pub free_behind-free-requires-clause-fits : goal.free_behind-free-requires-clause-fits
 free_behind-free-requires-clause-fits g c =
@@ -36,15 +35,7 @@ free_behind-free-requires-clause-fits g c =
     omega (arith, c.place_frame-frame.ensures.least.enough, area, ap (λ n. n.bytes) c.need.view_is)
 
 pub loop-need-init : goal.loop-need-init
-loop-need-init g c = record {
-  room = c.in_ok-reserve.ensures.ok;
-  free = c.requires.ready.most;
-  enough = c.requires.ready.enough;
-  within = c.requires.ready.within;
-  behind = c.requires.ready.behind;
-  placed = places-begun c.args.room.window c.args.room.free (map
-      (need_item (g.O.Offer.slots_of c.args.offer.now)) c.args.part.now) c.reserve.new.self.items;
-}
+loop-need-init g c = grind (arith, places-begun)
 
 pub loop-need-preserved : goal.loop-need-preserved
 loop-need-preserved g c =
@@ -64,11 +55,7 @@ loop-need-preserved g c =
     c.need-item.result _ c.place_frame-frame.result.slot c.requires.table.class
     c.loop-need-test.true c.need-item.is c.need.view_is c.area_of-area.ensures.area in
     let free : c.free_behind-free.result ≡ free_bytes_behind c.args.room.window c.loop-need.free
-    need.bytes (area_of (class_of need.header) slot need.header.protected) =
-    c.free_behind-free.ensures.free
-    ∙ ap (λ n. free_bytes_behind c.args.room.window c.loop-need.free n.bytes c.area_of-area.result)
-    c.need.view_is
-    ∙ ap (λ n. free_bytes_behind c.args.room.window c.loop-need.free need.bytes n) area in
+    need.bytes (area_of (class_of need.header) slot need.header.protected) = grind arith in
     let left : ℕ = reserve_before (open_frames choices (drop (i + 1) part)) in
     let least = c.place_frame-frame.ensures.least.enough in
     record {
@@ -85,13 +72,14 @@ loop-need-preserved g c =
       enough = omega (arith, free, next.0, within.0, least);
       within = within.1;
       behind = next.1;
-      placed = subst (λ l. PlacesMore c.args.room.window c.args.room.free c.free_behind-free.result
-          (map (need_item choices) part) (map (need_item choices) (drop (i + 1) part))
-          c.reserve.new.self.items l) (sym (c.push_reserved.ensures.items))
-          (places-next c.args.room.window c.args.room.free c.loop-need.free
-          c.free_behind-free.result choices part i need c.place_frame-frame.result
-          c.unwrap_or-wanted.result c.reserve.new.self.items c.loop-need.placed.items
-          c.loop-need-test.true c.need-item.is next.0 c.place_frame-frame.ensures.frame
-          c.place_frame-frame.ensures.begin c.place_frame-frame.ensures.least free
-          c.loop-need.invariant.placed);
+      placed =
+          grind (
+            arith,
+            places-next c.args.room.window c.args.room.free c.loop-need.free
+                c.free_behind-free.result choices part i need c.place_frame-frame.result
+                c.unwrap_or-wanted.result c.reserve.new.self.items c.loop-need.placed.items
+                c.loop-need-test.true c.need-item.is next.0 c.place_frame-frame.ensures.frame
+                c.place_frame-frame.ensures.begin c.place_frame-frame.ensures.least free
+                c.loop-need.invariant.placed,
+          );
     }

@@ -1,5 +1,5 @@
 -- One more frame, from the last to the first.
-use Rattle.std.proofs.Common.{arith, length, subst, sym, [], ◌++◌, ◌+◌, ◌-◌, ◌<◌, ◌∷◌, ◌≡◌, ◌≤◌}
+use Rattle.std.proofs.Common.{arith, subst, [], ◌++◌, ◌+◌, ◌-◌, ◌∷◌, ◌≡◌}
 use Rattle.slot_plan.proofs.PartLemmas.{reserves-all, reserves-more, reserves-none, ReservesFrom}
 use Rattle.slot_plan.proofs.{PartLemmas.same-class, reserves.reserves_of.Given.Over}
 use Rattle.slot_plan.proofs.reserves.reserves_of.Goals as goal
@@ -20,49 +20,21 @@ more g c =
     (subst (λ k. from k c.loop-i.behind.items c.loop-i.before) next c.loop-i.invariant.from)
 
 pub needed_before-before-requires : goal.needed_before-before-requires
-needed_before-before-requires g c =
-    let within : c.loop-i.i - 1 < length c.args.part.now =
-    omega (arith, c.loop-i-test.true, c.loop-i.auto.i) in
-    record {
-      table = record {
-        class_is = same-class c.args.table.now.lengths c.args.part.now (c.loop-i.i - 1)
-            c.index-part-i.result c.requires.table.class within c.index-part-i.is;
-        of_slots = c.requires.table.of_slots;
-      };
-    }
+needed_before-before-requires g c = search (arith, same-class)
 
 pub overflow_cast-before : goal.overflow_cast-before
-overflow_cast-before g c =
-    let most : c.needed_before-before.result ≤ c.args.window = (more g c).most in
-    omega (arith, c.requires.part.most)
+overflow_cast-before g c = grind (arith, more g c)
 
 pub loop-i-init : goal.loop-i-init
-loop-i-init g c = record {
-  room = omega (arith, c.in_ok-behind.ensures.len, c.in_ok-behind.ensures.capacity);
-  from = subst (λ l. ReservesFrom c.args.window (g.O.Offer.slots_of c.args.offer.now)
-      (g.O.Offer.some_area_of c.args.offer.now) c.args.part.now (length c.args.part.now) l 0)
-      (sym c.in_ok-behind.ensures.items)
-      (reserves-none c.args.window (g.O.Offer.slots_of c.args.offer.now)
-      (g.O.Offer.some_area_of c.args.offer.now) c.args.part.now);
-}
+loop-i-init g c =
+    grind (
+      arith,
+      reserves-none c.args.window (g.O.Offer.slots_of c.args.offer.now)
+          (g.O.Offer.some_area_of c.args.offer.now) c.args.part.now,
+    )
 
 pub loop-i-preserved : goal.loop-i-preserved
-loop-i-preserved g c = record {
-  room = omega (
-    arith,
-    c.loop-i-test.true,
-    c.loop-i.invariant.room,
-    c.push_reserved.ensures.len,
-    c.push_reserved.ensures.capacity,
-  );
-  from = subst (λ l. ReservesFrom c.args.window (g.O.Offer.slots_of c.args.offer.now)
-      (g.O.Offer.some_area_of c.args.offer.now) c.args.part.now (c.loop-i.i - 1) l
-      c.needed_before-before.result) (sym c.push_reserved.ensures.items)
-      (more g c);
-}
+loop-i-preserved g c = grind (arith, more g c)
 
 pub returns : goal.returns
-returns g c =
-    reserves-all c.args.window (g.O.Offer.slots_of c.args.offer.now)
-    (g.O.Offer.some_area_of c.args.offer.now) c.args.part.now c.loop-i.i _
-    (omega (arith, c.loop-i-test.false)) c.loop-i.invariant.from
+returns g c = search (arith, reserves-all)

@@ -8,7 +8,7 @@ use Rattle.laying.specs.declared.selected.Selected.{Selected}
 use Rattle.split_edits.proofs.PiecesLemmas.{fault-of-all, laid-is, laid_before, match_err}
 use Rattle.split_edits.proofs.PiecesLemmas.{pieces-push, place-laid, place-refused, places-laid}
 use Rattle.split_edits.proofs.piece.make_pieces.Goals.{After-to-item}
-use Rattle.split_edits.specs.{Cutting.piece_parts_from, Steps.{ArePieces, piece_part}}
+use Rattle.split_edits.specs.{Cutting.piece_parts_from, Steps.piece_part}
 use Rattle.sync_survey.specs.Faults.{survey_view}
 use Rattle.split_edits.proofs.piece.make_pieces.Given as given
 use Rattle.split_edits.proofs.piece.make_pieces.Goals as goal
@@ -33,13 +33,17 @@ loop-to-preserved g c =
     let more = ap (map piece_part) items ∙ map-append piece_part at.pieces.items (piece ∷ []) in
     record {
       pieces =
-          subst (ArePieces c.args.prefix.now (survey_view c.args.source.now.survey) 1) (sym items)
-          (pieces-push c.args.prefix.now (survey_view c.args.source.now.survey) 1
-          (at.number + 1) at.pieces.items piece
-          at.invariant.pieces (omega (arith, at.invariant.many, at.invariant.number))
-          c.in_ok-piece.ensures.name
-          (subst (IsWritableSelection (survey_view c.args.source.now.survey))
-          (sym c.in_ok-piece.ensures.selected) c.in_ok-selected.ensures.writable));
+          grind (
+            arith,
+            pieces-push c.args.prefix.now (survey_view c.args.source.now.survey) 1
+                (at.number + 1) at.pieces.items piece at.invariant.pieces (omega (
+                  arith,
+                  at.invariant.many,
+                  at.invariant.number,
+                )) c.in_ok-piece.ensures.name (subst
+                (IsWritableSelection (survey_view c.args.source.now.survey)) (sym
+                c.in_ok-piece.ensures.selected) c.in_ok-selected.ensures.writable),
+          );
       many = omega
           (arith, at.invariant.many, ap length items, length-append at.pieces.items (piece ∷ []));
       number = omega (arith, at.invariant.number);
@@ -74,11 +78,4 @@ returns-in_err-selected-clause-laid g c =
     c.in_err-selected.ensures.laid)
 
 pub returns-clause-laid : goal.returns-clause-laid
-returns-clause-laid g c = λ file s known.
-    let at = c.loop-to in
-    let cut = g.C.Cut.cutting c.args.cut.now in
-    let rest = take (length c.args.places.now - 1) (drop 1 c.args.places.now) in
-    laid-is cut file s
-    c.index-places-0.result c.args.places.now c.requires.places.1 c.index-places-0.is
-    ∙ places-laid cut file s at.to-index at.from.now rest (map piece_part at.pieces.items) _
-    (at.invariant.laid file s known) (omega (arith, c.loop-to-test.false))
+returns-clause-laid g c = search (arith, laid-is, places-laid)

@@ -26,8 +26,7 @@ returns-in-Some g c =
     c.sheet.ensures c.clash.ensures c.in-Some.is in
     record {
       done = tt;
-      left = equal-left cut c.requires.proper c.args.input.now c.args.prefix.now _ _
-          clash;
+      left = grind (arith, equal-left);
       numbers = clash;
       names = search rules;
       streams = tt;
@@ -200,8 +199,7 @@ returns g c =
           (stays g at) c.as_slice.result.now (said g at) pieces named laid most touches)
           (rw (items, by) at c.write_pieces.ensures.left);
       numbers = numbers;
-      names = names_free (split_command (g.C.Cut.cutting c.args.cut.now) input prefix)
-          c.write_pieces.result none numbers;
+      names = grind (arith, names_free);
       streams = on_ok_weaker c.write_pieces.result
           (λ done. split-streams (g.C.Cut.cutting c.args.cut.now) c.requires.proper input prefix
           none s (old g at) survey.there survey.surveyed c.as_slice.result.now (said g at)

@@ -62,8 +62,7 @@ write-requires-clause-ready g c =
     (λ file holds. c.requires.split.has file (stands.before file holds))
     c.length.ensures c.in-Ok.ensures.answer.created
     (record {
-      same = λ bytes holds. c.loop-piece.invariant.fed.same bytes (emptied_held_other _ _
-          c.args.input.now bytes away (rw c.in-Ok.ensures.answer.created at holds));
+      same = grind (arith, emptied_held_other);
     })
 
 pub write-requires-clause-writable : goal.write-requires-clause-writable
@@ -138,8 +137,7 @@ loop-piece-preserved g c =
       place = omega (arith, c.loop-piece.invariant.place);
       fed = c.in_default-write.ensures.ready.pass.fed_from;
       unsent = c.in_default-write.ensures.none;
-      counts = c.in_default-write.ensures.done ∙ c.in-Ok.ensures.answer.done
-          ∙ c.loop-piece.invariant.counts;
+      counts = grind arith;
     }
 
 -- all pieces are whole

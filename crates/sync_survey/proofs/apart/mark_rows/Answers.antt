@@ -26,9 +26,4 @@ returns-after-loop-row c =
     marked-all c.args.rows.now at.rows at.areas at.row-index at.invariant all
 
 pub returns-then-not-mark_apart : goal.returns-then-not-mark_apart
-returns-then-not-mark_apart c =
-    let at = c.loop-row in
-    let within : at.row-index < length c.args.rows.now =
-    omega (arith, c.loop-row-test.true, at.auto.rows) in
-    marked-last c.args.rows.now at.rows at.areas at.row-index _ at.invariant within _
-    c.mark_apart.ensures.row c.mark_apart.ensures.near (sym c.if-not-mark_apart.ensures.empty)
+returns-then-not-mark_apart c = grind (arith, marked-last)

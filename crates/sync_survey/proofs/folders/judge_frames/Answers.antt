@@ -1,6 +1,6 @@
 -- One more item is judged and kept, until the file ends.
-use Rattle.std.proofs.Common.{ap, ap₂, arith, Err, IfSome, length, List, None, Ok, Option, refl}
-use Rattle.std.proofs.Common.{rules, Some, subst, sym, vec_len, ℕ, [], ◌+◌, ◌<◌, ◌∙◌, ◌∷◌, ◌≡◌, ◌≤◌}
+use Rattle.std.proofs.Common.{ap, arith, Err, IfSome, length, List, None, Option, refl, rules, Some}
+use Rattle.std.proofs.Common.{subst, sym, vec_len, ℕ, [], ◌+◌, ◌<◌, ◌∙◌, ◌∷◌, ◌≡◌, ◌≤◌}
 use Rattle.std.proofs.lemmas.Bool.{eq-eqb, eqb-true, true≢false}
 use Rattle.frame_header.specs.Tables.{class_of}
 use Rattle.outside.{proofs.BufferOutputLemmas.err_at, specs.Files.Holds}
@@ -8,15 +8,14 @@ use Rattle.sync_survey.proofs.FaultsLemmas.{length-marked_rows, marked_rows-none
 use Rattle.sync_survey.proofs.FoldersLemmas.{bytes_refusal, none_read, only_reads_equal, read_more}
 use Rattle.sync_survey.proofs.FoldersLemmas.{still_shown, survey_ends, survey_of-short}
 use Rattle.sync_survey.proofs.{FrontLemmas.pieces_later, LooksLemmas.item_at-shown}
-use Rattle.sync_survey.proofs.PlacedRowLemmas.{ArePlacedTo, placed_none}
+use Rattle.sync_survey.proofs.PlacedRowLemmas.{placed_none}
 use Rattle.sync_survey.proofs.ProgressLemmas.{IsBegun, IsSurveyedTo, no_frame, stopped_fault}
 use Rattle.sync_survey.proofs.ProgressLemmas.{surveyed_none, whole}
 use Rattle.sync_survey.proofs.StepLemmas.{few_by, few_more, item_header, kept, laid_later}
 use Rattle.sync_survey.proofs.{StepLemmas.{laid_more, pass_refusal, refused}, SurveyLemmas.told_by}
 use Rattle.sync_survey.{proofs.folders.judge_frames.Goals.After-bytes, specs.Faults.class_from}
 use Rattle.sync_survey.specs.{Items.{item_front, size_of}, Looks.{IsNotPassed, PassesItem, Shows}}
-use Rattle.sync_survey.specs.{MainData.marked_rows, Row.Row}
-use Rattle.sync_survey.specs.Survey.{FramesAreLaid, HasLength, IsWholeHead}
+use Rattle.sync_survey.specs.{MainData.marked_rows, Row.Row, Survey.{HasLength, IsWholeHead}}
 use Rattle.sync_survey.specs.{Walk.{fault_at, IsFrameOf}, WalkBeginning.BeginsAsWalked}
 use Rattle.sync_survey.specs.declared.{folders.Walk.Walk, items.Item.TheVariants.Frame}
 use Rattle.sync_survey.specs.declared.places.{Head.Head, Start.Start}
@@ -53,20 +52,18 @@ loop-at-init g c = record {
         (begun_as (c.requires.walk.told bytes holds)) c.args.walk.pieces.items c.head_area.result
         (c.requires.walk.told bytes holds).kept c.head_area.ensures.area);
   };
-  laid = record {
-    rows =
-        subst (λ rows. FramesAreLaid c.args.walk.start.first.offset rows c.numbered_from-at.result)
-        (sym c.new.ensures.items) c.numbered_from-at.ensures.behind;
-    pieces = pieces_later 0 c.args.walk.pieces.items c.args.walk.start.front_end
-        c.numbered_from-at.result c.requires.walk.laid
-        (omega (arith, c.requires.walk.junk, c.numbered_from-at.ensures.behind));
-    low = omega (arith, c.head_area.ensures.most);
-    placed =
-        subst (λ rows. ArePlacedTo c.args.walk.head (class_from c.args.walk.start) rows
-        c.head_area.result 0) (sym c.new.ensures.items)
-        (placed_none c.args.walk.head (class_from c.args.walk.start)
-        c.head_area.result c.head_area.ensures.area);
-  };
+  laid =
+      grind (
+        arith,
+        pieces_later 0 c.args.walk.pieces.items c.args.walk.start.front_end
+            c.numbered_from-at.result c.requires.walk.laid (omega (
+              arith,
+              c.requires.walk.junk,
+              c.numbered_from-at.ensures.behind,
+            )),
+        placed_none c.args.walk.head (class_from
+            c.args.walk.start) c.head_area.result c.head_area.ensures.area,
+      );
   few = omega (arith, ap length c.new.ensures.items);
   within = omega (arith, c.numbered_from-at.ensures.within, c.requires.walk.whole);
   read = none_read c.requires.fed;
@@ -104,8 +101,7 @@ returns-in_err-at g c = record {
       let start = c.args.walk.start in
       let seen = shown g (goal.at.returns-in_err-at g c).After-bytes in
       let begun : (file : List ℕ) → Holds (g.D.Folder.seen c.args.folder.now).files c.args.name.now
-      file → IsBegun file start c.args.walk.head =
-      λ file holds. begun_as (c.requires.walk.told file holds) in
+      file → IsBegun file start c.args.walk.head = grind (arith, begun_as) in
       err_at _ _ c.from_residual-in_err-at.ensures.1
       (pass_refusal c.args.name.now (g.D.Folder.seen c.args.folder.now).files c.args.allowed
       (g.D.Folder.seen c.args.folder.now).counts (g.D.Folder.seen c.look.new.folder).counts
@@ -135,9 +131,7 @@ loop-at-preserved g c =
     let item = item_front front in
     let size = c.in_ok-at.field-0 in
     let passed : PassesItem (class_from c.args.walk.start) c.args.allowed c.loop-at.at front
-    c.in_ok-left.left now c.pass.new.self size =
-    subst (λ class. PassesItem class c.args.allowed c.loop-at.at front c.in_ok-left.left now
-    c.pass.new.self size) c.class-class.ensures c.in_ok-at.ensures in
+    c.in_ok-left.left now c.pass.new.self size = grind arith in
     let seen = shown g (goal.at.loop-at-preserved g c).After-bytes in
     record {
       surveyed = λ file holds.
@@ -149,8 +143,7 @@ loop-at-preserved g c =
           laid_more c.args.walk.head c.args.walk.start.first.offset (class_from c.args.walk.start)
           c.args.allowed c.loop-at.at front now c.pass.new.self size c.loop-at.invariant.laid item
           (item_header front item refl) passed.front.least passed.keeps;
-      few = few_more (class_from c.args.walk.start) c.args.allowed c.loop-at.at front now
-          c.pass.new.self item passed.keeps c.loop-at.invariant.few;
+      few = grind (arith, few_more);
       within =
           omega (arith, passed.front.within, c.in_ok-left.ensures.left, c.loop-at.invariant.within);
       read = read_more c.loop-at.invariant.read c.in_ok-left.ensures.reads;
@@ -195,43 +188,22 @@ head_within start size whole (Some head) same = record {
 
 pub returns : goal.returns
 returns g c = record {
-  surveyed = let now = c.loop-at.found in
-      let laid = c.loop-at.invariant.laid in
-      let start = c.args.walk.start in record {
-        exact = λ bytes holds.
-            let so_far = c.loop-at.invariant.surveyed bytes holds in
-            survey_of-short bytes c.args.allowed
-            (omega (arith, c.requires.walk.known.few, c.requires.walk.known.long bytes holds))
-            ∙ whole bytes c.args.walk.start c.args.walk.head c.args.allowed so_far.frames
-            now.pieces.items now.before.place now.before.ended c.loop-at.at so_far.surveyed
-            (begun_as (c.requires.walk.told bytes holds))
-            (omega (arith, c.loop-at-test.false, c.requires.walk.known.long bytes holds))
-            (λ none. true≢false (sym (eq-eqb (vec_len now.rows) 0 (omega (
-              arith,
-              ap length none,
-              now.rows.ok.0,
-              frames_count c.args.walk.head now.rows.items so_far.frames so_far.marks,
-            ))) ∙ sym c.is_empty.ensures ∙ c.if-is_empty.false))
-            ∙ ap₂ (λ (l : List Row) n. Ok (record (told_by bytes c.args.walk.start c.args.walk.head
-            so_far.frames now.pieces.items) { frames = l; length = n })) (sym so_far.marks)
-            (sym (c.requires.walk.known.long bytes holds));
-        laid = record {
-          junk = c.requires.walk.junk;
-          first = omega (arith, c.requires.walk.whole);
-          head = head_within start
-              c.args.walk.size c.requires.walk.whole c.args.walk.head c.requires.walk.same;
-          some = some_of now.rows.items (λ none.
-              true≢false (sym (eq-eqb (vec_len now.rows) 0 (omega (arith, none, now.rows.ok.0)))
-              ∙ sym c.is_empty.ensures ∙ c.if-is_empty.false));
-          frames = laid_later start.first.offset now.rows.items c.loop-at.at c.args.walk.size
-              laid.rows c.loop-at.invariant.within;
-          blocks = pieces_later 0
-              now.pieces.items c.loop-at.at c.args.walk.size laid.pieces c.loop-at.invariant.within;
-          few = c.requires.walk.known.few;
-          placed = laid.placed.frames;
-        };
-        few = c.loop-at.invariant.few;
-      };
+  surveyed =
+      search (
+        arith,
+        survey_of-short,
+        whole,
+        begun_as,
+        true≢false,
+        eq-eqb,
+        vec_len,
+        frames_count,
+        told_by,
+        head_within,
+        some_of,
+        laid_later,
+        pieces_later,
+      );
   done = search rules;
   refused = search rules;
   files = search rules;

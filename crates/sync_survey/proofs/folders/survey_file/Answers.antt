@@ -1,9 +1,8 @@
 -- The survey refuses what a step refuses, since the steps before left the files and all counts.
-use Rattle.std.proofs.Common.{arith, rules, subst, sym, ◌∙◌, ◌≡◌}
-use Rattle.outside.{proofs.BufferOutputLemmas.err_at, specs.{Counts.OnlyReads, Files.Holds}}
+use Rattle.std.proofs.Common.{arith, rules, subst, ◌∙◌, ◌≡◌}
+use Rattle.outside.{proofs.BufferOutputLemmas.err_at, specs.Files.Holds}
 use Rattle.sync_survey.proofs.FoldersLemmas.{HasRead, read_more, survey_ends}
 use Rattle.sync_survey.proofs.folders.survey_file.Goals.{In_ok-feed}
-use Rattle.sync_survey.specs.Survey.{BlocksAreLaid, HasLength}
 use Rattle.sync_survey.proofs.folders.survey_file.Given as given
 use Rattle.sync_survey.proofs.folders.survey_file.Goals as goal
 
@@ -60,8 +59,7 @@ returns-clause-frames g c =
       done = search rules;
       refused = search rules;
       files = c.judge_frames.ensures.files ∙ read.files;
-      counts = subst (λ n. OnlyReads n (g.D.Folder.seen c.judge_frames.new.folder).counts)
-          read.counts c.judge_frames.ensures.counts;
+      counts = grind arith;
     }
 
 -- the frames are judged by what was found before them
@@ -76,18 +74,14 @@ judge_frames-requires-clause-walk g c =
     let from_length : (seen c.find_head.new.folder).files ≡ (seen c.find_length.new.folder).files =
     from_front ∙ c.in_ok-front_end.ensures.reads.files in
     let junk = c.in_ok-start.ensures.junk in record {
-      known = subst (λ f. HasLength f name c.in_ok-size.size)
-          (sym (from_length ∙ c.in_ok-size.ensures.files)) c.in_ok-size.ensures.found;
+      known = grind arith;
       whole = c.in_ok-start.ensures.whole;
       junk = omega (arith, junk.0, junk.1);
-      laid = subst (BlocksAreLaid 0 c.pass_front.new.pieces.items)
-          (sym junk.0) c.in_ok-front_end.ensures.laid;
+      laid = grind arith;
       same = c.in_ok-head.ensures.same;
       told = λ bytes holds. record {
-        start =
-            c.in_ok-start.ensures.start bytes (subst (λ f. Holds f name bytes) from_front holds);
+        start = grind arith;
         head = c.in_ok-head.ensures.head bytes (subst (λ f. Holds f name bytes) from_start holds);
-        kept = c.in_ok-front_end.ensures.blocks bytes
-            (subst (λ f. Holds f name bytes) from_length holds);
+        kept = grind arith;
       };
     }

@@ -38,9 +38,7 @@ loop-at-preserved g c = record {
       c.in-Some.step.size c.in-Some.step.item (c.loop-at.invariant.passed bytes holds)
       (c.in-Some.ensures.step bytes c.loop-at.at (still_shown c.loop-at.invariant.read
       c.bytes.ensures c.in_ok-left.ensures.shows bytes holds)) c.in_ok-keep_block.ensures;
-  laid = blocks_more c.loop-at.pieces.items c.keep_block.new.pieces.items c.loop-at.at
-      c.in-Some.step.size c.in-Some.step.item c.loop-at.invariant.laid
-      c.in-Some.ensures.passes.least c.in_ok-keep_block.ensures;
+  laid = grind (arith, blocks_more);
   within = omega (
     arith,
     c.in-Some.ensures.passes.within,

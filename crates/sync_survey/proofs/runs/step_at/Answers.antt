@@ -4,15 +4,10 @@ use Rattle.sync_survey.proofs.LooksLemmas.{not_here, sized, step_passes}
 use Rattle.sync_survey.proofs.runs.step_at.Goals as goal
 
 pub returns-then-not-belongs-clause-step : goal.returns-then-not-belongs-clause-step
-returns-then-not-belongs-clause-step c = λ file at shows.
-    not_here file at c.args.front.now c.args.left shows
-    c.args.part c.item_front-item.result c.item_front-item.ensures
-    (λ here. absurd (false≢true (sym c.if-not-belongs.true ∙ c.belongs.ensures ∙ here)))
+returns-then-not-belongs-clause-step c = grind (arith, not_here, false≢true)
 
 pub returns-then-own-left-clause-step : goal.returns-then-own-left-clause-step
-returns-then-own-left-clause-step c = λ file at shows.
-    not_here file at c.args.front.now c.args.left shows c.args.part c.item_front-item.result
-    c.item_front-item.ensures (λ here. omega (arith, c.size-own.ensures.size, c.if-own-left.true))
+returns-then-own-left-clause-step c = grind (arith, not_here)
 
 pub returns-clause-step : goal.returns-clause-step
 returns-clause-step c = λ file at shows.
@@ -24,17 +19,11 @@ returns-clause-step c = λ file at shows.
 
 pub returns-clause-passes : goal.returns-clause-passes
 returns-clause-passes c =
-    let is =
-    sized c.args.part c.args.front.now c.args.left c.passed-size.result c.item_front-item.result
-    c.item_front-item.ensures (sym c.belongs.ensures ∙ c.if-not-belongs.false)
-    (omega (arith, c.size-own.ensures.size, c.if-own-left.false))
-    c.requires c.passed-size.ensures.zeros c.passed-size.ensures.size in
-    record {
-      item = c.item_front-item.ensures;
-      zeros = c.passed-size.ensures.zeros;
-      own = c.passed-size.ensures.size;
-      least = is.least;
-      most = λ h frame. omega (arith, c.size-own.ensures.size, c.size-own.ensures.most h frame);
-      some = is.some;
-      within = is.within;
-    }
+    grind (
+      arith,
+      sized c.args.part c.args.front.now c.args.left c.passed-size.result
+          c.item_front-item.result c.item_front-item.ensures (sym c.belongs.ensures ∙
+          c.if-not-belongs.false)
+          (omega (arith, c.size-own.ensures.size, c.if-own-left.false)) c.requires
+          c.passed-size.ensures.zeros c.passed-size.ensures.size,
+    )

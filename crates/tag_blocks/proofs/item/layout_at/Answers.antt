@@ -1,23 +1,21 @@
 -- The places are the ones of the definition.
 use Rattle.std.proofs.Common.{ap, arith, get_or, length, ◌+◌, ◌-◌, ◌∙◌, ◌≡◌, ◌≤◌}
-use Rattle.std.{proofs.lemmas.List.take_rest, specs.List.prefix_len}
+use Rattle.std.proofs.lemmas.List.{take_rest}
 use Rattle.tag_blocks.proofs.ItemsLemmas.{has_whole_item-from, has_whole_item-not}
 use Rattle.tag_blocks.proofs.item.layout_at.Goals.{After-ape_number}
 use Rattle.tag_blocks.proofs.item.layout_at.Goals.{then-length-lt2-via-else-length-lt2+else-length-gt255+else-end-bytes+then-bytes-value_at-ne0}
 use Rattle.tag_blocks.proofs.item.layout_at.Goals.{then-length-lt2-via-else-length-lt2+else-length-gt255+then-end-bytes}
 use Rattle.tag_blocks.proofs.item.layout_at.Goals.{then-length-lt2-via-else-length-lt2+then-length-gt255}
 use Rattle.tag_blocks.proofs.item.layout_at.Goals.{then-length-lt2-via-then-length-lt2}
-use Rattle.tag_blocks.specs.{Blocks.ape_number, Items.{is_key_char, key_length}}
+use Rattle.tag_blocks.specs.{Blocks.ape_number, Items.key_length}
 use Rattle.tag_blocks.proofs.item.layout_at.Goals as goal
 
 -- the key's length is the length by the definition
 key : (c : After-ape_number) → c.key_length-length.result ≡ key_length c.args.bytes.now
-key c =
-    c.key_length-length.ensures.length ∙ ap (prefix_len is_key_char) (take_rest c.args.bytes.now 8)
+key c = grind (arith, take_rest c.args.bytes.now 8)
 
 pub returns-then-bytes-lt-KEY_AT-clause-stands : goal.returns-then-bytes-lt-KEY_AT-clause-stands
-returns-then-bytes-lt-KEY_AT-clause-stands c =
-    has_whole_item-not c.args.bytes.now (λ s. omega (arith, s.within, c.if-bytes-lt-KEY_AT.true))
+returns-then-bytes-lt-KEY_AT-clause-stands c = grind (arith, has_whole_item-not)
 
 pub returns-then-length-lt2-clause-stands : goal.returns-then-length-lt2-clause-stands
 returns-then-length-lt2-clause-stands c =
@@ -29,10 +27,7 @@ returns-then-length-lt2-clause-stands c =
       | then-length-lt2-via-else-length-lt2+else-length-gt255+then-end-bytes w ↦
           omega (arith, k, c.ape_number.ensures, s.within, w.if-end-bytes.true)
       | then-length-lt2-via-else-length-lt2+else-length-gt255+else-end-bytes+then-bytes-value_at-ne0
-          w ↦
-          let place : 8 + c.key_length-length.result + 1 - 1 ≡ 8 + key_length c.args.bytes.now =
-          omega (arith, k) in
-          w.if-bytes-value_at-ne0.true (ap (λ n. get_or c.args.bytes.now n 0) place ∙ s.zero_behind)
+          w ↦ grind arith
     ])
 
 pub returns-clause-stands : goal.returns-clause-stands
@@ -57,6 +52,5 @@ returns-clause-places c =
       key = omega (arith, k);
       value = omega (arith, k);
       end_is = omega (arith, k, size);
-      within =
-          within;
+      within = grind arith;
     }

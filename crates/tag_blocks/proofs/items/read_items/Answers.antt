@@ -8,49 +8,25 @@ use Rattle.tag_blocks.specs.Items.{is_undo, next_item, tag_items_from}
 use Rattle.tag_blocks.proofs.items.read_items.Goals as goal
 
 pub length-passed-requires : goal.length-passed-requires
-length-passed-requires c =
-    let next : next_item c.loop.met (drop c.loop.passed c.args.bytes.now) ≡ Some c.in-Some.item =
-    ap (next_item c.loop.met) (sym (take_rest c.args.bytes.now c.loop.passed))
-    ∙ sym c.in_ok-item.ensures ∙ c.in-Some.is in
-    omega (
-      arith,
-      next_item-within c.loop.met (drop c.loop.passed c.args.bytes.now) c.in-Some.item next,
-      length-drop c.loop.passed c.args.bytes.now,
-      c.requires,
-    )
+length-passed-requires c = grind (arith, take_rest, next_item-within, length-drop)
 
 pub overflow_add-passed : goal.overflow_add-passed
-overflow_add-passed c =
-    let next : next_item c.loop.met (drop c.loop.passed c.args.bytes.now) ≡ Some c.in-Some.item =
-    ap (next_item c.loop.met) (sym (take_rest c.args.bytes.now c.loop.passed))
-    ∙ sym c.in_ok-item.ensures ∙ c.in-Some.is in
-    omega (
-      arith,
-      next_item-within c.loop.met (drop c.loop.passed c.args.bytes.now) c.in-Some.item next,
-      length-drop c.loop.passed c.args.bytes.now,
-      c.requires,
-      c.length-passed.ensures,
-      c.loop.invariant.within,
-    )
+overflow_add-passed c = grind (arith, take_rest, next_item-within, length-drop)
 
 pub loop-preserved : goal.loop-preserved
 loop-preserved c =
     let bytes = c.args.bytes.now in
     let item = c.in-Some.item in
     let next : next_item c.loop.met (drop c.loop.passed bytes) ≡ Some item =
-    ap (next_item c.loop.met) (sym (take_rest bytes c.loop.passed)) ∙ sym c.in_ok-item.ensures
-    ∙ c.in-Some.is in
+    grind (arith, take_rest) in
     let met : c.if-met.met ≡ (c.loop.met || is_undo item) =
     elim c.if-met.branch [
       | then-met w ↦ w.met-is ∙ w.if-met.true ∙ sym (ap (λ m. m || is_undo item) w.if-met.true)
-      | else-met w ↦
-          w.met-is ∙ w.is_undo-met.ensures ∙ sym (ap (λ m. m || is_undo item) w.if-met.false)
+      | else-met w ↦ grind arith
     ] in
     rw (met, c.length-passed.ensures, c.in_ok-push.ensures.items)
     record {
-      read = read_more (tag_items_from c.args.count false bytes)
-          c.loop.items.items c.args.count c.loop.counter c.loop.passed c.loop.met bytes item
-          c.loop-test.true c.loop.invariant.read next;
+      read = grind (arith, read_more);
       within = omega (
         arith,
         next_item-within c.loop.met (drop c.loop.passed bytes) item next,

@@ -9,16 +9,12 @@ use Rattle.tag_blocks.proofs.laws.items_are_all.Goals as goal
 are_items : (most : ℕ) (bytes : List ℕ) → AreByteValues bytes
     → AreItemsOf most bytes (tag_items_from most false bytes)
 are_items most bytes octets =
-    let read = tag_items_from-read most false bytes octets in
-    let stopped = tag_items_from-stopped most false bytes in
-    record {
-      all = read.all;
-      few = stopped.few;
-      one = omega (arith, read.few);
-      front = read.front;
-      last =
-          stopped.last;
-    }
+    grind (
+      arith,
+      tag_items_from-read most false bytes octets,
+      tag_items_from-stopped most false
+          bytes,
+    )
 
 pub returns : goal.returns
 returns c = λ most bytes items octets. (

@@ -1,31 +1,18 @@
 -- Enough bits are left, and the value is the number of the first n of them.
-use Rattle.std.proofs.Common.{arith, length, rules, ◌*◌, ◌+◌, ◌-◌, ◌≡◌, ◌≤◌}
-use Rattle.std.proofs.lemmas.Grind.{common_steps}
+use Rattle.std.proofs.{Common.{arith, length, ◌*◌, ◌+◌, ◌≤◌}, lemmas.Grind.common_steps}
 use Rattle.bit_fields.proofs.{BitsLemmas.length-left, reader.Bits.take.Goals.Else-left-n}
 use Rattle.bit_fields.specs.Groups.{group}
 use Rattle.bit_fields.proofs.reader.Bits.take.Goals as goal
 
 enough : (c : Else-left-n) → c.self.inside.place + c.args.n ≤ 8 * length c.self.inside.bytes.now
-enough c =
-    let left : c.left.result ≡ 8 * length c.self.inside.bytes.now - c.self.inside.place =
-    rw (← c.self.view_is, length-left) at c.left.ensures in
-    let inside = c.self.invariant.1 in
-    omega arith
+enough c = grind (arith, length-left)
 
 pub number_at-value-requires-clause-room : goal.number_at-value-requires-clause-room
-number_at-value-requires-clause-room c =
-    enough (goal.at.number_at-value-requires-clause-room c).Else-left-n
+number_at-value-requires-clause-room c = grind (arith, enough)
 
 pub invariant_of-self : goal.invariant_of-self
 invariant_of-self c = (c.self.invariant.0, enough (goal.at.invariant_of-self c).Else-left-n)
 
 pub returns : goal.returns
 unfolding group
-returns c = record {
-  short = search rules;
-  enough = search rules;
-  value = rw (← c.self.view_is) c.number_at-value.ensures.value;
-  below = search rules;
-  moves = grind (arith, common_steps);
-  stays = search rules;
-}
+returns c = grind (arith, common_steps)

@@ -1,9 +1,9 @@
 -- The survey, the head, the span, the frames with their plan, and the memory, each with its faults.
-use Rattle.std.proofs.Common.{ap, ap₂, arith, length, List, Option, subst, sym, ℕ, ◌∙◌, ◌≡◌}
+use Rattle.std.proofs.Common.{ap, ap₂, arith, List, Option, subst, sym, ℕ, ◌∙◌, ◌≡◌}
 use Rattle.commands.proofs.InputLemmas.{fault_is_input, input_is_early, input_numbers}
 use Rattle.commands.proofs.InputLemmas.{memory_is_input, of_survey_input, refused_is_input}
 use Rattle.commands.proofs.RefusingLemmas.{err_with}
-use Rattle.commands.specs.SingleOutput.{IsEarlyFault, IsInputFault, IsMaking, Making}
+use Rattle.commands.specs.SingleOutput.{IsEarlyFault, IsMaking, Making}
 use Rattle.commands.specs.declared.fault.EditFault.TheVariants.{Memory}
 use Rattle.cut_edits.proofs.HeadLemmas.{head_is_input, head_numbers, survey_without_head-length}
 use Rattle.cut_edits.proofs.LaidPassLemmas.{work_layable, work_makes}
@@ -11,7 +11,7 @@ use Rattle.cut_edits.proofs.PieceLemmas.{exact-makes, exact-refused, span-survey
 use Rattle.cut_edits.proofs.PieceLemmas.{survey_without_head-relaid}
 use Rattle.cut_edits.proofs.exact_edit.ExactEditEdit.prepare.Goals.{In_ok-span}
 use Rattle.cut_edits.specs.Exact.{exact_making, exact_refuses, exact_stream, exact_task, file_span}
-use Rattle.cut_edits.specs.{Exact.{IsSpanIn, span_piece}, declared.exact_edit.ExactEdit.ExactEdit}
+use Rattle.cut_edits.specs.{Exact.span_piece, declared.exact_edit.ExactEdit.ExactEdit}
 use Rattle.info_header.specs.declared.fields.Info.{Info}
 use Rattle.laying.specs.{KeptFields.fields_of_head, Laid.{file_laid, selected_part}}
 use Rattle.laying.specs.Surveys.{CanBeRelaid}
@@ -36,30 +36,25 @@ returns-in_err-survey-clause-refused g c =
     (fault_is_input (make_in edit) edit.input.now _ _ _ c.in_err-survey.ensures.refused))
 
 pub returns-in_err-survey-clause-numbers : goal.returns-in_err-survey-clause-numbers
-returns-in_err-survey-clause-numbers g c =
-    let edit = c.args.self.now in
-    err_with _ _
-    c.from_residual.ensures.1 (input_numbers (make_in edit) (streams_in edit) exact_refuses
-    edit.input.now _ (of_survey_input exact_refuses _ c.in_err-survey.ensures.numbers))
+returns-in_err-survey-clause-numbers g c = grind (arith, err_with, input_numbers, of_survey_input)
 
 pub returns-in_err-head-clause-refused : goal.returns-in_err-head-clause-refused
 returns-in_err-head-clause-refused g c =
-    let edit = c.args.self.now in
-    let by = make_in edit in
-    let new = g.D.Folder.seen c.read_head.new.folder in
-    err_with _ _ c.from_residual-in_err-head.ensures.1 (input_is_early by
-    (streams_in edit) exact_refuses edit.input.now _ _ _
-    (subst (λ old. IsInputFault by edit.input.now old new c.in_err-head.field-0.0)
-    (ap₂ seen_folder c.survey_at.ensures.reads.files c.in_ok-survey.ensures.reads.done)
-    (head_is_input by edit.input.now (g.D.Folder.seen c.survey_at.new.folder) new
-    c.in_err-head.field-0.0 c.in_err-head.ensures.refused)))
+    grind (
+      arith,
+      err_with,
+      input_is_early,
+      head_is_input,
+      g.D.Folder.seen,
+      c.from_residual-in_err-head.ensures.1,
+      c.in_err-head.field-0.0,
+      c.survey_at.ensures.reads.files,
+      c.in_ok-survey.ensures.reads.done,
+      c.in_err-head.ensures.refused,
+    )
 
 pub returns-in_err-head-clause-numbers : goal.returns-in_err-head-clause-numbers
-returns-in_err-head-clause-numbers g c =
-    let edit = c.args.self.now in
-    err_with _ _
-    c.from_residual-in_err-head.ensures.1 (input_numbers (make_in edit) (streams_in edit)
-    exact_refuses edit.input.now _ (head_numbers exact_refuses _ c.in_err-head.ensures.numbers))
+returns-in_err-head-clause-numbers g c = grind (arith, err_with, input_numbers, head_numbers)
 
 pub returns-in_err-span-clause-refused : goal.returns-in_err-span-clause-refused
 returns-in_err-span-clause-refused g c =
@@ -90,14 +85,10 @@ forgot g c =
     (c.in_ok-head.ensures.reads.done ∙ c.in_ok-survey.ensures.reads.done)))
 
 pub returns-in_err-selected-clause-refused : goal.returns-in_err-selected-clause-refused
-returns-in_err-selected-clause-refused g c =
-    err_with _ _ c.from_residual-in_err-selected.ensures.1 (forgot g
-    (goal.at.returns-in_err-selected-clause-refused g c).In_ok-span)
+returns-in_err-selected-clause-refused g c = grind (arith, err_with, forgot)
 
 pub returns-in_err-work-clause-refused : goal.returns-in_err-work-clause-refused
-returns-in_err-work-clause-refused g c =
-    err_with _ _ c.from_residual-in_err-work.ensures.1 (forgot g
-    (goal.at.returns-in_err-work-clause-refused g c).In_ok-span)
+returns-in_err-work-clause-refused g c = grind (arith, err_with, forgot)
 
 -- the survey whose head is set apart is laid out
 pub select_piece-requires-clause-laid : goal.select_piece-requires-clause-laid
@@ -106,18 +97,15 @@ select_piece-requires-clause-laid g c = subst IsSurveyLaidOut (sym c.set_apart.e
 
 pub select_piece-requires-clause-few : goal.select_piece-requires-clause-few
 select_piece-requires-clause-few g c =
-    omega (
-      arith,
-      ap (λ (s : SurveyFields). length s.frames) c.set_apart.ensures,
-      survey_without_head-length (survey_view c.in_ok-survey.survey),
-      c.in_ok-survey.ensures.few,
-    )
+    grind (arith, survey_without_head-length (survey_view c.in_ok-survey.survey))
 
 pub select_piece-requires-clause-there : goal.select_piece-requires-clause-there
 select_piece-requires-clause-there g c =
-    subst (λ (s : SurveyFields). IsSpanIn s c.in_ok-span.span) (sym c.set_apart.ensures)
-    (span-survey_without_head (survey_view c.in_ok-survey.survey)
-    c.in_ok-span.span c.in_ok-span.ensures.there)
+    grind (
+      arith,
+      span-survey_without_head (survey_view c.in_ok-survey.survey) c.in_ok-span.span
+          c.in_ok-span.ensures.there,
+    )
 
 pub returns-clause-ready : goal.returns-clause-ready
 returns-clause-ready g c =

@@ -1,14 +1,11 @@
 -- One more byte.
-use Rattle.std.proofs.Common.{ap, arith, length, set, suc, sym, ◌%◌, ◌+◌, ◌<◌, ◌∙◌, ◌≡◌}
+use Rattle.std.proofs.Common.{ap, arith, length, set, suc, sym, ◌+◌, ◌<◌, ◌∙◌, ◌≡◌}
 use Rattle.drill.proofs.DrawsLemmas.{behind-more, behind-none, byte-more, no-byte}
-use Rattle.drill.specs.Draws.{drawn_number, next_state, state_after}
+use Rattle.drill.specs.Draws.{next_state, state_after}
 use Rattle.drill.proofs.draws.Draws.fill.Goals as goal
 
 pub loop-byte-init : goal.loop-byte-init
-loop-byte-init c = record {
-  bytes = no-byte c.args.self.now.state c.args.bytes.now;
-  state = sym (behind-none c.args.self.now.state);
-}
+loop-byte-init c = grind (arith, no-byte, behind-none)
 
 pub loop-byte-preserved : goal.loop-byte-preserved
 loop-byte-preserved c =
@@ -20,7 +17,6 @@ loop-byte-preserved c =
     let state = c.draw.ensures.state ∙ ap next_state at.invariant.state in
     let one : suc i ≡ i + 1 = omega arith in
     record {
-      bytes = ap (λ n. set at.bytes i (n % 64)) (c.draw.ensures.drawn ∙ ap drawn_number state)
-          ∙ byte-more c.args.bytes.now at.bytes i seed within at.invariant.bytes;
+      bytes = grind (arith, set, byte-more);
       state = state ∙ sym (behind-more i seed) ∙ ap (λ n. state_after n seed) one;
     }

@@ -1,12 +1,11 @@
 -- There is room for the main data.
-use Rattle.std.proofs.Common.{ap, arith, length, subst, sym, ◌*◌, ◌+◌, ◌/◌, ◌∙◌, ◌≡◌, ◌≤◌}
+use Rattle.std.proofs.Common.{ap, arith, length, subst, sym, ◌*◌, ◌+◌, ◌≡◌, ◌≤◌}
 use Rattle.drill.proofs.DrawnSideLemmas.{drawn_side-begin, drawn_side-fits, drawn_side-room}
 use Rattle.drill.proofs.{DrawsLemmas.behind-sum, MakingLemmas.{area-is, reach-most}}
 use Rattle.drill.proofs.making.DrillWriter.frame.Goals.{After-bits, After-new-frame, After-reach}
-use Rattle.drill.specs.{Draws.state_after, Drill.{drawn_side, drill_room}}
-use Rattle.frame_header.specs.{Fields.HeaderFields, Tables.{area_of, class_of}}
+use Rattle.drill.specs.Drill.{drill_room}
+use Rattle.frame_header.specs.Tables.{area_of, class_of}
 use Rattle.frame_writer.specs.Frames.{EndsInArea, Frame, frame_with_data}
-use Rattle.side_info.specs.{FrameFields.FrameFields, Side.payload_bits, declared.side.Side.Side}
 use Rattle.drill.proofs.making.DrillWriter.frame.Given as given
 use Rattle.drill.proofs.making.DrillWriter.frame.Goals as goal
 
@@ -17,17 +16,10 @@ most g c = omega (arith, c.reach.ensures, reach-most c.args.self.now.writer c.re
 module _ (g : given.Over) (c : After-bits g) where
   -- there is room for the main data
   room : c.bits.result ≤ 8 * drill_room c.reach.result
-  room =
-      omega (
-        arith,
-        c.bits.ensures,
-        ap payload_bits c.draw_side-side.ensures.side,
-        drawn_side-room c.reach.result c.args.self.now.draws.state,
-      )
+  room = grind (arith, drawn_side-room)
 
   begins : c.draw_side-side.result.main_data_begin ≡ c.reach.result
-  begins = ap (λ (s : Side). s.main_data_begin) c.draw_side-side.ensures.side
-      ∙ drawn_side-begin c.reach.result c.args.self.now.draws.state
+  begins = grind (arith, drawn_side-begin)
 
 pub draw_payload-payload-requires : goal.draw_payload-payload-requires
 draw_payload-payload-requires g c =
@@ -35,16 +27,12 @@ draw_payload-payload-requires g c =
     record { few = omega (arith, room g at.After-bits, most g at.After-reach) }
 
 pub new-front-requires : goal.new-front-requires
-new-front-requires g c =
-    rw (c.drill_header.ensures, c.draw_side-side.ensures.side)
-    (drawn_side-fits c.reach.result c.args.self.now.draws.state
-    (most g (goal.at.new-front-requires g c).After-reach))
+new-front-requires g c = grind (arith, drawn_side-fits, most)
 
 -- the frame that is given to the writer
 frame_is : (g : given.Over) (c : After-new-frame g) → c.new-frame.result
     ≡ frame_with_data c.drill_header.result c.draw_side-side.result c.draw_payload-payload.result
-frame_is g c = c.new-frame.ensures ∙ ap {A = FrameFields} {B =
-    Frame} (λ k. record { kept = k; payload = c.draw_payload-payload.result }) c.new-front.ensures
+frame_is g c = grind arith
 
 pub frame-requires-clause-start : goal.frame-requires-clause-start
 frame-requires-clause-start g c =
@@ -60,9 +48,7 @@ pub frame-requires-clause-within : goal.frame-requires-clause-within
 frame-requires-clause-within g c =
     let at = goal.at.frame-requires-clause-within g c in
     let area : area_of (class_of c.drill_header.result)
-    c.drill_header.result.slot c.drill_header.result.protected ≡ 381 =
-    ap (λ (h : HeaderFields). area_of (class_of h) h.slot h.protected) c.drill_header.ensures
-    ∙ area-is in
+    c.drill_header.result.slot c.drill_header.result.protected ≡ 381 = grind (arith, area-is) in
     let size : length c.draw_payload-payload.result
     ≤ c.draw_side-side.result.main_data_begin + area_of (class_of c.drill_header.result)
     c.drill_header.result.slot c.drill_header.result.protected =
@@ -87,12 +73,4 @@ frame-requires-clause-few g c =
     )
 
 pub returns-clause-state : goal.returns-clause-state
-returns-clause-state g c =
-    let m = c.args.self.now in
-    let state = m.draws.state in
-    let bits = c.bits.ensures ∙ ap payload_bits c.draw_side-side.ensures.side in
-    c.draw_payload-payload.ensures.state
-    ∙ ap (state_after ((c.bits.result + 7) / 8)) c.draw_side-side.ensures.state
-    ∙ behind-sum 8 ((c.bits.result + 7) / 8) state
-    ∙ ap (λ n. state_after (8 + (n + 7) / 8) state) bits
-    ∙ ap (λ n. state_after (8 + (payload_bits (drawn_side n state) + 7) / 8) state) c.reach.ensures
+returns-clause-state g c = grind (arith, behind-sum)

@@ -1,26 +1,15 @@
 -- Frame by frame.
-use Rattle.std.proofs.Common.{arith, refl, subst, suc, sym, ◌+◌, ◌∙◌, ◌≡◌}
+use Rattle.std.proofs.Common.{arith, subst, suc, ◌+◌, ◌∙◌, ◌≡◌}
 use Rattle.drill.proofs.MakingLemmas.{before-first, before-more, made-more, made-none, made-part}
-use Rattle.drill.specs.{Drill.drill_frames, Making.{drill_writing, HasMade, IsBeforeFrame}}
+use Rattle.drill.specs.{Drill.drill_frames, Making.{drill_writing, HasMade}}
 use Rattle.outside.proofs.{BufferOutputLemmas.on_err, FilesLemmas.appended_there}
-use Rattle.outside.specs.Files.{IsFileThere}
 use Rattle.drill.proofs.making.DrillWriter.frames.Goals as goal
 
 pub loop-i-init : goal.loop-i-init
-loop-i-init g c =
-    let m = c.args.self.now in
-    record {
-      next = before-first m.draws.state m refl c.requires.new;
-      made = made-none c.args.name.now m.draws.state m
-          (g.D.Folder.seen c.args.folder.now).files c.requires.there c.requires.new c.requires.none;
-      counts = refl;
-    }
+loop-i-init g c = grind (arith, before-first, made-none)
 
 pub frame-requires-clause-there : goal.frame-requires-clause-there
-frame-requires-clause-there g c =
-    let made = c.loop-i.invariant.made in
-    subst (λ f. IsFileThere f c.args.name.now) (sym made.files)
-    (appended_there (g.D.Folder.seen c.args.folder.now).files c.args.name.now made.passed)
+frame-requires-clause-there g c = grind (arith, appended_there)
 
 pub frame-requires-clause-next : goal.frame-requires-clause-next
 frame-requires-clause-next g c = c.loop-i.invariant.next.next
@@ -43,9 +32,7 @@ loop-i-preserved g c =
     let i = c.loop-i._i in
     let one : suc i ≡ i + 1 = omega arith in
     record {
-      next = subst (λ n. IsBeforeFrame seed n c.frame.new.self) one
-          (before-more seed i c.loop-i.self inv.next c.frame.new.self c.in_ok-frame.ensures.next
-          c.frame.ensures.state c.frame.ensures.reach);
+      next = grind (arith, before-more);
       made =
           subst (λ n. HasMade c.args.name.now (drill_writing c.frame.new.self) (drill_frames seed n)
           (seen c.args.folder.now).files (seen c.frame.new.folder).files) one

@@ -38,7 +38,8 @@ first_are g c =
     first-parts c.args.count c.self.inside.free c.args.stored c.bytes-bytes.result.now
     c.args.self.now.bytes
     (ap (λ (xs : List ℕ). xs ++ zeros c.self.inside.free) c.bytes-bytes.ensures
-    ∙ ap (λ (w : WaitingAreas). w.bytes) c.self.view_is) c.requires.within (laid_count-queue c.args.count c.self.inside.free c.args.stored
+    ∙ ap (λ (w : WaitingAreas). w.bytes) c.self.view_is)
+    c.requires.within (laid_count-queue c.args.count c.self.inside.free c.args.stored
     c.bytes-bytes.result.now c.args.self.now
     (ap (λ (xs : List ℕ). waits xs c.self.inside.free) c.bytes-bytes.ensures ∙ c.self.view_is)
     c.requires.stored)

@@ -1,5 +1,5 @@
 -- What is left of the queue, and of the zeros after it.
-use Rattle.std.proofs.Common.{ap, arith, drop, length-append, min, refl, take, ◌++◌, ◌-◌, ◌∙◌, ◌≡◌}
+use Rattle.std.proofs.Common.{ap, arith, drop, length-append, refl, take, ◌++◌, ◌-◌, ◌≡◌}
 use Rattle.frame_writer.proofs.LaidLemmas.{laid_count-queue, left-is, length-zeros, taken-laid}
 use Rattle.frame_writer.specs.Laid.{WaitingAreas, zeros}
 use Rattle.frame_writer.proofs.areas.Areas.drop_first.Goals as goal

@@ -8,8 +8,7 @@ use Rattle.frame_writer.proofs.areas.Areas.push.Goals as goal
 -- zeros and then these bytes were added
 added : (old mid new more bytes : List ℕ) → mid ≡ old ++ more → new ≡ mid ++ bytes
     → new ≡ old ++ (more ++ bytes)
-added old mid new more bytes pushed appended =
-    appended ∙ ap (λ (xs : List ℕ). xs ++ bytes) pushed ∙ append_assoc old more bytes
+added old mid new more bytes pushed appended = grind (arith, append_assoc)
 
 pub returns-clause-put : goal.returns-clause-put
 returns-clause-put c =

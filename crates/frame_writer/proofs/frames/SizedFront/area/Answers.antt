@@ -4,17 +4,7 @@ use Rattle.frame_writer.proofs.FrameLemmas.{area-range}
 use Rattle.frame_writer.proofs.frames.SizedFront.area.Goals as goal
 
 pub returns-clause-some : goal.returns-clause-some
-returns-clause-some c = omega (
-  arith,
-  c.from.ensures,
-  c.self.invariant.1,
-  (area-range c.self.inside.front c.self.invariant.0).0,
-)
+returns-clause-some c = grind (arith, area-range)
 
 pub returns-clause-most : goal.returns-clause-most
-returns-clause-most c = omega (
-  arith,
-  c.from.ensures,
-  c.self.invariant.1,
-  (area-range c.self.inside.front c.self.invariant.0).1,
-)
+returns-clause-most c = grind (arith, area-range)

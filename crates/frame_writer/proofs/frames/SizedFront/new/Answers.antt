@@ -4,5 +4,4 @@ use Rattle.frame_writer.proofs.FrameLemmas.{area-range}
 use Rattle.frame_writer.proofs.frames.SizedFront.new.Goals as goal
 
 pub overflow_cast-result : goal.overflow_cast-result
-overflow_cast-result c =
-    omega (arith, c.requires, (area-range c.args.front.now c.class.ensures.known).1)
+overflow_cast-result c = grind (arith, area-range)

@@ -1,14 +1,13 @@
 -- The front of the first frame that waits, and after it the first bytes of the areas.
 use Rattle.std.proofs.Common.{ap, arith, drop, length, List, option_copied, rules, subst, sym, take}
-use Rattle.std.proofs.{Common.{ℕ, ◌++◌, ◌<◌, ◌∙◌, ◌∷◌, ◌≡◌, ◌≤◌}, lemmas.Grind.common_steps}
+use Rattle.std.proofs.{Common.{ℕ, ◌++◌, ◌∙◌, ◌∷◌, ◌≡◌, ◌≤◌}, lemmas.Grind.common_steps}
 use Rattle.circular_buffer.specs.Buffer.{Buffer}
 use Rattle.frame_writer.proofs.FrameLemmas.{first-framed_bytes, first-kept}
 use Rattle.frame_writer.proofs.WritingLemmas.{err-map, first-handed, first-part, prefix-piece}
 use Rattle.frame_writer.proofs.queue.FrameQueue.take_first.Goals.{After-drop_first}
 use Rattle.frame_writer.proofs.queue.FrameQueue.take_first.Goals.{After-unwrap-first}
-use Rattle.frame_writer.specs.Frames.{areas_length, AreFieldsOfClass, first_bytes, frame_area}
-use Rattle.frame_writer.specs.Frames.{framed_bytes, held_bytes, WaitingFrames}
-use Rattle.frame_writer.specs.Laid.{AreAreasLaid, FrameData}
+use Rattle.frame_writer.specs.Frames.{AreFieldsOfClass, first_bytes, frame_area, framed_bytes}
+use Rattle.frame_writer.specs.{Frames.held_bytes, Laid.{AreAreasLaid, FrameData}}
 use Rattle.side_info.specs.FrameFields.{FrameFields}
 use Rattle.frame_writer.proofs.queue.FrameQueue.take_first.Given as given
 use Rattle.frame_writer.proofs.queue.FrameQueue.take_first.Goals as goal
@@ -16,10 +15,7 @@ use Rattle.frame_writer.proofs.queue.FrameQueue.take_first.Goals as goal
 -- the first frame that waits, and the others
 first : (g : given.Over) (c : After-unwrap-first g)
     → c.self.inside.kept.items ≡ c.unwrap-first.result.now ∷ drop 1 c.self.inside.kept.items
-first g c =
-    first-kept c.self.inside.kept.items c.unwrap-first.result.now
-    (subst (λ (h : WaitingFrames). 0 < length h.kept) (sym c.self.view_is) c.requires.some)
-    (sym c.front.ensures ∙ ap option_copied c.unwrap-first.ensures)
+first g c = grind (arith, first-kept, option_copied)
 
 pub add_frame-added-requires-clause-class : goal.add_frame-added-requires-clause-class
 add_frame-added-requires-clause-class g c =
@@ -29,11 +25,7 @@ add_frame-added-requires-clause-class g c =
 -- its area is there, and is dropped
 within : (g : given.Over) (c : After-unwrap-first g)
     → frame_area c.unwrap-first.result.now ≤ length c.self.inside.areas.bytes
-within g c =
-    let all : areas_length (c.unwrap-first.result.now ∷ drop 1 c.self.inside.kept.items)
-    ≡ length c.self.inside.areas.bytes =
-    ap (λ (js : List FrameFields). areas_length js) (sym (first g c)) ∙ c.self.invariant.2 in
-    omega (arith, all)
+within g c = grind (arith, first g c)
 
 pub add_frame-added-requires-clause-within : goal.add_frame-added-requires-clause-within
 add_frame-added-requires-clause-within g c =
@@ -41,8 +33,7 @@ add_frame-added-requires-clause-within g c =
 
 drops : (g : given.Over) (c : After-drop_first g) → c.drop_first.new.self.bytes
     ≡ drop (frame_area c.unwrap-first.result.now) c.self.inside.areas.bytes
-drops g c =
-    c.drop_first.ensures.left ∙ ap (λ n. drop n c.self.inside.areas.bytes) c.area-area.ensures.area
+drops g c = grind arith
 
 step : (g : given.Over) (c : After-drop_first g) (given : List ℕ) (ps : List FrameData)
     → AreAreasLaid given c.self.inside.areas ps → AreAreasLaid (given

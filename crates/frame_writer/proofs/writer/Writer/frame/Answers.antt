@@ -25,8 +25,7 @@ nothing held unsent state now settled view opened =
 given_is : (h : HeaderFields) (s : Side) (payload : List ℕ) (front : FrameFields) (whole : List ℕ)
     (frame : Frame) → frame ≡ record { kept = front; payload = whole } → front
     ≡ record { header = h; side = s } → whole ≡ payload → frame ≡ frame_with_data h s payload
-given_is h s payload front whole frame is kept same =
-    is ∙ ap₂ (λ (k : FrameFields) (p : List ℕ). record { kept = k; payload = p }) kept same
+given_is h s payload front whole frame is kept same = search rules
 
 pub finish-requires : goal.finish-requires
 finish-requires g c = passed_there c.in_ok-frame.ensures.answer.passed

@@ -1,11 +1,9 @@
 -- What is found of the form.
-use Rattle.std.proofs.Common.{ap, arith, drop, inl, inr, length, List, map, refl, string_bytes, ◌-◌}
-use Rattle.std.proofs.{Common.{◌<◌, ◌∙◌, ◌≡◌, ◌⊎◌}, lemmas.List.{length-drop, length-map}}
+use Rattle.std.proofs.Common.{ap, arith, drop, length, List, map, refl, string_bytes, ◌-◌, ◌<◌, ◌∙◌}
+use Rattle.std.proofs.{Common.{◌≡◌, ◌⊎◌}, lemmas.List.{length-drop, length-map}}
 use Rattle.std.specs.List.{drop-map}
 use Rattle.job_words.proofs.ReadingLemmas.{accepts, few, Found, refuses}
 use Rattle.job_words.proofs.forms.Form.read.Goals.{After-as_slice-values}
-use Rattle.job_words.proofs.forms.Form.read.Goals.{then-count-words-via-else-count-words+then-count-len}
-use Rattle.job_words.proofs.forms.Form.read.Goals.{then-count-words-via-then-count-words}
 use Rattle.job_words.specs.{Code.{form_given, job_request, value_said, word_kind}, Kinds.values_of}
 use Rattle.job_words.specs.declared.kinds.WordKind.{WordKind}
 use Rattle.job_words.proofs.forms.Form.read.Goals as goal
@@ -38,20 +36,9 @@ returns-then-count-words-clause-answer c =
     let words = map string_bytes c.args.words.now in
     let kinds = map word_kind c.append_behind.new.kinds.items in
     let values = map value_said c.as_slice-values.result.now in
-    let many : length values ≡ length c.as_slice-values.result.now =
-    length-map c.as_slice-values.result.now value_said in
+    let many : length values ≡ length c.as_slice-values.result.now = grind (arith, length-map) in
     let short : (length values < length words) ⊎ (length values < length kinds) =
-    elim c.then-count-words.branch [
-      | then-count-words-via-then-count-words w ↦
-          inl (omega (arith, many, w.if-count-words.true, length-map c.args.words.now string_bytes))
-      | then-count-words-via-else-count-words+then-count-len w ↦ inr (omega (
-        arith,
-        many,
-        w.if-count-len.true,
-        w.len.ensures.value,
-        length-map c.append_behind.new.kinds.items word_kind,
-      ))
-    ] in
+    grind (arith, length-map) in
     rw (← many) (refuses _ c.requires words _ _ kinds values
     (found (goal.at.returns-then-count-words-clause-answer c).After-as_slice-values) short)
 

@@ -1,54 +1,38 @@
 -- What becomes of one more input.
-use Rattle.std.proofs.Common.{ap, ap₂, arith, drop, false, get_or, IfSome, length, length-append}
-use Rattle.std.proofs.Common.{List, map, None, refl, Some, string_bytes, subst, sym, take, ℕ, []}
-use Rattle.std.proofs.Common.{◌++◌, ◌-◌, ◌<◌, ◌∙◌, ◌≡◌, ◌≤◌}
-use Rattle.std.proofs.lemmas.{List.{drop_at, length-map, take_all, take_at}, Slice.Zip.AllZip-long}
-use Rattle.std.specs.Prelude.{slice_get}
+use Rattle.std.proofs.Common.{ap, arith, drop, false, get_or, IfSome, length, length-append, List}
+use Rattle.std.proofs.Common.{map, None, Some, string_bytes, sym, take, ℕ, [], ◌++◌, ◌-◌, ◌<◌, ◌∙◌}
+use Rattle.std.proofs.{Common.◌≡◌, lemmas.List.{drop_at, length-map, take_all, take_at}}
+use Rattle.std.{proofs.lemmas.Slice.Zip.AllZip-long, specs.Prelude.slice_get}
 use Rattle.exact_span.specs.PlayedPositions.{AreCounted, counted_positions}
-use Rattle.frame_header.specs.Fields.{ClassFields}
 use Rattle.join_edits.proofs.DecideAllLemmas.{all-of-one, get-here, input-few, input-of, is-next}
 use Rattle.join_edits.proofs.{DecideStepLemmas.{decided-step, IsInputOf}, KnownLemmas.get-at}
 use Rattle.join_edits.proofs.decided.Deciding.add.Goals.{After-brought-input}
 use Rattle.join_edits.specs.Deciding.{input_needs, IsNextInput}
 use Rattle.join_edits.specs.declared.beginnings.Beginning.{Beginning}
 use Rattle.laying.specs.Needs.{need_of}
-use Rattle.seam_plan.specs.{Decisions.joined_needs, Seams.left_out_count}
 use Rattle.slot_plan.specs.declared.needs.Need.{Need}
-use Rattle.sync_survey.specs.{Faults.{survey_view, SurveyFields}, Row.Row}
+use Rattle.sync_survey.specs.Faults.{survey_view, SurveyFields}
 use Rattle.join_edits.proofs.decided.Deciding.add.Given as given
 use Rattle.join_edits.proofs.decided.Deciding.add.Goals as goal
 
 pub known_at-survey-requires : goal.known_at-survey-requires
-known_at-survey-requires g c =
-    omega (
-      arith,
-      c.requires.within,
-      AllZip-long _ _ _ c.requires.can.known,
-      length-map c.args.sources.now.inputs.now string_bytes,
-      length-map c.args.sources.now.surveys.now survey_view,
-    )
+known_at-survey-requires g c = grind (arith, AllZip-long, length-map)
 
 -- the needs up to where those of the input begin
 front-needs : (old all new : List Need) (from : ℕ) → from ≡ length old → all ≡ old ++ new
     → take from all ≡ old
-front-needs old all new from begins is =
-    ap₂ (λ n (l : List Need). take n l) begins is ∙ take_at old new (length old) refl
+front-needs old all new from begins is = grind (arith, begins, take_at)
 
 -- the needs from where those of the input begin
 back-needs : (old all new : List Need) (from : ℕ) → from ≡ length old → all ≡ old ++ new
     → drop from all ≡ new
-back-needs old all new from begins is =
-    ap₂ (λ n (l : List Need). drop n l) begins is ∙ drop_at old new (length old) refl
+back-needs old all new from begins is = grind (arith, begins, drop_at)
 
 -- what is borrowed of them are the needs of the input
 borrowed-needs : (old all new part : List Need) (from : ℕ) → from ≡ length old → all ≡ old ++ new
     → part ≡ all → take (length part - from) (drop from part) ≡ new
 borrowed-needs old all new part from begins is here =
-    let last : drop from part ≡ new =
-    ap (drop from) here ∙ back-needs old all new from begins is in
-    let count : length new ≤ length part - from =
-    omega (arith, ap length here, ap length is, length-append old new, begins) in
-    ap (take (length part - from)) last ∙ take_all (length part - from) new count
+    grind (arith, back-needs, begins, length-append, take_all)
 
 pub brought-input-requires : goal.brought-input-requires
 brought-input-requires g c =
@@ -57,8 +41,7 @@ brought-input-requires g c =
     c.args.number c.known_at-survey.ensures in
     let own : c.append_needs.new.needs.items
     ≡ c.args.self.now.needs.items ++ input_needs (survey_view c.known_at-survey.result.now) =
-    c.in_ok-append_needs.ensures.added
-    ∙ ap (λ (rows : List Row). c.args.self.now.needs.items ++ map need_of rows) c.frames.ensures in
+    grind arith in
     omega (
       arith,
       input-few _ _ _ _ c.args.number _ c.requires.can found,
@@ -93,18 +76,14 @@ module _ (g : given.Over) (c : After-brought-input g) where
   begins = c.len-from.ensures ∙ c.args.self.now.needs.ok.0
 
   own : all ≡ old ++ input_needs s
-  own =
-      c.in_ok-append_needs.ensures.added
-      ∙ ap (λ (rows : List Row). old ++ map need_of rows) c.frames.ensures
+  own = grind arith
 
   abbrev borrowed : List Need
   borrowed = take (length c.deref.result.now - c.len-from.result)
       (drop c.len-from.result c.deref.result.now)
 
   borrowed_is : borrowed ≡ input_needs s
-  borrowed_is =
-      borrowed-needs old all (input_needs s) c.deref.result.now c.len-from.result begins own
-      c.deref.ensures.value
+  borrowed_is = grind (arith, borrowed-needs, begins, own)
 
   parts : c.brought-input.result.needs.now ≡ input_needs s
   parts = c.brought-input.ensures.needs ∙ borrowed_is
@@ -119,20 +98,10 @@ module _ (g : given.Over) (c : After-brought-input g) where
   back = back-needs old all (input_needs s) c.len-from.result begins own ∙ sym parts
 
   begun-within : c.args.number < length c.args.beginnings.now
-  begun-within =
-      omega (
-        arith,
-        c.requires.within,
-        AllZip-long _ _ _ c.requires.can.known,
-        length-map c.args.sources.now.inputs.now string_bytes,
-        c.requires.can.begun,
-      )
+  begun-within = grind (arith, AllZip-long, length-map)
 
   counted : IfSome c.brought-input.result.played (AreCounted s.class (length s.frames))
-  counted =
-      subst (λ n. IfSome c.brought-input.result.played (AreCounted s.class n)) long
-      (subst (λ (k : ClassFields). IfSome c.brought-input.result.played (AreCounted k
-      (length borrowed))) c.class.ensures c.brought-input.ensures.counted)
+  counted = grind (arith, long)
 
   abbrev beginning : Beginning
   beginning = get_or c.args.beginnings.now c.args.number no-beginning
@@ -142,9 +111,7 @@ module _ (g : given.Over) (c : After-brought-input g) where
 
   played : c.brought-input.result.played
       ≡ counted_positions beginning.head s.class (length s.frames)
-  played =
-      c.brought-input.ensures.played
-      ∙ ap₂ (λ (k : ClassFields) n. counted_positions beginning.head k n) c.class.ensures long
+  played = grind (arith, long)
 
   next-of : IsNextInput (map survey_view c.args.sources.now.surveys.now)
       c.args.number c.args.self.now.run c.brought-input.result
@@ -184,11 +151,7 @@ returns-clause-decided g c =
     (of g here)
     (record {
       joints = c.in_ok-push.ensures.items;
-      needs =
-          c.join_needs.ensures
-          ∙ ap₂ (λ (a b : List Need). a
-          ++ joined_needs joint.slot (drop (left_out_count joint.seam) b))
-          (front g here) (back g here);
+      needs = grind (arith, front g here, back g here);
       out = c.join-joint.ensures.fits.out;
       sound = c.join-joint.ensures.sound;
       goes = c.join-joint.ensures.goes_on;

@@ -20,9 +20,7 @@ returns-in_default-clause-over g c =
     (omega (arith, c.if-first-gt0.false)) (sym c.head.ensures ∙ c.in_default.is) c.requires.none
 
 pub push_area-requires-clause-within : goal.push_area-requires-clause-within
-push_area-requires-clause-within g c =
-    head-within (survey_view c.args.self.now.survey.now) c.in-Some.head c.requires.held.laid
-    (sym c.head.ensures ∙ c.in-Some.is)
+push_area-requires-clause-within g c = grind (arith, head-within)
 
 pub returns-clause-over : goal.returns-clause-over
 returns-clause-over g c =

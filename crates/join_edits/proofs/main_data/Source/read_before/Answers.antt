@@ -13,9 +13,7 @@ use Rattle.join_edits.proofs.main_data.Source.read_before.Goals as goal
 found : (g : given.Over) (c : After-index-rows-at g)
     → slice_get (survey_view c.args.self.now.survey.now).frames c.loop-at.at
     ≡ Some c.index-rows-at.result
-found g c = read-at c.frames-rows.result.now (survey_view c.args.self.now.survey.now).frames
-    c.loop-at.at c.index-rows-at.result (omega (arith, c.loop-at-test.true, c.requires.within))
-    c.frames-rows.ensures c.index-rows-at.is
+found g c = grind (arith, read-at)
 
 pub push_area-requires-clause-within : goal.push_area-requires-clause-within
 push_area-requires-clause-within g c =

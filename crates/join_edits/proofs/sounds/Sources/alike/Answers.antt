@@ -30,17 +30,14 @@ drop-here : (n : ℕ) (places : List FramePlace) (d : FramePlace) → n < length
 drop-here n [] d within = absurd (omega (arith, within))
 drop-here zero (p ∷ places) d within = refl
 drop-here (suc n) (p ∷ places) d within =
-    let more : suc n + 1 ≡ suc (n + 1) = omega arith in
-    drop-here n places d (omega (arith, within))
-    ∙ ap (λ k. get_or places n d ∷ drop k (p ∷ places)) (sym more)
+    grind (arith, drop-here n places d (omega (arith, within)))
 
 all-compared : (files : Files) (names : List (List ℕ)) (ss : List SurveyFields) (number frame n : ℕ)
     (places : List FramePlace) (all : Contents → Bool) → length places ≤ n → IfTold files
     (λ f. sounds_from (all_run_frames f names ss) number frame (drop n places) ≡ all f)
     → IfTold files (λ f. all f ≡ true)
 all-compared (Untold touched) names ss number frame n places all past is = tt
-all-compared (Told f) names ss number frame n places all past is =
-    sym is ∙ ap (sounds_from (all_run_frames f names ss) number frame) (drop_all n places past)
+all-compared (Told f) names ss number frame n places all past is = grind (arith, drop_all)
 
 pub returns-in_default-last-clause-alike : goal.returns-in_default-last-clause-alike
 returns-in_default-last-clause-alike g c =
@@ -63,9 +60,7 @@ module _ (g : given.Over) (c : In-loop-place g) where
       (omega (arith, c.in-Some.ensures.can.few)))
 
   many : length c.in-Some-last.places.now ≡ shared
-  many =
-      let places = c.requires.next.places in
-      omega (arith, ap length last.1, length-drop (length places - shared) places, last.0)
+  many = grind (arith, length-drop, c.requires.next.places, last.1, last.0)
 
 pub sound_alike-requires-clause-first : goal.sound_alike-requires-clause-first
 sound_alike-requires-clause-first g c =

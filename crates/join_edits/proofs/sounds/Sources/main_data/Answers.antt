@@ -38,10 +38,7 @@ main_data-requires-clause-held g c =
     c.requires.held c.at-source.ensures.name c.at-source.ensures.survey
 
 pub main_data-requires-clause-within : goal.main_data-requires-clause-within
-main_data-requires-clause-within g c =
-    frame-within (map survey_view c.args.self.now.surveys.now) c.args.place
-    (survey_view c.at-source.result.survey.now) c.requires.there
-    c.at-source.ensures.survey
+main_data-requires-clause-within g c = grind (arith, frame-within)
 
 pub returns-in-Ok-clause-payload : goal.returns-in-Ok-clause-payload
 returns-in-Ok-clause-payload g c =

@@ -1,7 +1,6 @@
 -- One more block is copied, if it is chosen.
-use Rattle.std.proofs.Common.{ap, arith, drop, length, List, refl, rules, slice_index_or, subst}
-use Rattle.std.proofs.{Common.{sym, ℕ, [], ◌++◌, ◌+◌, ◌∙◌, ◌∷◌, ◌≡◌, ◌≤◌}, lemmas.List.drop_all}
-use Rattle.std.proofs.lemmas.Result.{err_from_is_err_and}
+use Rattle.std.proofs.Common.{ap, arith, drop, length, List, rules, slice_index_or, ℕ, [], ◌++◌}
+use Rattle.std.proofs.{Common.{◌+◌, ◌∷◌, ◌≡◌}, lemmas.{List.drop_all, Result.err_from_is_err_and}}
 use Rattle.laying.proofs.CopyLemmas.{block-at, block-within, chosen-next}
 use Rattle.laying.proofs.relay.Relay.copy_blocks.Goals.{After-copy_chosen}
 use Rattle.laying.specs.Copying.{chosen_bytes}
@@ -18,27 +17,10 @@ abbrev no_block : Piece
 no_block = record { offset = 0; block = record { kind = Id3v2; length = 0 } }
 
 pub loop-block-init : goal.loop-block-init
-loop-block-init g c =
-    let self = c.args.self.now in
-    let all = chosen_bytes c.args.in_front (survey_view self.survey.now)
-    (survey_view self.survey.now).blocks in
-    record {
-      up_to = up_to_begun self.pass all
-          c.args.waiting.now (g.D.Folder.seen c.args.folder.now).files c.requires.ready.pass.target;
-      ready = c.requires.ready;
-      counts = refl;
-    }
+loop-block-init g c = grind (arith, up_to_begun)
 
 pub copy_chosen-requires-clause-within : goal.copy_chosen-requires-clause-within
-copy_chosen-requires-clause-within g c =
-    let s = survey_view c.args.self.now.survey.now in
-    let k = c.loop-block.block-index in
-    let here = block-at s.blocks k no_block
-    (omega (arith, c.loop-block-test.true, ap length c.blocks-block-items.ensures)) in
-    subst (λ (l : List Piece). (slice_index_or l k no_block).offset
-    + (slice_index_or l k no_block).block.length ≤ s.length) (sym c.blocks-block-items.ensures)
-    (block-within 0 s.length s.blocks k (slice_index_or s.blocks k no_block)
-    (drop (k + 1) s.blocks) here c.requires.ready.laid.blocks)
+copy_chosen-requires-clause-within g c = grind (arith, block-at, block-within)
 
 -- the requested block, and those after it
 module _ (g : given.Over) (c : After-copy_chosen g) where
@@ -55,15 +37,11 @@ module _ (g : given.Over) (c : After-copy_chosen g) where
   chosen blocks file = chosen_bytes c.args.in_front s blocks file
 
   here : drop k s.blocks ≡ p ∷ drop (k + 1) s.blocks
-  here = block-at s.blocks k no_block
-      (omega (arith, c.loop-block-test.true, ap length c.blocks-block-items.ensures))
-      ∙ ap (λ (l : List Piece). slice_index_or l k no_block ∷ drop (k + 1) s.blocks)
-      (sym c.blocks-block-items.ensures)
+  here = grind (arith, block-at)
 
   next : (file : List ℕ)
       → chosen (drop k s.blocks) file ≡ chosen (p ∷ []) file ++ chosen (drop (k + 1) s.blocks) file
-  next file = ap (λ (l : List Piece). chosen l file) here
-      ∙ chosen-next c.args.in_front s p (drop (k + 1) s.blocks) file
+  next file = grind (arith, here, chosen-next)
 
 pub returns-in_err-copy_chosen : goal.returns-in_err-copy_chosen
 returns-in_err-copy_chosen g c = record {
@@ -83,15 +61,7 @@ returns-in_err-copy_chosen g c = record {
 }
 
 pub loop-block-preserved : goal.loop-block-preserved
-loop-block-preserved g c =
-    let at = (goal.at.loop-block-preserved g c).After-copy_chosen in
-    record {
-      up_to =
-          up_to_more c.args.self.now.pass c.requires.ready.pass.apart c.loop-block.invariant.up_to _
-          _ (λ file holds. next g at file) c.in_ok-copy_chosen.ensures.written;
-      ready = c.in_ok-copy_chosen.ensures.ready;
-      counts = c.in_ok-copy_chosen.ensures.done ∙ c.loop-block.invariant.counts;
-    }
+loop-block-preserved g c = grind (arith, up_to_more, next g)
 
 pub returns : goal.returns
 returns g c = record {

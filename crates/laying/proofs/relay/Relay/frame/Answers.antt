@@ -1,10 +1,8 @@
 -- The frame is read, and passed to the writer in its slot.
 use Rattle.std.proofs.Common.{ap, arith, drop, length, List, min, rules, subst, sym, take, ℕ, []}
 use Rattle.std.proofs.{Common.{◌++◌, ◌+◌, ◌-◌, ◌<◌, ◌^◌, ◌∙◌, ◌∷◌, ◌≡◌, ◌≤◌}, lemmas.List.take_rest}
-use Rattle.frame_header.specs.Fields.{ClassFields, HeaderFields}
-use Rattle.frame_header.specs.Tables.{area_of, class_of, window_of}
-use Rattle.frame_writer.specs.Frames.{Frame, frame_area, reach_after_frame, reach_of}
-use Rattle.frame_writer.specs.Writing.{writing_of}
+use Rattle.frame_header.specs.Tables.{class_of}
+use Rattle.frame_writer.specs.{Frames.{Frame, reach_after_frame, reach_of}, Writing.writing_of}
 use Rattle.laying.proofs.PassLemmas.{holds-later, lays_one, part_none, part_one, ready-later}
 use Rattle.laying.proofs.{PlannedFrameLemmas.begun_fits, ReachLemmas.{holds-next, IsTaken}}
 use Rattle.laying.proofs.{ReadLemmas.main-next, SurveyFrameLemmas.side_fits}
@@ -13,7 +11,6 @@ use Rattle.laying.specs.Needs.{need_of}
 use Rattle.laying.specs.Passing.{GivesPart, HoldsLastWithBytes, IsAreaOf, LaysFrames, own_reach}
 use Rattle.laying.specs.Passing.{relay_frame, writing_in}
 use Rattle.outside.{proofs.BufferOutputLemmas.err_at, specs.Files.{Files, Holds}}
-use Rattle.outside.specs.Pass.{HasPassCause, route_of}
 use Rattle.side_info.specs.{FrameFields.FrameFields, Side.{front_width, SideFits}}
 use Rattle.slot_plan.specs.declared.needs.Placed.{Placed as PlacedFields}
 use Rattle.sync_survey.specs.{Faults.{survey_view, SurveyFields}, MainData.row_side, Row.Row}
@@ -27,31 +24,23 @@ placed r p = record {
   side = record (row_side r) { main_data_begin = p.begin };
 }
 
--- how far back main data may begin after a frame
-abbrev behind : ClassFields → HeaderFields → ℕ → ℕ → ℕ
-behind c h begin bytes =
-    min (window_of c.version) (begin + area_of (class_of h) h.slot h.protected - bytes)
-
 -- the front that the writer gets
 front : (g : given.Over) (c : After-with_area-frame g) → c.with_area-frame.result ≡ record {
   kept = placed c.args.known.now.row.now c.args.place.now;
   payload = c.cut_payload-payload.result;
 }
-front g c = c.with_area-frame.ensures
-    ∙ (λ j. record { kept = c.place_front.ensures j; payload = c.cut_payload-payload.result })
+front g c = grind arith
 
 -- the bytes are those that the feed gave
 with-bytes : (window bytes given input : List ℕ) (files : Files) (s : SurveyFields) (i n : ℕ)
     → bytes ≡ given → HoldsLastWithBytes window (take n given) input files s i
     → HoldsLastWithBytes window (take n bytes) input files s i
-with-bytes window bytes given input files s i n same =
-    subst (λ (l : List ℕ). HoldsLastWithBytes window (take n l) input files s i) (sym same)
+with-bytes window bytes given input files s i n same = grind arith
 
 area-bytes : (bytes given input : List ℕ) (files : Files) (r : Row) (n : ℕ) → bytes ≡ given
     → IsAreaOf (drop n given) input files r
     → IsAreaOf (take (length bytes - n) (drop n bytes)) input files r
-area-bytes bytes given input files r n same = subst (λ (l : List ℕ). IsAreaOf l input files r)
-    (ap (drop n) (sym same) ∙ sym (take_rest bytes n))
+area-bytes bytes given input files r n same = grind (arith, take_rest)
 
 -- the writer gets the frame in its slot
 told : (g : given.Over) (c : After-with_area-frame g) → (file : List ℕ)
@@ -78,14 +67,7 @@ told g c file holds =
 writer-reach : (g : given.Over) (c : After-with_area-frame g) (reach : ℕ)
     → reach ≡ reach_after_frame c.args.buffers.now.writer.class c.with_area-frame.result
     → reach ≡ own_reach c.args.self.now c.args.known.now.row.now c.args.place.now
-writer-reach g c reach is =
-    let h = (placed c.args.known.now.row.now c.args.place.now).header in
-    let begin = c.args.place.now.begin in
-    let size : length c.cut_payload-payload.result ≡ (need_of c.args.known.now.row.now).bytes =
-    c.cut_payload-payload.ensures.size in
-    let class = c.requires.stands.on.class in
-    is ∙ ap (reach_after_frame c.args.buffers.now.writer.class) (front g c)
-    ∙ (λ j. behind (class j) h begin (size j))
+writer-reach g c reach is = grind (arith, front)
 
 -- the class of the survey is the class of the frame
 class : (g : given.Over) (c : Start g)
@@ -118,29 +100,12 @@ place_front-requires-clause-begin g c =
     subst (λ k. c.args.place.now.begin < 2 ^ front_width k 0) d (fits g at).main_data_begin
 
 pub with_area-frame-requires : goal.with_area-frame-requires
-with_area-frame-requires g c =
-    let at = (goal.at.with_area-frame-requires g c).Start in
-    let protected = c.protected.ensures ∙ ap (λ f. f.header.protected) c.front-3.ensures in
-    c.area_of-area.ensures.area
-    ∙ (λ j. area_of (class g at j) c.args.place.now.slot (protected j))
-    ∙ sym (ap frame_area c.place_front.ensures)
+with_area-frame-requires g c = grind (arith, class g)
 
 pub returns-in_err-span-clause-gives : goal.returns-in_err-span-clause-gives
 returns-in_err-span-clause-gives g c = record {
   lays = search rules;
-  part = let self = c.args.self.now in
-      let old = (g.D.Folder.seen c.args.folder.now).files in
-      let made =
-      relay_frame self c.args.reading.now.next c.args.known.now.row.now c.args.place.now in
-      let last = own_reach self c.args.known.now.row.now c.args.place.now in
-      let near : c.args.place.now.begin ≤ c.args.buffers.now.writer.waiting.free =
-      omega (arith, c.requires.begin) in
-      err_at c.from_residual.result _ c.from_residual.ensures.1
-      (subst (λ f. GivesPart self made last c.args.buffers.now old f c.in_err-span.field-0.0)
-      (sym c.fill_frame.ensures.reads.files)
-      (part_none self.pass.input.now self.pass.output.now made last (writing_in c.args.buffers.now)
-      old c.in_err-span.ensures.reads.read c.requires.stands.on.ready.pass.target
-      (λ file holds more begins. near)));
+  part = search (arith, err_at, part_none);
   reach = search rules;
   done = search rules;
   cause = search rules;
@@ -150,10 +115,8 @@ pub write_frame-requires-clause-next : goal.write_frame-requires-clause-next
 write_frame-requires-clause-next g c =
     let at = goal.at.write_frame-requires-clause-next g c in
     record {
-      class = ap (λ (f : Frame). class_of f.kept.header) (front g at.After-with_area-frame)
-          ∙ sym (class g at.Start) ∙ c.requires.next.known ∙ sym c.requires.stands.on.class;
-      fits = subst (λ (f : Frame). SideFits c.args.buffers.now.writer.class f.kept.side)
-          (sym (front g at.After-with_area-frame)) (fits g at.Start);
+      class = grind (arith, front g at.After-with_area-frame, class g at.Start);
+      fits = grind (arith, front g at.After-with_area-frame, fits g at.Start);
       begin = search rules;
       within = search rules;
       few = search rules;
@@ -201,15 +164,7 @@ returns-in_err-write_frame-clause-gives g c = record {
       (omega (arith, reach)) c.in_err-write_frame.ensures.part));
   reach = search rules;
   done = search rules;
-  cause = let way = route_of c.args.self.now.pass in
-      let end = (g.D.Folder.seen c.write_frame.new.folder).counts in
-      let fault = c.in_err-write_frame.field-0.0 in
-      err_at c.from_residual-in_err-write_frame.result _
-      c.from_residual-in_err-write_frame.ensures.1
-      (subst (λ f. HasPassCause way f (g.D.Folder.seen c.args.folder.now).counts end fault)
-      c.fill_frame.ensures.reads.files
-      (subst (λ n. HasPassCause way (g.D.Folder.seen c.fill_frame.new.folder).files n end fault)
-      c.in_ok-span.ensures.reads.done c.in_err-write_frame.ensures.cause));
+  cause = search (arith, err_at);
 }
 
 pub returns-clause-gives : goal.returns-clause-gives

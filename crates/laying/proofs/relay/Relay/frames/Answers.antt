@@ -1,8 +1,7 @@
 -- The places of the plan, in order.
-use Rattle.std.proofs.Common.{ap, append_assoc, arith, cond, drop, get_or, length, List, map, refl}
-use Rattle.std.proofs.Common.{rules, slice_get, slice_range, Some, subst, sym, ℕ, [], ◌++◌, ◌+◌}
-use Rattle.std.proofs.{Common.{◌<◌, ◌∙◌, ◌∷◌, ◌≡◌, ◌≤◌}, lemmas.List.drop_all}
-use Rattle.std.proofs.lemmas.Result.{err_from_is_err_and}
+use Rattle.std.proofs.Common.{ap, append_assoc, arith, cond, drop, length, List, map, refl, rules}
+use Rattle.std.proofs.Common.{slice_get, slice_range, Some, subst, sym, ℕ, [], ◌++◌, ◌+◌, ◌<◌, ◌∙◌}
+use Rattle.std.proofs.{Common.{◌∷◌, ◌≡◌, ◌≤◌}, lemmas.{List.drop_all, Result.err_from_is_err_and}}
 use Rattle.frame_header.specs.Tables.{window_of}
 use Rattle.frame_writer.specs.{Frames.{all_frame_data, Frame, reach_of}, Laid.BeginsWithin}
 use Rattle.laying.proofs.{HoldLemmas.needs-range, PassLemmas.{lays_none, lays_then, part_then}}
@@ -69,19 +68,16 @@ module _ (g : given.Over) (c : After-index-rows-reading g) where
   reach = reach_of c.loop-place.buffers.writer
 
   left : drop c.loop-place.place-index c.args.placed.now ≡ p ∷ more
-  left = item-next c.args.placed.now c.loop-place.place-index p
-      (omega (arith, c.loop-place-test.true)) c.place-item.is
+  left = grind (arith, item-next)
 
   fits : FitsFromReach window reach (map need_of (slice_range s.frames i to)) (p ∷ more)
-  fits = subst (FitsFromReach window reach (map need_of (slice_range s.frames i to))) left
-      c.loop-place.invariant.fits
+  fits = grind (arith, slice_range, left)
 
   some : i < to
   some = fits-some window reach s i to p more fits
 
   found : slice_get s.frames i ≡ Some row
-  found = found-at s.frames i row (omega (arith, some, c.requires.within))
-      (c.index-rows-reading.is ∙ ap (λ (l : List Row). get_or l i row) c.frames-rows.ensures)
+  found = grind (arith, found-at, some)
 
   module _ (next : ℕ) (next_is : next ≡ i + cond p.lead_in 0 1) where
     opened : (p.begin ≤ reach)
@@ -248,16 +244,14 @@ bounded g c =
     let p = c.place-item.result in
     let window = window_of s.class.version in
     let reach = reach_of c.loop-place.buffers.writer in
-    let left : drop k placed ≡ p ∷ drop (k + 1) placed =
-    item-next placed k p (omega (arith, c.loop-place-test.true)) c.place-item.is in
+    let left : drop k placed ≡ p ∷ drop (k + 1) placed = grind (arith, item-next) in
     let within = fits-some window reach s c.loop-place.reading.next c.args.to p
     (drop (k + 1) placed) (subst (FitsFromReach window reach (map need_of (slice_range s.frames
     c.loop-place.reading.next c.args.to))) left c.loop-place.invariant.fits) in
     omega (arith, within, c.requires.within, ap length c.frames-rows.ensures)
 
 pub offset_bounds-rows-reading : goal.offset_bounds-rows-reading
-offset_bounds-rows-reading g c = let lt =
-    bounded g (goal.at.offset_bounds-rows-reading g c).After-place-item in omega (arith, lt)
+offset_bounds-rows-reading g c = grind (arith, bounded)
 
 pub bounds-rows-reading : goal.bounds-rows-reading
 bounds-rows-reading g c = let lt = bounded g (goal.at.bounds-rows-reading g c).After-place-item in

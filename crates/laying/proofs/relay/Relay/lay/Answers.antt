@@ -1,27 +1,16 @@
 -- What was passed on and what waits are the bytes of the frames.
-use Rattle.std.proofs.{Common.{ap, arith, rules, subst, sym, ◌∙◌, ◌≡◌}, lemmas.Result.on_ok_weaker}
-use Rattle.frame_header.specs.Tables.{window_of}
-use Rattle.frame_writer.specs.Frames.{bytes_of_frames, reach_of}
+use Rattle.std.proofs.{Common.{ap, arith, rules, subst, ◌∙◌}, lemmas.Result.on_ok_weaker}
+use Rattle.frame_writer.specs.Frames.{bytes_of_frames}
 use Rattle.laying.proofs.EndLemmas.{lays-prefix, lays-written, new-behind, part-prefix}
-use Rattle.laying.{proofs.PassLemmas.ready-passed, specs.Fits.FitsFromReach}
-use Rattle.laying.specs.{Laid.{needs_laid, selected_frames, selected_part}, Passing.writing_in}
+use Rattle.laying.{proofs.PassLemmas.ready-passed, specs.{Laid.selected_frames, Passing.writing_in}}
 use Rattle.outside.proofs.BufferOutputLemmas.{err_at, err_by}
 use Rattle.outside.proofs.PassLemmas.{causes_later, prefix_nothing}
 use Rattle.outside.specs.{Files.with_appended_bytes, Pass.{WritesMadeBytes, WritesPrefix}}
-use Rattle.slot_plan.specs.Plans.{entries}
 use Rattle.sync_survey.specs.Faults.{survey_view}
 use Rattle.laying.proofs.relay.Relay.lay.Goals as goal
 
 pub frames-requires-clause-fits : goal.frames-requires-clause-fits
-frames-requires-clause-fits g c =
-    let s = survey_view c.args.self.now.survey.now in
-    let needs = needs_laid (selected_part c.args.selected.now) s in
-    let none : 0 ≡ reach_of c.args.buffers.now.writer = omega (arith, c.requires.new.free) in
-    subst (FitsFromReach (window_of s.class.version) (reach_of c.args.buffers.now.writer) needs)
-    (sym c.placed.ensures)
-    (subst (λ n. FitsFromReach (window_of s.class.version) n needs
-    (entries c.args.selected.now.plan))
-    none c.requires.writable.fits)
+frames-requires-clause-fits g c = grind arith
 
 pub returns-in_err-read_before : goal.returns-in_err-read_before
 returns-in_err-read_before g c = record {

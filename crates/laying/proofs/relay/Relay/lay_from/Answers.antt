@@ -1,11 +1,9 @@
 -- The frames from number `from` on, in as many places as they take.
-use Rattle.std.proofs.Common.{ap, arith, length, rules, subst, sym, ◌-◌, ◌∙◌}
-use Rattle.frame_header.specs.Tables.{window_of}
+use Rattle.std.proofs.Common.{ap, arith, length, rules, subst, sym, ◌∙◌}
 use Rattle.frame_writer.specs.Frames.{reach_of}
 use Rattle.laying.proofs.FramesFromLemmas.{fits-from, from-begins, lays-from, part-from, reach-is}
 use Rattle.laying.proofs.PassLemmas.{part_none}
 use Rattle.laying.specs.Passing.{GivesPart, planned_frames, reach_behind_all, writing_in}
-use Rattle.laying.specs.Places.{places_for}
 use Rattle.outside.proofs.BufferOutputLemmas.{err_at}
 use Rattle.sync_survey.specs.Faults.{survey_view}
 use Rattle.laying.proofs.relay.Relay.lay_from.Goals as goal
@@ -36,11 +34,7 @@ returns-in_err-read_before-clause-gives g c = record {
 }
 
 pub frames-requires-clause-fits : goal.frames-requires-clause-fits
-frames-requires-clause-fits g c =
-    let s = survey_view c.args.self.now.survey.now in
-    fits-from s c.args.placed.now c.args.from _ _ (ap length c.frames-rows.ensures)
-    c.places_for-count.ensures.places (window_of s.class.version)
-    (reach_of c.args.buffers.now.writer) c.requires.fits
+frames-requires-clause-fits g c = grind (arith, fits-from)
 
 pub returns-in_err-frames-clause-gives : goal.returns-in_err-frames-clause-gives
 returns-in_err-frames-clause-gives g c = record {
@@ -73,6 +67,4 @@ returns-clause-gives g c = record {
 }
 
 pub returns-clause-count : goal.returns-clause-count
-returns-clause-count g c =
-    c.places_for-count.ensures.places
-    ∙ ap (λ n. places_for (n - c.args.from) c.args.placed.now) (ap length c.frames-rows.ensures)
+returns-clause-count g c = grind arith

@@ -19,8 +19,7 @@ fits g c =
 
 class : (g : given.Over) (c : After-with_begin-side g)
     → class_of c.unprotected-header.result ≡ c.args.writer.now.class
-class g c =
-    ap class_of c.unprotected-header.ensures ∙ ap class_of c.header.ensures ∙ c.requires.class
+class g c = grind arith
 
 pub new-front-requires : goal.new-front-requires
 new-front-requires g c =

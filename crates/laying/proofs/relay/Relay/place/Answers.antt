@@ -1,12 +1,11 @@
 -- A lead-in, or the frame.
-use Rattle.std.proofs.Common.{ap, arith, Bool, cond, false, List, min, rules, subst, sym, ℕ, []}
-use Rattle.std.proofs.Common.{◌+◌, ◌-◌, ◌∙◌, ◌∷◌, ◌≤◌}
-use Rattle.frame_header.specs.Tables.{area_of, class_of, window_of}
-use Rattle.frame_writer.{proofs.WritingLemmas.ok-map, specs.{Frames.Frame, Writing.writing_of}}
+use Rattle.std.proofs.Common.{arith, Bool, cond, false, List, min, rules, subst, sym, ℕ, [], ◌+◌}
+use Rattle.std.proofs.Common.{◌-◌, ◌∙◌, ◌∷◌}
+use Rattle.frame_header.specs.Tables.{area_of, class_of}
+use Rattle.frame_writer.{proofs.WritingLemmas.ok-map, specs.Frames.Frame}
 use Rattle.laying.proofs.PassLemmas.{holds-later, lays_one, part_one, ready-later}
 use Rattle.laying.{proofs.RelayLemmas.reach-lead, specs.Needs.need_of}
-use Rattle.laying.specs.Passing.{GivesFrames, GivesPart, placed_reach, relay_planned_frame}
-use Rattle.laying.specs.Passing.{survey_window, writing_in}
+use Rattle.laying.specs.Passing.{GivesFrames, GivesPart, survey_window}
 use Rattle.laying.specs.Relaid.{frame_with_place, lead_in_before, survey_frame}
 use Rattle.laying.specs.declared.relay.Relay.{Relay}
 use Rattle.outside.proofs.BufferOutputLemmas.{err_at, err_by}
@@ -32,24 +31,7 @@ reach_by relay row p lead = min (survey_window (survey_view relay.survey.now))
 pub returns-in_err-lead_in-clause-gives : goal.returns-in_err-lead_in-clause-gives
 returns-in_err-lead_in-clause-gives g c = record {
   lays = search rules;
-  part = let self = c.args.self.now in
-      let row = c.args.known.now.row.now in
-      let p = c.args.place.now in
-      let window = survey_window (survey_view self.survey.now) in
-      let reach : placed_reach self row p ≤ c.lead_in.new.writer.waiting.free =
-      omega (
-        arith,
-        reach-lead window p (need_of row) c.if-place.true,
-        c.lead_in.ensures.reach,
-        ap (λ class. window_of class.version) c.requires.stands.on.class,
-      ) in
-      err_at c.from_residual.result _ c.from_residual.ensures.1
-      (part_one self.pass.input.now self.pass.output.now
-      (relay_planned_frame self c.args.reading.now.next row p) (placed_reach self row p)
-      (lead_in_before p row.header) (writing_in c.args.buffers.now) c.lead_in.new.writer
-      (g.D.Folder.seen c.args.folder.now).files (g.D.Folder.seen c.lead_in.new.folder).files
-      (λ file holds. ap (λ lead. frame_by self c.args.reading.now.next row p lead file)
-      (sym c.if-place.true)) reach c.in_err-lead_in.ensures.part);
+  part = search (arith, reach-lead, err_at, part_one);
   reach = search rules;
   done = search rules;
   cause = search rules;
@@ -78,22 +60,7 @@ returns-else-place-clause-gives g c = record {
 }
 
 pub returns-in_ok-lead_in-clause-gives : goal.returns-in_ok-lead_in-clause-gives
-returns-in_ok-lead_in-clause-gives g c = record {
-  lays = let pass = c.args.self.now.pass in
-      let p = c.args.place.now in
-      let row = c.args.known.now.row.now in
-      lays_one pass.input.now pass.output.now
-      (relay_planned_frame c.args.self.now c.args.reading.now.next row p)
-      (lead_in_before p row.header)
-      (writing_in c.args.buffers.now) (writing_of c.lead_in.new.writer c.lead_in.new.unsent)
-      (g.D.Folder.seen c.args.folder.now).files (g.D.Folder.seen c.lead_in.new.folder).files
-      (λ file holds. ap (λ lead. frame_by c.args.self.now c.args.reading.now.next row p lead file)
-      (sym c.if-place.true)) c.in_ok-lead_in.ensures.written;
-  part = search rules;
-  reach = search rules;
-  done = search rules;
-  cause = search rules;
-}
+returns-in_ok-lead_in-clause-gives g c = grind (arith, lays_one)
 
 pub returns-in_ok-lead_in-clause-stands : goal.returns-in_ok-lead_in-clause-stands
 returns-in_ok-lead_in-clause-stands g c = record {

@@ -16,28 +16,10 @@ returns-in_default-clause-over g c =
     }
 
 pub overflow_add-at : goal.overflow_add-at
-overflow_add-at g c =
-    let s = survey_view c.args.self.now.survey.now in
-    let laid = c.requires.ready.laid in
-    omega (
-      arith,
-      head-within s c.in-Some.head laid (sym c.head.ensures ∙ c.in-Some.is),
-      laid.few,
-      c.from.ensures,
-      c.overhead.ensures.most,
-    )
+overflow_add-at g c = grind (arith, head-within)
 
 pub fill-requires-clause-within : goal.fill-requires-clause-within
-fill-requires-clause-within g c =
-    let s = survey_view c.args.self.now.survey.now in
-    let laid = c.requires.ready.laid in
-    omega (
-      arith,
-      head-within s c.in-Some.head laid (sym c.head.ensures ∙ c.in-Some.is),
-      c.from.ensures,
-      c.overhead.ensures.whole,
-      c.area-area.ensures.area,
-    )
+fill-requires-clause-within g c = grind (arith, head-within)
 
 pub returns-clause-over : goal.returns-clause-over
 returns-clause-over g c =
@@ -49,8 +31,7 @@ returns-clause-over g c =
     record {
       main = c.fill.new.feed.given;
       held = rw c.bytes.ensures at (c.push_area.ensures.main [] c.requires.none);
-      long = given.long ∙ c.area-area.ensures.area
-          ∙ sym (place-first s.head s.frames ∙ ap head_area some);
+      long = grind (arith, place-first);
       is = λ file holds. given.is file holds
           ∙ area-at file head.offset head.header _ _ at c.area-area.ensures.area
           ∙ sym (main-first file s.head s.frames ∙ ap (head_bytes file) some);

@@ -4,9 +4,7 @@ use Rattle.outside.proofs.PassLemmas.{copies_begun, copies_failed, copies_more}
 use Rattle.moved_gains.proofs.buffers.GainBuffers.copy.Goals as goal
 
 pub loop-at-init : goal.loop-at-init
-loop-at-init g c =
-    copies_begun c.args.pass.now c.args.from c.args.to c.args.self.now.waiting c.args.self.now.feed
-    _ c.requires.ordered c.requires.ready
+loop-at-init g c = grind (arith, copies_begun)
 
 pub returns-in_err-copy_piece : goal.returns-in_err-copy_piece
 returns-in_err-copy_piece g c =

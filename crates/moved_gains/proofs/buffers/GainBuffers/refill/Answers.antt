@@ -6,18 +6,11 @@ use Rattle.moved_gains.proofs.BufferLemmas.{all_on}
 use Rattle.outside.proofs.{BufferOutputLemmas.err_at, FeedLemmas.{fed_by, fed_front, fills}}
 use Rattle.outside.proofs.PassLemmas.{cause_later, input_held, prefix_nothing, prefix_then}
 use Rattle.outside.proofs.PassLemmas.{ready_later, still_there}
-use Rattle.outside.specs.{Files.{Holds, with_appended_bytes}, Pass.{IsPassReady, route_of}}
+use Rattle.outside.specs.{Files.{Holds, with_appended_bytes}, Pass.IsPassReady}
 use Rattle.moved_gains.proofs.buffers.GainBuffers.refill.Goals as goal
 
 pub read_behind-requires-clause-input : goal.read_behind-requires-clause-input
-read_behind-requires-clause-input g c = record {
-  there = still_there _ _ c.args.pass.now.output.now _
-      c.args.pass.now.input.now c.in_ok-hand_on.ensures.appended c.requires.ready.source;
-  found = λ file holds. c.requires.ready.length_is file
-      (input_held _ _ c.args.pass.now.input.now c.args.pass.now.output.now _ file
-      c.requires.ready.apart c.in_ok-hand_on.ensures.appended holds);
-  short = c.requires.ready.few;
-}
+read_behind-requires-clause-input g c = grind (arith, still_there, input_held)
 
 pub returns-in_err-self-inside : goal.returns-in_err-self-inside
 returns-in_err-self-inside g c = record {
@@ -35,11 +28,7 @@ returns-in_err-self-inside g c = record {
       c.in_err-self-inside.ensures.read c.in_err-self-inside.ensures.files (still_there _ _
       pass.output.now _ pass.output.now c.in_ok-hand_on.ensures.appended c.requires.ready.target)));
   done = search rules;
-  cause = let p = err_from_is_err_and c.from_residual-in_err-self-inside.result
-      c.from_residual-in_err-self-inside.ensures.1 in
-      rw (p.1, p.2) (cause_later (route_of c.args.pass.now) _ _ c.args.pass.now.output.now _ _ _ _ _
-      c.in_ok-hand_on.ensures.appended c.in_ok-hand_on.ensures.done
-      c.in_err-self-inside.ensures.cause);
+  cause = grind (arith, err_from_is_err_and, cause_later);
   ready = search rules;
 }
 
@@ -47,23 +36,7 @@ pub returns : goal.returns
 returns g c = record {
   passed = search rules;
   place = search rules;
-  enough = let a = c.self.inside in
-      let k = c.in_ok-self-inside.field-0 in
-      let room = c.read_behind.new.room in
-      let size : length c.as_mut_slice-room.result.now ≡ 65536 =
-      ap length c.as_mut_slice-room.ensures.value ∙ c.self.invariant.size in
-      let long : length room ≡ 65536 =
-      omega (arith, c.read_behind.auto.room, c.keep_from-kept.auto.room, size) in
-      let room_is : take a.room.len (room ++ drop (length room) a.room.items) ≡ room =
-      fills a.room.len room _ (omega (arith, long, size, c.as_mut_slice-room.ensures.len)) in
-      omega (
-        arith,
-        ap (λ (xs : List ℕ). length (take (k - 0) xs)) room_is,
-        length-take (k - 0) room,
-        long,
-        c.in_ok-self-inside.ensures.enough,
-        c.in_ok-self-inside.ensures.most,
-      );
+  enough = grind (arith, fills, length-take);
   prefix = search rules;
   done = search rules;
   cause = search rules;

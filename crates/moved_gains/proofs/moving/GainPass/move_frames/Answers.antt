@@ -41,8 +41,7 @@ left_up_to : (steps : ℕ → Steps) (tag : Option NewTag) (file : List ℕ) (at
     (i : ℕ) (row : Row) → drop i rows ≡ row ∷ drop (i + 1) rows → to ≡ row.offset
     → bytes_written_from steps tag file at (drop i rows)
     ≡ copied_bytes tag file at to ++ left steps tag rows i row file
-left_up_to steps tag file at to rows i row is offset = left_at steps tag file at rows i row is
-    ∙ ap (λ n. copied_bytes tag file at n ++ left steps tag rows i row file) (sym offset)
+left_up_to steps tag file at to rows i row is offset = grind (arith, left_at, is)
 
 pub loop-frame-init : goal.loop-frame-init
 loop-frame-init g c = record {
@@ -74,8 +73,7 @@ module _ (g : given.Over) (c : After-from g) where
   is = here rows i row (omega (arith, c.loop-frame-test.true)) c.index-rows-frame.is
 
   all_laid : FramesAreLaid c.loop-frame.at (row ∷ drop (i + 1) rows) c.args.self.now.pass.length
-  all_laid =
-      laid c.loop-frame.at c.args.self.now.pass.length rows i row is c.loop-frame.invariant.laid
+  all_laid = grind (arith, laid, is)
 
   within : row_end row ≤ c.args.self.now.pass.length
   within = laid_end (row_end row) (drop (i + 1) rows) c.args.self.now.pass.length all_laid.2
@@ -94,12 +92,10 @@ module _ (g : given.Over) (c : After-from g) where
       row is (c.from.ensures ∙ c.offset.ensures)
 
   own : steps row.offset ≡ course_steps c.args.self.now.course.now i
-  own = frame_steps c.args.self.now.course.now rows i row
-      c.requires.numbered (omega (arith, c.loop-frame-test.true)) c.index-rows-frame.is
+  own = grind (arith, frame_steps)
 
   class : class_of row.header ≡ c.args.self.now.class
-  class = c.requires.classed i row (slice_get_read rows (length rows) i row refl
-      (omega (arith, c.loop-frame-test.true)) c.index-rows-frame.is)
+  class = grind (arith, slice_get_read)
 
 pub copy-requires-clause-within : goal.copy-requires-clause-within
 copy-requires-clause-within g c =
@@ -173,8 +169,7 @@ loop-frame-preserved g c =
     (up_to_row g at) (later g at) (next g at) c.in_ok-copy.ensures.written in
     record {
       laid = subst (λ n. FramesAreLaid n behind self.pass.length) end_is (all_laid g at).2;
-      told = λ file holds. (told file c.args.rows.now c.loop-frame.frame row (is g at)
-          (c.loop-frame.invariant.told file holds)).1;
+      told = grind (arith, told, is g, c.loop-frame.frame, c.loop-frame.invariant.told);
       up_to = up_to_more self.pass c.requires.ready.apart before
           (λ file. moved_row_bytes c.steps-steps.result file row)
           (λ file. bytes_written_from (steps g at) self.tag file end behind)
@@ -194,12 +189,7 @@ module _ (g : given.Over) (c : After-copy-2 g) where
       → Holds (g.D.Folder.seen c.args.folder.now).files c.args.self.now.pass.input.now file
       → bytes_written_from (steps_at_offset c.args.self.now.course.now c.args.rows.now)
       c.args.self.now.tag file c.loop-frame.at (drop c.loop-frame.frame c.args.rows.now) ≡ rest file
-  last file holds =
-      left_behind (steps_at_offset c.args.self.now.course.now c.args.rows.now)
-      c.args.self.now.tag file
-      c.loop-frame.at c.args.self.now.pass.length (drop c.loop-frame.frame c.args.rows.now)
-      (drop_all c.loop-frame.frame c.args.rows.now (omega (arith, c.loop-frame-test.false)))
-      (c.requires.ready.length_is file holds)
+  last file holds = grind (arith, left_behind, drop_all)
 
 pub returns : goal.returns
 returns g c = record {

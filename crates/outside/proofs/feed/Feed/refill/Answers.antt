@@ -1,29 +1,19 @@
-use Rattle.std.proofs.Common.{ap, arith, drop, length, length-drop, List, min, rules, subst, sym}
-use Rattle.std.proofs.{Common.{take, ℕ, ◌++◌, ◌-◌, ◌∙◌, ◌≡◌}, lemmas.List.length-take-le}
+use Rattle.std.proofs.Common.{ap, arith, drop, length, length-drop, List, min, rules, take, ℕ, ◌++◌}
+use Rattle.std.proofs.{Common.{◌-◌, ◌∙◌, ◌≡◌}, lemmas.List.length-take-le}
 use Rattle.outside.proofs.FeedLemmas.{fed_by, fed_front, fills, given_is, within_filled}
-use Rattle.outside.{proofs.feed.Feed.refill.Given.Over, specs.{Feed.Fed, Files.Holds}}
+use Rattle.outside.{proofs.feed.Feed.refill.Given.Over, specs.Files.Holds}
 use Rattle.outside.proofs.feed.Feed.refill.Goals as goal
 
 -- the buffer is what was read into it
 room_is : (g : Over) (c : goal.After-self-3-1 g) → take c.self.inside.room.len (c.read_on.new.into
     ++ drop (length c.read_on.new.into) c.self.inside.room.items) ≡ c.read_on.new.into
-room_is g c = fills c.self.inside.room.len c.read_on.new.into _ (omega
-    (arith, c.read_on.auto.into, c.keep_from-kept.auto.room, c.as_mut_slice-room.ensures.len))
+room_is g c = grind (arith, fills)
 
 read : (g : Over) (c : goal.After-self-3-1 g) (bytes : List ℕ)
     → Holds (g.D.Folder.seen c.args.folder.now).files c.args.name.now bytes
     → take c.in_ok-self-inside.field-0 c.read_on.new.into
     ≡ take c.in_ok-self-inside.field-0 (drop c.args.at bytes)
-read g c bytes holds =
-    let held = subst (λ (fed : Fed). take (length fed.held) (drop fed.place bytes) ≡ fed.held)
-    (sym c.self.view_is) (c.requires.fed.same bytes holds) in
-    let front = fed_front c.self.inside.held c.self.inside.place c.self.inside.room.items bytes
-    (omega arith) held in
-    let whole : c.self.inside.held ≡ c.self.inside.held - 0 = omega arith in
-    c.in_ok-self-inside.ensures.bytes bytes holds
-    (c.keep_from-kept.ensures.kept bytes
-    (subst (λ n. take n (drop c.self.inside.place bytes) ≡ take n c.as_mut_slice-room.result.now)
-    whole (front ∙ ap (take c.self.inside.held) (sym c.as_mut_slice-room.ensures.value))))
+read g c bytes holds = search (arith, fed_front)
 
 pub invariant_of-self : goal.invariant_of-self
 invariant_of-self g c =
@@ -55,10 +45,7 @@ invariant_of-self-2 g c =
 pub returns : goal.returns
 returns g c = record {
   bound = search rules;
-  given = ap (λ (room : List ℕ). length (take (c.min-self-inside.result - 0) room)) (room_is g c)
-      ∙ length-take-le _ c.read_on.new.into (omega
-      (arith, c.min-self-inside.ensures, c.in_ok-self-inside.ensures.bound, c.read_on.auto.into))
-      ∙ omega arith;
+  given = grind (arith, room_is g c, length-take-le);
   bytes = λ bytes holds.
       let k = c.in_ok-self-inside.field-0 in
       let count : c.min-self-inside.result - 0 ≡ min c.args.n k =
@@ -73,17 +60,7 @@ returns g c = record {
   ended = search rules;
   failed = search rules;
   none = search rules;
-  fed = record {
-    same = λ bytes holds.
-        let k = c.in_ok-self-inside.field-0 in
-        let old =
-        subst (λ f. Holds f c.args.name.now bytes) c.in_ok-self-inside.ensures.files holds in
-        subst
-        (λ (room : List ℕ). take (length (take k room)) (drop c.args.at bytes) ≡ take k room)
-        (sym (room_is g c))
-        (fed_by k c.args.at c.read_on.new.into bytes (omega
-        (arith, c.read_on.auto.into, c.in_ok-self-inside.ensures.bound)) (read g c bytes old));
-  };
+  fed = grind (arith, room_is g c, fed_by, read);
   files = search rules;
   done = search rules;
   counts = search rules;

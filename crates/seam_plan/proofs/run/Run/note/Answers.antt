@@ -4,15 +4,7 @@ use Rattle.seam_plan.proofs.PlaceLemmas.{note-all, note-from, note-slid, Notes}
 use Rattle.seam_plan.proofs.run.Run.note.Goals as goal
 
 pub loop-frame-preserved : goal.loop-frame-preserved
-loop-frame-preserved c = record {
-  class = c.loop-frame.invariant.class;
-  left = c.loop-frame.invariant.left;
-  rest = c.loop-frame.invariant.rest;
-  last =
-      note-slid c.args.self.now.last.items c.loop-frame.self.last.items _
-      c.args.input c.max-first.result c.loop-frame.frame (omega (arith, c.loop-frame.auto.frame))
-      c.slide.ensures c.loop-frame.invariant.last;
-}
+loop-frame-preserved c = search (arith, note-slid)
 
 pub returns-clause-last : goal.returns-clause-last
 returns-clause-last c = λ places is.

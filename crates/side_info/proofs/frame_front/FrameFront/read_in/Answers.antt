@@ -1,6 +1,6 @@
 -- The first four bytes are the header, and the part is the side information.
-use Rattle.std.proofs.Common.{ap, arith, drop, length, length-drop, List, subst, sym, take, ℕ, ◌∙◌}
-use Rattle.std.proofs.{Common.{◌≡◌, ◌≤◌}, lemmas.List.length-take-le}
+use Rattle.std.proofs.Common.{arith, length, length-drop, List, subst, sym, take, ℕ, ◌≡◌, ◌≤◌}
+use Rattle.std.proofs.lemmas.List.{length-take-le}
 use Rattle.bit_fields.{proofs.BitsLemmas.AreBits-bits, specs.Bits.bits}
 use Rattle.frame_header.proofs.HeaderLemmas.{header_bits-header_at, IsClass-class_of}
 use Rattle.frame_header.proofs.HeaderLemmas.{IsHeader-header_at}
@@ -9,7 +9,7 @@ use Rattle.frame_header.specs.Tables.{class_of, overhead_of, side_size_of}
 use Rattle.side_info.proofs.FrameLemmas.{overhead-is, overhead-least}
 use Rattle.side_info.proofs.{FrontLemmas.{are_written, written_fields}, SideLemmas.SideFits-side_at}
 use Rattle.side_info.proofs.frame_front.FrameFront.read_in.Goals.{After-room_of_frame}
-use Rattle.side_info.specs.{Frame.{side_in, side_part, side_place}, FrameFields.FrameFields}
+use Rattle.side_info.specs.{Frame.{side_in, side_part}, FrameFields.FrameFields}
 use Rattle.side_info.specs.{FrontBytes.front_view, Side.SideFits}
 use Rattle.side_info.proofs.frame_front.FrameFront.read_in.Goals as goal
 
@@ -24,16 +24,12 @@ known : (c : After-room_of_frame) → IsHeader c.args.header.now
 known c = IsHeader-header_at (take 4 c.args.frame.now) c.args.header.now c.requires.heads
 
 head : (c : After-room_of_frame) → bits c.first_four.result ≡ header_bits c.args.header.now
-head c =
-    ap bits c.first_four.ensures.four
-    ∙ sym (header_bits-header_at (take 4 c.args.frame.now) c.args.header.now (length-take-le 4
-    c.args.frame.now (least c.args.header.now c.args.frame.now c.requires.room)) c.requires.heads)
+head c = grind (arith, header_bits-header_at, length-take-le, least)
 
 size : (h : HeaderFields) (frame : List ℕ) → overhead_of (class_of h) h.protected ≤ length frame
     → length (side_part h frame) ≡ side_size_of (class_of h)
 unfolding side_part
-size h frame room = length-take-le (side_size_of (class_of h)) (drop (side_place h.protected) frame)
-    (simp length-drop (omega (arith, room, overhead-is (class_of h) h.protected)))
+size h frame room = grind (arith, length-take-le, length-drop, overhead-is)
 
 fields : (c : After-room_of_frame)
     → front_view (record { header = c.first_four.result; side = c.room_of_frame.result })

@@ -1,15 +1,13 @@
 -- The first bits of the side information are replaced.
-use Rattle.std.proofs.Common.{ap, ap₂, arith, drop, length, List, subst, sym, take, ℕ, ◌++◌, ◌<◌}
-use Rattle.std.proofs.Common.{◌^◌, ◌∙◌, ◌≡◌}
+use Rattle.std.proofs.Common.{ap, arith, drop, length, List, sym, take, ℕ, ◌++◌, ◌<◌, ◌^◌, ◌∙◌, ◌≡◌}
 use Rattle.bit_fields.specs.Bits.{bits, bits_of}
 use Rattle.frame_header.specs.Tables.{class_of, side_size_of}
 use Rattle.side_info.proofs.FrontLemmas.{begin_width-is, fits, front_with, shaped, side_at-begin}
 use Rattle.side_info.proofs.FrontLemmas.{side_fields-written, side_written, written, written_size}
 use Rattle.side_info.proofs.frame_front.FrameFront.set_begin.Goals.{After-side_size-size}
 use Rattle.side_info.specs.FrameFields.{FrameFields}
-use Rattle.side_info.specs.FrontBytes.{AreFrontBytes, begin_width, front_view, header_of, own_side}
-use Rattle.side_info.specs.{FrontBytes.side_of, Side.{front_width, side_at}}
-use Rattle.side_info.specs.declared.side.Side.{Side}
+use Rattle.side_info.specs.FrontBytes.{begin_width, front_view, header_of, own_side, side_of}
+use Rattle.side_info.specs.{Side.{front_width, side_at}, declared.side.Side.Side}
 use Rattle.side_info.proofs.frame_front.FrameFront.set_begin.Goals as goal
 
 class : (c : After-side_size-size) → c.class-class.result ≡ class_of (header_of c.self.inside)
@@ -21,8 +19,7 @@ size c = c.side_size-size.ensures.size ∙ ap side_size_of (class c)
 
 long : (c : After-side_size-size)
     → length (take c.side_size-size.result c.self.inside.side) ≡ c.side_size-size.result
-long c = subst (λ n. length (take n c.self.inside.side) ≡ n) (sym (size c))
-    (written_size c.self.inside c.self.invariant)
+long c = grind (arith, size, written_size)
 
 version : (c : After-side_size-size)
     → c.class.inside.version ≡ (class_of (header_of c.self.inside)).version
@@ -30,23 +27,13 @@ version c = ap (λ d. d.version) (c.class.view_is ∙ class c)
 
 small : (c : After-side_size-size)
     → c.args.begin < 2 ^ front_width (class_of (header_of c.self.inside)) 0
-small c = subst (λ f. c.args.begin < 2 ^ front_width (class_of f.header) 0)
-    (sym c.self.view_is) c.requires
+small c = grind arith
 
 pub put_begin-requires-clause-fits : goal.put_begin-requires-clause-fits
-put_begin-requires-clause-fits c =
-    let at = (goal.at.put_begin-requires-clause-fits c).After-side_size-size in
-    subst (λ n. c.args.begin < 2 ^ n)
-    (sym (begin_width-is (class_of (header_of c.self.inside))
-    (written c.self.inside c.self.invariant).class) ∙ ap begin_width (sym (version at)))
-    (small at)
+put_begin-requires-clause-fits c = grind (arith, begin_width-is, written, version, small)
 
 pub put_begin-requires-clause-room : goal.put_begin-requires-clause-room
-put_begin-requires-clause-room c = omega (
-  arith,
-  long (goal.at.put_begin-requires-clause-room c).After-side_size-size,
-  c.side_size-size.ensures.least,
-)
+put_begin-requires-clause-room c = grind (arith, long)
 
 part_size : (at : After-side_size-size) (part : List ℕ)
     → length part ≡ length (take at.side_size-size.result at.self.inside.side)
@@ -57,15 +44,10 @@ part_size at part same = same ∙ long at ∙ size at
 counted : (at : After-side_size-size) (part : List ℕ) → front_with at.self.inside.header (part
     ++ drop (side_size_of (class_of (header_of at.self.inside))) at.self.inside.side)
     ≡ front_with at.self.inside.header (part ++ drop at.side_size-size.result at.self.inside.side)
-counted at part =
-    ap (λ n. front_with at.self.inside.header (part ++ drop n at.self.inside.side)) (sym (size at))
+counted at part = grind (arith, front_with, size)
 
 pub invariant_of-self : goal.invariant_of-self
-invariant_of-self c =
-    let at = (goal.at.invariant_of-self c).After-side_size-size in
-    let part = c.put_begin.new.part in
-    subst AreFrontBytes (counted at part) (side_written c.self.inside c.self.invariant part
-    (part_size at part (omega (arith, c.put_begin.auto.part))) c.put_begin.ensures.octets)
+invariant_of-self c = grind (arith, counted, side_written, part_size)
 
 pub returns : goal.returns
 unfolding own_side
@@ -78,8 +60,7 @@ returns c =
     ap (λ n. take n a.side) (size at) in
     let first : bits part ≡ bits_of (begin_width d.version) c.args.begin
     ++ drop (begin_width d.version) (bits (take (side_size_of d) a.side)) =
-    c.put_begin.ensures.bits ∙ ap₂ (λ v xs. bits_of (begin_width v) c.args.begin
-    ++ drop (begin_width v) (bits xs)) (version at) own in
+    grind (arith, version) in
     let side : side_at d (bits part) ≡ record (side_of a) { main_data_begin = c.args.begin } =
     side_at-begin d (written a c.self.invariant).class (side_of a)
     c.args.begin (bits (take (side_size_of d) a.side)) (bits part) (shaped a)

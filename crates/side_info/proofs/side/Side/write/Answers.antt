@@ -1,23 +1,15 @@
 -- The fields before the granules and the granules are the side information.
-use Rattle.std.proofs.Common.{ap, arith, get_or, subst, sym, [], ◌++◌, ◌∙◌, ◌≡◌}
+use Rattle.std.proofs.Common.{ap, arith, subst, sym, ◌∙◌, ◌≡◌}
 use Rattle.bit_fields.specs.Bits.{bits}
 use Rattle.frame_header.specs.{Fields.IsClass, Tables.side_size_of}
 use Rattle.side_info.proofs.{SideLemmas.side_at-side_bits, WriteLemmas.side_bits-parts}
 use Rattle.side_info.proofs.side.Side.write.Goals.{After-write_granules}
-use Rattle.side_info.specs.Parts.{class_with, pair_bits, second_pair_bits}
 use Rattle.side_info.specs.Side.{side_at, side_bits}
 use Rattle.side_info.proofs.side.Side.write.Goals as goal
 
 written : (c : After-write_granules)
     → bits c.write_granules.new.bytes ≡ side_bits c.args.class c.args.self.now
-written c =
-    c.write_granules.ensures.written
-    ∙ ap (λ bs. (bs ++ pair_bits c.class.inside.version c.class.inside.channels
-    (get_or c.args.self.now.granules 0 [])) ++ second_pair_bits c.class.inside.version
-    c.class.inside.channels (get_or c.args.self.now.granules 1 [])) c.front_word-front.ensures
-    ∙ sym (side_bits-parts (class_with c.class.inside.version c.class.inside.frequency_index
-    c.class.inside.channels) c.args.self.now (omega arith))
-    ∙ ap (λ d. side_bits d c.args.self.now) c.class.view_is
+written c = grind (arith, side_bits-parts)
 
 pub write_granules-requires-clause-size : goal.write_granules-requires-clause-size
 unfolding side_size_of
