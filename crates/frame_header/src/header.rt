@@ -187,7 +187,7 @@ fn header_with(class: Class) -> Header
 }
 
 /// Whether these are the bits of a header with this version and sampling frequency that isn't free format.
-// Compared with another such header, since the compiler then makes one test of the first four.
+// Compared with another such header, since the compiler then makes one test of version, layer and frequency.
 #[inline(always)]
 #[tactic(auto, using(crate::proofs::HeaderLemmas::says_class), unfolding(crate::specs::Reading::is_readable))]
 fn is_header_of(class: Class, word: u32) -> bool

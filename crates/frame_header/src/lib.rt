@@ -9,6 +9,6 @@ mod version;
 
 pub use class::Class;
 pub use header::{Header, NotHeader};
-pub use limits::{MOST_FRAMES, MOST_FRONT};
+pub use limits::MOST_FRAMES;
 pub use slot::Slot;
 pub use version::Version;

@@ -1,5 +1,5 @@
 //! Frames as they are written.
-ghost use Rattle.std.specs.Prelude.{◌≡◌, ◌≤◌, ◌++◌, length, take, OnOk, OnErr};
+ghost use Rattle.std.specs.Prelude.{◌≡◌, ◌≤◌, ◌++◌, length, OnOk, OnErr};
 ghost use Rattle.frame_header.specs.Fields.{IsHeader};
 ghost use Rattle.frame_header.specs.Tables.{class_of};
 ghost use Rattle.side_info.specs.Side.{SideFits};
@@ -11,11 +11,11 @@ ghost use Rattle.frame_writer.specs.Frames.{frame_area, first_bytes};
 ghost use Rattle.frame_writer.specs.Laid.{laid_count};
 ghost use Rattle.frame_writer.specs.Writing.{WriteFailed};
 ghost use Rattle.outside.specs.Answers.{PassAnswer};
-ghost use Rattle.frame_header.specs.Limits.{most_frame_length, most_front};
+ghost use Rattle.frame_header.specs.Limits.{most_frame_length};
 
 use crate::areas::Areas;
-use frame_header::{Class, MOST_FRONT};
-use outside::{Failed, Folder, WriteBuffer};
+use frame_header::Class;
+use outside::{Failed, Folder, InPlace, WriteBuffer};
 use reservoir::Payload;
 use side_info::FrameFront;
 use std::marker::Model;
@@ -80,17 +80,42 @@ impl SizedFront {
         self.front.begin_in(class)
     }
 
-    /// Writes header, check word and side information into the first bytes of at least 38, if the
-    /// class of the header is known, and returns how many bytes these are. What is after them may
-    /// change.
+    /// The front, if the class of the header is known.
     #[inline(always)]
-    fn put_in(&self, class: Class, room: &mut [u8]) -> usize
-        requires class { class ≡ class_of self.now.header }
-        requires room { most_front ≤ length room.old }
-        ensures size { result ≤ most_front }
-        ensures front { take result room.new ≡ frame_front_bytes self.now.header self.now.side }
+    fn of_class(&self, class: Class) -> FrontOfClass<'_>
+        requires { class ≡ class_of self.now.header }
+        ensures { result ≡ self.now }
     {
-        self.front.put_in(class, room)
+        FrontOfClass { front: self, class }
+    }
+}
+
+/// The front of a frame whose class is known, to be written.
+#[derive(Drop)]
+struct FrontOfClass<'f> {
+    front: &'f SizedFront,
+    class: Class,
+}
+
+impl<'f> Model for FrontOfClass<'f> {
+    ghost use Rattle.std.specs.Prelude.{◌≡◌};
+    ghost use Rattle.frame_header.specs.Tables.{class_of};
+    ghost use Rattle.side_info.specs.FrameFields.{FrameFields};
+
+    ghost Value = { FrameFields };
+
+    ghost view = { λ f. f.front.now };
+
+    ghost invariant = { λ f. f.class ≡ class_of f.front.now.header };
+}
+
+impl<'f> InPlace for FrontOfClass<'f> {
+    ghost bytes_of = { λ f. frame_front_bytes f.header f.side };
+
+    #[inline(always)]
+    fn put_in(&self, room: &mut [u8]) -> usize {
+        let front = self.front;
+        front.front.put_in(self.class, room)
     }
 }
 
@@ -167,8 +192,7 @@ pub(crate) fn add_frame<D: Folder>(
     ensures { PassAnswer name.now unsent.old (first_bytes first.now areas.now.bytes) unsent.new
         (D.seen folder.old) (D.seen folder.new) result }
 {
-    let mut room = [0; MOST_FRONT];
-    let size = first.put_in(class, &mut room);
-    unsent.push_first(folder, name, &room, size)?;
+    let front = first.of_class(class);
+    unsent.push_made(folder, name, &front)?;
     areas.add_first(first.area() as usize, stored, folder, name, unsent)
 }

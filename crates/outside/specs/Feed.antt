@@ -6,6 +6,10 @@ use Rattle.outside.specs.Files.{Files, Holds}
 abbrev pub buffer_size : ℕ
 buffer_size = 65536
 
+-- how many bytes can be made where they wait
+abbrev pub most_in_place : ℕ
+most_in_place = 64
+
 -- the most bytes that a feed gives at once
 abbrev pub most_given : ℕ
 most_given = 4096

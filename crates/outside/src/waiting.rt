@@ -1,7 +1,8 @@
 //! Bytes that wait to be passed on.
-ghost use Rattle.std.specs.Prelude.{◌≡◌, ◌+◌, ◌≤◌, [], ◌++◌, length, take, IfOk};
-ghost use Rattle.outside.specs.Feed.{buffer_size};
+ghost use Rattle.std.specs.Prelude.{◌≡◌, ◌+◌, ◌≤◌, [], ◌++◌, length, IfOk};
+ghost use Rattle.outside.specs.Feed.{buffer_size, most_in_place};
 
+use crate::in_place::{InPlace, MOST_IN_PLACE};
 use crate::sizes::BUFFER_SIZE;
 use std::alloc::{AllocError, Global};
 use std::marker::Model;
@@ -72,16 +73,14 @@ impl WaitingBytes {
         self.count = end;
     }
 
-    /// Adds the first `count` bytes of a piece that fits as a whole. Copying is fastest if the
-    /// number of bytes is a constant, so the whole piece is copied.
+    /// Adds bytes that are made here, where there is room for 64.
     #[inline(always)]
-    pub fn add_first(&mut self, piece: &[u8], count: usize)
-        requires room { length self.old + length piece.now ≤ buffer_size }
-        requires within { count ≤ length piece.now }
-        ensures { self.new ≡ self.old ++ take count piece.now }
+    pub fn add_made<M: InPlace>(&mut self, made: &M)
+        requires { length self.old + most_in_place ≤ buffer_size }
+        ensures added { self.new ≡ self.old ++ M.bytes_of made.now }
+        ensures few { length self.new ≤ buffer_size }
     {
-        let end = self.count + piece.len();
-        self.room[self.count..end].copy_from_slice(piece);
-        self.count += count;
+        let end = self.count + MOST_IN_PLACE;
+        self.count += made.put_in(&mut self.room[self.count..end]);
     }
 }

@@ -6,6 +6,7 @@ ghost use Rattle.outside.specs.Feed.{buffer_size};
 
 use crate::folder::{Failed, Folder};
 use crate::helpers::write_all;
+use crate::in_place::{InPlace, MOST_IN_PLACE};
 use crate::sizes::BUFFER_SIZE;
 use crate::waiting::WaitingBytes;
 use std::alloc::{AllocError, Global};
@@ -65,29 +66,29 @@ impl WriteBuffer {
         self.push_over(folder, name, piece)
     }
 
-    /// Adds the first `count` bytes of a piece to what waits, as `push` does.
+    /// Adds bytes to what waits, as `push` does, but where there is room they are made in place.
     ///
     /// # Errors
     /// If a write failed. Then a prefix of what waited and these bytes, and not all, was appended,
     /// and nothing waits.
     #[inline(always)]
-    pub fn push_first<D: Folder>(
+    pub fn push_made<D: Folder, M: InPlace>(
         &mut self,
         folder: &mut D,
         name: &str,
-        piece: &[u8],
-        count: usize,
+        made: &M,
     ) -> Result<(), Failed>
-        requires there { IsFileThere (D.seen folder.old).files name.now }
-        requires within { count ≤ length piece.now }
-        ensures { PushAnswer name.now self.old (take count piece.now) self.new (D.seen folder.old)
+        requires { IsFileThere (D.seen folder.old).files name.now }
+        ensures { PushAnswer name.now self.old (M.bytes_of made.now) self.new (D.seen folder.old)
             (D.seen folder.new) result }
     {
-        if piece.len() <= self.waiting.free() {
-            self.waiting.add_first(piece, count);
+        if MOST_IN_PLACE <= self.waiting.free() {
+            self.waiting.add_made(made);
             return Ok(());
         }
-        self.push(folder, name, &piece[..count])
+        let mut room = [0; MOST_IN_PLACE];
+        let count = made.put_in(&mut room);
+        self.push(folder, name, &room[..count])
     }
 
     /// Appends what waits to the file.
