@@ -1,6 +1,4 @@
 -- The slots of the class are all slots, and a header's own is one of them.
-use Rattle.std.proofs.Common.{Contains, subst, sym}
-use Rattle.frame_header.specs.Fields.{IsSlot}
 use Rattle.slot_plan.proofs.AreaLemmas.{class-ascend}
 use Rattle.slot_plan.proofs.policy.LeastPolicy.choices.Goals as goal
 
@@ -8,8 +6,3 @@ pub returns-clause-ascending : goal.returns-clause-ascending
 returns-clause-ascending c =
     class-ascend c.class.result _ c.args.header.now.protected c.slots.result.items
     c.slots.ensures.slots c.class.ensures (c.slots.ensures.ascending c.args.header.now.protected)
-
-pub returns-clause-own : goal.returns-clause-own
-returns-clause-own c =
-    subst (λ l. Contains l c.args.header.now.slot) (sym c.slots.ensures.slots) (c.slots.ensures.all
-    c.args.header.now.slot (subst (λ h. IsSlot h.slot) c.header.view_is c.header.invariant.slot))
