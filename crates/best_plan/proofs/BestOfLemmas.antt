@@ -300,8 +300,7 @@ chosen-for _ _ slots = absurd slots
 same_areas : (ms ns : List ℕ) → sum ns ≤ sum ms → (sum ms ≡ sum ns → IsNotBehind ns ms)
     → IsNotBehind (sum ms ∷ ms) (sum ns ∷ ns) → ms ≡ ns
 unfolding IsNotBehind
-same_areas ms ns short first (inl less) = absurd (omega (arith, short, less))
-same_areas ms ns short first (inr at) = equal_lists ms ns at.1 (first at.0)
+same_areas ms ns short first h = grind (arith, equal_lists)
 
 -- the best plan of some items is the plan that the search finds
 plans-best : (window : ℕ) (items : List PlanItem) (placed : List Placed) → AreOrdered items
@@ -329,14 +328,12 @@ plans-best window items placed ordered is = of (best_placement window items) ref
 
 short-of : (ms ns : List ℕ) → IsNotBehind (sum ms ∷ ms) (sum ns ∷ ns) → sum ms ≤ sum ns
 unfolding IsNotBehind
-short-of ms ns (inl less) = omega (arith, less)
-short-of ms ns (inr at) = omega (arith, at.0)
+short-of ms ns h = grind arith
 
 first-of : (ms ns : List ℕ) → IsNotBehind (sum ms ∷ ms) (sum ns ∷ ns) → sum ns ≡ sum ms
     → IsNotBehind ms ns
 unfolding IsNotBehind
-first-of ms ns (inl less) same = absurd (omega (arith, less, same))
-first-of ms ns (inr at) same = at.1
+first-of ms ns h same = grind arith
 
 best-plans : (window : ℕ) (items : List PlanItem) (placed : List Placed)
     → best_placement window items ≡ Some placed → IsBestPlanFor window 0 items placed

@@ -1,6 +1,6 @@
 -- The best plan with a lead-in, and without one.
-use Rattle.std.proofs.Common.{All, ap, arith, false, get_or, length, List, map, refl, subst, sym}
-use Rattle.std.proofs.{Common.{true, ℕ, [], ◌<◌, ◌∙◌, ◌∷◌, ◌≡◌, ◌≤◌}, lemmas.Bool.true≢false}
+use Rattle.std.proofs.Common.{All, ap, arith, false, get_or, length, List, map, subst, sym, true, ℕ}
+use Rattle.std.proofs.{Common.{[], ◌<◌, ◌∙◌, ◌∷◌, ◌≡◌, ◌≤◌}, lemmas.Bool.true≢false}
 use Rattle.std.proofs.lemmas.List.{get_or-map, get_or_default, length-map}
 use Rattle.best_plan.proofs.SumLemmas.{fits-laid, laid-fits, table-bound, table-own, table-sums}
 use Rattle.best_plan.proofs.WalkLemmas.{best-walked, IsWalked, table-width, walked-best}
@@ -105,8 +105,7 @@ with-lead-in : (choices : HeaderFields → List SlotFields) (needs : List Need) 
     → 0 < length needs → items_with_lead_in true choices needs
     ≡ lead_in_item (class_of (get_or needs 0 d).header) all_slots ∷ map (need_item choices) needs
 unfolding items_with_lead_in
-with-lead-in choices [] d some = absurd (omega (arith, some))
-with-lead-in choices (first ∷ needs) d some = refl
+with-lead-in choices needs d some = grind arith
 
 module _ (window : ℕ) (choices : HeaderFields → List SlotFields) (needs : List Need) (d : Need)
     (class : ClassFields) (sums places : List ℕ) (lead : Placed) (free : ℕ)

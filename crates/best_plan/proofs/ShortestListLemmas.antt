@@ -1,6 +1,6 @@
 -- The plan's list is one of the lists with as many lead-ins.
 use Rattle.std.proofs.Common.{arith, Bool, Contains, false, List, map, None, Option, refl, Some}
-use Rattle.std.proofs.Common.{subst, suc, sum, sym, true, zero, ℕ, [], ◌↔◌, ◌∷◌, ◌≡◌, ◌≤◌}
+use Rattle.std.proofs.Common.{subst, sum, sym, true, ℕ, [], ◌↔◌, ◌∷◌, ◌≡◌, ◌≤◌}
 use Rattle.std.proofs.lemmas.{Bool.true≢false, List.append-nil}
 use Rattle.best_plan.specs.{Best.{IsBestPlanFor, items_with_lead_in}, Laws.BestIsShortest}
 use Rattle.frame_header.specs.{Fields.{ClassFields, HeaderFields, SlotFields}, Slots.all_slots}
@@ -14,8 +14,7 @@ use Rattle.slot_plan.specs.declared.needs.Placed.{Placed}
 
 -- the only number of a list is the number that the list contains
 pub contains-one : (m n : ℕ) → Contains (m ∷ []) n → m ≡ n
-contains-one m n (zero, within, at) = at
-contains-one m n (suc i, within, at) = absurd (omega (arith, within))
+contains-one m n h = grind arith
 
 module _ (choices : HeaderFields → List SlotFields) (first : Need) (needs : List Need)
     (slot : SlotFields) where
@@ -41,8 +40,7 @@ module _ (choices : HeaderFields → List SlotFields) (first : Need) (needs : Li
       → frames_with_areas (map open_frame (items_behind (slot ∷ []))) areas
       ≡ frames_with_areas (map open_frame (items_behind all_slots)) areas
   unfolding frames_with_areas
-  same-frames [] = refl
-  same-frames (area ∷ areas) = refl
+  same-frames areas = grind arith
 
   with-lead : (window : ℕ) (placed best : List Placed) → Contains all_slots slot
       → IsPlanFor window (items_behind (slot ∷ [])) placed

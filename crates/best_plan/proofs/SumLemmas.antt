@@ -78,8 +78,7 @@ pub record IsFirst (window free : ℕ) (opens : List OpenFrame) (areas : List �
 
 none : (others : List ℕ) → AreChosenAreas [] others → IsNotBehind [] others
 unfolding AreChosenAreas IsNotBehind
-none [] chosen = tt
-none (area ∷ others) chosen = absurd chosen
+none others chosen = grind arith
 
 -- the empty list is the first for no frames
 pub first-none : (window free : ℕ) → IsFirst window free [] []
@@ -158,9 +157,7 @@ module _ (window free : ℕ) (o : OpenFrame) (opens : List OpenFrame) (later : L
         → AllFit window free (frames_with_areas (o ∷ opens) others) → sum others ≡ cost
         → IsNotBehind (area ∷ areas) others
     unfolding AreChosenAreas AllFit frames_with_areas IsNotBehind
-    first-of areas rest total [] chosen fit same = absurd chosen
-    first-of areas rest total (other ∷ others) chosen fit same =
-        grind (arith, cases_lt, not-before, sum-cons)
+    first-of areas rest total others chosen fit same = grind (arith, cases_lt, not-before, sum-cons)
 
     -- the first area with the least sum, followed by the first list after it, is the first list
     pub first-more : (areas : List ℕ)

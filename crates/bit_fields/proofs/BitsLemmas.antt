@@ -247,8 +247,7 @@ AreBytes-bytes (a ∷ b ∷ c ∷ d ∷ e ∷ f ∷ g ∷ h ∷ bs) all =
     grind (
       arith,
       number-below,
-      AreBytes-bytes bs (AreBelow-drop 2 8 (a ∷ b ∷ c ∷ d ∷ e ∷ f ∷ g ∷ h
-          ∷ bs) all),
+      AreBytes-bytes bs (AreBelow-drop 2 8 (a ∷ b ∷ c ∷ d ∷ e ∷ f ∷ g ∷ h ∷ bs) all),
     )
 AreBytes-bytes bs all = tt
 

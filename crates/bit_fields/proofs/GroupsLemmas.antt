@@ -73,8 +73,7 @@ NumbersFit-numbers_at (width ∷ widths) bs h =
     grind (
       arith,
       group-below 0 width bs h,
-      NumbersFit-numbers_at widths (drop width bs)
-          (AreBelow-drop 2 width bs h),
+      NumbersFit-numbers_at widths (drop width bs) (AreBelow-drop 2 width bs h),
     )
 
 -- ---- there and back
@@ -231,11 +230,9 @@ sliced_one width low place high n h =
     grind (
       arith,
       number-bits_of width ((high * 2 ^ place + n) / 2 ^ low),
-      take-bits_of width low
-          (high * 2 ^ place + n),
+      take-bits_of width low (high * 2 ^ place + n),
       bits_of-cat_low (width + low) place high n h,
-      take-bits_of width
-          low n,
+      take-bits_of width low n,
       number-bits_of width (n / 2 ^ low),
     )
 

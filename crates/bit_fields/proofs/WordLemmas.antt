@@ -19,8 +19,7 @@ put_bytes xs ys vs place count e =
       take-bits place xs,
       bits-append ys (drop (place + count) xs),
       drop-bits (place + count) xs,
-      append_assoc (take
-          (8 * place) (bits xs)) vs (drop (8 * place + 8 * count) (bits xs)),
+      append_assoc (take (8 * place) (bits xs)) vs (drop (8 * place + 8 * count) (bits xs)),
     )
 
 -- setting one byte sets its eight bits
@@ -52,8 +51,7 @@ module _ (above kept below left : ℕ) (few : kept < 64) (fits : below < 2 ^ (64
       grind (
         arith,
         mod-pow-add (above * 2 ^ (64 - kept)) kept (64 - kept),
-        shl-shr above (64 -
-            kept),
+        shl-shr above (64 - kept),
       )
 
   lower : below / 2 ^ left < 2 ^ (64 - kept)
@@ -77,8 +75,7 @@ module _ (above kept below left : ℕ) (few : kept < 64) (fits : below < 2 ^ (64
       grind (
         arith,
         upper,
-        bits_of-cat kept (64 - kept) (above % 2 ^ kept) (below / 2 ^ left)
-            lower,
+        bits_of-cat kept (64 - kept) (above % 2 ^ kept) (below / 2 ^ left) lower,
         bits_of-mod kept above,
       )
 
@@ -92,13 +89,7 @@ module _ (word size high low n : ℕ) (cs : List ℕ) where
   -- the same where nothing follows
   pub into_last : size ≡ high + low → bits_of 64 word ≡ cs ++ bits_of high (n / 2 ^ low)
       → cs ++ bits_of size n ≡ bits_of 64 word ++ bits_of low n
-  into_last e is = grind (
-    arith,
-    append-nil (bits_of size n),
-    into_word,
-    append-nil (bits_of low
-        n),
-  )
+  into_last e is = grind (arith, append-nil (bits_of size n), into_word, append-nil (bits_of low n))
 
 -- what was put in place follows what is before it
 pub put_next : (b0 b1 done : List ℕ) (at width value : ℕ) → take at b0 ≡ done

@@ -1,6 +1,6 @@
 -- A command that reads one file: the faults of its input, and what it makes of the file.
-use Rattle.std.proofs.Common.{ap, arith, Bool, Err, false, IfErr, inl, length, List, Ok, Option}
-use Rattle.std.proofs.Common.{refl, Result, Some, subst, sym, unwrap_or, ℕ, [], ◌∙◌, ◌∷◌, ◌≡◌, ◌≤◌}
+use Rattle.std.proofs.Common.{ap, arith, Bool, Err, false, IfErr, length, List, Ok, Option, refl}
+use Rattle.std.proofs.Common.{Result, Some, subst, sym, unwrap_or, ℕ, [], ◌∙◌, ◌∷◌, ◌≡◌, ◌≤◌}
 use Rattle.bit_fields.specs.Bits.{AreBytes}
 use Rattle.commands.proofs.NamedLemmas.{lost_name, missed_name, unread_name}
 use Rattle.commands.proofs.{RefusingLemmas.before_first, WhyLemmas.{each_refusal, each_why}}
@@ -11,20 +11,15 @@ use Rattle.commands.specs.SingleOutput.{file_task, HasTaskNumbers, input_result,
 use Rattle.commands.specs.SingleOutput.{IsFileFault, IsInputFault, IsMaking, IsProperTask}
 use Rattle.commands.specs.SingleOutput.{made_file, Making, most_frames, surveyed_result}
 use Rattle.commands.specs.{SingleOutput.TaskRefuses, declared.fault.EditFault.EditFault}
-use Rattle.commands.specs.declared.fault.EditFault.TheVariants.{Input, Memory, Refused}
-use Rattle.commands.specs.declared.fault.Refusal.{Refusal}
-use Rattle.outside.proofs.FilesLemmas.{there_holds}
+use Rattle.commands.specs.declared.fault.{EditFault.TheVariants.{Input, Memory}, Refusal.Refusal}
 use Rattle.outside.specs.Files.{Contents, Files, Holds, IfTold, IsFileThere, Told, Untold}
 use Rattle.outside.specs.Seen.{Seen}
 use Rattle.sync_survey.proofs.BytesFaultLemmas.{IsOfBytes, survey_fields-of_bytes}
 use Rattle.sync_survey.proofs.FoldersLemmas.{survey_of-short}
 use Rattle.sync_survey.proofs.SurveyedFileLemmas.{survey_of-parts, survey_of-sound}
-use Rattle.sync_survey.specs.Faults.{HoldsStream, longest_file, survey_fields, SurveyFields}
+use Rattle.sync_survey.specs.Faults.{HoldsStream, longest_file, SurveyFields}
 use Rattle.sync_survey.specs.{MainData.StreamFrame, Survey.{IsSurveyFault, survey_of}}
 use Rattle.sync_survey.specs.declared.survey_fault.SurveyFault.{SurveyFault}
-use Rattle.sync_survey.specs.declared.survey_fault.SurveyFault.TheVariants.{Absent}
-use Rattle.sync_survey.specs.declared.survey_fault.SurveyFault.TheVariants.{Memory as NoRoom, Read}
-use Rattle.sync_survey.specs.declared.survey_fault.SurveyFault.TheVariants.{Shrunk, TooLong}
 
 -- ---- the survey of the input
 
@@ -32,17 +27,12 @@ use Rattle.sync_survey.specs.declared.survey_fault.SurveyFault.TheVariants.{Shru
 pub file_fault : (place allowed : ℕ) (name : List ℕ) (old new : Seen) (fault : SurveyFault)
     → new.files ≡ old.files → IsSurveyFault name old.files allowed old.counts new.counts fault
     → IsFileFault place allowed name old new (survey_edit_fault place fault)
-file_fault place allowed name old new Absent same h = grind arith
-file_fault place allowed name old new Read same h = record { is = refl; rose = h; files = same }
-file_fault place allowed name old new (Shrunk first second) same h = grind arith
-file_fault place allowed name old new NoRoom same h = grind arith
 file_fault place allowed name old new fault same h = grind arith
 
 -- a fault of the survey has the number of the input, and right numbers
 pub survey_numbers : (place : ℕ) (fault : SurveyFault) → HasRightNumbers fault
     → HasSurveyNumbers place (survey_edit_fault place fault)
-survey_numbers place NoRoom right = tt
-survey_numbers place fault right = (refl, (λ same. absurd cc), right)
+survey_numbers place fault right = grind arith
 
 made-fault : (make : Making) (bytes : List ℕ) (fault : SurveyFault)
     → survey_of bytes most_frames ≡ Err fault → made_file make bytes ≡ Err (Input 0 fault)
@@ -77,17 +67,9 @@ module _ (make : Making) (name : List ℕ) (old new : Seen) (fault : EditFault) 
 -- a fault of the survey is one of the input
 pub of_survey_input : (refuses : Refusal → Bool) (fault : EditFault) → HasSurveyNumbers 0 fault
     → HasInputNumbers refuses fault
-of_survey_input refuses (Input place fault) is = is
-of_survey_input refuses Memory is = tt
-of_survey_input refuses _ is = absurd is
+of_survey_input refuses fault is = grind arith
 
 -- ---- what the command decides about the input
-
--- a refusal that passes the test has the numbers of a fault of the input
-pub refusal_numbers : (refuses : Refusal → Bool) (fault : EditFault) → IsEditRefusal refuses fault
-    → HasInputNumbers refuses fault
-refusal_numbers refuses (Refused refusal) is = is
-refusal_numbers refuses _ is = absurd is
 
 module _ (make : Making) (name : List ℕ) (old new : Seen) (s : SurveyFields) where
   -- a refusal of what was read is one of the input, with its cause
@@ -96,9 +78,7 @@ module _ (make : Making) (name : List ℕ) (old new : Seen) (s : SurveyFields) w
       → ((bytes : List ℕ) → Holds old.files name bytes → survey_of bytes most_frames ≡ Ok s)
       → ((bytes : List ℕ) → Holds old.files name bytes → make bytes s ≡ Err fault) → new ≡ old
       → IsInputFault make name old new fault
-  refused_is_input refuses (Refused refusal) is there survey_fields refused stays =
-      grind (arith, made-survey)
-  refused_is_input refuses _ is there survey_fields refused stays = absurd is
+  refused_is_input refuses fault is there h refused stays = grind (arith, made-survey)
 
   -- running out of memory is a fault of the input, once it was surveyed
   pub memory_is_input : IsFileThere old.files name
@@ -113,14 +93,12 @@ module _ (make : Making) (stream : List ℕ → List StreamFrame) (refuses : Ref
   refuses_where : (files : Files) (fault : EditFault) (r : Option (List ℕ))
       → IfTold files (λ f. f input ≡ r) → input_result make r ≡ Err fault
       → TaskRefuses (file_task make stream refuses input) files fault
-  refuses_where (Untold touched) fault r held is = tt
-  refuses_where (Told f) fault r held is = ap (input_result make) held ∙ is
+  refuses_where files fault r held is = grind arith
 
   refuses_held : (files : Files) (fault : EditFault) → IsFileThere files input
       → ((bytes : List ℕ) → Holds files input bytes → made_file make bytes ≡ Err fault)
       → TaskRefuses (file_task make stream refuses input) files fault
-  refuses_held (Untold touched) fault there is = tt
-  refuses_held (Told f) fault there is = grind (arith, there_holds)
+  refuses_held files fault there is = grind arith
 
   module _ (old new : Seen) (fault : EditFault) where
     -- a fault of the input comes before the output is created
@@ -141,10 +119,7 @@ module _ (make : Making) (stream : List ℕ → List StreamFrame) (refuses : Ref
   -- a fault of the input has the numbers of the task's inputs
   pub input_numbers : (fault : EditFault) → HasInputNumbers refuses fault
       → HasTaskNumbers (file_task make stream refuses input) fault
-  input_numbers (Input place fault) h = (omega (arith, h.0), h.1, h.2, inl h.0)
-  input_numbers (Refused refusal) h = h
-  input_numbers Memory h = tt
-  input_numbers _ h = absurd h
+  input_numbers fault h = grind arith
 
   -- the file was surveyed, and the command accepts it
   pub file_makes : (files : Files) (made : List ℕ → List ℕ) (s : SurveyFields)
@@ -182,17 +157,14 @@ pub record IsProperMaking (make : Making) (stream : List ℕ → List StreamFram
 -- a fault of the bytes isn't found before memory is taken
 pub of_bytes_behind : (fault : SurveyFault) → IsOfBytes fault
     → is_before_memory (Input 0 fault) ≡ false
-of_bytes_behind Absent is = absurd is
-of_bytes_behind (TooLong size) is = absurd is
-of_bytes_behind _ is = refl
+of_bytes_behind fault is = grind arith
 
 module _ (make : Making) (stream : List ℕ → List StreamFrame)
     (proper : IsProperMaking make stream) where
   survey_late : (bytes : List ℕ) (r : Result SurveyFields SurveyFault)
       → ((fault : SurveyFault) → r ≡ Err fault → IsOfBytes fault)
       → IfErr (surveyed_result make bytes r) IsLateFault
-  survey_late bytes (Err fault) of_bytes = of_bytes_behind fault (of_bytes fault refl)
-  survey_late bytes (Ok s) of_bytes = proper.late bytes s
+  survey_late bytes r of_bytes = grind (arith, of_bytes_behind)
 
   short_late : (bytes : List ℕ) → length bytes ≤ longest_file
       → IfErr (made_file make bytes) IsLateFault

@@ -1,6 +1,6 @@
 -- What a command that makes one file makes, from its result.
-use Rattle.std.proofs.Common.{ap₂, arith, Err, length, List, None, Ok, Option, refl, Result, Some}
-use Rattle.std.proofs.{Common.{ℕ, [], ◌<◌, ◌∷◌, ◌≡◌}, lemmas.List.length-map}
+use Rattle.std.proofs.Common.{ap₂, arith, length, List, None, Ok, Option, refl, Result, Some, ℕ, []}
+use Rattle.std.proofs.{Common.{◌<◌, ◌∷◌, ◌≡◌}, lemmas.List.length-map}
 use Rattle.commands.{proofs.InputLemmas.{made-survey, made_parts}, specs.Command.Made}
 use Rattle.commands.specs.SingleOutput.{clash_in, clash_or, command_result, input_result, Making}
 use Rattle.commands.specs.SingleOutput.{most_frames, one_command, Task, task_result}
@@ -16,9 +16,7 @@ use Rattle.sync_survey.specs.Survey.{survey_of}
 one_parts : (output : List ℕ) (clash : Option ℕ) (r : Result (List ℕ) EditFault) (made : Made)
     → command_result output (clash_or clash r) ≡ Ok made
     → (clash ≡ None) × (bytes : List ℕ) × (r ≡ Ok bytes)
-one_parts output (Some place) r made e = absurd cc
-one_parts output None (Ok bytes) made e = (refl, bytes, refl)
-one_parts output None (Err fault) made e = absurd cc
+one_parts output clash r made e = grind arith
 
 -- a command that isn't refused has no clash, and makes some bytes
 pub makes-parts : (task : Task) (output : List ℕ) (files : Contents) (made : Made)
@@ -51,17 +49,7 @@ pub record IsMadeOf (make : Making) (files : Contents) (name : List ℕ) : Type 
 
 file-parts : (make : Making) (files : Contents) (name bytes : List ℕ) (o : Option (List ℕ))
     → files name ≡ o → input_result make o ≡ Ok bytes → IsMadeOf make files name
-file-parts make files name bytes None there e = absurd cc
-file-parts make files name bytes (Some file) there e =
-    let parts = made_parts make file bytes e in
-    record {
-      file = file;
-      survey = parts.0;
-      there = there;
-      surveyed = parts.1;
-      bytes = bytes;
-      made = grind arith;
-    }
+file-parts make files name bytes o there e = grind (arith, made_parts)
 
 -- bytes that are made of the file with a name are made by its survey
 pub made-of : (make : Making) (files : Contents) (name bytes : List ℕ)

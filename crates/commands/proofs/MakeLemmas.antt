@@ -1,7 +1,7 @@
 -- A command that makes one file: what it leaves after each step.
 use Rattle.std.proofs.Common.{ap, arith, Bool, bytes_eq, cond, Err, false, IfErr, inl, inr, IsErrOf}
 use Rattle.std.proofs.Common.{length, List, None, Ok, OnOk, Option, refl, Result, slice_index_or}
-use Rattle.std.proofs.Common.{Some, subst, sym, true, ℕ, [], ◌||◌, ◌↔◌, ◌∙◌, ◌∷◌, ◌≡◌, ◌≢◌, ◌≤◌}
+use Rattle.std.proofs.Common.{Some, subst, sym, ℕ, [], ◌||◌, ◌↔◌, ◌∙◌, ◌∷◌, ◌≡◌, ◌≢◌, ◌≤◌}
 use Rattle.std.specs.{List.list_any, Result.IsErrAnd}
 use Rattle.bit_fields.specs.Bits.{AreBytes}
 use Rattle.commands.proofs.{NamedLemmas.among_all, WhyLemmas.each_why}
@@ -16,8 +16,7 @@ use Rattle.commands.specs.SingleOutput.{clash_in, command_result, files_holding,
 use Rattle.commands.specs.SingleOutput.{HasTaskNumbers, HoldsLess, HoldsPrefix, IsEarlyFault}
 use Rattle.commands.specs.SingleOutput.{IsLeftShort, IsMaking, IsOutputBegun, IsPassFault}
 use Rattle.commands.specs.SingleOutput.{one_command, Task, task_result, TaskRefuses}
-use Rattle.commands.specs.declared.fault.EditFault.{EditFault}
-use Rattle.commands.specs.declared.fault.EditFault.TheVariants.{EqualNames, Input, Memory, Refused}
+use Rattle.commands.specs.declared.fault.EditFault.{EditFault, TheVariants.EqualNames}
 use Rattle.commands.specs.declared.inputs.Inputs.{Inputs}
 use Rattle.outside.proofs.FilesLemmas.{bytes_eq_same, there_holds, touches_none}
 use Rattle.outside.specs.Counts.{HappenedTo, NoneFell}
@@ -37,12 +36,10 @@ made-same a b e = cc
 -- without a clash the first name is no output's, nor is any other
 pub no_clash : (b : Bool) (place : ℕ) (o : Option ℕ) → cond b (Some place) o ≡ None
     → (b ≡ false) × (o ≡ None)
-no_clash true place o none = absurd cc
-no_clash false place o none = (refl, none)
+no_clash b place o none = grind arith
 
 or_none : (a b : Bool) → (a || b) ≡ false → a ≡ false
-or_none true b none = absurd cc
-or_none false b none = refl
+or_none a b none = grind arith
 
 -- a name that is none of these outputs isn't the first of them
 pub other_name : (name output : List ℕ) (outputs : List (List ℕ))
@@ -79,8 +76,7 @@ task_result-free task output f free = rw free refl
 
 gives_clash : (task : Task) (output : List ℕ) (place : ℕ) (files : Files) → clash_in task output
     ≡ Some place → HasAnswer (one_command task output) files (Err (EqualNames place))
-gives_clash task output place (Untold touched) clash = tt
-gives_clash task output place (Told f) clash = grind (arith, task_result-clash)
+gives_clash task output place files clash = grind (arith, task_result-clash)
 
 -- a clash is a fault of the command, with its number, that changes nothing
 pub clash_left : (task : Task) (output : List ℕ) (place : ℕ) (now : Seen) → clash_in task output
@@ -96,24 +92,20 @@ module _ (task : Task) (output : List ℕ) (free : clash_in task output ≡ None
 
   gives_refused : (files : Files) (fault : EditFault) → TaskRefuses task files fault
       → HasAnswer (one_command task output) files (Err fault)
-  gives_refused (Untold touched) fault is = tt
-  gives_refused (Told f) fault is = makes_free f ∙ ap (command_result output) is
+  gives_refused files fault is = grind (arith, makes_free)
 
   -- what is true of every fault
   all_of : (P : EditFault → Type 0) (r : Result (List ℕ) EditFault) → IfErr r P
       → IfErr (command_result output r) P
-  all_of P (Ok new) is = tt
-  all_of P (Err fault) is = is
+  all_of P r is = grind arith
 
   all_made : (files : Files) (P : EditFault → Type 0) → IfTold files (λ f. IfErr (task.makes f) P)
       → IfTold files (λ f. IfErr ((one_command task output).makes f) P)
-  all_made (Untold touched) P is = tt
-  all_made (Told f) P is = subst (λ r. IfErr r P) (sym (makes_free f)) (all_of P (task.makes f) is)
+  all_made files P is = grind (arith, makes_free, all_of)
 
   takes : (r : Result (List ℕ) EditFault) → IfErr r IsLateFault
       → TakesMemory (command_result output r)
-  takes (Ok new) late = tt
-  takes (Err fault) late = late
+  takes r late = grind arith
 
   module _ (late : (f : Contents) (bytes : List ℕ) → f task.source ≡ Some bytes
       → length bytes ≤ longest_file → IfErr (task.makes f) IsLateFault) where
@@ -169,8 +161,7 @@ module _ (task : Task) (output : List ℕ) (free : clash_in task output ≡ None
 
     made_none : (files : Files) (P : EditFault → Type 0) → IsMaking task file files
         → IfTold files (λ f. IfErr ((one_command task output).makes f) P)
-    made_none (Untold touched) P making = tt
-    made_none (Told f) P making = subst (λ r. IfErr r P) (sym (gives_made f making).2) tt
+    made_none files P making = grind (arith, gives_made)
 
     -- the output was written whole
     made_whole : (files new : Files) → IsMaking task file files → ((bytes : List ℕ)
@@ -178,8 +169,7 @@ module _ (task : Task) (output : List ℕ) (free : clash_in task output ≡ None
         → IfTold files (λ f. (made : Made) × ((one_command task output).makes f ≡ Ok made)
         × (new ≡ Told (written_files made.outputs f)))
     unfolding files_holding
-    made_whole (Untold touched) new making wrote = tt
-    made_whole (Told f) new making wrote = grind (arith, gives_made)
+    made_whole files new making wrote = grind (arith, gives_made)
 
     -- the output was written in part
     begun_to : (f : Contents) (new : Files) (moved : List ℕ) → HoldsPrefix output moved (Told f) new
@@ -277,11 +267,7 @@ module _ (task : Task) (output : List ℕ) (free : clash_in task output ≡ None
       pub all_left : first_input task.inputs ≡ task.source → (r : Result T EditFault)
           → IfErr r (IsPassFault file task.inputs output mid new)
           → IfErr r (IsCommandFault (one_command task output) old new)
-      all_left first (Ok x) h = tt
-      all_left first (Err fault) h =
-          pass_left first old new fault making
-          (subst (λ (m : Seen). OnlyTouches (output ∷ []) m.files new.files) stays touches)
-          (subst (λ m. IsPassFault file task.inputs output m new fault) stays h)
+      all_left first r h = grind (arith, pass_left)
 
       -- a fault of a pass over the source alone leaves the output begun
       pub one_left : first_input task.inputs ≡ task.source → (r : Result T EditFault)
@@ -326,25 +312,20 @@ module _ (task : Task) (output : List ℕ) (free : clash_in task output ≡ None
 -- a fault met before there is an output has the right numbers
 pub numbers_early : (task : Task) (output : List ℕ) (fault : EditFault) → HasTaskNumbers task fault
     → HasNumbers (one_command task output) fault
-numbers_early task output (Input place fault) h = h
-numbers_early task output (Refused refusal) h = h
-numbers_early task output Memory h = tt
-numbers_early task output _ h = absurd h
+numbers_early task output fault h = grind arith
 
 -- if no names clash, no fault is that of equal names
 pub names_free : (command : Command) (r : Result (Unit {0}) EditFault) → clash_of command ≡ None
     → IfErr r (HasNumbers command) → (place : ℕ)
     → IsErrOf r (EqualNames place) ↔ (clash_of command ≡ Some place)
-names_free command (Ok x) none numbers place = ((λ e. absurd cc), λ clash. absurd cc)
-names_free command (Err first) none numbers place = grind arith
+names_free command r none numbers place = grind arith
 
 -- a call that ended with a fault is a run of the command
 pub refused_run : (command : Command) (old new : Seen) (r : Result (Unit {0}) EditFault)
     (fault : EditFault) → clash_of command ≡ None → IsErrAnd r (λ y. y ≡ fault)
     → IsCommandFault command old new fault → HasNumbers command fault
     → NoneFell old.counts new.counts → IsRunOf command old new r
-refused_run command old new (Ok x) fault none is left numbers fell = absurd is
-refused_run command old new (Err first) fault none is left numbers fell = grind (arith, names_free)
+refused_run command old new r fault none is left numbers fell = grind arith
 
 -- a command that is done was run without a fault, if its names don't clash and no count fell
 pub done-run : (command : Command) (old new : Seen) → clash_of command ≡ None

@@ -1,13 +1,12 @@
 -- What comes before what is made: its refusals, and when there is none.
 use Rattle.std.proofs.Common.{ap, arith, drop, Err, get_or, IfErr, IfSome, length, List, None, Ok}
-use Rattle.std.proofs.Common.{Option, refl, Result, Some, subst, sym, ℕ, [], ◌+◌, ◌<◌, ◌∙◌, ◌∷◌}
-use Rattle.std.proofs.{Common.{◌≡◌, ◌≤◌}, Math.Seq.drop-cons, lemmas.List.drop_all}
-use Rattle.std.specs.Result.{IsErrAnd}
+use Rattle.std.proofs.Common.{Option, refl, Result, ℕ, [], ◌+◌, ◌<◌, ◌∙◌, ◌∷◌, ◌≡◌, ◌≤◌}
+use Rattle.std.{proofs.{Math.Seq.drop-cons, lemmas.List.drop_all}, specs.Result.IsErrAnd}
 use Rattle.commands.specs.AfterCall.{IsLateFault, IsNotBefore}
 use Rattle.commands.specs.Refusing.{first_refusal, or_else, refusal_or, then_made}
 use Rattle.commands.specs.declared.fault.EditFault.{EditFault, TheVariants.{Input, Refused}}
-use Rattle.commands.specs.declared.fault.Refusal.{Refusal, TheVariants.Differ}
-use Rattle.outside.specs.Files.{Contents, Files, IfTold, Told, Untold}
+use Rattle.commands.specs.declared.fault.Refusal.{Refusal}
+use Rattle.outside.specs.Files.{Contents, Files, IfTold}
 use Rattle.sync_survey.specs.declared.survey_fault.SurveyFault.TheVariants.{Read}
 
 -- ---- what is true of every fault
@@ -15,77 +14,57 @@ use Rattle.sync_survey.specs.declared.survey_fault.SurveyFault.TheVariants.{Read
 -- what is true of a refusal is true of the result with it
 pub refusal_or-all : {A : Type 0} (P : EditFault → Type 0) (o : Option Refusal) (a : A)
     → IfSome o (λ refusal. P (Refused refusal)) → IfErr (refusal_or o a) P
-refusal_or-all P None a is = tt
-refusal_or-all P (Some refusal) a is = is
+refusal_or-all P o a is = grind arith
 
 -- what is true of the errors of two steps is true of the errors of both
 pub then_all : {A B : Type 0} (P : EditFault → Type 0) (r : Result A EditFault)
     (make : A → Result B EditFault) → IfErr r P → ((a : A) → IfErr (make a) P)
     → IfErr (then_made r make) P
-then_all P (Ok a) make first rest = rest a
-then_all P (Err fault) make first rest = first
-
--- no refusal is about an input before the first
-first_before : (answer : EditFault) → IsNotBefore (Input 0 Read) answer
-first_before (Input at fault) = omega arith
-first_before (Refused (Differ at)) = omega arith
-first_before _ = tt
-
-first_all : {A : Type 0} (r : Result A EditFault) → IfErr r (IsNotBefore (Input 0 Read))
-first_all (Ok a) = tt
-first_all (Err answer) = first_before answer
+then_all P r make first rest = grind arith
 
 -- no refusal comes before the one of a first input that could not be read
 pub before_first : {A : Type 0} (files : Files) (makes : Contents → Result A EditFault)
     (fault : EditFault) → fault ≡ Input 0 Read
     → IfTold files (λ f. IfErr (makes f) (IsNotBefore fault))
-before_first (Untold touched) makes fault is = tt
-before_first (Told f) makes fault is = grind (arith, first_all)
+before_first files makes fault is = grind arith
 
 -- ---- memory was taken before
 
 -- no refusal is found before memory was taken
 pub refusal_or-late : {A : Type 0} (o : Option Refusal) (a : A) → IfErr (refusal_or o a) IsLateFault
-refusal_or-late None a = tt
-refusal_or-late (Some refusal) a = refl
+refusal_or-late o a = grind arith
 
 -- if the errors of two steps are late, so are the errors of both
 pub then_late : {A B : Type 0} (r : Result A EditFault) (make : A → Result B EditFault)
     → IfErr r IsLateFault → ((a : A) → IfErr (make a) IsLateFault)
     → IfErr (then_made r make) IsLateFault
-then_late (Ok a) make first rest = rest a
-then_late (Err fault) make first rest = first
+then_late r make first rest = grind arith
 
 -- what is true of a result's error is true of this error
 pub of_err : {A : Type 0} (P : EditFault → Type 0) (r : Result A EditFault) (fault : EditFault)
     → IfErr r P → r ≡ Err fault → P fault
-of_err P (Ok a) fault is e = absurd cc
-of_err P (Err first) fault is e = let same : first ≡ fault = cc in subst P same is
+of_err P r fault is e = grind arith
 
 -- what is true of the fault that a `?` returns is true of the error
 pub err_with : {T E : Type 0} (P : E → Type 0) (r : Result T E) {fault : E}
     → IsErrAnd r (λ y. y ≡ fault) → P fault → IfErr r P
-err_with P (Ok a) is holds = absurd is
-err_with P (Err first) is holds = subst P (sym is) holds
+err_with P r is holds = grind arith
 
 -- a result that isn't refused has no refusal
 pub refusal_or-ok : {A : Type 0} (o : Option Refusal) (a b : A) → refusal_or o a ≡ Ok b
     → (o ≡ None) × (a ≡ b)
-refusal_or-ok (Some refusal) a b e = absurd cc
-refusal_or-ok None a b e = (refl, cc)
+refusal_or-ok o a b e = grind arith
 
 -- a result of two steps is one of each
 pub then_ok : {A B : Type 0} (r : Result A EditFault) (make : A → Result B EditFault) (b : B)
     → then_made r make ≡ Ok b → (a : A) × (r ≡ Ok a) × (make a ≡ Ok b)
-then_ok (Ok a) make b e = (a, refl, e)
-then_ok (Err fault) make b e = absurd cc
+then_ok r make b e = grind arith
 
 -- ---- the first refusal
 
 -- if neither of two refusals is there, each is absent
 pub none_first : (o later : Option Refusal) → or_else o later ≡ None → (o ≡ None) × (later ≡ None)
-none_first None later e = (refl, e)
-none_first (Some fault) later e = absurd cc
+none_first o later e = grind arith
 
 -- if each of two refusals is absent, neither is there
 pub none_both : (o later : Option Refusal) → o ≡ None → later ≡ None → or_else o later ≡ None

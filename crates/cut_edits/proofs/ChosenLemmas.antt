@@ -1,8 +1,8 @@
 -- Frames that a command chooses from a surveyed file: they have a plan, and their file holds the
 -- stream that the command says.
-use Rattle.std.proofs.Common.{ap, append-nil, arith, Bool, cond, drop, Err, false, inl, inr, length}
+use Rattle.std.proofs.Common.{ap, append-nil, arith, Bool, cond, drop, Err, inl, inr, length}
 use Rattle.std.proofs.Common.{length-append, List, map, None, Ok, Option, refl, Result, rules, Some}
-use Rattle.std.proofs.Common.{subst, sym, true, ℕ, [], ◌&&◌, ◌++◌, ◌+◌, ◌∙◌, ◌∷◌, ◌≡◌}
+use Rattle.std.proofs.Common.{subst, sym, ℕ, [], ◌&&◌, ◌++◌, ◌+◌, ◌∙◌, ◌∷◌, ◌≡◌}
 use Rattle.std.proofs.lemmas.List.{length-take}
 use Rattle.std.specs.Prelude.{Contains, IfErr, nat_le, nat_lt, replicate, ◌<◌, ◌↔◌, ◌≤◌, ◌⊎◌}
 use Rattle.bit_fields.specs.Bits.{AreBytes}
@@ -20,7 +20,6 @@ use Rattle.cut_edits.specs.Chosen.{laying_making, laying_part, laying_stream, la
 use Rattle.cut_edits.specs.Chosen.{outside_fault, own_slots_part, placed_part, planned_part}
 use Rattle.cut_edits.specs.Chosen.{Planning, slot_choices, surveyed_laid_stream}
 use Rattle.cut_edits.specs.declared.choice.FrameChoice.{FrameChoice}
-use Rattle.cut_edits.specs.declared.choice.FrameChoice.TheVariants.{All as AllFrames, Between}
 use Rattle.frame_header.specs.{Fields.{ClassFields, HeaderFields, SlotFields}, Tables.window_of}
 use Rattle.info_header.specs.Info.{field_place, flags_in, info_in}
 use Rattle.laying.proofs.{FitLemmas.{AreHeaders, asked-plans, parts-fitting}, LaidLemmas.laid-holds}
@@ -57,13 +56,11 @@ usual_order : (choices : HeaderFields → List SlotFields) → AreUsualChoices c
     → (c : ClassFields)
     (asked : PlanInput) → IsFitPlanInput c asked
     → PartsChooseInOrder choices (needs_in_parts asked.needs asked.places)
-usual_order choices (inl own) c asked fit = grind arith
-usual_order choices (inr any) c asked fit = grind arith
+usual_order choices h c asked fit = grind arith
 
 -- both policies are usual choices
 pub by_usual : (least : Bool) → AreUsualChoices (slot_choices least)
-by_usual true = inr refl
-by_usual false = inl refl
+by_usual least = grind arith
 
 -- rows with headers of the standard have needs with headers of the standard
 pub headers-known : (rows : List Row) → AreKnown rows → AreHeaders (map need_of rows)
@@ -218,9 +215,7 @@ module _ (choose : Choosing) (plan : Planning) where
           → then_made (then_made r (planned_part plan s)) (λ laid. Ok (file_laid laid file s))
           ≡ Err fault → (choose file s ≡ Err fault) ⊎ ((chosen : Chosen)
           × (choose file s ≡ Ok chosen) × (plan s.class (chosen_needs chosen s) ≡ Err fault))
-      at (Err other) is e = let same : other ≡ fault = cc in inl (is ∙ ap Err same)
-      at (Ok chosen) is e =
-          inr (chosen, is, unplanned chosen (plan s.class (chosen_needs chosen s)) e)
+      at r is e = grind arith
 
   -- a choice that is refused refuses the file
   pub refused-laid : (file : List ℕ) (s : SurveyFields) (fault : EditFault)
@@ -286,8 +281,7 @@ no_fault = None
 -- a range that isn't refused has frames, and is within the file
 pub outside-none : (from to frames : ℕ) (b : Bool) → (nat_lt from to && nat_le to frames) ≡ b
     → cond b None (Some (Range from to frames)) ≡ no_fault → (from < to) × (to ≤ frames)
-outside-none from to frames true is e = search rules
-outside-none from to frames false is e = absurd cc
+outside-none from to frames b is e = grind arith
 
 -- the chosen frames are there
 pub chosen-within : (quality : Option ℕ) (extension : List ℕ) (from to : ℕ) (frames : ℕ)
@@ -324,8 +318,7 @@ info-extension bytes =
 pub head-extension : (file : List ℕ) (head : Option Head)
     → length (head_info file head).extension ≡ 36
 unfolding head_info
-head-extension file None = info-extension []
-head-extension file (Some head) = grind (arith, info-extension)
+head-extension file head = search (rules, info-extension)
 
 -- all frames are frames of the survey, with an extension of 36 bytes
 pub all_right : (file : List ℕ) (s : SurveyFields) (chosen : Chosen) → all_choice file s ≡ Ok chosen
@@ -347,8 +340,7 @@ all_choosing = record { late = λ file s. refusal_or-late _ _; right = all_right
 -- ---- the commands
 
 choosing_is : (choice : FrameChoice) → IsChoosing (choosing_of choice)
-choosing_is (Between from to) = cut_choosing from.now to.now
-choosing_is AllFrames = all_choosing
+choosing_is choice = search (rules, cut_choosing, all_choosing)
 
 -- a command that lays chosen frames is proper
 pub edit_proper : (choice : FrameChoice) (least : Bool) (input : List ℕ)

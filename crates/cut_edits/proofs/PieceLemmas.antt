@@ -1,8 +1,7 @@
 -- Exact pieces: the frames of their spans are there, and the file of a piece holds the stream that
 -- the command says.
-use Rattle.std.proofs.Common.{ap, arith, Bool, cond, Err, false, length, List, None, Ok, Option}
-use Rattle.std.proofs.Common.{refl, Result, rules, Some, subst, sym, true, ℕ, [], ◌&&◌, ◌*◌, ◌+◌}
-use Rattle.std.proofs.Common.{◌∙◌, ◌≡◌}
+use Rattle.std.proofs.Common.{ap, arith, Bool, cond, Err, length, List, None, Ok, Option, refl}
+use Rattle.std.proofs.Common.{Result, rules, Some, subst, sym, ℕ, [], ◌&&◌, ◌*◌, ◌+◌, ◌∙◌, ◌≡◌}
 use Rattle.std.specs.Prelude.{IfErr, IfSome, nat_le, nat_lt, slice_get, ◌<◌, ◌≤◌}
 use Rattle.bit_fields.specs.Bits.{AreBytes}
 use Rattle.commands.proofs.InputLemmas.{file_makes, file_proper, IsProperMaking}
@@ -26,7 +25,7 @@ use Rattle.exact_span.specs.PlayedPositions.{length_of_played, played_of, sample
 use Rattle.exact_span.specs.{Spans.{AreLeads, span_of}, declared.exact_place.ExactPlace.ExactPlace}
 use Rattle.exact_span.specs.declared.span.Span.{Span}
 use Rattle.frame_header.specs.{Fields.ClassFields, Tables.{samples_of, window_of}}
-use Rattle.frame_header.specs.declared.version.Version.{Version, TheVariants.{One, Two, TwoFive}}
+use Rattle.frame_header.specs.declared.version.Version.{Version}
 use Rattle.info_header.specs.declared.fields.Info.{Info}
 use Rattle.laying.proofs.LaidLemmas.{first-there, laid-holds, laid-loses-none}
 use Rattle.laying.{proofs.SurveyFrameLemmas.survey-had, specs.Fits.IsFittingPlan}
@@ -45,14 +44,11 @@ no_fault = None
 -- samples that aren't refused are at least one, and within the file
 pub samples_there : (a b samples : ℕ) (test : Bool) → (nat_lt a b && nat_le b samples) ≡ test
     → cond test None (Some (NoSpan a b samples)) ≡ no_fault → (a < b) × (b ≤ samples)
-samples_there a b samples true is e = search rules
-samples_there a b samples false is e = absurd cc
+samples_there a b samples test is e = grind arith
 
 most_by : (version : Version) (frames end : ℕ) → end ≤ frames * samples_of version
     → frames ≤ most_frames → end ≤ most_frames * samples_of version
-most_by One frames end within few = omega (arith, within, few)
-most_by Two frames end within few = omega (arith, within, few)
-most_by TwoFive frames end within few = omega (arith, within, few)
+most_by version frames end within few = grind arith
 
 -- no played position is after the last frame that a file may have
 pub played-most : (head : Option Info) (class : ClassFields) (frames : ℕ) → frames ≤ most_frames
@@ -95,8 +91,7 @@ span_chosen head span =
 -- the extension of a head has 36 bytes
 pub head_long : (file : List ℕ) (head : Option Head)
     → IfSome (fields_of_head file head) (λ (i : Info). length i.extension ≡ 36)
-head_long file None = tt
-head_long file (Some head) = head-extension file (Some head)
+head_long file head = search (rules, head-extension)
 
 -- a span stays within the file when the head is set apart
 pub span-survey_without_head : (s : SurveyFields) (span : Span) → IsSpanIn s span

@@ -48,8 +48,7 @@ unfolding head_info
 table-of file head = table-many _
 
 head_whole : (file : List ℕ) (head : Option Head) → IfSome (fields_of_head file head) AreInfoFields
-head_whole file None = tt
-head_whole file (Some head) = grind (arith, table-of, head-extension)
+head_whole file head = grind (arith, table-of, head-extension)
 
 -- ---- the head of a piece
 

@@ -28,8 +28,7 @@ use Rattle.sync_survey.specs.Faults.{SurveyFields}
 
 led_asks : (needs : List Need) → Asks (led_items own_choice needs) needs
 unfolding led_items
-led_asks [] = tt
-led_asks (need ∷ needs) = ((refl, refl, refl), asks-each own_choice (need ∷ needs))
+led_asks needs = grind (arith, asks-each)
 
 frames_open : (needs : List Need) → AreHeaders needs → AreOpen (map (need_item own_choice) needs)
 frames_open [] are = tt
@@ -52,15 +51,13 @@ for_length (item ∷ items) (p ∷ placed) are = omega (arith, for_length items 
 led_length : (needs : List Need) → 0 < length needs
     → length (led_items own_choice needs) ≡ length needs + 1
 unfolding led_items
-led_length [] some = absurd (omega (arith, some))
-led_length (need ∷ needs) some = omega (arith, length-map needs (need_item own_choice))
+led_length needs some = grind (arith, length-map)
 
 -- ---- as many places as frames
 
 left_many : (lead_in : Bool) (need : Need) (needs : List Need)
     → length needs ≤ length (rest_behind lead_in need needs)
-left_many true need needs = omega arith
-left_many false need needs = omega arith
+left_many lead_in need needs = grind arith
 
 fits_many : (window reach : ℕ) (needs : List Need) (placed : List Placed)
     → FitsFromReach window reach needs placed → length needs ≤ length placed
@@ -157,8 +154,7 @@ module _ (chosen : Chosen) (s : SurveyFields) (placed : IsPlacedSurvey s)
 
   -- the plan has at most one place more than frames
   pub with-few : (led : Bool) → length (span_plan led s.class needs) ≤ chosen.to - chosen.from + 1
-  with-few false = grind (arith, plan-few, by_usual, needs-length)
-  with-few true = omega (arith, led_many)
+  with-few led = grind (arith, plan-few, by_usual, needs-length, led_many)
 
   -- the plan has no fewer places than frames
   pub with-many : (led : Bool) → chosen.to - chosen.from ≤ length (span_plan led s.class needs)
@@ -171,8 +167,7 @@ module _ (chosen : Chosen) (s : SurveyFields) (placed : IsPlacedSurvey s)
 
   with_led : (led : Bool) → IsTrue led
       → length (span_plan led s.class needs) - (chosen.to - chosen.from) ≡ 1
-  with_led false is = absurd cc
-  with_led true is = omega (arith, led_many)
+  with_led led is = grind (arith, led_many)
 
   -- the plan has a lead-in if the span has to have one
   pub with-leads : (span : Span) → chosen.from ≡ span.first → chosen.to ≡ span.last

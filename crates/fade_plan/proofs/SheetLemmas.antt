@@ -7,7 +7,7 @@ use Rattle.cue_sheet.proofs.LinesLemmas.{no_lines}
 use Rattle.fade_plan.specs.Points.{envelope_point_of}
 use Rattle.fade_plan.specs.Sheets.{envelope_in, fade_entries_from, fade_entry_in, first_faulty_line}
 use Rattle.fade_plan.specs.Sheets.{is_at_fault, is_point, point_at, points_from, some_points}
-use Rattle.fade_plan.specs.declared.entry.FadeEntry.{FadeEntry, TheVariants.{At, Broken, Passed}}
+use Rattle.fade_plan.specs.declared.entry.FadeEntry.{FadeEntry}
 use Rattle.fade_plan.specs.declared.envelope_fault.EnvelopeFault.TheVariants.{Line, NoPoints}
 use Rattle.fade_plan.specs.declared.point.Point.{Point}
 
@@ -38,9 +38,7 @@ points_more line [] e = grind (arith, points_are, no_points, append-nil)
 points_more line (x ∷ xs) e = grind (arith, points_are, append_assoc, points_more (line + 1) xs e)
 
 point_count : (line : ℕ) (e : FadeEntry) → length (point_at line e) ≡ cond (is_point e) 1 0
-point_count line Passed = refl
-point_count line (At place steps) = refl
-point_count line Broken = refl
+point_count line e = grind arith
 
 -- these lines were read, and none is at fault
 pub record HaveRead (text : List ℕ) (at line : ℕ) (points : List Point) : Type 0 where

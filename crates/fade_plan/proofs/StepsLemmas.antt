@@ -1,32 +1,15 @@
 -- The steps between two points are no larger than the steps of the points.
-use Rattle.std.proofs.Common.{ap, ap₂, arith, FitsSigned, int_div, neg_ℤ, negsuc, of_z, pos, refl}
-use Rattle.std.proofs.Common.{suc, to_z, unsigned_abs, w64, zero, ℕ, ℤ, ◌*ℤ◌, ◌+ℤ◌, ◌*◌, ◌+◌, ◌/◌}
-use Rattle.std.proofs.{Common.{◌<◌, ◌^◌, ◌∙◌, ◌≡◌, ◌≤◌}, Math.IntN.sub_ℕ}
-use Rattle.std.proofs.{Math.Nat.{div-le_of_le-mul, mul-le-mul_right}, lemmas.Bool.ltb-true}
+use Rattle.std.proofs.Common.{ap, ap₂, arith, FitsSigned, int_div, of_z, pos, to_z, unsigned_abs}
+use Rattle.std.proofs.Common.{w64, ℕ, ℤ, ◌*ℤ◌, ◌+ℤ◌, ◌*◌, ◌+◌, ◌/◌, ◌<◌, ◌^◌, ◌∙◌, ◌≡◌, ◌≤◌}
+use Rattle.std.proofs.Math.Nat.{div-le_of_le-mul, mul-le-mul_right}
 use Rattle.std.proofs.lemmas.Int.{fits_signed_from_abs, to_z-of_z, to_z_pos, unsigned_abs-mul}
 use mir.Syntax.{w16}
 
--- the opposite number has the same absolute value
-pub size_of_negated : (z : ℤ) → unsigned_abs (neg_ℤ z) ≡ unsigned_abs z
-size_of_negated (pos n) = at n
-  where
-    at : (n : ℕ) → unsigned_abs (neg_ℤ (pos n)) ≡ n
-    at zero = refl
-    at (suc n) = refl
-size_of_negated (negsuc n) = refl
-
 size_of_quotient : (n : ℤ) (d : ℕ) → unsigned_abs (int_div n (pos d)) ≡ unsigned_abs n / d
-size_of_quotient (pos n) d = refl
-size_of_quotient (negsuc n) d = size_of_negated (pos (suc n / d))
-
-size_of_difference : (a b : ℕ) → unsigned_abs (sub_ℕ a b) ≤ a + b
-size_of_difference a b = grind (arith, unsigned_abs, negsuc, pos, ltb-true)
+size_of_quotient n d = grind arith
 
 size_of_sum : (a b : ℤ) → unsigned_abs (a +ℤ b) ≤ unsigned_abs a + unsigned_abs b
-size_of_sum (pos a) (pos b) = omega arith
-size_of_sum (pos a) (negsuc b) = size_of_difference a (suc b)
-size_of_sum (negsuc a) (pos b) = omega (arith, size_of_difference b (suc a))
-size_of_sum (negsuc a) (negsuc b) = omega arith
+size_of_sum a b = grind arith
 
 size_of_product : (a : ℤ) (n : ℕ) → unsigned_abs a ≤ 255 → unsigned_abs (a *ℤ pos n) ≤ 255 * n
 size_of_product a n small = grind (arith, unsigned_abs-mul, pos, mul-le-mul_right)

@@ -1,13 +1,11 @@
 -- A curve goes no further up or down than its points.
-use Rattle.std.proofs.Common.{arith, Bool, cond, false, leb, List, ltb, nat_le, nat_lt, None}
-use Rattle.std.proofs.Common.{Option, refl, Some, subst, suc, true, zero, ℕ, [], ◌*◌, ◌+◌, ◌-◌, ◌/◌}
-use Rattle.std.proofs.Common.{◌<◌, ◌∷◌, ◌≡◌, ◌≤◌}
-use Rattle.std.proofs.Math.Nat.{add-mul, div-le_of_le-mul, mul-le-mul_right, mul_comm}
-use Rattle.std.proofs.lemmas.Bool.{and_from, and_parts, le-leb, le-ltb, leb-false, leb-true, lt-ltb}
-use Rattle.std.proofs.lemmas.{Bool.ltb-true, List.{get_or-reverse, length-reverse}}
-use Rattle.std.specs.{Cmp.both_ways, List.All}
-use Rattle.std.specs.Prelude.{find, int_div, int_le, IsTrue, neg_ℤ, negsuc, pos, reverse, ℤ, ◌*ℤ◌}
-use Rattle.std.specs.Prelude.{◌+ℤ◌}
+use Rattle.std.proofs.Common.{arith, Bool, cond, false, List, nat_le, nat_lt, None, Option, refl}
+use Rattle.std.proofs.Common.{Some, subst, suc, true, zero, ℕ, [], ◌*◌, ◌+◌, ◌-◌, ◌<◌, ◌∷◌, ◌≡◌}
+use Rattle.std.proofs.{Common.◌≤◌, Math.Nat.{add-mul, div-le_of_le-mul, mul-le-mul_right, mul_comm}}
+use Rattle.std.proofs.lemmas.Bool.{le-ltb, leb-false, leb-true, lt-ltb, ltb-true}
+use Rattle.std.{proofs.lemmas.List.{get_or-reverse, length-reverse}, specs.Cmp.both_ways}
+use Rattle.std.specs.List.{All}
+use Rattle.std.specs.Prelude.{find, int_div, IsTrue, neg_ℤ, negsuc, pos, reverse, ℤ, ◌*ℤ◌, ◌+ℤ◌}
 use Rattle.fade_plan.specs.Curves.{CurvePoint, first_point_after, last_point_up_to, neighbour_steps}
 use Rattle.fade_plan.specs.{Curves.{steps_at, steps_between}, Laws.is_step_within}
 
@@ -27,22 +25,11 @@ record IsFar (down up : ℕ) (z : ℤ) : Type 0 where
 
 far : (down up : ℕ) (z : ℤ) → is_step_within down up z ≡ true → IsFar down up z
 unfolding above below
-far down up (pos n) is = record {
-  down_to = omega arith;
-  up_to = leb-true n up (and_parts (int_le (neg_ℤ (pos down)) (pos n)) (leb n up) is).1;
-}
-far zero up (negsuc n) is = absurd cc
-far (suc down) up (negsuc n) is = record {
-  down_to = omega (arith, leb-true n down (and_parts (leb n down) true is).0);
-  up_to = omega arith;
-}
+far down up z is = grind arith
 
 near : (down up : ℕ) (z : ℤ) → IsFar down up z → is_step_within down up z ≡ true
 unfolding above below
-near zero up (pos n) is = grind (arith, and_from, le-leb)
-near (suc down) up (pos n) is = le-leb n up is.up_to
-near zero up (negsuc n) is = absurd (omega (arith, is.down_to))
-near (suc down) up (negsuc n) is = grind (arith, and_from, le-leb)
+near down up z is = grind arith
 
 -- the opposite number is as far up as the number is down
 pub within-opposite : (down up : ℕ) (z : ℤ)
@@ -59,63 +46,41 @@ within-opposite down up z =
     back (negsuc n) is = record { down_to = is.up_to; up_to = is.down_to }
 
     there : (z : ℤ) → IsFar up down z → IsFar down up (neg_ℤ z)
-    there (pos zero) is = record { down_to = is.up_to; up_to = is.down_to }
-    there (pos (suc n)) is = record { down_to = is.up_to; up_to = is.down_to }
-    there (negsuc n) is = record { down_to = is.up_to; up_to = is.down_to }
+    there z is = grind arith
 
 -- ---- of sums, products and quotients
 
-above_difference : (a b : ℕ) → above (cond (ltb a b) (negsuc (b - suc a)) (pos (a - b))) ≤ a
-unfolding above
-above_difference a b = grind arith
-
-below_difference : (a b : ℕ) → below (cond (ltb a b) (negsuc (b - suc a)) (pos (a - b))) ≤ b
-unfolding below
-below_difference a b = grind (arith, ltb-true)
-
 above_sum : (a b : ℤ) → above (a +ℤ b) ≤ above a + above b
 unfolding above
-above_sum (pos a) (pos b) = omega arith
-above_sum (pos a) (negsuc b) = omega (arith, above_difference a (suc b))
-above_sum (negsuc a) (pos b) = omega (arith, above_difference b (suc a))
-above_sum (negsuc a) (negsuc b) = omega arith
+above_sum a b = grind arith
 
 below_sum : (a b : ℤ) → below (a +ℤ b) ≤ below a + below b
 unfolding below
-below_sum (pos a) (pos b) = omega arith
-below_sum (pos a) (negsuc b) = omega (arith, below_difference a (suc b))
-below_sum (negsuc a) (pos b) = omega (arith, below_difference b (suc a))
-below_sum (negsuc a) (negsuc b) = omega arith
+below_sum a b = grind arith
 
 above_negated : (n : ℕ) → above (neg_ℤ (pos n)) ≡ 0
 unfolding above
-above_negated zero = refl
-above_negated (suc n) = refl
+above_negated n = grind arith
 
 below_negated : (n : ℕ) → below (neg_ℤ (pos n)) ≡ n
 unfolding below
-below_negated zero = refl
-below_negated (suc n) = refl
+below_negated n = grind arith
 
 above_product : (a : ℤ) (n : ℕ) → above (a *ℤ pos n) ≤ above a * n
 unfolding above
-above_product (pos a) n = omega arith
-above_product (negsuc a) n = omega (arith, above_negated (suc a * n))
+above_product a n = grind arith
 
 below_product : (a : ℤ) (n : ℕ) → below (a *ℤ pos n) ≤ below a * n
 unfolding below
-below_product (pos a) n = omega arith
-below_product (negsuc a) n = omega (arith, below_negated (suc a * n))
+below_product a n = grind arith
 
 above_quotient : (z : ℤ) (d most : ℕ) → above z ≤ d * most → above (int_div z (pos d)) ≤ most
 unfolding above
-above_quotient (pos n) d most few = div-le_of_le-mul d few
-above_quotient (negsuc n) d most few = omega (arith, above_negated (suc n / d))
+above_quotient z d most few = grind (arith, div-le_of_le-mul, above_negated)
 
 below_quotient : (z : ℤ) (d most : ℕ) → below z ≤ d * most → below (int_div z (pos d)) ≤ most
 unfolding below
-below_quotient (pos n) d most few = omega arith
-below_quotient (negsuc n) d most few = grind (arith, below_negated, div-le_of_le-mul)
+below_quotient z d most few = grind (arith, below_negated, div-le_of_le-mul)
 
 -- ---- between two points
 

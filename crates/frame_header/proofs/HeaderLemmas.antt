@@ -1,7 +1,7 @@
 -- The laws of a header: its fields are within their bits, and fields and bits give each other back.
 use Rattle.std.proofs.Common.{ap, arith, Bool, cond, drop, eq-eqb, eqb, Err, false, get_or, length}
-use Rattle.std.proofs.Common.{List, lit<, lit≤, not, Ok, refl, Result, suc, sym, true, zero, ℕ, []}
-use Rattle.std.proofs.Common.{◌%◌, ◌*◌, ◌+◌, ◌-◌, ◌/◌, ◌<◌, ◌^◌, ◌∙◌, ◌∷◌, ◌≡◌, ◌≢◌, ◌≤◌}
+use Rattle.std.proofs.Common.{List, lit<, not, Ok, refl, Result, sym, true, ℕ, [], ◌%◌, ◌*◌, ◌+◌}
+use Rattle.std.proofs.Common.{◌-◌, ◌/◌, ◌<◌, ◌^◌, ◌∙◌, ◌∷◌, ◌≡◌, ◌≢◌, ◌≤◌}
 use Rattle.std.proofs.lemmas.Bool.{and_parts, eqb-false, eqb-true, ne_eqb, not-true, true≢false}
 use Rattle.std.proofs.lemmas.{List.drop-drop, Nat.{from_be_bytes-to_be_bytes_4, mod_below}}
 use Rattle.std.specs.Int.{to_be_bytes, w32}
@@ -128,9 +128,7 @@ IsHeader-read h fields bits is = grind (arith, header_in-ok, fields_in_range, re
 
 version_again : (n : ℕ) → n < 4 → n ≢ 1
     → version_number (cond (eqb n 3) One (cond (eqb n 2) Two TwoFive)) ≡ n
-version_again (suc zero) h some = absurd (omega arith)
-version_again (suc (suc (suc (suc n)))) h some = absurd (omega arith)
-version_again _ h some = refl
+version_again n h some = grind arith
 
 -- the bits of a header give its version, its frequency and its bit rate
 pub record SaysClass (h : List ℕ) (fields : HeaderFields) : Type 0 where
@@ -170,8 +168,7 @@ unfolding header_at
 header_fields-header_at four fields is = (header_in-ok (bits four) fields is).2
 
 channels_in_range : (mono : Bool) → (1 ≤ cond mono 1 2) × (cond mono 1 2 ≤ 2)
-channels_in_range true = (lit≤ tt, lit≤ tt)
-channels_in_range false = (lit≤ tt, lit≤ tt)
+channels_in_range mono = grind arith
 
 -- the class of a header has a frequency index and a number of channels in range
 pub IsClass-class_of : (h : HeaderFields) → IsHeader h → IsClass (class_of h)
@@ -191,16 +188,13 @@ numbers_at-groups at (width ∷ widths) bs =
     grind (arith, drop-drop, numbers_at-groups (at + width) widths bs)
 
 version_number-below : (v : Version) → version_number v < 4
-version_number-below One = lit< tt
-version_number-below _ = lit< tt
+version_number-below v = grind arith
 
 flag-below : (flag : Bool) → flag_of flag < 2
-flag-below true = lit< tt
-flag-below false = lit< tt
+flag-below flag = grind arith
 
 protection-below : (protected : Bool) → protection_of protected < 2
-protection-below true = lit< tt
-protection-below false = lit< tt
+protection-below protected = grind arith
 
 -- each number is within its bits
 pub NumbersFit-header_numbers : (h : HeaderFields) → IsHeader h
@@ -220,12 +214,10 @@ unfolding header_bits header_numbers
 length-header_bits h = length-group_bits header_widths (header_numbers h) refl
 
 protection-not : (protected : Bool) → protection_of protected ≡ bool_byte (not protected)
-protection-not true = refl
-protection-not false = refl
+protection-not protected = grind arith
 
 flag-byte : (flag : Bool) → flag_of flag ≡ bool_byte flag
-flag-byte true = refl
-flag-byte false = refl
+flag-byte flag = grind arith
 
 -- the number that has the header's numbers in its groups
 abbrev pub header_number : HeaderFields → ℕ
@@ -255,20 +247,16 @@ groups_written h is = sym (numbers_at-groups 0 header_widths (header_bits h))
 
 version_back : (v : Version)
     → v ≡ cond (eqb (version_number v) 3) One (cond (eqb (version_number v) 2) Two TwoFive)
-version_back One = refl
-version_back _ = refl
+version_back v = grind arith
 
 version_some : (v : Version) → eqb (version_number v) 1 ≡ false
-version_some One = refl
-version_some _ = refl
+version_some v = grind arith
 
 flag_back : (flag : Bool) → flag ≡ eqb (flag_of flag) 1
-flag_back true = refl
-flag_back false = refl
+flag_back flag = grind arith
 
 protection_back : (protected : Bool) → protected ≡ eqb (protection_of protected) 0
-protection_back true = refl
-protection_back false = refl
+protection_back protected = grind arith
 
 -- bits that give a header's version, its frequency and a bit rate are readable
 pub readable_by : (h : List ℕ) (fields : HeaderFields) → IsHeader fields → SaysClass h fields
@@ -324,12 +312,10 @@ header_in-header_bits h is =
     (sym (g 12))))
 
 flag_again : (bit : ℕ) → bit < 2 → flag_of (eqb bit 1) ≡ bit
-flag_again (suc (suc bit)) h = absurd (omega arith)
-flag_again _ h = refl
+flag_again bit h = grind arith
 
 protection_again : (bit : ℕ) → bit < 2 → protection_of (eqb bit 0) ≡ bit
-protection_again (suc (suc bit)) h = absurd (omega arith)
-protection_again _ h = refl
+protection_again bit h = grind arith
 
 numbers_read : (bs : List ℕ) → AreBits bs → IsReadable bs
     → header_numbers (header_fields bs) ≡ groups_from 0 header_widths bs

@@ -1,6 +1,6 @@
 -- Bounds on the tables and on the lengths that follow from them.
-use Rattle.std.proofs.Common.{arith, Bool, cond, false, get_or, leb, length, List, lit<, lit≤, map}
-use Rattle.std.proofs.Common.{refl, suc, true, ℕ, [], ◌*◌, ◌+◌, ◌-◌, ◌/◌, ◌<◌, ◌≡◌, ◌≤◌}
+use Rattle.std.proofs.Common.{arith, Bool, cond, get_or, length, List, map, refl, suc, true, ℕ, []}
+use Rattle.std.proofs.Common.{◌*◌, ◌+◌, ◌-◌, ◌/◌, ◌<◌, ◌≡◌, ◌≤◌}
 use Rattle.std.proofs.lemmas.Bool.{eqb-true, leb-true, true_from_ne_false, true≢false}
 use Rattle.std.proofs.lemmas.{List.{get_or-map, Folds.list_all_at}, Nat.le-div}
 use Rattle.std.specs.List.{list_all}
@@ -25,18 +25,13 @@ all_pass : (p : ℕ → Bool) (xs : List ℕ) (i : ℕ) → list_all p xs ≡ tr
 all_pass p xs i all lt = grind (arith, true_from_ne_false, true≢false, list_all_at)
 
 least : (version : Version) (i : ℕ) → i < 14 → least_rate version ≤ get_or (rates version) i 0
-least One i lt = grind (arith, leb-true, all_pass)
-least Two i lt = leb-true 8 (get_or (rates Two) i 0) (all_pass (λ r. leb 8 r) (rates Two) i refl lt)
-least TwoFive i lt = grind (arith, leb-true, all_pass)
+least version i lt = grind arith
 
 greatest : (version : Version) (i : ℕ) → i < 14 → get_or (rates version) i 0 ≤ 320
-greatest One i lt = grind (arith, leb-true, all_pass)
-greatest Two i lt = grind (arith, leb-true, all_pass)
-greatest TwoFive i lt = grind (arith, leb-true, all_pass)
+greatest version i lt = grind arith
 
 lowest : (version : Version) → 8 ≤ least_rate version
-lowest One = lit< tt
-lowest _ = lit< tt
+lowest version = grind arith
 
 -- no bit rate is below 8 kbit/s
 pub rate-least : (c : ClassFields) (s : SlotFields) → IsSlot s → 8 ≤ rate_of c s
@@ -51,9 +46,7 @@ rate-most c s slot = greatest c.version (s.rate_index - 1) (omega (arith, slot.0
 highest : (version : Version) (i : ℕ) → i < 3
     → (get_or (frequencies version) i 0 ≤ highest_frequency version)
     × (8000 ≤ get_or (frequencies version) i 0)
-highest One i lt = grind (arith, leb-true, all_pass)
-highest Two i lt = grind (arith, leb-true, all_pass)
-highest TwoFive i lt = grind (arith, leb-true, all_pass)
+highest version i lt = grind arith
 
 -- the shortest frame of a version
 abbrev pub least_length : Version → ℕ
@@ -64,9 +57,7 @@ least_length TwoFive = 48
 shortest : (version : Version) (rate frequency : ℕ) → least_rate version ≤ rate → 0 < frequency
     → frequency ≤ highest_frequency version
     → least_length version ≤ (length_factor version * (1000 * rate)) / frequency
-shortest One rate frequency most some few = le-div 96 _ frequency some (omega arith)
-shortest Two rate frequency most some few = le-div 24 _ frequency some (omega arith)
-shortest TwoFive rate frequency most some few = le-div 48 _ frequency some (omega arith)
+shortest version rate frequency most some few = grind (arith, le-div)
 
 -- no frame is shorter than the least length of its version
 pub length-least : (c : ClassFields) (s : SlotFields) → IsClass c → IsSlot s
@@ -76,9 +67,7 @@ length-least c s class slot = grind (arith, least, highest, shortest)
 
 room : (version : Version) (channels : ℕ)
     → 6 + side_bytes_of version channels < least_length version
-room One channels = grind (arith, lit<)
-room Two channels = grind (arith, lit<)
-room TwoFive channels = grind (arith, lit<)
+room version channels = grind arith
 
 -- header, check word and side information leave room for main data
 pub area_some : (c : ClassFields) (s : SlotFields) → IsClass c → IsSlot s
@@ -97,12 +86,10 @@ row_is TwoFive (suc (suc (suc frequency))) h = absurd (omega arith)
 row_is _ _ h = refl
 
 length-rates : (version : Version) → length (rates version) ≡ 14
-length-rates One = refl
-length-rates _ = refl
+length-rates version = grind arith
 
 flag_byte : (flag : Bool) → bool_byte flag ≡ cond flag 1 0
-flag_byte true = refl
-flag_byte false = refl
+flag_byte flag = grind arith
 
 -- an entry of the table, plus the padding
 abbrev pub length_in_table : ClassFields → SlotFields → ℕ
@@ -132,12 +119,10 @@ entries_most row i lt within =
 
 row_below : (version : Version) (frequency : ℕ) → frequency < 3
     → 3 * version_place version + frequency < 9
-row_below One frequency h = omega arith
-row_below _ frequency h = omega arith
+row_below version frequency h = grind arith
 
 bool_byte-most : (flag : Bool) → bool_byte flag ≤ 1
-bool_byte-most true = lit≤ tt
-bool_byte-most false = lit≤ tt
+bool_byte-most flag = grind arith
 
 -- no frame is longer than 1,441 bytes
 pub length-most : (c : ClassFields) (s : SlotFields) → IsClass c → IsSlot s → length_of c s ≤ 1441

@@ -1,5 +1,5 @@
 -- The slots of a class: what they are, and that their lengths and areas rise from one to the next.
-use Rattle.std.proofs.Common.{AllPairs, ap, append_assoc, arith, Bool, Contains, false, get_or, inl}
+use Rattle.std.proofs.Common.{AllPairs, append_assoc, arith, Bool, Contains, false, get_or, inl}
 use Rattle.std.proofs.Common.{inr, leb, length, length-append, List, lit≤, ltb, map, refl, suc}
 use Rattle.std.proofs.Common.{true, zero, ℕ, [], ◌&&◌, ◌*◌, ◌++◌, ◌+◌, ◌-◌, ◌<◌, ◌∙◌, ◌∷◌, ◌≡◌, ◌≤◌}
 use Rattle.std.proofs.lemmas.Bool.{and_parts, cases_lt, leb-true, ltb-true}
@@ -29,15 +29,7 @@ slots_to-all = refl
 pub slots_to-more : (i : ℕ) (xs ys zs : List SlotFields) → 1 ≤ i → xs ≡ slots_to (i - 1)
     → ys ≡ xs ++ slot_of i false ∷ [] → zs ≡ ys ++ slot_of i true ∷ [] → zs ≡ slots_to (i + 1 - 1)
 unfolding slots_to
-slots_to-more zero xs ys zs some ex ey ez = absurd (omega arith)
-slots_to-more (suc n) xs ys zs some ex ey ez =
-    let before : suc n - 1 ≡ n = omega arith in
-    let behind : suc n ≡ suc n + 1 - 1 = omega arith in
-    ez
-    ∙ ap (λ t. t ++ slot_of (suc n) true ∷ [])
-    (ey ∙ ap (λ t. t ++ slot_of (suc n) false ∷ []) (ex ∙ ap slots_to before))
-    ∙ append_assoc (slots_to n) (slot_of (suc n) false ∷ []) (slot_of (suc n) true ∷ [])
-    ∙ ap slots_to behind
+slots_to-more i xs ys zs some ex ey ez = grind (arith, append_assoc)
 
 length-slots_to : (n : ℕ) → length (slots_to n) ≡ 2 * n
 unfolding slots_to
@@ -51,12 +43,10 @@ length-all_slots = length-slots_to 14
 
 one_of_two : (n : ℕ) (padding : Bool) (d : SlotFields)
     → get_or (slot_of n false ∷ slot_of n true ∷ []) (bool_byte padding) d ≡ slot_of n padding
-one_of_two n true d = refl
-one_of_two n false d = refl
+one_of_two n padding d = grind arith
 
 byte-most : (padding : Bool) → bool_byte padding ≤ 1
-byte-most true = lit≤ tt
-byte-most false = lit≤ tt
+byte-most padding = grind arith
 
 get_or-slots_to : (n i : ℕ) (padding : Bool) (d : SlotFields) → i < n
     → get_or (slots_to n) (2 * i + bool_byte padding) d ≡ slot_of (suc i) padding
@@ -158,8 +148,7 @@ pub area-is : (c : ClassFields) (s : SlotFields) (protected : Bool) → IsClass 
     → (overhead_of c protected + area_of c s protected ≡ length_of c s)
     × (1 ≤ area_of c s protected)
 unfolding area_of overhead_of
-area-is c s true class slot = let some = area_some c s class slot in (omega arith, omega arith)
-area-is c s false class slot = let some = area_some c s class slot in (omega arith, omega arith)
+area-is c s protected class slot = grind (arith, area_some)
 
 place-same : (s t : SlotFields) → IsSlot s → IsSlot t → place_of s ≡ place_of t → s ≡ t
 place-same s t is it same = grind (arith, get_or-place_of)
@@ -174,16 +163,14 @@ pub area-largest : (c : ClassFields) (s : SlotFields) (protected : Bool) → IsC
 area-largest c s protected class is = grind (arith, largest, area-is, lit≤)
 
 side-least : (version : Version) (channels : ℕ) → 9 ≤ side_bytes_of version channels
-side-least One channels = grind (arith, lit≤)
-side-least _ channels = grind (arith, lit≤)
+side-least version channels = grind arith
 
 -- no area is larger than 1,428 bytes: the longest frame less its header and the shortest side
 -- information
 pub area-most : (c : ClassFields) (s : SlotFields) (protected : Bool) → IsClass c → IsSlot s
     → area_of c s protected ≤ 1428
 unfolding area_of overhead_of side_size_of
-area-most c s true class slot = grind (arith, length-most, side-least)
-area-most c s false class slot = grind (arith, length-most, side-least)
+area-most c s protected class slot = grind (arith, length-most, side-least)
 
 -- a frame of the largest slot has room for the window, a header and side information, by version
 -- and frequency
@@ -191,16 +178,7 @@ spans : (version : Version) (frequency channels : ℕ) → frequency < 3
     → window_of version + 4 + side_bytes_of version channels ≤ length_of
     (record { version = version; frequency_index = frequency; channels = channels }) largest_slot
 unfolding length_of rate_of frequency_of
-spans One zero channels h = grind (arith, lit≤)
-spans One (suc zero) channels h = grind (arith, lit≤)
-spans One (suc (suc zero)) channels h = grind (arith, lit≤)
-spans Two zero channels h = grind (arith, lit≤)
-spans Two (suc zero) channels h = grind (arith, lit≤)
-spans Two (suc (suc zero)) channels h = grind (arith, lit≤)
-spans TwoFive zero channels h = grind (arith, lit≤)
-spans TwoFive (suc zero) channels h = grind (arith, lit≤)
-spans TwoFive (suc (suc zero)) channels h = grind (arith, lit≤)
-spans _ (suc (suc (suc frequency))) channels h = absurd (omega arith)
+spans version frequency channels h = grind arith
 
 -- an unprotected frame of the largest slot has room for as many bytes as main_data_begin can count
 pub window-spanned : (c : ClassFields) → IsClass c

@@ -3,7 +3,7 @@ use Rattle.std.proofs.Common.{All, ap, ap₂, arith, Bool, cond, Err, false, is_
 use Rattle.std.proofs.Common.{map, None, not, Ok, Option, pos, refl, Result, Some, subst, suc, sym}
 use Rattle.std.proofs.Common.{true, zero, ℕ, ℤ, [], ◌&&◌, ◌||◌, ◌∙◌, ◌∷◌, ◌≡◌, ◌≤◌}
 use Rattle.std.proofs.lemmas.Bool.{and_parts, both_ways, false_from_ne_true, le-ltb}
-use Rattle.std.specs.Prelude.{is_ok, IsTrue, slice_get, ◌-◌}
+use Rattle.std.specs.Prelude.{is_ok, IsTrue, slice_get}
 use Rattle.commands.proofs.RefusingLemmas.{first-cons, first-nil}
 use Rattle.commands.specs.Refusing.{first_refusal, or_else, refusal_or, then_made}
 use Rattle.commands.specs.{Sheet.sheet_read, SingleOutput.{made_file, most_frames, surveyed_result}}
@@ -22,7 +22,7 @@ use Rattle.gain_edits.specs.Fade.{curve_change, fade_change, input_sheet_change,
 use Rattle.gain_edits.specs.Fade.{sheet_change}
 use Rattle.gain_edits.specs.Gain.{gain_change, noted_change, noted_tag_change, plain_change}
 use Rattle.gain_edits.specs.GainRange.{out_of_range_refusal, range_fault, row_range_fault}
-use Rattle.gain_edits.specs.UndoItem.{no_undo, noted_undo, number_fault, output_fault, size_fault}
+use Rattle.gain_edits.specs.UndoItem.{noted_undo, number_fault, output_fault, size_fault}
 use Rattle.gain_edits.specs.UndoItem.{tag_result, undo_fault}
 use Rattle.moved_gains.proofs.ExtremesLemmas.{joined_extremes-append}
 use Rattle.moved_gains.proofs.TakenStepLemmas.{stuck-cons, stuck-nil, take_steps}
@@ -35,9 +35,6 @@ use Rattle.moved_gains.specs.{StepLaws.TakeSteps, TagPlace.tag_offset, TagReadin
 use Rattle.moved_gains.specs.declared.{course.Course.TheVariants.Along, gain_extremes.Gains.Gains}
 use Rattle.moved_gains.specs.declared.gains.OutOfRange.{OutOfRange}
 use Rattle.moved_gains.specs.declared.tag_fault.FileTagFault.{FileTagFault}
-use Rattle.moved_gains.specs.declared.tag_fault.FileTagFault.TheVariants.{Bad as BadBlock}
-use Rattle.moved_gains.specs.declared.tag_fault.FileTagFault.TheVariants.{Memory as NoRoom, Read}
-use Rattle.moved_gains.specs.declared.tag_fault.FileTagFault.TheVariants.{TooLarge}
 use Rattle.requests.specs.Shifts.{left_steps_of, right_steps_of, steps_of}
 use Rattle.requests.specs.declared.shift.Channels.{Channels, TheVariants.{Both, Left, Right}}
 use Rattle.requests.specs.declared.shift.{Shift.Shift, Steps.Steps}
@@ -45,8 +42,7 @@ use Rattle.side_info.specs.Side.{SideFits}
 use Rattle.sync_survey.proofs.PlacedRowLemmas.{survey_fields-placed}
 use Rattle.sync_survey.{proofs.SurveyedFileLemmas.survey_of-parts, specs.Faults.SurveyFields}
 use Rattle.sync_survey.specs.{Row.Row, Survey.{AreWellPlaced, survey_of}}
-use Rattle.tag_blocks.specs.{Tags.TagFields, UndoItems.undo_from, declared.undo.Undo.Undo}
-use Rattle.tag_blocks.specs.declared.undo.UndoItem.{UndoItem, TheVariants.{Bad, Found, Missing}}
+use Rattle.tag_blocks.specs.{Tags.TagFields, declared.undo.{Undo.Undo, UndoItem.UndoItem}}
 
 -- ---- refusals for the range
 
@@ -57,27 +53,23 @@ is_range (Some refusal) = is_range_refusal refusal
 range-refusal_or : {A : Type 0} (o : Option Refusal) (a : A)
     → leaves_range (refusal_or o a) ≡ is_range o
 unfolding is_range
-range-refusal_or None a = refl
-range-refusal_or (Some refusal) a = refl
+range-refusal_or o a = grind arith
 
 range-or : (o later : Option Refusal) → is_range o ≡ false → is_range (or_else o later) ≡ true
     → (o ≡ None) × (is_range later ≡ true)
 unfolding is_range
-range-or None later other is = (refl, is)
-range-or (Some refusal) later other is = absurd (both_ways (is_range_refusal refusal) other is)
+range-or o later other is = grind arith
 
 range-none : (o later : Option Refusal) → is_range o ≡ false → is_range later ≡ false
     → is_range (or_else o later) ≡ false
 unfolding is_range
-range-none None later first rest = rest
-range-none (Some refusal) later first rest = first
+range-none o later first rest = grind arith
 
 -- either the first refusal is there, which is one for the range, or a later one counts
 range-either : (at : ℕ) (o : Option OutOfRange) (later : Option Refusal)
     → is_range (or_else (out_of_range_refusal at o) later) ≡ (is_some o || is_range later)
 unfolding is_range
-range-either at None later = refl
-range-either at (Some stuck) later = refl
+range-either at o later = grind arith
 
 range-nothing : is_range None ≡ false
 unfolding is_range
@@ -129,13 +121,11 @@ changed-as of file s is = ap (surveyed_result (change_making of) file) is
 
 range-changed : (file : List ℕ) (s : SurveyFields) (r : Result FileChange EditFault)
     → leaves_range (changed_or_fault file s r) ≡ leaves_range r
-range-changed file s (Ok change) = refl
-range-changed file s (Err fault) = refl
+range-changed file s r = grind arith
 
 ok-changed : (file : List ℕ) (s : SurveyFields) (r : Result FileChange EditFault)
     → is_ok (changed_or_fault file s r) ≡ is_ok r
-ok-changed file s (Ok change) = refl
-ok-changed file s (Err fault) = refl
+ok-changed file s r = grind arith
 
 -- a file is made exactly if no gain leaves the range
 made-refusal_or : (of : Changing) (file : List ℕ) (s : SurveyFields) (steps : ℕ → Steps)
@@ -223,18 +213,12 @@ noted-plain shift s tag undo is =
 undo-plain : (shift : Shift) (s : SurveyFields) (tag : TagFields) (item : UndoItem)
     → leaves_range (then_made (noted_undo (tag_offset s) item) (noted_change shift s tag)) ≡ true
     → leaves_range (plain_change shift s) ≡ true
-undo-plain shift s tag Missing is = noted-plain shift s tag no_undo is
-undo-plain shift s tag (Bad place) is = absurd cc
-undo-plain shift s tag (Found undo) is = noted-plain shift s tag undo is
+undo-plain shift s tag item is = grind (arith, noted-plain)
 
 tag-plain : (shift : Shift) (s : SurveyFields) (r : Result TagFields FileTagFault)
     → leaves_range (then_made (tag_result r) (noted_tag_change shift s)) ≡ true
     → leaves_range (plain_change shift s) ≡ true
-tag-plain shift s (Ok tag) is = undo-plain shift s tag (undo_from 32 tag.items) is
-tag-plain shift s (Err (TooLarge size)) is = absurd cc
-tag-plain shift s (Err (BadBlock at)) is = absurd cc
-tag-plain shift s (Err (Read fault)) is = absurd cc
-tag-plain shift s (Err NoRoom) is = absurd cc
+tag-plain shift s r is = grind (arith, undo-plain)
 
 range-gain_result : (shift : Shift) (tags : Bool) (file : List ℕ) (s : SurveyFields)
     → survey_of file most_frames ≡ Ok s
@@ -313,18 +297,13 @@ still-stuck rows law none shift = by_wrap shift.wrap refl
 -- a point is accepted if its steps are, or as many the other way
 point-taken : (gains : Option Gains) (back : Bool) (steps : ℤ)
     → takes_point gains back steps ≡ takes_steps gains (steps_back back steps)
-point-taken None true steps = refl
-point-taken None false steps = refl
-point-taken (Some g) true steps = sym (within-opposite g.least (255 - g.greatest) steps)
-point-taken (Some g) false steps = refl
+point-taken gains back steps = grind arith
 
 -- the steps of each frame are accepted if the steps of all points are
 curve-taken : (gains : Option Gains) (back : Bool) (points : List CurvePoint)
     → All (λ p. IsTrue (takes_point gains back p.steps)) points → (frame : ℕ)
     → takes_steps gains (steps_back back (steps_at points frame)) ≡ true
-curve-taken None back points all frame = refl
-curve-taken (Some g) true points all frame = grind (arith, within-opposite, steps_within)
-curve-taken (Some g) false points all frame = grind (arith, steps_within)
+curve-taken gains back points all frame = grind (arith, within-opposite, steps_within)
 
 all-mapped : {X Y : Type 0} (P : Y → Type 0) (f : X → Y) (xs : List X) → All (λ x. P (f x)) xs
     → All P (map f xs)

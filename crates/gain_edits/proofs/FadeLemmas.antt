@@ -1,6 +1,6 @@
 -- What a sheet changes, and its faults as faults of the command.
-use Rattle.std.proofs.Common.{ap, arith, Bool, Err, inl, inr, List, None, Ok, Option, refl, Result}
-use Rattle.std.proofs.Common.{Some, subst, sym, true, ℕ, ◌∙◌, ◌≡◌}
+use Rattle.std.proofs.Common.{ap, arith, Bool, Err, List, None, Ok, Option, refl, Result, Some}
+use Rattle.std.proofs.Common.{subst, sym, true, ℕ, ◌∙◌, ◌≡◌}
 use Rattle.std.specs.Prelude.{IfErr, IfSome, length, MatchResult, ◌⊎◌}
 use Rattle.bit_fields.specs.Bits.{AreBytes}
 use Rattle.commands.proofs.InputLemmas.{input_is_early, made-survey}
@@ -12,9 +12,9 @@ use Rattle.commands.specs.Refusing.{refusal_or, then_made}
 use Rattle.commands.specs.SingleOutput.{file_task, HasTaskNumbers, IsEarlyFault, IsInputFault}
 use Rattle.commands.specs.SingleOutput.{IsMaking, Making, most_frames, TaskRefuses}
 use Rattle.commands.specs.declared.fault.EditFault.{EditFault, TheVariants.{Input, Memory, Refused}}
-use Rattle.commands.specs.declared.fault.Refusal.{Refusal, TheVariants.Differ}
+use Rattle.commands.specs.declared.fault.Refusal.{Refusal}
 use Rattle.fade_plan.specs.{Curves.{curve_of, CurvePoint}, Sheets.{envelope_of, EnvelopePoint}}
-use Rattle.fade_plan.specs.declared.envelope_fault.EnvelopeFault.{EnvelopeFault, TheVariants.Line}
+use Rattle.fade_plan.specs.declared.envelope_fault.EnvelopeFault.{EnvelopeFault}
 use Rattle.gain_edits.proofs.{ProperLemmas.changed_all, RefusalLemmas.range_may}
 use Rattle.gain_edits.specs.Change.{change_making, changed_or_fault}
 use Rattle.gain_edits.specs.Fade.{choice_refuses, curve_change, curve_result, fade_change}
@@ -54,8 +54,7 @@ pub curve_fault : (sheet : List ℕ) (back : Bool) (s : SurveyFields) (fault : E
     → (fault ≡ Memory)
     ⊎ (IsEditRefusal choice_refuses fault × (sheet_change sheet back s ≡ Err fault))
 unfolding sheet_change
-curve_fault sheet back s fault (inl memory) = inl memory
-curve_fault sheet back s fault (inr is) = grind arith
+curve_fault sheet back s fault h = grind arith
 
 -- with a curve, the fade is the change along it
 pub sheet_change-curve : (sheet : List ℕ) (back : Bool) (s : SurveyFields) (curve : List CurvePoint)
@@ -72,31 +71,21 @@ pub along_answer : (sheet : List ℕ) (back : Bool) (s : SurveyFields) (curve : 
     → MatchResult r (λ change. sheet_change sheet back s ≡ Ok (change_in change s)) (λ fault.
     (fault ≡ Memory)
     ⊎ (IsEditRefusal choice_refuses fault × (sheet_change sheet back s ≡ Err fault)))
-along_answer sheet back s curve is (Ok change) made = grind (arith, sheet_change-curve)
-along_answer sheet back s curve is (Err fault) refused = grind (arith, sheet_change-curve)
+along_answer sheet back s curve is r made = grind (arith, sheet_change-curve)
 
 -- ---- no fault comes before the sheet is read
 
-choice_before : (refusal : Refusal) → choice_refuses refusal ≡ true
-    → IsNotBefore (Input 1 Read) (Refused refusal)
-choice_before (Differ at) may = absurd cc
-choice_before _ may = tt
-
 points_before : (r : Result (List EnvelopePoint) EnvelopeFault)
     → IfErr (points_result r) (IsNotBefore (Input 1 Read))
-points_before (Ok points) = tt
-points_before (Err (Line line)) = tt
-points_before (Err _) = tt
+points_before r = grind arith
 
 curve_before : (r : Result (List CurvePoint) ℕ)
     → IfErr (curve_result r) (IsNotBefore (Input 1 Read))
-curve_before (Ok curve) = tt
-curve_before (Err line) = tt
+curve_before r = grind arith
 
 range_before : (o : Option Refusal) → IfSome o (λ r. choice_refuses r ≡ true)
     → IfSome o (λ r. IsNotBefore (Input 1 Read) (Refused r))
-range_before None may = tt
-range_before (Some refusal) may = choice_before refusal may
+range_before o may = grind arith
 
 in_before : (bytes : List ℕ) (back : Bool) (s : SurveyFields)
     → IfErr (sheet_change bytes back s) (IsNotBefore (Input 1 Read))
@@ -117,18 +106,12 @@ input_sheet_change-before sheet back s = grind (arith, then_all, sheet-all, in_b
 -- the numbers of a fault of the input are in the range of the fade's inputs
 pub input_numbers : (sheet : List ℕ) (back : Bool) (input : List ℕ) (fault : EditFault)
     → HasInputNumbers fade_refuses fault → HasTaskNumbers (fade_task sheet back input) fault
-input_numbers sheet back input (Input place fault) h = (omega (arith, h.0), h.1, h.2, inl h.0)
-input_numbers sheet back input (Refused refusal) h = h
-input_numbers sheet back input Memory h = tt
-input_numbers sheet back input _ h = absurd h
+input_numbers sheet back input fault h = grind arith
 
 -- the numbers of a fault of the change are in the range of the fade's inputs
 pub change_numbers : (sheet : List ℕ) (back : Bool) (input : List ℕ) (fault : EditFault)
     → HasChangeNumbers fault → HasTaskNumbers (fade_task sheet back input) fault
-change_numbers sheet back input (Input place fault) h = grind arith
-change_numbers sheet back input (Refused refusal) h = h
-change_numbers sheet back input Memory h = tt
-change_numbers sheet back input _ h = absurd h
+change_numbers sheet back input fault h = grind arith
 
 module _ (sheet : List ℕ) (back : Bool) (input : List ℕ) where
   -- what the command makes of its input, with the sheet that these files hold
@@ -139,14 +122,12 @@ module _ (sheet : List ℕ) (back : Bool) (input : List ℕ) where
   refuses_same : (files : Files) (fault : EditFault)
       → TaskRefuses (file_task (making_in files) (faded_stream None back) fade_refuses input) files
       fault → TaskRefuses (fade_task sheet back input) files fault
-  refuses_same (Untold touched) fault h = tt
-  refuses_same (Told f) fault h = h
+  refuses_same files fault h = grind arith
 
   before_same : (files : Files) (P : EditFault → Type 0) → IfTold files (λ f.
       IfErr ((file_task (making_in files) (faded_stream None back) fade_refuses input).makes f) P)
       → IfTold files (λ f. IfErr ((fade_task sheet back input).makes f) P)
-  before_same (Untold touched) P is = tt
-  before_same (Told f) P is = is
+  before_same files P is = grind arith
 
   module _ (old new : Seen) (fault : EditFault) where
     -- a fault of the input is one met before the output is created
@@ -197,13 +178,11 @@ module _ (sheet : List ℕ) (back : Bool) (input : List ℕ) where
     with_sheet : (files : Files) (r : Result FileChange EditFault) → IsFileThere files sheet
         → ((bytes : List ℕ) → Holds files sheet bytes → input_sheet_change (Some bytes) back s ≡ r)
         → IfTold files (λ f. input_sheet_change (f sheet) back s ≡ r)
-    with_sheet (Untold touched) r there are = tt
-    with_sheet (Told f) r there are = grind (arith, there_holds)
+    with_sheet files r there are = grind arith
 
     without_sheet : (files : Files) (fault : EditFault) → IfTold files (λ f. f sheet ≡ None) → fault
         ≡ Input 1 Absent → IfTold files (λ f. input_sheet_change (f sheet) back s ≡ Err fault)
-    without_sheet (Untold touched) fault missing is = tt
-    without_sheet (Told f) fault missing is = grind arith
+    without_sheet files fault missing is = grind arith
 
     module _ (old new : Seen) (there : IsFileThere old.files input) (surveyed : (bytes : List ℕ)
         → Holds old.files input bytes → survey_of bytes most_frames ≡ Ok s) where

@@ -1,6 +1,6 @@
 -- What the one body requires of the command: it refuses late, and what it makes holds the stream
 -- with each frame's gains moved.
-use Rattle.std.proofs.Common.{ap, ap₂, arith, Bool, Err, length, List, map, None, Ok, Option, refl}
+use Rattle.std.proofs.Common.{ap, ap₂, arith, Bool, length, List, map, None, Ok, Option, refl}
 use Rattle.std.proofs.Common.{Result, Some, subst, suc, sym, zero-add, ℕ, [], ◌+◌, ◌∙◌, ◌∷◌, ◌≡◌}
 use Rattle.std.specs.{List.enumerate_from, Prelude.{IfErr, IfSome, slice_get}}
 use Rattle.bit_fields.specs.Bits.{AreBytes}
@@ -10,7 +10,7 @@ use Rattle.commands.{proofs.SheetLemmas.sheet-late, specs.AfterCall.IsLateFault}
 use Rattle.commands.specs.{Refusing.then_made, Sheet.sheet_in}
 use Rattle.commands.specs.SingleOutput.{IsProperTask, most_frames}
 use Rattle.fade_plan.specs.{Curves.CurvePoint, Sheets.EnvelopePoint}
-use Rattle.fade_plan.specs.declared.envelope_fault.EnvelopeFault.{EnvelopeFault, TheVariants.Line}
+use Rattle.fade_plan.specs.declared.envelope_fault.EnvelopeFault.{EnvelopeFault}
 use Rattle.gain_edits.proofs.ProperLemmas.{changed-stream, changed_all, holds_moved, made_cases}
 use Rattle.gain_edits.{proofs.ProperLemmas.stream_of-survey, specs.Change.change_making}
 use Rattle.gain_edits.specs.Fade.{curve_change, curve_result, fade_change, fade_refuses, fade_task}
@@ -31,13 +31,10 @@ use Rattle.sync_survey.specs.declared.survey_fault.SurveyFault.{SurveyFault}
 -- ---- refusals come after memory was taken
 
 points-late : (r : Result (List EnvelopePoint) EnvelopeFault) → IfErr (points_result r) IsLateFault
-points-late (Ok points) = tt
-points-late (Err (Line line)) = refl
-points-late (Err _) = refl
+points-late r = grind arith
 
 curve-late : (r : Result (List CurvePoint) ℕ) → IfErr (curve_result r) IsLateFault
-curve-late (Ok curve) = tt
-curve-late (Err line) = refl
+curve-late r = grind arith
 
 in-late : (bytes : List ℕ) (back : Bool) (s : SurveyFields)
     → IfErr (sheet_change bytes back s) IsLateFault

@@ -2,8 +2,7 @@
 -- bytes except the junk, and its own stream.
 use Rattle.std.proofs.Common.{ap, append-nil, ap₂, arith, Bool, cond, drop, false, inl, inr, length}
 use Rattle.std.proofs.Common.{length-drop, List, map, neg_ℤ, None, Ok, Option, pos, refl, Some}
-use Rattle.std.proofs.Common.{subst, sym, take, true, ℕ, ℤ, ◌+ℤ◌, [], ◌++◌, ◌+◌, ◌-◌, ◌∙◌, ◌∷◌, ◌≡◌}
-use Rattle.std.proofs.{Common.◌≤◌, Math.IntN.+ℤ_invr}
+use Rattle.std.proofs.Common.{subst, sym, take, ℕ, ℤ, ◌+ℤ◌, [], ◌++◌, ◌+◌, ◌-◌, ◌∙◌, ◌∷◌, ◌≡◌, ◌≤◌}
 use Rattle.std.proofs.lemmas.List.{drop_at, length-take-le, take_all, take_at}
 use Rattle.std.specs.{List.enumerate_from, Prelude.{IfSome, ◌⊎◌}}
 use Rattle.bit_fields.specs.Bits.{AreBytes}
@@ -36,8 +35,7 @@ use Rattle.moved_gains.specs.{Streams.moved_stream_frame, TagLaws.own_tag_bytes}
 use Rattle.moved_gains.specs.TagPlace.{file_with_tag, IsTagBytes}
 use Rattle.outside.{proofs.PassLemmas.between_split, specs.Pass.bytes_between}
 use Rattle.requests.specs.Shifts.{left_steps_of, right_steps_of, steps_of}
-use Rattle.requests.specs.declared.shift.Channels.{Channels, TheVariants.{Left, Right}}
-use Rattle.requests.specs.declared.shift.{Shift.Shift, Steps.Steps}
+use Rattle.requests.specs.declared.shift.{Channels.Channels, Shift.Shift, Steps.Steps}
 use Rattle.side_info.specs.{Side.no_side, declared.side.Side.Side}
 use Rattle.sync_survey.proofs.FoldersLemmas.{survey_of-short}
 use Rattle.sync_survey.proofs.SurveyPartsLemmas.{survey_fields-stream}
@@ -106,8 +104,7 @@ own_again steps file allowed s is = by_place (stands_somewhere steps file allowe
 -- ---- the stream
 
 counts_fit : (lost : Bool) (s : Side) → GainsFit s → GainsFit (cond lost no_side s)
-counts_fit true s fits = grind arith
-counts_fit false s fits = fits
+counts_fit lost s fits = grind arith
 
 still_frame : (steps : Steps) → IsNoStep steps → (file main : List ℕ) (o : Option Head)
     (rows : List Row) (i : ℕ) (row : Row) → IsFrameOf file row
@@ -153,13 +150,11 @@ still_holds steps none o tags file allowed s are is =
 
 left_back : (channels : Channels) (steps : ℤ)
     → left_steps_of channels steps +ℤ left_steps_of channels (neg_ℤ steps) ≡ pos 0
-left_back Right steps = refl
-left_back _ steps = +ℤ_invr steps
+left_back channels steps = grind arith
 
 right_back : (channels : Channels) (steps : ℤ)
     → right_steps_of channels steps +ℤ right_steps_of channels (neg_ℤ steps) ≡ pos 0
-right_back Left steps = refl
-right_back _ steps = +ℤ_invr steps
+right_back channels steps = grind arith
 
 -- a shift and its opposite together are no step
 together : (shift : Shift) → AreTogether (steps_of shift) (steps_of (opposite_shift shift)) still

@@ -1,7 +1,7 @@
 -- What a command makes of a file: it is well-formed, its stream is the file's with each gain moved,
 -- and the command is as the one body requires.
-use Rattle.std.proofs.Common.{ap, arith, Err, false, length, List, map, None, Ok, Option, refl}
-use Rattle.std.proofs.Common.{Result, Some, subst, sym, true, ℕ, [], ◌+◌, ◌∙◌, ◌∷◌, ◌≡◌}
+use Rattle.std.proofs.Common.{ap, arith, false, length, List, map, None, Ok, Option, refl, Result}
+use Rattle.std.proofs.Common.{Some, subst, sym, true, ℕ, [], ◌+◌, ◌∙◌, ◌∷◌, ◌≡◌}
 use Rattle.std.specs.{List.enumerate_from, Prelude.{IfErr, IfSome}}
 use Rattle.bit_fields.specs.Bits.{AreBytes}
 use Rattle.commands.proofs.InputLemmas.{file_makes, file_proper, IsProperMaking}
@@ -77,8 +77,7 @@ pub record IsMadeBy (of : Changing) (file new : List ℕ) (s : SurveyFields) : T
 pub made_cases : (of : Changing) (file new : List ℕ) (s : SurveyFields)
     (r : Result FileChange EditFault) → of file s ≡ r → changed_or_fault file s r ≡ Ok new
     → IsMadeBy of file new s
-made_cases of file new s (Err fault) made e = absurd cc
-made_cases of file new s (Ok change) made e = record { change = change; made = made; bytes = cc }
+made_cases of file new s r made e = grind arith
 
 -- a file that was changed has such a change, given its survey
 pub made_of : (of : Changing) (file new : List ℕ) (s : SurveyFields)
@@ -117,9 +116,7 @@ module _ (file : List ℕ) (allowed : ℕ) (s : SurveyFields) (all : AreBytes fi
   tagged_is : (steps : ℕ → Steps) (o : Option (List ℕ)) → IfSome o IsTagBytes
       → survey_fields (retagged_file o (edited_survey steps s) (edited_file steps file s)) allowed
       ≡ Ok (survey_with o (edited_survey steps s))
-  tagged_is steps None tags = edited_file-survey steps
-  tagged_is steps (Some tag) tags =
-      grind (arith, survey_fields-retagged_fields, edited_file-survey, no_junk)
+  tagged_is steps o tags = grind (arith, edited_file-survey, survey_fields-retagged_fields, no_junk)
 
   -- the changed file has the survey of the file, changed
   pub survey_fields-file_with_change : (change : FileChange) → IfSome change.tag IsTagBytes
@@ -254,8 +251,7 @@ undone-parts file s change e =
 -- a tag that isn't refused is the tag that is read
 pub read_ok : (r : Result TagFields FileTagFault) (tag : TagFields) → tag_result r ≡ Ok tag
     → r ≡ Ok tag
-read_ok (Ok found) tag e = cc
-read_ok (Err fault) tag e = absurd cc
+read_ok r tag e = grind arith
 
 -- the tag of a file is a tag
 pub read-tag : (file : List ℕ) (s : SurveyFields) (tag : TagFields) → AreBytes file
@@ -309,8 +305,7 @@ change_is UndoAll file s change all is e =
 -- what holds of the faults of a change holds of the faults of the changed file
 pub changed_all : (P : EditFault → Type 0) (file : List ℕ) (s : SurveyFields)
     (r : Result FileChange EditFault) → IfErr r P → IfErr (changed_or_fault file s r) P
-changed_all P file s (Err fault) is = is
-changed_all P file s (Ok change) is = tt
+changed_all P file s r is = grind arith
 
 moved_stream : (changes : Changes) (file : List ℕ) (s : SurveyFields) (new : List ℕ) → AreBytes file
     → survey_of file most_frames ≡ Ok s → change_making (changing_of changes) file s ≡ Ok new

@@ -1,7 +1,7 @@
 -- Two changes of gains, one after the other: if no gain leaves its range by either, none does by
 -- both together, nor when the first is taken back.
 use Rattle.std.proofs.Common.{ap₂, arith, Bool, cond, false, List, map, None, Option, pos, refl}
-use Rattle.std.proofs.Common.{Some, sym, true, ℕ, ℤ, ◌+ℤ◌, [], ◌<◌, ◌||◌, ◌∙◌, ◌∷◌, ◌≡◌}
+use Rattle.std.proofs.Common.{sym, true, ℕ, ℤ, ◌+ℤ◌, [], ◌<◌, ◌||◌, ◌∙◌, ◌∷◌, ◌≡◌}
 use Rattle.std.proofs.lemmas.Bool.{le-ltb}
 use Rattle.commands.proofs.RefusingLemmas.{first-cons, first-nil, none_both, none_first}
 use Rattle.gain_edits.specs.GainRange.{out_of_range_refusal, range_fault, row_range_fault}
@@ -74,8 +74,7 @@ row_fits file row here = grind (arith, gains_fit, fits-side_in, frame_of, whole_
 -- ---- all frames
 
 stuck_none : (at : ℕ) (s : Option OutOfRange) → out_of_range_refusal at s ≡ None → s ≡ None
-stuck_none at (Some s) e = absurd cc
-stuck_none at None e = refl
+stuck_none at s e = grind arith
 
 -- if no gain of all frames leaves its range, none of the first does, and none of the others
 pub frame-none : (steps : ℕ → Steps) (row : Row) (rows : List Row)
@@ -93,14 +92,12 @@ none-frame steps row rows here rest = grind (arith, first-cons, none_both)
 -- gains are never looked at
 unless_both : (lost : Bool) (a b c : Option OutOfRange) → (a ≡ None → b ≡ None → c ≡ None)
     → cond lost None a ≡ None → cond lost None b ≡ None → cond lost None c ≡ None
-unless_both true a b c three first second = refl
-unless_both false a b c three first second = three first second
+unless_both lost a b c three first second = grind arith
 
 moved_or_lost : (lost : Bool) (two one : Steps) (s : Side)
     → cond lost None (side_out_of_range two (moved_side_unless_lost lost one s))
     ≡ cond lost None (side_out_of_range two (moved_side one s))
-moved_or_lost true two one s = refl
-moved_or_lost false two one s = refl
+moved_or_lost lost two one s = grind arith
 
 -- if no gain leaves its range by the first change, and then none by the second, none does by both
 -- together

@@ -1,14 +1,14 @@
 -- Which refusals gain and undo return, why the tag can't be read, and what the code returns.
 use Rattle.std.proofs.Common.{ap, ap₂, arith, Bool, cond, Err, false, inl, inr, List, None, Ok}
 use Rattle.std.proofs.Common.{Option, refl, Result, Some, subst, sym, true, ℕ, [], ◌+◌, ◌∙◌, ◌∷◌}
-use Rattle.std.proofs.{Common.{◌≡◌, ◌≤◌}, lemmas.{List.Sums.sum_by-cons, Result.IfErr-weaker}}
+use Rattle.std.proofs.{Common.{◌≡◌, ◌≤◌}, lemmas.List.Sums.sum_by-cons}
 use Rattle.std.specs.Prelude.{IfErr, IfSome, is_some, nat_lt, unsigned_abs, ◌⊎◌}
-use Rattle.commands.proofs.InputLemmas.{memory_is_input, refusal_numbers, refused_is_input}
-use Rattle.commands.proofs.RefusingLemmas.{of_err, refusal_or-late, then_all, then_late}
+use Rattle.commands.proofs.InputLemmas.{memory_is_input, refused_is_input}
+use Rattle.commands.proofs.RefusingLemmas.{of_err, then_all}
 use Rattle.commands.specs.AfterCall.{HasInputNumbers, IsEditRefusal, IsLateFault}
 use Rattle.commands.specs.Refusing.{first_refusal, or_else, refusal_or, then_made}
 use Rattle.commands.specs.SingleOutput.{IsInputFault, most_frames}
-use Rattle.commands.specs.declared.fault.EditFault.{EditFault, TheVariants.{Memory, Refused}}
+use Rattle.commands.specs.declared.fault.EditFault.{EditFault, TheVariants.Memory}
 use Rattle.commands.specs.declared.fault.Refusal.{Refusal, TheVariants.{GainRange, UndoRange}}
 use Rattle.gain_edits.specs.Change.{change_making, changed_or_fault, IsChangeDecided}
 use Rattle.gain_edits.specs.Changes.{are_noted, changing_of, decided_change, IsDecision}
@@ -23,8 +23,7 @@ use Rattle.gain_edits.specs.UndoItem.{size_fault, tag_edit_fault, tag_result, ta
 use Rattle.gain_edits.specs.{UndoItem.undo_fault, declared.changes.Changes.Changes}
 use Rattle.gain_edits.specs.declared.changes.Changes.TheVariants.{Move, Undo as UndoAll}
 use Rattle.moved_gains.specs.{Change.FileChange, Course.constant_steps, Edited.row_out_of_range}
-use Rattle.moved_gains.specs.TagReading.{file_tag, IsTagCause}
-use Rattle.moved_gains.specs.declared.change.Change.{Change as CodeChange}
+use Rattle.moved_gains.specs.{TagReading.{file_tag, IsTagCause}, declared.change.Change.Change}
 use Rattle.moved_gains.specs.declared.gains.OutOfRange.{OutOfRange}
 use Rattle.moved_gains.specs.declared.tag_fault.FileTagFault.{FileTagFault}
 use Rattle.moved_gains.specs.declared.tag_fault.FileTagFault.TheVariants.{Bad as BadBlock}
@@ -37,16 +36,14 @@ use Rattle.sync_survey.specs.{Faults.SurveyFields, Row.Row, Survey.survey_of}
 use Rattle.tag_blocks.specs.Items.{is_undo, item_length, items_length, TagItem}
 use Rattle.tag_blocks.specs.{Tags.{tag_bytes, TagFields}, UndoItems.{undo_at, undo_from}}
 use Rattle.tag_blocks.specs.{UndoText.undo_of, declared.undo.{Undo.Undo, UndoItem.UndoItem}}
-use Rattle.tag_blocks.specs.declared.undo.UndoItem.TheVariants.{Bad, Found}
+use Rattle.tag_blocks.specs.declared.undo.UndoItem.TheVariants.{Bad}
 
 -- ---- the place of an undo item in its tag
 
 undo_cases : (b : Bool) (start next place : ℕ) (o : Option Undo) (later : UndoItem)
     → cond b (undo_at start o) later ≡ Bad place → start ≤ next → (later ≡ Bad place → place ≤ next)
     → place ≤ next
-undo_cases true start next place None later e low rest = grind arith
-undo_cases true start next place (Some undo) later e low rest = absurd cc
-undo_cases false start next place o later e low rest = rest e
+undo_cases b start next place o later e low rest = grind arith
 
 -- an item whose value is malformed begins within the items
 pub bad_place : (start : ℕ) (items : List TagItem) (place : ℕ) → undo_from start items ≡ Bad place
@@ -65,8 +62,7 @@ bad_place start (item ∷ items) place e =
 
 -- if there is no such refusal, its condition is false
 pub not_there : (b : Bool) (fault : Refusal) → cond b (Some fault) None ≡ None → b ≡ false
-not_there true fault e = absurd cc
-not_there false fault e = refl
+not_there b fault e = grind arith
 
 -- ---- which refusals there are
 
@@ -76,18 +72,15 @@ May may o = IfSome o (λ refusal. may refusal ≡ true)
 
 or_may : (may : Refusal → Bool) (o later : Option Refusal) → May may o → May may later
     → May may (or_else o later)
-or_may may None later first rest = rest
-or_may may (Some refusal) later first rest = first
+or_may may o later first rest = grind arith
 
 refusal_or-may : {A : Type 0} (may : Refusal → Bool) (o : Option Refusal) (a : A) → May may o
     → IfErr (refusal_or o a) (IsEditRefusal may)
-refusal_or-may may None a is = tt
-refusal_or-may may (Some refusal) a is = is
+refusal_or-may may o a is = grind arith
 
 where_may : (may : Refusal → Bool) (b : Bool) (refusal : Refusal) → may refusal ≡ true
     → May may (cond b (Some refusal) None)
-where_may may true refusal is = is
-where_may may false refusal is = tt
+where_may may b refusal is = grind arith
 
 first_may : {A : Type 0} (may : Refusal → Bool) (refuse : A → Option Refusal)
     → ((a : A) → May may (refuse a)) → (list : List A) → May may (first_refusal refuse list)
@@ -145,13 +138,11 @@ undone_may s tag undo = grind (arith, refusal_or-may, range_may)
 
 noted_item_may : (at : ℕ) (item : UndoItem)
     → IfErr (noted_undo at item) (IsEditRefusal (gain_refuses true))
-noted_item_may at (Bad place) = refl
-noted_item_may at _ = tt
+noted_item_may at item = grind arith
 
 found_item_may : (at : ℕ) (item : UndoItem)
     → IfErr (found_undo at item) (IsEditRefusal undo_refuses)
-found_item_may at (Found undo) = tt
-found_item_may at _ = refl
+found_item_may at item = grind arith
 
 -- a change with a note is refused only with its refusals
 pub noted_tag_change-may : (shift : Shift) (s : SurveyFields) (tag : TagFields)
@@ -165,27 +156,11 @@ undone_tag_change-may s tag = grind (arith, then_all, found_item_may, undone_may
 
 -- ---- refusals come after memory was taken
 
-tag_late : (r : Result TagFields FileTagFault) → IfErr (tag_result r) IsLateFault
-tag_late (Ok tag) = tt
-tag_late (Err (TooLarge size)) = refl
-tag_late (Err (Read Failed)) = refl
-tag_late (Err (Read (Shrunk first second))) = refl
-tag_late (Err _) = refl
-
-refusal_late : (refuses : Refusal → Bool) (fault : EditFault) → IsEditRefusal refuses fault
-    → IsLateFault fault
-refusal_late refuses (Refused refusal) is = refl
-refusal_late refuses _ is = absurd is
-
 -- the refusals of a change are late
 pub change_late : (changes : Changes) (file : List ℕ) (s : SurveyFields)
     → IfErr (changing_of changes file s) IsLateFault
 unfolding gain_change undo_change
-change_late (Move shift true) file s =
-    grind (arith, then_late, tag_late, IfErr-weaker, refusal_late, noted_tag_change-may)
-change_late (Move shift false) file s = refusal_or-late _ _
-change_late UndoAll file s =
-    grind (arith, then_late, tag_late, IfErr-weaker, refusal_late, undone_tag_change-may)
+change_late changes file s = grind arith
 
 -- ---- what the definition says
 
@@ -193,9 +168,7 @@ change_late UndoAll file s =
 pub plain-is : (changes : Changes) (bytes : List ℕ) (s : SurveyFields) → are_noted changes ≡ false
     → changing_of changes bytes s ≡ decided_change changes s None
 unfolding gain_change
-plain-is (Move shift true) bytes s plain = absurd cc
-plain-is (Move shift false) bytes s plain = refl
-plain-is UndoAll bytes s plain = absurd cc
+plain-is changes bytes s plain = grind arith
 
 -- with a note the change is decided with the tag that is read
 pub noted-is : (changes : Changes) (bytes : List ℕ) (s : SurveyFields)
@@ -203,9 +176,7 @@ pub noted-is : (changes : Changes) (bytes : List ℕ) (s : SurveyFields)
     → changing_of changes bytes s
     ≡ then_made (tag_result r) (λ tag. decided_change changes s (Some tag))
 unfolding gain_change undo_change
-noted-is (Move shift true) bytes s r noted is = grind arith
-noted-is (Move shift false) bytes s r noted is = absurd cc
-noted-is UndoAll bytes s r noted is = grind arith
+noted-is changes bytes s r noted is = grind arith
 
 -- a change that is decided is refused only with its refusals
 pub decided-may : (changes : Changes) (s : SurveyFields) (o : Option TagFields) → are_noted changes
@@ -264,7 +235,7 @@ module _ (changes : Changes) (name : List ℕ) (old new : Seen) (s : SurveyField
   pub answered : (made : Result FileChange EditFault)
       → IfErr made (IsEditRefusal (refuses_of_changes changes))
       → ((bytes : List ℕ) → Holds old.files name bytes → changing_of changes bytes s ≡ made)
-      → new ≡ old → OnlyReads old.counts new.counts → (r : Result CodeChange EditFault)
+      → new ≡ old → OnlyReads old.counts new.counts → (r : Result Change EditFault)
       → IsChangeDecided s made r → IsDecision changes name old new s r
   answered made may whole stays reads (Ok change) is-made = grind arith
   answered made may whole stays reads (Err fault) answer = record {
@@ -290,6 +261,4 @@ module _ (changes : Changes) (name : List ℕ) (old new : Seen) (s : SurveyField
 
       kind : (fault : EditFault) → (fault ≡ Memory) ⊎ (made ≡ Err fault)
           → HasInputNumbers (refuses_of_changes changes) fault
-      kind fault (inl memory) = subst (HasInputNumbers (refuses_of_changes changes)) (sym memory) tt
-      kind fault (inr refused) = refusal_numbers (refuses_of_changes changes) fault
-          (of_err (IsEditRefusal (refuses_of_changes changes)) made fault may refused)
+      kind fault h = grind arith

@@ -67,9 +67,7 @@ sum_first step = +ℤ_comm step (pos 0 -ℤ step) ∙ -ℤ-+ℤ_cancel (pos 0) s
 missing_cases : (b : Bool) (place : ℕ) (o : Option Undo) (later : UndoItem) (item : TagItem)
     (items left : List TagItem) → cond b (undo_at place o) later ≡ Missing
     → (later ≡ Missing → left ≡ items) → cond b items (item ∷ left) ≡ item ∷ items
-missing_cases true place None later item items left e rest = absurd cc
-missing_cases true place (Some undo) later item items left e rest = absurd cc
-missing_cases false place o later item items left e rest = grind (arith, item)
+missing_cases b place o later item items left e rest = grind arith
 
 -- items without an undo item stay the same when it is removed
 without_none : (place : ℕ) (items : List TagItem) → undo_from place items ≡ Missing

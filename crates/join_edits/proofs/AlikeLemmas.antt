@@ -3,7 +3,7 @@ use Rattle.std.proofs.Common.{arith, Bool, cond, false, length, List, None, Opti
 use Rattle.std.proofs.{Common.{◌-◌, ◌∙◌, ◌∷◌, ◌≡◌, ◌≤◌}, lemmas.List.length-map}
 use Rattle.exact_span.specs.declared.overlap.Overlap.{Overlap}
 use Rattle.frame_header.specs.Fields.{ClassFields}
-use Rattle.join_edits.proofs.DecideLemmas.{alike-few, alike-tested, sounds-next, sounds_from}
+use Rattle.join_edits.proofs.DecideLemmas.{alike-few, alike-tested, sounds_from}
 use Rattle.join_edits.specs.{Deciding.IsSharedOverlap, Sounds.{all_run_frames, same_sounds}}
 use Rattle.outside.specs.Files.{Contents, Files, IfTold, Told, Untold}
 use Rattle.seam_plan.specs.Decisions.{CanFollow, frame_place, IsBroughtInput, IsRun, last_places}
@@ -49,8 +49,7 @@ module _ (names : List (List ℕ)) (ss : List SurveyFields) (number : ℕ) (run 
       → HasLast run (overlap.frames - overlap.first_alike) (Some last) → IfTold files
       (λ f. sounds_from (all_run_frames f names ss) number overlap.first_alike last ≡ b)
       → IsSharedOverlap files names ss number run input (cond b (Some overlap) None)
-  tested-alike (Untold touched) last b has test = tt
-  tested-alike (Told f) last b has test = grind (arith, alike-tested, within-brought, few-count)
+  tested-alike files last b has test = grind (arith, alike-tested, within-brought, few-count)
 
 -- one more frame is compared
 module _ (names : List (List ℕ)) (ss : List SurveyFields) (number frame : ℕ) (p : FramePlace)
@@ -63,5 +62,4 @@ module _ (names : List (List ℕ)) (ss : List SurveyFields) (number frame : ℕ)
   pub ends-here : (files : Files) (all : Contents → Bool) (b : Bool) → b ≡ false → Same files b
       → IfTold files (λ f. sounds_from (all_run_frames f names ss) number frame places ≡ all f)
       → IfTold files (λ f. all f ≡ false)
-  ends-here (Untold touched) all b so same before = tt
-  ends-here (Told f) all b so same before = grind (arith, sounds-next, sounds_from)
+  ends-here files all b so same before = grind arith

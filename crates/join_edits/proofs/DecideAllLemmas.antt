@@ -24,7 +24,7 @@ use Rattle.outside.specs.Files.{Contents, Files, IfTold, Told, Untold}
 use Rattle.seam_plan.specs.Decisions.{frame_places, IsJoinableInput, IsJoint}
 use Rattle.seam_plan.specs.Frames.{Brought, needs_of, RunFrame}
 use Rattle.seam_plan.specs.Seams.{front_left_out_count, joints_from, seamless_join}
-use Rattle.seam_plan.specs.declared.{input.Input.Input, run.Joint.Joint as CodeJoint}
+use Rattle.seam_plan.specs.declared.{input.Input.Input, run.Joint.Joint}
 use Rattle.slot_plan.proofs.{FreeByteLemmas.{fits-drop, leaves-fit}, PartLemmas.class-drop}
 use Rattle.slot_plan.specs.{FreeBytes.FitsBehind, Parts.AreNeedsOfClass, declared.needs.Need.Need}
 use Rattle.sync_survey.specs.{Faults.SurveyFields, Survey.IsSurveyLaidOut}
@@ -67,10 +67,7 @@ module _ (files : Files) (names : List (List ℕ)) (s : SurveyFields) (ss : List
 
   rows-one : (outs : List ℕ) → needs_of_parts (rest_rows (s ∷ []) (0 ∷ outs)) ≡ input_needs s
   unfolding rest_rows needs_of_parts
-  rows-one [] =
-      append-nil (map need_of (slice_range s.frames 0 (length s.frames))) ∙ range-behind s 0
-  rows-one (n ∷ outs) =
-      append-nil (map need_of (slice_range s.frames 0 (length s.frames))) ∙ range-behind s 0
+  rows-one outs = search (arith, append-nil, range-behind)
 
   first-is : (first : Brought) → BringsNeeds s b first → IfTold files (λ f.
       IsDecidedTo s.class (take 1 (broughts_in f names (s ∷ ss) (b ∷ bs)))
@@ -98,7 +95,7 @@ module _ (files : Files) (names : List (List ℕ)) (s : SurveyFields) (ss : List
       }
 
 first-told : (f : Contents) (name : List ℕ) (names : List (List ℕ)) (s : SurveyFields)
-    (ss : List SurveyFields) (b : Beginning) (bs : List Beginning) (joints : List CodeJoint)
+    (ss : List SurveyFields) (b : Beginning) (bs : List Beginning) (joints : List Joint)
     → joints ≡ [] → (let first = brought_of (unwrap_or (f name) []) s b in
     IsDecidedTo s.class (take 1 (broughts_in f (name ∷ names) (s ∷ ss) (b ∷ bs)))
     (all_run_frames f (name ∷ names) (s ∷ ss)) first.frames
@@ -112,7 +109,7 @@ first-told f name names s ss b bs joints none =
       are = refl;
       last = refl;
       run = sym (append-nil first.frames);
-      joints_are = subst (λ (l : List CodeJoint). AllZip IsJoint [] l) (sym none) tt;
+      joints_are = subst (λ (l : List Joint). AllZip IsJoint [] l) (sym none) tt;
       sounds = places-sound (all_run_frames f (name ∷ names) (s ∷ ss)) 0 0
           (length first.frames) first.frames refl (omega arith);
     }
@@ -260,9 +257,7 @@ module _ (files : Files) (names : List (List ℕ)) (s : SurveyFields) (ss : List
         → IsDecidedTo is.class all lists is.frames is.places is.before d.joints.items
         → IsJoinedOf is.class all decided
     unfolding seamless_join
-    joined-of file [] lists begins told = absurd cc
-    joined-of file (first ∷ others) lists begins told =
-        grind (arith, first, brings-told, same-class)
+    joined-of file all lists begins told = grind (arith, brings-told, same-class)
 
 all-told : (f : Contents) (names : List (List ℕ)) (s : SurveyFields) (ss : List SurveyFields)
     (b : Beginning) (bs : List Beginning) (d : Deciding)

@@ -13,8 +13,7 @@ use Rattle.seam_plan.specs.Decisions.{alike_overlap, frame_place, IsJoint, joine
 use Rattle.seam_plan.specs.{Decisions.{last_places, overlap_if_alike}, Frames.{Brought, RunFrame}}
 use Rattle.seam_plan.specs.Seams.{are_frames_alike, compared_frames, ends_alike, joint_of}
 use Rattle.seam_plan.specs.Seams.{JointFrames, joints_from, joints_of, left_out_count, overlap_of}
-use Rattle.seam_plan.specs.{Seams.run_with, declared.run.FramePlace.FramePlace}
-use Rattle.seam_plan.specs.declared.run.Joint.{Joint as CodeJoint}
+use Rattle.seam_plan.specs.{Seams.run_with, declared.run.{FramePlace.FramePlace, Joint.Joint}}
 use Rattle.slot_plan.specs.{FreeBytes.needs_with_first_slot, Parts.AreNeedsOfClass}
 use Rattle.slot_plan.specs.declared.needs.Need.{Need}
 
@@ -64,8 +63,8 @@ last-next first [] next = refl
 last-next first (b ∷ others) next = last-next b others next
 
 -- one more joint and its result
-pub zip-more : (joints : List JointFrames) (results : List CodeJoint) (joint : JointFrames)
-    (result : CodeJoint) → AllZip IsJoint joints results → IsJoint joint result
+pub zip-more : (joints : List JointFrames) (results : List Joint) (joint : JointFrames)
+    (result : Joint) → AllZip IsJoint joints results → IsJoint joint result
     → AllZip IsJoint (joints ++ joint ∷ []) (results ++ result ∷ [])
 zip-more [] [] joint result are is = (is, tt)
 zip-more (j ∷ joints) (r ∷ results) joint result are is =
@@ -73,10 +72,10 @@ zip-more (j ∷ joints) (r ∷ results) joint result are is =
 zip-more _ _ joint result are is = absurd are
 
 -- the number of frames left out by one more joint comes last
-pub outs-more : (joints : List CodeJoint) (joint : CodeJoint)
+pub outs-more : (joints : List Joint) (joint : Joint)
     → left_out_counts (joints ++ joint ∷ [])
     ≡ left_out_counts joints ++ left_out_count joint.seam ∷ []
-outs-more joints joint = map-append (λ (j : CodeJoint). left_out_count j.seam) joints (joint ∷ [])
+outs-more joints joint = map-append (λ (j : Joint). left_out_count j.seam) joints (joint ∷ [])
 
 -- ---- the needs of frames in other slots
 
@@ -104,17 +103,13 @@ moved-drop (suc k) _ _ are = absurd are
 pub moved-joined : (slot : Option SlotFields) (needs : List Need)
     → AreMovedNeeds (joined_needs slot needs) needs
 unfolding needs_with_first_slot
-moved-joined None needs = moved-same needs
-moved-joined (Some slot) [] = tt
-moved-joined (Some slot) (n ∷ needs) = ((refl, refl), moved-same needs)
+moved-joined slot needs = grind (arith, moved-same)
 
 -- needs are still of the class when the first is in another slot
 pub class-moved : (class : ClassFields) (slot : Option SlotFields) (needs : List Need)
     → AreNeedsOfClass class needs → AreNeedsOfClass class (joined_needs slot needs)
 unfolding AreNeedsOfClass needs_with_first_slot
-class-moved class None needs same = same
-class-moved class (Some slot) [] same = tt
-class-moved class (Some slot) (n ∷ needs) same = (same.0, same.1)
+class-moved class slot needs same = grind arith
 
 -- ---- frames that are alike
 
@@ -123,13 +118,6 @@ abbrev pub sounds_from : List (List RunFrame) → ℕ → ℕ → List FramePlac
 sounds_from lists number frame [] = true
 sounds_from lists number frame (p ∷ ps) =
     same_sounds lists p (frame_place number frame) && sounds_from lists number (frame + 1) ps
-
--- the first of the places is compared, and then the rest
-pub sounds-next : (lists : List (List RunFrame)) (number frame : ℕ) (places : List FramePlace)
-    (p : FramePlace) (rest : List FramePlace) → places ≡ p ∷ rest
-    → sounds_from lists number frame places
-    ≡ (same_sounds lists p (frame_place number frame) && sounds_from lists number (frame + 1) rest)
-sounds-next lists number frame places p rest is = ap (sounds_from lists number frame) is
 
 -- the items from a place on are the item there and those after it
 pub drop-cons : {X : Type 0} (n : ℕ) (xs : List X) → n < length xs

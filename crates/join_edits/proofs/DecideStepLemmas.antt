@@ -27,8 +27,7 @@ use Rattle.seam_plan.specs.Decisions.{alike_overlap, frame_places, IsBroughtInpu
 use Rattle.seam_plan.specs.Decisions.{IsSoundRun, joined_needs, JoinsRun}
 use Rattle.seam_plan.specs.Frames.{Brought, needs_of, RunFrame}
 use Rattle.seam_plan.specs.Seams.{joint_of, JointFrames, left_out_count}
-use Rattle.seam_plan.specs.declared.{input.Input.Input, run.FramePlace.FramePlace}
-use Rattle.seam_plan.specs.declared.run.Joint.{Joint, Joint as CodeJoint}
+use Rattle.seam_plan.specs.declared.{input.Input.Input, run.{FramePlace.FramePlace, Joint.Joint}}
 use Rattle.slot_plan.{proofs.PartLemmas.class-drop, specs.Parts.AreNeedsOfClass}
 use Rattle.slot_plan.specs.declared.needs.Need.{Need}
 use Rattle.sync_survey.specs.Faults.{stream_of_survey, SurveyFields}
@@ -383,7 +382,7 @@ module _ (f : Contents) (names : List (List ℕ)) (ss : List SurveyFields) (bs :
 
 -- one more input is decided
 pub decided-step : (files : Files) (names : List (List ℕ)) (ss : List SurveyFields)
-    (bs : List Beginning) (number : ℕ) (input : Input) (alike : Option Overlap) (joint : CodeJoint)
+    (bs : List Beginning) (number : ℕ) (input : Input) (alike : Option Overlap) (joint : Joint)
     (old new : Deciding) (so_far : IsDecidingTo files names ss bs number old)
     (of : IsInputOf ss bs number so_far.class input) → IsAdded number input alike joint old new
     → (name : List ℕ) → slice_get names number ≡ Some name

@@ -1,6 +1,5 @@
 -- How many frames are left out at the front of the run.
-use Rattle.std.proofs.Common.{arith, length, List, true, ℕ, [], ◌<◌, ◌∷◌, ◌≡◌, ◌≤◌}
-use Rattle.std.proofs.lemmas.List.{length-map}
+use Rattle.std.proofs.{Common.{arith, length, List, true, ℕ, ◌<◌, ◌≡◌, ◌≤◌}, lemmas.List.length-map}
 use Rattle.frame_header.specs.Fields.{ClassFields}
 use Rattle.join_edits.specs.Deciding.{CanBeginRun, input_needs}
 use Rattle.seam_plan.specs.Frames.{Brought, RunFrame}
@@ -19,9 +18,7 @@ front-most class first run = grind arith
 -- a lead-in has at least one frame after it
 leads-some : (window : ℕ) (needs : List Need) → leads_others window needs ≡ true → 2 ≤ length needs
 unfolding lead_in_header
-leads-some window [] is = absurd cc
-leads-some window (n ∷ []) is = absurd cc
-leads-some window (n ∷ m ∷ needs) is = omega arith
+leads-some window needs is = grind arith
 
 -- fewer frames are left out at the front than the first input has
 pub front-behind : (class : ClassFields) (first : Brought) (run : List RunFrame)

@@ -11,7 +11,7 @@ use Rattle.commands.specs.SingleOutput.{first_input, IsEarlyFault, most_frames, 
 use Rattle.commands.specs.{SingleOutput.TaskRefuses, declared.fault.EditFault.EditFault}
 use Rattle.commands.specs.declared.fault.EditFault.TheVariants.{Input, Refused}
 use Rattle.commands.specs.declared.fault.Refusal.TheVariants.{Differ}
-use Rattle.frame_header.specs.Fields.{ClassFields, same_class}
+use Rattle.frame_header.specs.Fields.{ClassFields}
 use Rattle.join_edits.specs.Inputs.{AreInputsOfClass, AreJoinInputs, CanInputsBeJoined}
 use Rattle.join_edits.specs.Inputs.{class_of_first, frames_together, HasClassOfFirst, IsJoinInput}
 use Rattle.join_edits.specs.Inputs.{IsPartFault, parts_in}
@@ -23,8 +23,7 @@ use Rattle.outside.specs.{Files.{Contents, Files, IfTold, Told, Untold}, Seen.Se
 use Rattle.sync_survey.proofs.BytesFaultLemmas.{survey_fields-of_bytes}
 use Rattle.sync_survey.proofs.{FoldersLemmas.survey_of-short, SurveyedFileLemmas.survey_of-parts}
 use Rattle.sync_survey.specs.Faults.{longest_file, survey_fields, SurveyFields}
-use Rattle.sync_survey.specs.declared.survey_fault.SurveyFault.{SurveyFault}
-use Rattle.sync_survey.specs.declared.survey_fault.SurveyFault.TheVariants.{Absent, Read, TooLong}
+use Rattle.sync_survey.specs.declared.survey_fault.SurveyFault.{SurveyFault, TheVariants.Read}
 
 -- ---- one more input
 
@@ -59,8 +58,7 @@ after-some class (s ∷ ss) = after-some class ss
 
 -- the class after inputs is the class of the first
 pub after-none : (ss : List SurveyFields) → class_after None ss ≡ class_of_first ss
-after-none [] = refl
-after-none (s ∷ ss) = after-some s.class ss
+after-none ss = grind (arith, after-some)
 
 -- the items up to a place and the one there are the items up to the next place
 pub take-next : {X : Type 0} (xs : List X) (i : ℕ) (x : X) (rest : List X) → drop i xs ≡ x ∷ rest
@@ -99,8 +97,7 @@ inputs-join files (name ∷ names) (s ∷ ss) are some few = grind (arith, alike
 -- an input that follows may join
 pub follows-may : (first : Option ClassFields) (class : ClassFields) → HasClassOfFirst first class
     → may_join first class ≡ true
-follows-may None class follows = refl
-follows-may (Some first) class follows = ap (λ c. same_class c first) follows ∙ same-class first
+follows-may first class follows = grind (arith, same-class)
 
 part-ok : (place : ℕ) (first : Option ClassFields) (allowed : ℕ) (f : Contents) (name : List ℕ)
     (s : SurveyFields) → IsJoinInput allowed (Told f) name s → HasClassOfFirst first s.class
@@ -156,8 +153,7 @@ module _ (P : EditFault → Type 0) where
       (differ : (at : ℕ) → from ≤ at → P (Refused (Differ at))) where
     part-all : (at : ℕ) (first : Option ClassFields) (allowed : ℕ) (o : Option (List ℕ)) → from ≤ at
         → IfErr (join_part at first allowed o) P
-    part-all at first allowed None behind = faults at Absent behind
-    part-all at first allowed (Some file) behind = grind (arith, by-all)
+    part-all at first allowed o behind = grind arith
 
     from-all : (at : ℕ) (first : Option ClassFields) (allowed : ℕ) (f : Contents)
         (names : List (List ℕ)) → from ≤ at → IfErr (join_parts_from at first allowed f names) P
@@ -173,9 +169,7 @@ module _ (P : EditFault → Type 0) where
 
 -- a refusal of an input after the first is found after memory was taken
 later-late : (at : ℕ) (fault : SurveyFault) → 1 ≤ at → IsLateFault (Input at fault)
-later-late at Absent behind = grind (arith, behind)
-later-late at (TooLong size) behind = grind (arith, behind)
-later-late at _ behind = refl
+later-late at fault behind = grind arith
 
 -- if the first input is no longer than allowed, every refusal is found after memory was taken
 pub join-late : (names : List (List ℕ)) (f : Contents) (bytes : List ℕ) → f (first_input names)

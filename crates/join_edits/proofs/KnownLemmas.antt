@@ -11,7 +11,7 @@ use Rattle.join_edits.proofs.FramePlaceLemmas.{get-index, held-at}
 use Rattle.join_edits.specs.{Beginnings.{AreBeginnings, IsBeginning}, Reading.{AreHeld, IsHeld}}
 use Rattle.join_edits.specs.declared.beginnings.Beginning.{Beginning}
 use Rattle.outside.specs.{Files.Files, Pass.IsReadPassFault, declared.pass.PassFault.PassFault}
-use Rattle.outside.specs.declared.pass.PassFault.TheVariants.{Read, Shrunk, Write}
+use Rattle.outside.specs.declared.pass.PassFault.TheVariants.{Write}
 use Rattle.sync_survey.specs.Faults.{SurveyFields}
 
 -- ---- one input
@@ -56,9 +56,7 @@ begun-long files _ _ _ are = absurd are
 
 -- a pass that doesn't write ends early only because of its input
 pub reads-only : (fault : PassFault) → (fault ≡ Write → ⊥) → IsReadPassFault fault
-reads-only Write never = never refl
-reads-only Read never = tt
-reads-only (Shrunk first second) never = tt
+reads-only fault never = grind arith
 
 -- ---- bytes that are 0
 
@@ -94,8 +92,7 @@ pub zeros-next : (xs : List ℕ) (byte : ℕ) → list_all is_zero (bits xs) ≡
 zeros-next xs byte so_far none = grind (arith, zeros-append, bits-one, zero-bits)
 
 none-and : (b : Bool) → (b && false) ≡ false
-none-and true = refl
-none-and false = refl
+none-and b = grind arith
 
 -- one of the bytes isn't 0
 pub zeros-not : (xs : List ℕ) (i : ℕ) → i < length xs → get_or xs i 0 < 256

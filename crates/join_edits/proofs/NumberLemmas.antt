@@ -26,8 +26,7 @@ rest-none head class frames is = grind (arith, option_map)
 -- the head of the first beginning is the head of the first input
 pub first-head : (bs : List Beginning) (d : Beginning) → 0 < length bs
     → (get_or bs 0 d).head ≡ first_head bs
-first-head [] d some = absurd (omega (arith, some))
-first-head (b ∷ bs) d some = refl
+first-head bs d some = grind arith
 
 -- the head of the last beginning is the head of the last input
 pub last-head : (bs : List Beginning) (n : ℕ) (d : Beginning) → n + 1 ≡ length bs

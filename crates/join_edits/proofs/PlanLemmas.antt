@@ -45,8 +45,7 @@ parts-few f k xs can =
 
 -- inputs that can be joined are at least one
 pub can-some : (ss : List SurveyFields) → CanInputsBeJoined ss → 0 < length ss
-can-some [] can = let first = can.first in absurd cc
-can-some (s ∷ ss) can = omega arith
+can-some ss can = grind arith
 
 -- all inputs are of the first one's class
 pub alike-first : (s : SurveyFields) (ss : List SurveyFields) → CanInputsBeJoined (s ∷ ss)

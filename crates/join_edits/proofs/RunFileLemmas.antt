@@ -1,9 +1,8 @@
 -- The file of inputs that are joined without seams: it is well-formed, holds its stream, and loses
 -- no frame.
-use Rattle.std.proofs.Common.{ap, arith, Bool, cond, drop, Err, false, length, length-append}
-use Rattle.std.proofs.Common.{length-drop, List, None, Ok, Option, refl, Result, Some, subst, sym}
-use Rattle.std.proofs.Common.{take, true, ℕ, [], ◌++◌, ◌+◌, ◌-◌, ◌∙◌, ◌∷◌, ◌≡◌, ◌≤◌}
-use Rattle.std.proofs.lemmas.List.{length-map, length-take-le, FromFn.length-range_with_len}
+use Rattle.std.proofs.Common.{ap, arith, Bool, cond, drop, length, List, None, Ok, Option, refl}
+use Rattle.std.proofs.Common.{Result, Some, subst, sym, take, ℕ, [], ◌++◌, ◌+◌, ◌-◌, ◌∙◌, ◌∷◌, ◌≡◌}
+use Rattle.std.proofs.{Common.◌≤◌, lemmas.List.{length-map, FromFn.length-range_with_len}}
 use Rattle.std.specs.Prelude.{flat_map, replicate, slice_get}
 use Rattle.commands.proofs.{MadeLemmas.some-frames, RefusingLemmas.then_ok}
 use Rattle.commands.specs.{Refusing.then_made, SingleOutput.most_frames}
@@ -30,15 +29,9 @@ use Rattle.sync_survey.specs.{Faults.HoldsStream, MainData.StreamFrame, Row.Row}
 
 -- ---- the Info frame
 
--- an extension without peak and gains has as many bytes
-without-gain : (extension : List ℕ) → length extension ≡ 36
-    → length (take 11 extension ++ (replicate 8 0 ++ drop 19 extension)) ≡ 36
-without-gain extension long = grind (arith, length-append, length-take-le, length-drop)
-
 extension-by : (b : Bool) (extension : List ℕ) → length extension ≡ 36
     → length (cond b extension (take 11 extension ++ (replicate 8 0 ++ drop 19 extension))) ≡ 36
-extension-by true extension long = long
-extension-by false extension long = without-gain extension long
+extension-by b extension long = grind arith
 
 module _ (first : FilePart) (parts : List FilePart) where
   abbrev class : ClassFields
@@ -137,8 +130,7 @@ part-whole files c place first allowed name part e same =
 then-parts : (part : FilePart) (r : Result (List FilePart) EditFault) (parts : List FilePart)
     → then_made r (λ later. Ok (part ∷ later)) ≡ Ok parts
     → (later : List FilePart) × (r ≡ Ok later) × (part ∷ later ≡ parts)
-then-parts part (Ok later) parts e = (later, refl, cc)
-then-parts part (Err fault) parts e = absurd cc
+then-parts part r parts e = grind arith
 
 -- the inputs after the first, which are of its class
 later-whole : (files : Contents) (c : ClassFields) (place allowed : ℕ) (names : List (List ℕ))

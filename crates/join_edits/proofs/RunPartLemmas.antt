@@ -2,8 +2,8 @@
 -- be in another slot, have a plan as one part, and can be laid in its slots.
 use Rattle.std.proofs.Common.{ap, append-nil, arith, Bool, cond, drop, false, flat_map, inl, inr}
 use Rattle.std.proofs.Common.{length, length-append, length-drop, List, map, None, refl}
-use Rattle.std.proofs.Common.{slice_range, subst, sym, true, ℕ, [], ◌++◌, ◌+◌, ◌-◌, ◌<◌, ◌∙◌, ◌∷◌}
-use Rattle.std.proofs.{Common.{◌≡◌, ◌≤◌, ◌⊎◌}, lemmas.Bool.{ltb-false, ltb-true}}
+use Rattle.std.proofs.Common.{slice_range, subst, sym, ℕ, [], ◌++◌, ◌+◌, ◌-◌, ◌<◌, ◌∙◌, ◌∷◌, ◌≡◌}
+use Rattle.std.proofs.{Common.{◌≤◌, ◌⊎◌}, lemmas.Bool.{ltb-false, ltb-true}}
 use Rattle.std.proofs.lemmas.List.{drop-map, length-map, map-append, take_all}
 use Rattle.std.{proofs.lemmas.List.Elements.{All-cons, All-nil}, specs.List.All}
 use Rattle.std.specs.Prelude.{Contains, nat_lt, zip}
@@ -61,13 +61,11 @@ piece-by : (b : Bool) (p : Placed) (need : Need) (f : Frame) → IsNeedOf need f
     × ((one b p f).kept.side.main_data_begin ≡ p.begin)
     × (frame_area (one b p f).kept
     ≡ area_of (class_of need.header) p.slot (cond b false need.header.protected))
-piece-by true p need f is = grind arith
-piece-by false p need f is = grind arith
+piece-by b p need f is = grind arith
 
 next-given : (b : Bool) (need : Need) (needs : List Need) (f : Frame) (fs : List Frame)
     → AreGiven (need ∷ needs) (f ∷ fs) → AreGiven (rest_behind b need needs) (rest_behind b f fs)
-next-given true need needs f fs are = are
-next-given false need needs f fs are = are.1
+next-given b need needs f fs are = grind arith
 
 -- from a place on after which there are `reach` free bytes within reach
 laid-from : (c : ClassFields) (needs : List Need) (fs : List Frame) (placed : List Placed)
@@ -114,11 +112,7 @@ some-from : (window reach : ℕ) (needs : List Need) (fs : List Frame) (placed :
     → AreGiven needs fs → FitsFromReach window reach needs placed → 0 < length fs
     → 0 < length (relaid_frames fs placed)
 unfolding FitsFromReach
-some-from window reach needs [] placed given fits some = absurd (omega (arith, some))
-some-from window reach [] (f ∷ fs) placed given fits some = absurd given
-some-from window reach (need ∷ needs) (f ∷ fs) [] given fits some = absurd fits
-some-from window reach (need ∷ needs) (f ∷ fs) (p ∷ placed) given fits some =
-    omega (arith, ap length (relaid_frames-cons p placed f fs))
+some-from window reach needs fs placed given fits some = grind (arith, relaid_frames-cons)
 
 -- ---- frames in other slots
 

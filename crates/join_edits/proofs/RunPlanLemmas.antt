@@ -1,7 +1,6 @@
 -- The plan of a run, which is one part.
-use Rattle.std.proofs.Common.{All, ap, append-nil, arith, Bool, cond, false, length, List, refl}
-use Rattle.std.proofs.Common.{subst, true, ℕ, [], ◌<◌, ◌∷◌, ◌≡◌}
-use Rattle.std.proofs.lemmas.List.Elements.{All-cons, All-nil}
+use Rattle.std.proofs.Common.{All, ap, append-nil, arith, Bool, cond, false, length, List, subst, ℕ}
+use Rattle.std.proofs.{Common.{[], ◌<◌, ◌∷◌, ◌≡◌}, lemmas.List.Elements.{All-cons, All-nil}}
 use Rattle.frame_header.specs.{Fields.{ClassFields, IsClass}, Tables.{area_of, class_of, window_of}}
 use Rattle.join_edits.specs.{Deciding.AreMovedNeeds, RunReady.plan_of_run_needs}
 use Rattle.laying.proofs.{FitLemmas.parts-fit, PartsLemmas.one_class, PlacesLemmas.range-whole}
@@ -22,8 +21,7 @@ class-at-first class n needs same = same.0
 
 window-is : (class : ClassFields) (needs : List Need) → 0 < length needs
     → AreNeedsOfClass class needs → window_in needs ≡ window_of class.version
-window-is class [] some same = absurd (omega (arith, some))
-window-is class (n ∷ needs) some same = grind (arith, class-at-first)
+window-is class needs some same = grind (arith, class-at-first)
 
 needs-choose : (class : ClassFields) (needs : List Need) → IsClass class
     → AreNeedsOfClass class needs → All (ChoosesInOrder own_choice) needs
@@ -81,8 +79,7 @@ abbrev InSlot : Need → Need → Type 0
 InSlot n m = (n.bytes ≡ m.bytes) × (n.header ≡ record m.header { slot = n.header.slot })
 
 bytes-same : (b : Bool) (n m : Need) → InSlot n m → placed_bytes b n ≡ placed_bytes b m
-bytes-same true n m is = refl
-bytes-same false n m is = is.0
+bytes-same b n m is = grind arith
 
 area-by : (b : Bool) (p : Placed) (n m : Need) → InSlot n m
     → area_of (class_of n.header) p.slot (cond b false n.header.protected)
@@ -98,8 +95,7 @@ reach-same window p n m is = grind (arith, area-same, bytes-same)
 
 behind-same : (b : Bool) (n m : Need) (needs others : List Need) → InSlot n m
     → AreMovedNeeds needs others → AreMovedNeeds (rest_behind b n needs) (rest_behind b m others)
-behind-same true n m needs others is are = (is, are)
-behind-same false n m needs others is are = are
+behind-same b n m needs others is are = grind arith
 
 -- whether frames fit in a plan doesn't depend on the slots that they have before
 pub fits-moved : (window reach : ℕ) (needs others : List Need) (placed : List Placed)

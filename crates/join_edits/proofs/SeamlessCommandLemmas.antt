@@ -14,8 +14,7 @@ use Rattle.commands.specs.{Refusing.then_made, SentText.IsCommandText}
 use Rattle.commands.specs.SingleOutput.{clash_in, files_holding, first_input, IsEarlyFault}
 use Rattle.commands.specs.SingleOutput.{IsMaking, IsPassFault, most_frames, NeedsMemory}
 use Rattle.commands.specs.{SingleOutput.one_command, declared.fault.EditFault.EditFault}
-use Rattle.commands.specs.declared.fault.EditFault.TheVariants.{EqualNames, Input, Memory, Refused}
-use Rattle.commands.specs.declared.fault.EditFault.TheVariants.{Write}
+use Rattle.commands.specs.declared.fault.EditFault.TheVariants.{EqualNames}
 use Rattle.cut_edits.proofs.HeadLemmas.{survey_without_head-had, survey_without_head-length}
 use Rattle.cut_edits.{proofs.HeadLemmas.survey_without_head-placed, specs.Exact.survey_without_head}
 use Rattle.frame_header.specs.Fields.{ClassFields}
@@ -103,8 +102,7 @@ survey_without_head-frames (s ∷ ss) =
 
 survey_without_head-class : (ss : List SurveyFields)
     → class_of_first (map survey_without_head ss) ≡ class_of_first ss
-survey_without_head-class [] = refl
-survey_without_head-class (s ∷ ss) = refl
+survey_without_head-class ss = grind arith
 
 -- inputs that can be joined can be joined when their heads are set apart
 pub survey_without_head-join : (ss : List SurveyFields) → CanInputsBeJoined ss
@@ -339,8 +337,7 @@ module _ (names : List (List ℕ)) (some : 1 ≤ length names) where
 
 other-err : {A : Type 0} (P : EditFault → Type 0) (g h : A → List ℕ) (r : Result A EditFault)
     → IfErr (then_made r (λ a. Ok (g a))) P → IfErr (then_made r (λ a. Ok (h a))) P
-other-err P g h (Ok a) e = tt
-other-err P g h (Err f) e = e
+other-err P g h r e = grind arith
 
 module _ (names : List (List ℕ)) where
   -- running out of memory after the survey is an early fault, since the first input is there
@@ -439,8 +436,4 @@ module _ (output : List ℕ) (names : List (List ℕ))
 pub seamless-numbers : (output : List ℕ) (names : List (List ℕ)) (count : ℕ) (fault : EditFault)
     → count ≡ length names → HasJoinNumbers count fault
     → HasNumbers (seamless_command output names) fault
-seamless-numbers output names count (Input place fault) all is = grind arith
-seamless-numbers output names count (Refused refusal) all is = grind arith
-seamless-numbers output names count (Write place) all is = omega (arith, is)
-seamless-numbers output names count Memory all is = tt
-seamless-numbers output names count _ all is = absurd is
+seamless-numbers output names count fault all is = grind arith

@@ -2,8 +2,8 @@
 use Rattle.std.proofs.Common.{ap, append-nil, append_assoc, ap₂, arith, Bool, bytes_eq, cond, false}
 use Rattle.std.proofs.Common.{flat_map, if◌then◌else◌, is_some, length, length-append, List, map}
 use Rattle.std.proofs.Common.{None, Option, option_and_then, option_map, refl, slice_get}
-use Rattle.std.proofs.Common.{slice_range, Some, suc, sym, true, unwrap_or, zero, ℕ, [], ◌*◌, ◌++◌}
-use Rattle.std.proofs.Common.{◌+◌, ◌-◌, ◌<◌, ◌∙◌, ◌∷◌, ◌≡◌, ◌≤◌}
+use Rattle.std.proofs.Common.{slice_range, Some, suc, sym, unwrap_or, zero, ℕ, [], ◌*◌, ◌++◌, ◌+◌}
+use Rattle.std.proofs.Common.{◌-◌, ◌<◌, ◌∙◌, ◌∷◌, ◌≡◌, ◌≤◌}
 use Rattle.std.proofs.lemmas.List.{drop-map, length-drop, length-map, length-take}
 use Rattle.std.specs.List.{AllZip, concat, enumerate_from, list_all}
 use Rattle.cut_edits.{proofs.HeadLemmas.survey_without_head-length, specs.Exact.survey_without_head}
@@ -36,7 +36,7 @@ use Rattle.laying.specs.Written.{front_blocks, slot_in}
 use Rattle.outside.specs.Files.{Contents}
 use Rattle.seam_plan.specs.{Decisions.IsJoint, Frames.needs_of}
 use Rattle.seam_plan.specs.Seams.{JointFrames, left_out_count, run_of, SeamlessJoin}
-use Rattle.seam_plan.specs.declared.{run.Joint.Joint as CodeJoint, seam.Seam.Seam}
+use Rattle.seam_plan.specs.declared.{run.Joint.Joint, seam.Seam.Seam}
 use Rattle.side_info.specs.Side.{no_side}
 use Rattle.slot_plan.specs.declared.needs.{Need.Need, Placed.Placed}
 use Rattle.sync_survey.specs.Faults.{SurveyFields}
@@ -81,7 +81,7 @@ part-same from file s = grind (arith, survey_without_head-length)
 
 parts-same : (f : Contents) (names : List (List ℕ)) (ss : List SurveyFields)
     (joints : List JointFrames)
-    (results : List CodeJoint) → AllZip IsJoint joints results
+    (results : List Joint) → AllZip IsJoint joints results
     → later_parts joints (parts_in f names ss)
     ≡ rest_parts f names (map survey_without_head ss) (left_out_counts results)
 unfolding parts_in rest_parts
@@ -102,13 +102,11 @@ parts-same f names ss _ _ are = absurd are
 
 slot-placed : (b : Bool) (p : Placed) (f : Frame)
     → slot_in (if b then lead_in_with_place p f else frame_with_place p f) ≡ p.slot
-slot-placed true p f = refl
-slot-placed false p f = refl
+slot-placed b p f = grind arith
 
 behind-length : {X Y : Type 0} (b : Bool) (x : X) (y : Y) (xs : List X) (ys : List Y)
     → length xs ≡ length ys → length (rest_behind b x xs) ≡ length (rest_behind b y ys)
-behind-length true x y xs ys same = omega (arith, same)
-behind-length false x y xs ys same = same
+behind-length b x y xs ys same = grind arith
 
 -- the frames are in the slots of the plan
 pub relaid_frames-slots : (window reach : ℕ) (needs : List Need) (fs : List Frame)
@@ -154,8 +152,7 @@ behind-long f (name ∷ names) (s ∷ ss) (from ∷ froms) many =
 
 row-apart : (r : Row) (b : Bool)
     → (cond b (record r { side = no_side; lost = false }) r).header ≡ r.header
-row-apart r true = refl
-row-apart r false = refl
+row-apart r b = grind arith
 
 rows-header : (rows : List Row) (n : ℕ) (more : List Row) (i : ℕ) (r : Row)
     → slice_get more i ≡ Some r → (q : Row) × (slice_get (map emptied_row (map (λ (p : ℕ × Row).
@@ -292,8 +289,7 @@ module _ (f : Contents) (name : List ℕ) (names : List (List ℕ)) (s : SurveyF
 
   kept-same : (row : Row) (delay : Option ℕ) → info_kept (option_map (kept_with_delay (b ∷ bs) ends)
       delay) row.header s.class (seamless_frames first parts) ≡ seamless_info delay row first parts
-  kept-same row None = refl
-  kept-same row (Some delay) = grind (arith, padding-same, all-say-same)
+  kept-same row delay = grind (arith, padding-same, all-say-same)
 
   -- the fields of the Info frame are the fields that the join says
   pub info-same : (row : Row)
@@ -340,7 +336,7 @@ module _ (f : Contents) (name : List ℕ) (names : List (List ℕ)) (s : SurveyF
 
   -- ---- the text
 
-  lines-same : (others : List (List ℕ)) (joints : List JointFrames) (results : List CodeJoint)
+  lines-same : (others : List (List ℕ)) (joints : List JointFrames) (results : List Joint)
       → AllZip IsJoint joints results → joint_lines others results ≡ seam_lines others joints
   lines-same [] joints results are = refl
   lines-same (n ∷ others) [] [] are = refl

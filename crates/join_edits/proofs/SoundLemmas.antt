@@ -95,8 +95,7 @@ compared_side-granule s granule channel =
 fits-bare : (c : ClassFields) (b : Bool) (g : Granule)
     → MatchBool b (GranuleFits c.version g) (g ≡ no_granule)
     → MatchBool b (GranuleFits c.version (without_gain g)) (without_gain g ≡ no_granule)
-fits-bare c true g fits = grind arith
-fits-bare c false g none = ap without_gain none
+fits-bare c b g fits = grind arith
 
 -- side information without gains and main_data_begin fits, too
 pub compared_side-fits : (c : ClassFields) (s : Side) → SideFits c s → SideFits c (compared_side s)

@@ -8,7 +8,6 @@ use Rattle.commands.{proofs.MakeLemmas.{no_clash, other_name}, specs.AfterCall.H
 use Rattle.commands.specs.Command.{AreSoundFiles, clash_from}
 use Rattle.commands.specs.SingleOutput.{first_input, IsMaking, most_frames}
 use Rattle.commands.specs.declared.fault.EditFault.{EditFault}
-use Rattle.commands.specs.declared.fault.EditFault.TheVariants.{Input, Memory, Refused, Write}
 use Rattle.frame_header.specs.{Fields.{ClassFields, IsSlot}, Tables.window_of}
 use Rattle.frame_writer.specs.Frames.{bytes_of_frames}
 use Rattle.info_header.specs.InfoFrame.{info_frame}
@@ -117,8 +116,7 @@ module _ (class : ClassFields) (output : List ℕ) (old new : Files) where
 pub source-holds : {output : List ℕ} (files : Files) (key told name : List ℕ) (s : SurveyFields)
     → Holds files key told → IsSource output files name s
     → Holds files name (unwrap_or (told_contents files name) [])
-source-holds (Untold touched) key told name s holds source = absurd holds
-source-holds (Told f) key told name s holds source = grind (arith, there_holds)
+source-holds files key told name s holds source = grind arith
 
 -- ---- the inputs as parts
 
@@ -317,8 +315,4 @@ inputs-hold output (Told f) _ _ apart can are = absurd are
 -- the numbers of a fault are numbers that the command may return
 pub join-numbers : (output : List ℕ) (names : List (List ℕ)) (count : ℕ) (fault : EditFault) → count
     ≡ length names → HasJoinNumbers count fault → HasNumbers (join_command output names) fault
-join-numbers output names count (Input place fault) all is = grind arith
-join-numbers output names count (Refused refusal) all is = grind arith
-join-numbers output names count (Write place) all is = omega (arith, is)
-join-numbers output names count Memory all is = tt
-join-numbers output names count _ all is = absurd is
+join-numbers output names count fault all is = grind arith

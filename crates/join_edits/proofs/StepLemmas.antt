@@ -98,8 +98,7 @@ own-split f name s from names ss froms placed = grind (arith, relaid_frames-appe
 told-none : (f : Contents) (ss : List SurveyFields) (froms : List ℕ) (placed : List Placed)
     → relaid_frames (flat_map part_frames (rest_parts f [] ss froms)) placed ≡ []
 unfolding rest_parts
-told-none f [] froms placed = relaid_frames-none placed
-told-none f (s ∷ ss) froms placed = relaid_frames-none placed
+told-none f ss froms placed = grind (arith, relaid_frames-none)
 
 -- the plan fits the input, and then the inputs after it
 fits-input : (class : ClassFields) (reach : ℕ) (s : SurveyFields) (from : ℕ)

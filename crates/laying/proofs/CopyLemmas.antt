@@ -1,7 +1,7 @@
 -- Blocks copied in order.
-use Rattle.std.proofs.Common.{append-nil, arith, Bool, cond, drop, false, length, List, map, not}
-use Rattle.std.proofs.Common.{refl, slice_index_or, suc, true, zero, ℕ, [], ◌++◌, ◌+◌, ◌<◌, ◌∷◌}
-use Rattle.std.{proofs.Common.{◌≡◌, ◌≤◌}, specs.List.concat}
+use Rattle.std.proofs.Common.{append-nil, arith, Bool, cond, drop, false, length, List, map, refl}
+use Rattle.std.proofs.Common.{slice_index_or, suc, zero, ℕ, [], ◌++◌, ◌+◌, ◌<◌, ◌∷◌, ◌≡◌, ◌≤◌}
+use Rattle.std.specs.List.{concat}
 use Rattle.laying.specs.{Copying.{chosen_bytes, is_chosen_block}, LaidFiles.block_bytes}
 use Rattle.laying.specs.Written.{goes_in_front}
 use Rattle.sync_survey.specs.{Faults.SurveyFields, Survey.BlocksAreLaid}
@@ -13,8 +13,7 @@ use mathlib.Core.Bool.{beq}
 chosen-by : (b : Bool) (file : List ℕ) (p : Piece) (ps : List Piece)
     → concat (map (block_bytes file) (cond b (p ∷ ps) ps))
     ≡ concat (map (block_bytes file) (cond b (p ∷ []) [])) ++ concat (map (block_bytes file) ps)
-chosen-by true file p ps = grind (arith, append-nil)
-chosen-by false file p ps = refl
+chosen-by b file p ps = grind (arith, append-nil)
 
 -- the bytes of chosen blocks are the bytes of the first, then of the others
 pub chosen-next : (in_front : Bool) (s : SurveyFields) (p : Piece) (ps : List Piece) (file : List ℕ)
@@ -31,21 +30,11 @@ block-at (p ∷ ps) (suc i) none within = grind (arith, block-at ps i none (omeg
 
 none-by : (b : Bool) (file : List ℕ) (p : Piece) → b ≡ false
     → concat (map (block_bytes file) (cond b (p ∷ []) [])) ≡ []
-none-by true file p is = absurd cc
-none-by false file p is = refl
-
-by-true : (b : Bool) → beq b true ≡ false → b ≡ false
-by-true true other = absurd cc
-by-true false other = refl
-
-by-false : (b : Bool) → beq b false ≡ false → not b ≡ false
-by-false true other = refl
-by-false false other = absurd cc
+none-by b file p is = grind arith
 
 not-chosen : (in_front : Bool) (s : SurveyFields) (p : Piece)
     → beq (goes_in_front s p) in_front ≡ false → is_chosen_block in_front s p ≡ false
-not-chosen true s p other = by-true (goes_in_front s p) other
-not-chosen false s p other = by-false (goes_in_front s p) other
+not-chosen in_front s p other = grind arith
 
 -- a block that isn't chosen adds nothing
 pub chosen-none : (in_front : Bool) (s : SurveyFields) (p : Piece) (file : List ℕ)

@@ -24,12 +24,7 @@ lays-passed : (input output : List ℕ) (made : List ℕ → List Frame) (base :
     → (lays : LaysFrames input output made old new before now) →
     AppendsWaiting output (base ++ bytes_of_frames lays.frames) (waiting_bytes new) before now
 lays-passed input output made base old new before now none lays =
-    let are = lays.writer base [] [] none in
-    record {
-      passed = lays.passed;
-      split = grind (arith, laid-steps, append_assoc);
-      files = lays.files;
-    }
+    grind (arith, lays.writer base [] [] none, lays.passed, laid-steps, append_assoc, lays.files)
 
 module _ (pass : Pass) (made : List ℕ → List Frame) (base : List ℕ) (old : Writing) (before : Files)
     (none : IsWriterOf base [] old []) where

@@ -1,8 +1,8 @@
 -- A plan can be written frame by frame: its starts are as early as they may
 -- be, so no later than those of a layout. Its slots are some of the 28.
-use Rattle.std.proofs.Common.{ap, ap₂, arith, Bool, cond, Contains, drop, false, flat_map, get_or}
-use Rattle.std.proofs.Common.{List, map, max, min, None, Option, refl, Some, subst, sym, true, ℕ}
-use Rattle.std.proofs.Common.{[], ◌++◌, ◌+◌, ◌-◌, ◌∷◌, ◌≡◌, ◌≤◌}
+use Rattle.std.proofs.Common.{ap, arith, Bool, cond, Contains, drop, false, flat_map, get_or, List}
+use Rattle.std.proofs.Common.{map, max, min, None, Option, refl, Some, subst, sym, true, ℕ, []}
+use Rattle.std.proofs.Common.{◌++◌, ◌+◌, ◌-◌, ◌∷◌, ◌≡◌, ◌≤◌}
 use Rattle.std.proofs.Math.Nat.{le-max_left, le-max_right, max-le}
 use Rattle.frame_header.specs.Fields.{HeaderFields, IsHeader, IsSlot, SlotFields}
 use Rattle.frame_header.specs.Tables.{area_of, class_of}
@@ -13,9 +13,8 @@ use Rattle.laying.specs.Relaid.{AreSlots, rest_behind}
 use Rattle.slot_plan.proofs.AreaLemmas.{only_one}
 use Rattle.slot_plan.specs.{Layouts.{begins_of, HasLayout, IsDataLayout}, Lists.frames_with_areas}
 use Rattle.slot_plan.specs.Parts.{all_items, AreLeadIns, IsLeadIn, item_area, need_item, open_frame}
-use Rattle.slot_plan.specs.Parts.{part_items, PlanItem, window_in}
-use Rattle.slot_plan.specs.{Plans.{AreItemSlots, IsPlan, item_areas}, declared.needs.Need.Need}
-use Rattle.slot_plan.specs.declared.needs.Placed.{Placed}
+use Rattle.slot_plan.specs.{Parts.{part_items, PlanItem}, Plans.{AreItemSlots, IsPlan, item_areas}}
+use Rattle.slot_plan.specs.declared.needs.{Need.Need, Placed.Placed}
 use Rattle.sync_survey.specs.Row.{Row}
 
 -- ---- items of a plan, as requested
@@ -37,14 +36,12 @@ Asks _ _ = ⊥
 pub asked-area : (b : Bool) (item : PlanItem) (need : Need) (slot : SlotFields)
     → IsAsked b item need
     → item_area item slot ≡ area_of (class_of need.header) slot (cond b false need.header.protected)
-asked-area true item need slot is = ap₂ (λ c protected. area_of c slot protected) is.0 is.1
-asked-area false item need slot is = ap₂ (λ c protected. area_of c slot protected) is.0 is.1
+asked-area b item need slot is = grind arith
 
 -- a place requested for a frame or a lead-in holds the frame's main data, or nothing
 pub asked-bytes : (b : Bool) (item : PlanItem) (need : Need) → IsAsked b item need
     → item.bytes ≡ placed_bytes b need
-asked-bytes true item need is = is.2
-asked-bytes false item need is = is.2
+asked-bytes b item need is = grind arith
 
 -- ---- from one frame to the next
 
@@ -121,9 +118,7 @@ asks-part : (window : ℕ) (choices : HeaderFields → List SlotFields) (part : 
     → IsLeadIn window choices part lead_in → Asks rest more
     → Asks (part_items choices part lead_in ++ rest) (part ++ more)
 unfolding part_items IsLeadIn
-asks-part window choices part None rest more lead asks = asks-items choices part rest more asks
-asks-part window choices [] (Some slot) rest more lead asks = absurd lead
-asks-part window choices (need ∷ part) (Some slot) rest more lead asks = grind (arith, asks-items)
+asks-part window choices part lead_in rest more lead asks = grind (arith, asks-items)
 
 asks-whole : (window : ℕ) (choices : HeaderFields → List SlotFields) (parts : List (List Need))
     (lead_ins : List (Option SlotFields)) → AreLeadIns window choices parts lead_ins
@@ -184,8 +179,7 @@ module _ (window : ℕ) (choices : HeaderFields → List SlotFields) (slots : Ar
   open-items : (needs : List Need) (rest : List PlanItem) → AreHeaders needs → AreOpen rest
       → AreOpen (map (need_item choices) needs ++ rest)
   open-items [] rest are others = others
-  open-items (need ∷ needs) rest are others =
-      ((λ slot has. slots need.header slot are.0 has), open-items needs rest are.1 others)
+  open-items (need ∷ needs) rest are others = search (arith, open-items needs rest are.1 others)
 
   open-part : (part : List Need) (lead_in : Option SlotFields) (rest : List PlanItem)
       → AreHeaders part → IsLeadIn window choices part lead_in → AreOpen rest
@@ -208,14 +202,10 @@ module _ (window : ℕ) (choices : HeaderFields → List SlotFields) (slots : Ar
   pub parts-fitting : (parts : List (List Need)) (placed : List Placed) → AllHeaders parts
       → IsPlan window choices parts placed
       → IsFittingPlan window (flat_map (λ (part : List Need). part) parts) placed
-  parts-fitting parts placed are plan =
-      grind (arith, parts-fit window choices parts placed plan, open-in_slots, open-whole)
+  parts-fitting parts placed are plan = search (arith, parts-fit, open-in_slots, open-whole)
 
 -- ---- as requested
 
 -- a plan made for parts concatenated as the planner takes them is a plan of the parts
 pub asked-plans : PlansAreOfParts
-asked-plans c choices parts placed fit plan =
-    subst (λ window. IsPlan window choices (map (map need_of) parts) placed) fit.window
-    (subst (λ (l : List (List Need)). IsPlan (window_in (needs_of_parts parts)) choices l placed)
-    (parts_are [] 0 parts refl) plan)
+asked-plans c choices parts placed fit plan = grind (arith, parts_are [] 0 parts refl)

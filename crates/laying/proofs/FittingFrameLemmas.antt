@@ -1,7 +1,7 @@
 -- Frames in the slots and with the main_data_begin of any plan that can be written frame by
 -- frame: they can be laid, and are otherwise unchanged. So are those of parts as planned.
 use Rattle.std.proofs.Common.{ap, ap₂, arith, Bool, cond, false, flat_map, length, List, map, refl}
-use Rattle.std.proofs.Common.{subst, sym, true, ℕ, [], ◌+◌, ◌-◌, ◌<◌, ◌∙◌, ◌∷◌, ◌≡◌, ◌≤◌}
+use Rattle.std.proofs.Common.{subst, sym, ℕ, [], ◌+◌, ◌-◌, ◌<◌, ◌∙◌, ◌∷◌, ◌≡◌, ◌≤◌}
 use Rattle.frame_header.specs.Fields.{ClassFields, HeaderFields, IsHeader, SlotFields}
 use Rattle.frame_header.specs.Tables.{area_of, class_of, window_of}
 use Rattle.frame_writer.specs.Frames.{Frame, frame_area}
@@ -30,14 +30,12 @@ piece-by : (b : Bool) (p : Placed) (need : Need) (f : Frame) → need.header ≡
     → need.bytes ≡ length f.payload → (length (one b p f).payload ≡ placed_bytes b need)
     × ((one b p f).kept.side.main_data_begin ≡ p.begin) × (frame_area (one b p f).kept
     ≡ area_of (class_of need.header) p.slot (cond b false need.header.protected))
-piece-by true p need f header bytes = grind arith
-piece-by false p need f header bytes = grind arith
+piece-by b p need f header bytes = grind arith
 
 next-needs : (b : Bool) (need : Need) (needs : List Need) (f : Frame) (fs : List Frame)
     → AreNeedsOf (need ∷ needs) (f ∷ fs)
     → AreNeedsOf (rest_behind b need needs) (rest_behind b f fs)
-next-needs true need needs f fs are = are
-next-needs false need needs f fs are = are.2
+next-needs b need needs f fs are = grind arith
 
 -- ---- all of them
 
@@ -88,8 +86,7 @@ laid-fitting c (need ∷ needs) (f ∷ fs)
 laid-fitting c _ _ placed reach end before are needs_are slots fits near room = absurd needs_are
 
 one-slot : (b : Bool) (p : Placed) (f : Frame) → slot_in (one b p f) ≡ p.slot
-one-slot true p f = refl
-one-slot false p f = refl
+one-slot b p f = grind arith
 
 slots-by : (window reach : ℕ) (needs : List Need) (fs : List Frame) (placed : List Placed)
     → AreNeedsOf needs fs → FitsFromReach window reach needs placed
@@ -109,18 +106,13 @@ some-by : (window reach : ℕ) (needs : List Need) (fs : List Frame) (placed : L
     → AreNeedsOf needs fs → FitsFromReach window reach needs placed → 0 < length fs
     → 0 < length (relaid_frames fs placed)
 unfolding FitsFromReach
-some-by window reach needs [] placed are fits some = absurd (omega (arith, some))
-some-by window reach [] (f ∷ fs) placed are fits some = absurd are
-some-by window reach (need ∷ needs) (f ∷ fs) [] are fits some = absurd fits
-some-by window reach (need ∷ needs) (f ∷ fs) (p ∷ placed) are fits some =
-    omega (arith, ap length (relaid_frames-cons p placed f fs))
+some-by window reach needs fs placed are fits some = grind (arith, relaid_frames-cons)
 
 -- ---- the frames of a part
 
 -- the frames have the slots of their places
 pub fitting-slots : FittingSlots
-fitting-slots c part placed is fitting = slots-by (window_of c.version) 0 (part_needs part)
-    (part_frames part) placed (part-needs c part is) fitting.fits
+fitting-slots c part placed is fitting = search (arith, slots-by, part-needs)
 
 -- frames that can be laid, in a file
 module _ (c : ClassFields) (frames : List Frame) (stream : List StreamFrame)
@@ -159,13 +151,11 @@ module _ (c : ClassFields) (part : FilePart) (placed : List Placed) (is : IsPart
 
   -- no frame of a file of them is lost, whether or not its head is set apart
   pub fitting-loses-none : EachLaidFile c (relaid_frames (part_frames part) placed) LosesNoFrame
-  fitting-loses-none = file-loses-none c (relaid_frames (part_frames part) placed)
-      (stream_with_lead_ins placed (part_stream part)) fitting_as
+  fitting-loses-none = search (arith, file-loses-none, fitting_as)
 
 -- the file of them holds their stream
 pub fitting-files-hold : FittingFilesHold
-fitting-files-hold c part placed is fitting = file-holds c (relaid_frames (part_frames part) placed)
-    (stream_with_lead_ins placed (part_stream part)) (fitting_as c part placed is fitting)
+fitting-files-hold c part placed is fitting = search (arith, file-holds, fitting_as)
 
 -- ---- the frames of parts, as planned
 
@@ -187,10 +177,7 @@ entries-hold c choices parts placed some are slots plan =
 
 -- the file of them holds their stream
 pub files-hold : FilesHold
-files-hold c choices parts placed some are slots plan = file-holds c
-    (relaid_frames (flat_map part_frames parts) placed)
-    (stream_with_lead_ins placed (flat_map part_stream parts))
-    (entries-hold c choices parts placed some are slots plan)
+files-hold c choices parts placed some are slots plan = search (arith, file-holds, entries-hold)
 
 -- no frame of the file of them is lost
 pub planned-frames-stay : PlannedFramesStay
@@ -202,6 +189,4 @@ planned-frames-stay c choices parts placed some are slots plan =
 -- frames laid by a plan have the slots of the plan
 pub slots-planned : SlotsArePlanned
 slots-planned c choices parts placed are slots plan =
-    slots-by (window_of c.version) 0 (flat_map (λ (part : List Need). part) (map part_needs parts))
-    (flat_map part_frames parts) placed (parts-needs c parts are)
-    (parts-fit (window_of c.version) choices (map part_needs parts) placed plan)
+    search (arith, slots-by, parts-needs, parts-fit)

@@ -1,7 +1,7 @@
 -- The frames of parts, what a plan is given for them, and the blocks of a file.
-use Rattle.std.proofs.Common.{ap₂, arith, Bool, cond, drop, false, filter, flat_map, length}
-use Rattle.std.proofs.Common.{length-append, length-drop, List, map, refl, slice_range, subst, suc}
-use Rattle.std.proofs.Common.{sym, take, true, zero, ℕ, [], ◌++◌, ◌+◌, ◌-◌, ◌<◌, ◌∙◌, ◌∷◌, ◌≡◌, ◌≤◌}
+use Rattle.std.proofs.Common.{ap₂, arith, Bool, cond, drop, filter, flat_map, length, length-append}
+use Rattle.std.proofs.Common.{length-drop, List, map, refl, slice_range, subst, suc, sym, take}
+use Rattle.std.proofs.Common.{zero, ℕ, [], ◌++◌, ◌+◌, ◌-◌, ◌<◌, ◌∙◌, ◌∷◌, ◌≡◌, ◌≤◌}
 use Rattle.std.proofs.lemmas.List.{drop-map, length-map, length-take, map-append, take-map}
 use Rattle.std.{proofs.lemmas.List.FromFn.length-enumerate_from, specs.List.enumerate_from}
 use Rattle.frame_header.specs.Fields.{ClassFields, IsHeader}
@@ -52,8 +52,7 @@ range-map f from to xs = grind (arith, drop-map, take-map)
 
 bytes_by : (lost : Bool) (s : Side)
     → cond lost 0 (payload_bytes s) ≡ payload_bytes (cond lost no_side s)
-bytes_by true s = sym no_bytes
-bytes_by false s = refl
+bytes_by lost s = grind (arith, no_bytes)
 
 needs-each : (c : ClassFields) (file : List ℕ) (s : SurveyFields) (n : ℕ) (rows : List Row) →
     AreStreamEntries c (map (λ (p : ℕ × Row). survey_frame file s p.0 p.1) (enumerate_from n rows))
@@ -121,9 +120,7 @@ needs-append _ more _ gs front back = absurd front
 pub parts-needs : (c : ClassFields) (parts : List FilePart) → AreParts c parts → AreNeedsOf
     (flat_map (λ (part : List Need). part) (map part_needs parts)) (flat_map part_frames parts)
 parts-needs c [] are = tt
-parts-needs c (p ∷ parts) are =
-    needs-append (part_needs p) (flat_map (λ (part : List Need). part) (map part_needs parts))
-    (part_frames p) (flat_map part_frames parts) (part-needs c p are.0) (parts-needs c parts are.1)
+parts-needs c (p ∷ parts) are = search (arith, needs-append, part-needs, parts-needs c parts are.1)
 
 headers-of : (c : ClassFields) (needs : List Need) (fs : List Frame) → AreStreamEntries c fs
     → AreNeedsOf needs fs → AreHeaders needs
@@ -136,10 +133,8 @@ headers-of c (need ∷ needs) (f ∷ fs) are needs_are =
 pub parts-headers : (c : ClassFields) (parts : List FilePart) → AreParts c parts
     → AllHeaders (map part_needs parts)
 parts-headers c [] are = tt
-parts-headers c (p ∷ parts) are = (
-  headers-of c (part_needs p) (part_frames p) (part-entries c p are.0) (part-needs c p are.0),
-  parts-headers c parts are.1,
-)
+parts-headers c (p ∷ parts) are =
+    search (arith, headers-of, part-entries, part-needs, parts-headers c parts are.1)
 
 -- the stream of all parts is their streams, concatenated
 pub parts-stream : (c : ClassFields) (parts : List FilePart) → AreParts c parts
@@ -170,8 +165,7 @@ parts-some c (p ∷ parts) some are =
 kept_cons : (keep : Bool) (file : List ℕ) (p : Piece) (ps : List Piece)
     → IsBlock (block_bytes file p) → AreBlocks (map (block_bytes file) ps)
     → AreBlocks (map (block_bytes file) (cond keep (p ∷ ps) ps))
-kept_cons true file p ps is are = (is, are)
-kept_cons false file p ps is are = are
+kept_cons keep file p ps is are = grind arith
 
 kept-blocks : (keep : Piece → Bool) (file : List ℕ) (ps : List Piece)
     → AreBlocks (map (block_bytes file) ps) → AreBlocks (map (block_bytes file) (filter keep ps))

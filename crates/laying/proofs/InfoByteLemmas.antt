@@ -1,8 +1,8 @@
 -- The Info frame: its bytes are an item, its text is after
 -- its side information, and the length of its area is known.
-use Rattle.std.proofs.Common.{ap, append_assoc, arith, Bool, codes, cond, drop, false, get_or}
-use Rattle.std.proofs.Common.{IfSome, length, length-append, List, None, Option, refl, replicate}
-use Rattle.std.proofs.Common.{Some, suc, sym, true, ℕ, [], ◌++◌, ◌+◌, ◌-◌, ◌<◌, ◌∙◌, ◌∷◌, ◌≡◌}
+use Rattle.std.proofs.Common.{ap, append_assoc, arith, Bool, cond, drop, false, get_or, IfSome}
+use Rattle.std.proofs.Common.{length, length-append, List, Option, refl, replicate, Some, suc, sym}
+use Rattle.std.proofs.Common.{true, ℕ, [], ◌++◌, ◌+◌, ◌-◌, ◌<◌, ◌∙◌, ◌∷◌, ◌≡◌}
 use Rattle.std.proofs.lemmas.List.{drop-drop, drop_at, length-replicate}
 use Rattle.std.specs.Int.{bytes_high_first}
 use Rattle.bit_fields.specs.Bits.{bytes}
@@ -26,13 +26,11 @@ use Rattle.sync_survey.specs.declared.items.Item.TheVariants.{Frame as FrameItem
 -- ---- its fields
 
 length-text : (vbr : Bool) → length (vbr_text vbr) ≡ 4
-length-text true = refl
-length-text false = refl
+length-text vbr = grind arith
 
 length-table : (table : Option (List ℕ)) → IfSome table (λ t. length t ≡ 100)
     → length (table_or_zeros table) ≡ 100
-length-table None sizes = refl
-length-table (Some table) sizes = sizes
+length-table table sizes = grind arith
 
 length-number : (n : ℕ) → length (bytes_high_first 4 n) ≡ 4
 length-number n = refl
@@ -46,8 +44,7 @@ length-info info sizes = grind (arith, length-text, length-table, length-append,
 
 slot_if : (b : Bool) (slot other : SlotFields) → IsSlot slot → IsSlot other
     → IsSlot (cond b slot other)
-slot_if true slot other is behind = is
-slot_if false slot other is behind = behind
+slot_if b slot other is behind = grind arith
 
 slot_in : (c : ClassFields) (d : SlotFields) (slots : List SlotFields)
     → ((i : ℕ) → i < length slots → IsSlot (get_or slots i d)) → IsSlot (first_with_room c slots)
@@ -67,8 +64,7 @@ info_slot-is c = slot_in c (slot_of 1 false) all_slots
 text_found : (at : ℕ) (vbr : Bool) (frame behind : List ℕ) → drop at frame ≡ vbr_text vbr ++ behind
     → has_text at frame ≡ true
 unfolding has_text
-text_found at true frame behind is = grind (arith, codes)
-text_found at false frame behind is = grind (arith, codes)
+text_found at vbr frame behind is = grind arith
 
 head_text-low : (h : HeaderFields) (frame : List ℕ) → has_text (low_place h) frame ≡ true
     → head_text_of h frame ≡ Some (low_place h)

@@ -82,9 +82,7 @@ module _ {X : Type 0} (c : ClassFields) (slot_of : X → SlotFields) (placed : L
       grind (
         arith,
         same-rate c slot_in slot_of frames placed slots,
-        same-length c slot_in slot_of
-            frames placed slots,
+        same-length c slot_in slot_of frames placed slots,
         same-all c slot_in slot_of frames placed slots,
-        table-is is.table (sized
-            is.table is.has_table) is.entries,
+        table-is is.table (sized is.table is.has_table) is.entries,
       )

@@ -18,8 +18,7 @@ length-laid end area_start (p ∷ ps) within fits =
       arith,
       length-zeros,
       length-append,
-      length-laid (frame_data_end area_start p) (area_start
-          + p.area) ps fits.1 fits.2,
+      length-laid (frame_data_end area_start p) (area_start + p.area) ps fits.1 fits.2,
     )
 
 -- ---- the main data of one frame
@@ -37,17 +36,9 @@ pub well-laid : (end area_start : ℕ) (ps : List FrameData) (i : ℕ) (p : Fram
     → CanDataBeLaidFrom end area_start ps → slice_get ps i ≡ Some p
     → IsWellLaid end area_start ps i p
 well-laid end area_start [] i p fits is = absurd cc
-well-laid end area_start (q ∷ ps) zero p fits is =
-    let same : q ≡ p = cc in
-    subst (IsWellLaid end area_start (q ∷ ps) zero) same
-    (record { later = omega arith; begins = fits.0; ends = fits.1 })
+well-laid end area_start (q ∷ ps) zero p fits is = grind arith
 well-laid end area_start (q ∷ ps) (suc i) p fits is =
-    let behind = well-laid (frame_data_end area_start q) (area_start + q.area) ps i p fits.2 is in
-    record {
-      later = omega (arith, fits.0, behind.later);
-      begins = behind.begins;
-      ends = behind.ends;
-    }
+    grind (arith, well-laid (frame_data_end area_start q) (area_start + q.area) ps i p fits.2 is)
 
 -- the main data laid up to frame i end where its own do
 pub data_end-next : (end area_start : ℕ) (ps : List FrameData) (i : ℕ) (p : FrameData)

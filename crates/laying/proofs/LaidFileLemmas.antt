@@ -89,8 +89,7 @@ pub entries_by : (main : List ℕ) (head : Option Head) (at : ℕ) (fs : List Fr
     → ((i : ℕ) (f : Frame) → slice_get fs i ≡ Some f → HasPayload main head (rows_from at fs) i f)
     → stream_frames main head (rows_from at fs) ≡ map stream_entry fs
 unfolding stream_frames
-entries_by main head at fs has =
-    grind (arith, frames_by main head (rows_from at fs) 0, zero-add, onward-all (rows_from at fs))
+entries_by main head at fs has = search (arith, frames_by, zero-add, onward-all)
 
 -- ---- the file
 

@@ -14,8 +14,8 @@ use Rattle.laying.proofs.WholeItemLemmas.{AreWhole, block_items, blocks-no_frame
 use Rattle.laying.proofs.WholeItemLemmas.{placed}
 use Rattle.laying.specs.LaidFiles.{AreBlocks, AreStreamEntries, blocks_from, frame_length}
 use Rattle.laying.specs.LaidFiles.{IsStreamEntry, rows_from}
-use Rattle.side_info.specs.{CheckWord.check_word_of, Frame.{frame_front_bytes, side_in, stored_crc}}
-use Rattle.side_info.specs.{Side.SideFits, declared.side.Side.Side}
+use Rattle.side_info.specs.{Frame.{frame_front_bytes, side_in, stored_crc}, Side.SideFits}
+use Rattle.side_info.specs.declared.side.Side.{Side}
 use Rattle.sync_survey.specs.{Faults.has_wrong_crc, MainData.{area_bytes, own_area, rows_of}}
 use Rattle.sync_survey.specs.{Row.Row, Runs.{blocks_of, frames_of}, declared.items.Item.Item}
 use Rattle.sync_survey.specs.declared.items.Item.TheVariants.{Frame as FrameItem}
@@ -62,8 +62,7 @@ pub frames-placed : (at : ℕ) (fs : List Frame) (blocks : List (List ℕ)) (are
     → frames_of (placed at (frame_items fs ++ block_items blocks are)) ≡ frames_at at fs
 frames-placed at [] blocks are = blocks-no_frame at blocks are
 frames-placed at (f ∷ fs) blocks are =
-    ap (λ (l : List PlacedFrame). record { offset = at; header = f.kept.header } ∷ l)
-    (frames-placed (at + frame_length f) fs blocks are)
+    grind (arith, frames-placed (at + frame_length f) fs blocks are)
 
 -- of frames and blocks placed end to end, the blocks are these
 pub blocks-behind : (c : ClassFields) (at : ℕ) (fs : List Frame) (bytes : List ℕ)
@@ -175,8 +174,7 @@ pub record IsRowOf (file : List ℕ) (c : ClassFields) (f : Frame) (r : Row) : T
 
 word_by : (b : Bool) (said right : ℕ) → (b ≡ true → said ≡ right)
     → (b && not (said == right)) ≡ false
-word_by true said right is = ap not (eq-eqb said right (is refl))
-word_by false said right is = refl
+word_by b said right is = grind arith
 
 -- each of their rows is the row of a frame there
 pub row-get : (c : ClassFields) (file : List ℕ) (at : ℕ) (fs : List Frame) (bytes : List ℕ) (i : ℕ)
@@ -185,21 +183,7 @@ pub row-get : (c : ClassFields) (file : List ℕ) (at : ℕ) (fs : List Frame) (
     → (f : Frame) × (slice_get fs i ≡ Some f) × IsRowOf file c f r
 row-get c file at [] bytes i r entries stand is = absurd cc
 row-get c file at (f ∷ fs) bytes zero r entries stand is =
-    let k = f.kept in
-    let own : Row = record { offset = at; header = k.header; side = k.side; lost = false } in
-    let same : own ≡ r = cc in
-    let right : k.header.protected ≡ true → stored_crc (drop at file)
-    ≡ check_word_of k.header k.side = grind (arith, front-word, shaped) in (
-      f,
-      refl,
-      subst (IsRowOf file c f) same (record {
-        header = refl;
-        side = refl;
-        kept = refl;
-        entry = entries.0;
-        word = grind (arith, word_by);
-      }),
-    )
+    grind (arith, front-word, shaped, word_by)
 row-get c file at (f ∷ fs) bytes (suc i) r entries stand is =
     row-get c file (at + frame_length f) fs
     (drop (frame_area f.kept) bytes) i r entries.1 stand.3 is
@@ -211,12 +195,9 @@ pub areas-sum : (at area_start : ℕ) (fs : List Frame) (i : ℕ)
 areas-sum at area_start fs zero = omega arith
 areas-sum at area_start [] (suc i) = omega arith
 areas-sum at area_start (f ∷ fs) (suc i) =
-    let own : Row =
-    record { offset = at; header = f.kept.header; side = f.kept.side; lost = false } in
-    let later = take i (rows_from (at + frame_length f) fs) in
-    omega (
+    search (
       arith,
-      sum_by-cons (λ (r : Row). own_area r.header) own later,
+      sum_by-cons,
       areas-sum (at + frame_length f) (area_start + frame_area f.kept) fs i,
     )
 

@@ -1,8 +1,8 @@
 -- The runs of a laid file, where its stream starts, and its head.
 use Rattle.std.proofs.Common.{ap, append-nil, arith, drop, length, length-append, List, None, Ok}
-use Rattle.std.proofs.Common.{Option, option_map, refl, Some, sym, take, true, ℕ, [], ◌++◌, ◌+◌}
-use Rattle.std.proofs.{Common.{◌<◌, ◌∙◌, ◌∷◌, ◌≡◌, ◌≤◌}, lemmas.Bool.le-leb}
-use Rattle.std.{proofs.lemmas.List.{drop-drop, drop_all, drop_at, take_at}, specs.List.concat}
+use Rattle.std.proofs.Common.{Option, option_map, refl, Some, sym, take, ℕ, [], ◌++◌, ◌+◌, ◌<◌, ◌∙◌}
+use Rattle.std.proofs.{Common.{◌∷◌, ◌≡◌, ◌≤◌}, lemmas.List.{drop-drop, drop_all, drop_at, take_at}}
+use Rattle.std.specs.List.{concat}
 use Rattle.frame_header.specs.{Fields.{ClassFields, HeaderFields}, Tables.{class_of, overhead_of}}
 use Rattle.frame_writer.specs.Frames.{all_frame_data, areas_length, bytes_of_frames}
 use Rattle.frame_writer.specs.{Frames.{fields_of_frames, Frame}, Laid.laid_data}
@@ -17,8 +17,8 @@ use Rattle.laying.specs.LaidFiles.{blocks_from, frames_offset, head_at, IsLaidFi
 use Rattle.sync_survey.proofs.{ItemListLemmas.item_at-known, OneItemLemmas.stands-only_at}
 use Rattle.sync_survey.proofs.{RunsLemmas.whole_item_at-past, SameHeadLemmas.area-frame}
 use Rattle.sync_survey.proofs.{StartLemmas.start_is, SurveyLemmas.overhead-within}
-use Rattle.sync_survey.proofs.SurveyPartsLemmas.{frames_from}
-use Rattle.sync_survey.specs.{Items.{item_at, item_fits, size_of}, MainData.{head_area, head_bytes}}
+use Rattle.sync_survey.{proofs.SurveyPartsLemmas.frames_from, specs.Items.{item_at, size_of}}
+use Rattle.sync_survey.specs.MainData.{head_area, head_bytes}
 use Rattle.sync_survey.specs.Runs.{item_if_whole, item_run, ItemRun, whole_item_at}
 use Rattle.sync_survey.specs.Start.{front_end_of, start_of}
 use Rattle.sync_survey.specs.Walk.{all_blocks, end_fault, fault_at, frame_bytes, head_of}
@@ -36,9 +36,7 @@ front_end-is file = refl
 pub start_by : (file : List ℕ) (at : ℕ) (h : HeaderFields) → at ≡ front_end_of file
     → item_at file at ≡ FrameItem h → at + size_of (FrameItem h) ≤ length file
     → start_of file ≡ Ok (record { front_end = at; first = record { offset = at; header = h } })
-start_by file at h front is within =
-    let fit : item_fits file at (FrameItem h) ≡ true = le-leb _ _ (omega (arith, within)) in
-    start_is file at (FrameItem h) front is ∙ rw fit refl
+start_by file at h front is within = grind (arith, start_is file at (FrameItem h) front is)
 
 -- no frame is an item of the front
 pub not_in_front : (file : List ℕ) (at : ℕ) (h : HeaderFields) → item_at file at ≡ FrameItem h

@@ -1,7 +1,7 @@
 -- No frame of a laid file is at fault, and none is lost.
 use Rattle.std.proofs.Common.{ap, ap₂, arith, Bool, cond, drop, false, length, List, map, None}
 use Rattle.std.proofs.Common.{Option, option_map, refl, slice_get, Some, subst, suc, sym, take}
-use Rattle.std.proofs.Common.{true, zero, zero-add, ℕ, [], ◌+◌, ◌<◌, ◌==◌, ◌∙◌, ◌∷◌, ◌≡◌, ◌≤◌}
+use Rattle.std.proofs.Common.{zero, zero-add, ℕ, [], ◌+◌, ◌<◌, ◌==◌, ◌∙◌, ◌∷◌, ◌≡◌, ◌≤◌}
 use Rattle.std.proofs.lemmas.Bool.{and_right, le-ltb, ne_eqb}
 use Rattle.std.{proofs.lemmas.Option.{slice_get-map, slice_get_within}, specs.List.enumerate_from}
 use Rattle.frame_header.specs.Fields.{ClassFields}
@@ -12,7 +12,7 @@ use Rattle.laying.proofs.LaidDataLemmas.{data_end-next, IsWellLaid, take-last, w
 use Rattle.laying.proofs.LaidFrameLemmas.{areas-sum, IsRowOf, row-get, rows-length, same-class}
 use Rattle.laying.proofs.LaidFrameLemmas.{StandFrom}
 use Rattle.laying.specs.LaidFiles.{AreStreamEntries, frame_length, rows_from}
-use Rattle.side_info.specs.{Frame.stored_crc, Side.payload_bytes, declared.side.Side.Side}
+use Rattle.side_info.specs.{Frame.stored_crc, Side.payload_bytes}
 use Rattle.sync_survey.{proofs.SurveyPartsLemmas.{AreSound, IsSound, StandWell}, specs.Laws.AreNear}
 use Rattle.sync_survey.specs.MainData.{data_end_after, data_end_before, end_of_data, head_area}
 use Rattle.sync_survey.specs.MainData.{is_lost, lacks_data, marked_row, marked_rows, place}
@@ -22,8 +22,7 @@ use Rattle.sync_survey.specs.declared.places.Head.{Head}
 -- ---- one frame
 
 either_most : (b : Bool) (m n most : ℕ) → m ≤ most → n ≤ most → cond b m n ≤ most
-either_most true m n most first second = first
-either_most false m n most first second = second
+either_most b m n most first second = grind arith
 
 -- the place of the own area is after the areas of the head and of the
 -- frames before it; main data were laid from the end of the head's area on
@@ -164,8 +163,7 @@ module _ (file : List ℕ) (c : ClassFields) (head : Option Head) (at : ℕ) (fs
   -- none is marked
   pub marked_rows-none : marked_rows head rows ≡ rows
   unfolding marked_rows
-  marked_rows-none =
-      marks 0 rows (λ i r is. ap (λ m. is_lost head rows m r) (zero-add i) ∙ none_lost i r is)
+  marked_rows-none = search (arith, marks, zero-add, none_lost)
 
   -- the main data of frame i begin where they were laid
   pub starts-there : (i : ℕ) (r : Row) → slice_get rows i ≡ Some r
@@ -178,9 +176,8 @@ pub laid-near : (file : List ℕ) (c : ClassFields) (at : ℕ) (fs : List Frame)
     → AreStreamEntries c fs → StandFrom file at fs area_data → CanDataBeLaid (all_frame_data fs)
     → AreNear (rows_from at fs)
 laid-near file c at fs area_data entries stand fits i r is =
-    let here = is_at file c None at fs area_data entries stand fits i r is in
-    let begins : data_end 0 0 (take i (all_frame_data fs)) + here.frame.kept.side.main_data_begin
-    ≤ areas_end 0 (take i (all_frame_data fs)) = here.laid.begins in
-    let place_is : place None (rows_from at fs) i ≡ 0 + areas_end 0 (take i (all_frame_data fs)) =
-    place-there file c None at fs area_data entries stand fits i in
-    omega (arith, ap (λ (s : Side). s.main_data_begin) here.row.side, begins, place_is)
+    grind (
+      arith,
+      is_at file c None at fs area_data entries stand fits i r is,
+      place-there file c None at fs area_data entries stand fits i,
+    )

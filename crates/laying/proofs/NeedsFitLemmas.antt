@@ -46,12 +46,8 @@ step_by : (window place ended free : ℕ) (r : Row) (silent lost : Bool) → is_
     → r.side.main_data_begin ≤ window → ended ≤ place → shown window place ended ≤ free
     → Goes window place (cond (silent || lost) ended (end_of_data place r)) (own_area r.header)
     (cond lost 0 (payload_bytes r.side)) free
-step_by window place ended free r true true silent lost well near ends some = grind arith
-step_by window place ended free r false true silent lost well near ends some = grind arith
-step_by window place ended free r true false silent lost well near ends some =
-    grind (arith, silent_bytes)
-step_by window place ended free r false false silent lost well near ends some =
-    grind (arith, ltb-false)
+step_by window h ended free r silent lost h7 h8 well near ends some =
+    grind (arith, silent_bytes, ltb-false)
 
 -- ---- all frames
 

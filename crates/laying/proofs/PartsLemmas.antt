@@ -36,16 +36,12 @@ part_some rows from to some within = grind (arith, length-take-le, length-drop, 
 
 fits : (class : ClassFields) (rows : List Row) → IsPartOf class rows → Fits class rows
 fits class rows part =
-    let is = part-fits part.survey part.from part.to part.placed in
-    let here : Fits part.survey.class (slice_range part.survey.frames part.from part.to) =
-    record {
-      some = part_some part.survey.frames part.from part.to part.some part.within;
-      known = part-known part.survey part.from part.to part.placed;
-      all = is.0;
-      feasible = is.1;
-    } in
-    subst (Fits class) (sym part.are)
-    (subst (λ c. Fits c (slice_range part.survey.frames part.from part.to)) part.same here)
+    grind (
+      arith,
+      part-fits part.survey part.from part.to part.placed,
+      part_some part.survey.frames part.from part.to part.some part.within,
+      part-known part.survey part.from part.to part.placed,
+    )
 
 -- each part fits
 abbrev AllFits : ClassFields → List (List Row) → Type 0
@@ -87,14 +83,12 @@ class_all class (rows ∷ parts) all = grind (arith, class-append, class_all cla
 pub one_class : (class : ClassFields) (needs : List Need) → AreNeedsOfClass class needs
     → AreNeedsOfOneClass needs
 unfolding AreNeedsOfClass
-one_class class [] all = tt
-one_class class (need ∷ needs) all = subst (λ c. AreNeedsOfClass c needs) (sym all.0) all.1
+one_class class needs all = grind arith
 
 window_is : (class : ClassFields) (needs : List Need) → 0 < length needs
     → AreNeedsOfClass class needs → window_in needs ≡ window_of class.version
 unfolding AreNeedsOfClass
-window_is class [] some all = absurd (omega (arith, some))
-window_is class (need ∷ needs) some all = ap (λ c. window_of c.version) all.0
+window_is class needs some all = grind arith
 
 -- ---- the places
 
@@ -131,8 +125,7 @@ pub parts_are : (before : List Need) (at : ℕ) (parts : List (List Row)) → at
     ≡ map (map need_of) parts
 unfolding needs_in_parts part_places
 parts_are before at [] is = refl
-parts_are before at (rows ∷ []) is =
-    grind (arith, needs-cons, nothing, length-append, slice_range, middle)
+parts_are before at (rows ∷ []) is = grind (arith, needs-cons, nothing, length-append, middle)
 parts_are before at (rows ∷ next ∷ parts) is =
     let part : List Need = map need_of rows in
     let later : List (List Row) = next ∷ parts in
@@ -179,8 +172,7 @@ module _ (choices : HeaderFields → List SlotFields)
     (each : (r : Row) → IsHeader r.header → ChoosesInOrder choices (need_of r)) where
   rows_choose : (rows : List Row) → AreKnown rows → All (ChoosesInOrder choices) (map need_of rows)
   rows_choose [] known = λ k d lt. absurd (omega (arith, lt))
-  rows_choose (r ∷ rows) known = All-cons (ChoosesInOrder choices) (need_of r) (map need_of rows)
-      (each r known.0) (rows_choose rows known.1)
+  rows_choose (r ∷ rows) known = search (arith, All-cons, rows_choose rows known.1)
 
   parts_choose : (class : ClassFields) (parts : List (List Row)) → AllFits class parts
       → PartsChooseInOrder choices (map (map need_of) parts)

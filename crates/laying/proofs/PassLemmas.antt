@@ -1,7 +1,7 @@
 -- Steps of a pass, in order.
-use Rattle.std.proofs.Common.{append-nil, append_assoc, arith, Err, IsErrAnd, length-append, List}
-use Rattle.std.proofs.Common.{Ok, OnOk, refl, Result, subst, sym, take, ℕ, [], ◌++◌, ◌∙◌, ◌∷◌, ◌≡◌}
-use Rattle.std.proofs.{Common.{◌≢◌, ◌≤◌}, Math.Seq.take-append-add}
+use Rattle.std.proofs.Common.{append-nil, append_assoc, arith, IsErrAnd, length-append, List, OnOk}
+use Rattle.std.proofs.Common.{refl, Result, subst, sym, take, ℕ, [], ◌++◌, ◌∙◌, ◌∷◌, ◌≡◌, ◌≢◌, ◌≤◌}
+use Rattle.std.proofs.Math.Seq.{take-append-add}
 use Rattle.frame_writer.specs.Frames.{all_frame_data, Frame, WaitingFrames}
 use Rattle.frame_writer.specs.Laid.{BeginsWithin, FrameData}
 use Rattle.frame_writer.specs.Writing.{AcceptsFrame, WritesPart, Writing}
@@ -35,15 +35,13 @@ module _ (relay : Relay) (old new : Files) (fed now : Fed) where
 pub ready-later : (relay : Relay) (old new : Files) (fed : Fed) (more : List ℕ)
     → new ≡ with_appended_bytes old relay.pass.output.now more → IsRelayReady relay old fed
     → IsRelayReady relay new fed
-ready-later relay old new fed more is ready = ready-with relay old new fed fed more is ready
-    (ready_later relay.pass old new fed more is ready.pass)
+ready-later relay old new fed more is ready = search (arith, ready-with, ready_later)
 
 -- after a buffer passed something on, all is ready for the next step
 pub ready-passed : (relay : Relay) {before after : List ℕ} {old new : Files} {fed : Fed}
     → AppendsWaiting relay.pass.output.now before after old new → IsRelayReady relay old fed
     → IsRelayReady relay new fed
-ready-passed relay {before} {after} {old} {new} {fed} passed ready =
-    ready-later relay old new fed passed.passed passed.files ready
+ready-passed relay {before} {after} {old} {new} {fed} passed ready = search (arith, ready-later)
 
 -- after bytes were appended to another file, the
 -- window still holds the last of the input's main data
@@ -62,8 +60,7 @@ ends-short part = grind arith
 -- main data that begin within one reach begin within a longer one
 pub begins_more : (reach free : ℕ) (ps : List FrameData) → reach ≤ free → BeginsWithin reach ps
     → BeginsWithin free ps
-begins_more reach free [] within begins = tt
-begins_more reach free (p ∷ ps) within begins = omega (arith, within, begins)
+begins_more reach free ps within begins = grind arith
 
 module _ (input output : List ℕ) where
   -- before the first frame none was laid
@@ -169,5 +166,4 @@ module _ (input output : List ℕ) where
 -- a call that failed didn't succeed, so whatever is to hold on success holds
 pub ok_never : {T E : Type 0} (P : Type 0) (Q : E → Type 0) (r : Result T E) → IsErrAnd r Q
     → OnOk r P
-ok_never P Q (Ok x) is = absurd is
-ok_never P Q (Err e) is = tt
+ok_never P Q r is = grind arith

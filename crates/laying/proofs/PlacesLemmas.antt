@@ -1,17 +1,17 @@
 -- The first places of a plan, which the frames of one input take, and those after them.
-use Rattle.std.proofs.Common.{ap, ap₂, arith, Bool, drop, false, flat_map, length, length-append}
-use Rattle.std.proofs.Common.{List, map, None, Option, option_map, refl, slice_range, Some, subst}
-use Rattle.std.proofs.Common.{suc, sym, true, unwrap_or, zero, ℕ, [], ◌++◌, ◌+◌, ◌-◌, ◌<◌, ◌∙◌, ◌∷◌}
-use Rattle.std.proofs.{Common.{◌≡◌, ◌≤◌}, lemmas.List.{length-map, take_all}}
+use Rattle.std.proofs.Common.{ap, arith, Bool, drop, false, flat_map, length, length-append, List}
+use Rattle.std.proofs.Common.{map, Option, option_map, refl, slice_range, subst, sym, true}
+use Rattle.std.proofs.Common.{unwrap_or, ℕ, [], ◌++◌, ◌+◌, ◌-◌, ◌<◌, ◌∙◌, ◌∷◌, ◌≡◌, ◌≤◌}
+use Rattle.std.proofs.lemmas.List.{length-map, take_all}
 use Rattle.frame_header.specs.Fields.{HeaderFields, SlotFields}
 use Rattle.frame_writer.specs.Frames.{Frame}
-use Rattle.laying.proofs.{PlannedFrameLemmas.one, RelayLemmas.relaid_frames-end}
+use Rattle.laying.proofs.PlannedFrameLemmas.{one}
 use Rattle.laying.specs.Fits.{FitsFromReach, last_reach, reach_behind}
 use Rattle.laying.specs.Places.{frame_count_behind, own_places, places_for}
 use Rattle.laying.specs.Relaid.{relaid_frames, rest_behind}
 use Rattle.slot_plan.specs.LeastPlan.{earliest_placement, lead_in_alone, least_plan, placed_items}
-use Rattle.slot_plan.specs.Parts.{all_items, need_item, part_items, PlanItem}
-use Rattle.slot_plan.specs.declared.needs.{Need.Need, Placed.Placed}
+use Rattle.slot_plan.specs.{Parts.{all_items, part_items, PlanItem}, declared.needs.Need.Need}
+use Rattle.slot_plan.specs.declared.needs.Placed.{Placed}
 
 -- ---- how many places a plan has
 
@@ -24,15 +24,12 @@ placed-length _ _ _ = omega arith
 
 least-length : (window : ℕ) (items : List PlanItem) (found : Option (List SlotFields))
     → length (unwrap_or (option_map (earliest_placement window items) found) []) ≤ length items
-least-length window items None = omega arith
-least-length window items (Some slots) = grind (arith, placed-length)
+least-length window items found = grind (arith, placed-length)
 
 items-length : (choices : HeaderFields → List SlotFields) (part : List Need)
     (lead_in : Option SlotFields) → length (part_items choices part lead_in) ≤ length part + 1
 unfolding part_items
-items-length choices part None = omega (arith, length-map part (need_item choices))
-items-length choices [] (Some slot) = omega arith
-items-length choices (first ∷ part) (Some slot) = omega (arith, length-map part (need_item choices))
+items-length choices part lead_in = grind (arith, length-map)
 
 whole-items : (window : ℕ) (choices : HeaderFields → List SlotFields) (parts : List (List Need))
     → length (all_items choices parts (map (lead_in_alone window choices) parts))
@@ -67,41 +64,34 @@ pub places-next : (frames : ℕ) (p : Placed) (placed : List Placed) → 0 < fra
     → places_for frames (p ∷ placed)
     ≡ places_for (frame_count_behind p.lead_in (frames - 1)) placed + 1
 unfolding places_for
-places-next zero p placed some = absurd (omega (arith, some))
-places-next (suc frames) p placed some = grind arith
+places-next frames p placed some = grind arith
 
 -- after a lead-in all frames are left
 pub behind-lead : (b : Bool) (frames next : ℕ) → 0 < frames → b ≡ true → next ≡ frames
     → frame_count_behind b (frames - 1) ≡ next
-behind-lead true frames next some is same = omega (arith, some, same)
-behind-lead false frames next some is same = absurd cc
+behind-lead b frames next some is same = grind arith
 
 -- after a frame one fewer is left
 pub behind-frame : (b : Bool) (frames next : ℕ) → b ≡ false → next ≡ frames - 1
     → frame_count_behind b (frames - 1) ≡ next
-behind-frame true frames next is same = absurd cc
-behind-frame false frames next is same = sym same
+behind-frame b frames next is same = grind arith
 
 -- ---- a plan of some frames, and of others after them
 
 behind-append : {X : Type 0} (b : Bool) (x : X) (xs ys : List X)
     → rest_behind b x (xs ++ ys) ≡ rest_behind b x xs ++ ys
-behind-append true x xs ys = refl
-behind-append false x xs ys = refl
+behind-append b x xs ys = grind arith
 
 behind-length : {X : Type 0} (b : Bool) (x : X) (xs : List X)
     → length (rest_behind b x xs) ≡ frame_count_behind b (length xs)
-behind-length true x xs = refl
-behind-length false x xs = refl
+behind-length b x xs = grind arith
 
 -- of two lists of frames, the first is laid in the first places and the second in those after them
 pub relaid_frames-append : (xs ys : List Frame) (placed : List Placed)
     → relaid_frames (xs ++ ys) placed
     ≡ relaid_frames xs placed ++ relaid_frames ys (drop (places_for (length xs) placed) placed)
 unfolding relaid_frames places_for
-relaid_frames-append xs ys [] =
-    relaid_frames-end (xs ++ ys)
-    ∙ sym (ap₂ (λ (l r : List Frame). l ++ r) (relaid_frames-end xs) (relaid_frames-end ys))
+relaid_frames-append xs ys [] = grind arith
 relaid_frames-append [] ys (p ∷ placed) = refl
 relaid_frames-append (x ∷ xs) ys (p ∷ placed) =
     ap (λ (l : List Frame). one p.lead_in p x ∷ relaid_frames l placed)

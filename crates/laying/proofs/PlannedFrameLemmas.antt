@@ -1,13 +1,13 @@
 -- Frames in the slots and with the main_data_begin of
 -- their plan can be laid, and are otherwise unchanged.
-use Rattle.std.proofs.Common.{ap, ap₂, arith, Bool, cond, Contains, drop, false, length, List, map}
-use Rattle.std.proofs.Common.{refl, slice_index, subst, sym, true, ℕ, [], ◌*◌, ◌+◌, ◌-◌, ◌/◌, ◌<◌}
-use Rattle.std.proofs.{Common.{◌==◌, ◌^◌, ◌∙◌, ◌∷◌, ◌≡◌, ◌≤◌}, lemmas.List.get_or_default}
+use Rattle.std.proofs.Common.{ap, arith, Bool, cond, Contains, drop, false, length, List, map, refl}
+use Rattle.std.proofs.Common.{slice_index, subst, sym, ℕ, [], ◌*◌, ◌+◌, ◌-◌, ◌/◌, ◌<◌, ◌^◌, ◌∙◌}
+use Rattle.std.proofs.{Common.{◌∷◌, ◌≡◌, ◌≤◌}, lemmas.List.get_or_default}
 use Rattle.bit_fields.specs.Bits.{bits}
 use Rattle.frame_header.proofs.SlotLemmas.{IsSlot-nth_slot, length-all_slots}
 use Rattle.frame_header.specs.Fields.{ClassFields, HeaderFields, IsHeader, IsSlot, SlotFields}
 use Rattle.frame_header.specs.{Slots.{all_slots, slot_of}, Tables.window_of}
-use Rattle.frame_header.specs.declared.version.Version.{Version, TheVariants.One}
+use Rattle.frame_header.specs.declared.version.Version.{Version}
 use Rattle.frame_writer.specs.Frames.{all_frame_data, Frame, frame_area}
 use Rattle.frame_writer.specs.Laid.{CanDataBeLaidFrom, zeros}
 use Rattle.laying.specs.LaidFiles.{AreStreamEntries, IsStreamEntry, stream_entry}
@@ -44,18 +44,9 @@ stream-cons p placed f fs = refl
 
 -- ---- it is of the class
 
-below_one : (b : Bool) → 511 < 2 ^ slice_index (cond b (9 ∷ 5 ∷ 4 ∷ 0 ∷ []) (9 ∷ 3 ∷ 4 ∷ 4 ∷ [])) 0
-below_one true = omega arith
-below_one false = omega arith
-
-below_two : (b : Bool) → 255 < 2 ^ slice_index (cond b (8 ∷ 1 ∷ 0 ∷ 0 ∷ []) (8 ∷ 2 ∷ 0 ∷ 0 ∷ [])) 0
-below_two true = omega arith
-below_two false = omega arith
-
 window_below : (v : Version) (channels : ℕ)
     → window_of v < 2 ^ slice_index (front_widths_of v channels) 0
-window_below One channels = below_one (channels == 1)
-window_below _ channels = below_two (channels == 1)
+window_below v channels = grind arith
 
 -- side information with another main_data_begin within the window still fits
 pub begun_fits : (c : ClassFields) (s : Side) (begin : ℕ) → SideFits c s
@@ -101,8 +92,7 @@ module _ (c : ClassFields) (p : Placed) (f : Frame) (slot : IsSlot p.slot)
 
   -- the frame at the place can be laid
   pub one-entry : (b : Bool) → IsStreamEntry c (one b p f)
-  one-entry true = lead_in-entry
-  one-entry false = moved-entry
+  one-entry b = grind (arith, lead_in-entry, moved-entry)
 
 -- ---- it is unchanged in a stream
 
@@ -115,20 +105,17 @@ lengths_begun h s begin = refl
 pub one-stream : (b : Bool) (p : Placed) (f : Frame)
     → stream_entry (one b p f) ≡ one_in_stream b (stream_entry f)
 unfolding bits payload_bits
-one-stream true p f = grind (arith, lengths_begun)
-one-stream false p f = grind (arith, lengths_begun, bits_begun)
+one-stream b p f = grind (arith, lengths_begun, bits_begun)
 
 -- mapping what is left after a place is what is left of the mapped items
 pub next-map : {X Y : Type 0} (g : X → Y) (b : Bool) (x : X) (xs : List X)
     → map g (rest_behind b x xs) ≡ rest_behind b (g x) (map g xs)
-next-map g true x xs = refl
-next-map g false x xs = refl
+next-map g b x xs = grind arith
 
 -- what is left after a place can still be laid
 pub next-entries : (c : ClassFields) (b : Bool) (f : Frame) (fs : List Frame) → IsStreamEntry c f
     → AreStreamEntries c fs → AreStreamEntries c (rest_behind b f fs)
-next-entries c true f fs is are = (is, are)
-next-entries c false f fs is are = are
+next-entries c b f fs is are = grind arith
 
 -- ---- all of them
 
@@ -153,11 +140,7 @@ pub laid_more : (c : ClassFields) (end before bytes area : ℕ) (g : Frame) (gs 
     → before - g.kept.side.main_data_begin + bytes ≤ before + area
     → AreLaidFrom c (before - g.kept.side.main_data_begin + bytes) (before + area) gs qs
     → AreLaidFrom c end before (g ∷ gs) (q ∷ qs)
-laid_more c end before bytes area g gs q qs is same long wide starts ends behind = record {
-  entries = (is, behind.entries);
-  fit = grind arith;
-  stream_is = ap₂ (λ x xs. x ∷ xs) same behind.stream_is;
-}
+laid_more c end before bytes area g gs q qs is same long wide starts ends behind = grind arith
 
 -- ---- the frames that the plan was made for
 

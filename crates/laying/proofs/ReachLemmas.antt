@@ -1,9 +1,8 @@
 -- A window that holds no more than later main data can reach.
 use Rattle.std.proofs.Common.{ap, append-nil, append_assoc, arith, Bool, cond, drop, false, inl}
 use Rattle.std.proofs.Common.{inr, length, length-append, length-drop, List, min, refl, slice_get}
-use Rattle.std.proofs.Common.{Some, subst, suc, sym, take, true, ℕ, ◌++◌, ◌+◌, ◌-◌, ◌<◌, ◌||◌, ◌∙◌}
-use Rattle.std.proofs.{Common.{◌≡◌, ◌≤◌}, lemmas.Bool.{cases_lt, ltb-false}}
-use Rattle.std.proofs.lemmas.List.{take-append-drop}
+use Rattle.std.proofs.Common.{Some, subst, suc, sym, take, ℕ, ◌++◌, ◌+◌, ◌-◌, ◌<◌, ◌||◌, ◌∙◌, ◌≡◌}
+use Rattle.std.proofs.{Common.◌≤◌, lemmas.{Bool.{cases_lt, ltb-false}, List.take-append-drop}}
 use Rattle.frame_header.specs.Tables.{class_of, overhead_of}
 use Rattle.laying.proofs.NeedsFitLemmas.{end_more, silent_bytes}
 use Rattle.laying.proofs.ReadLemmas.{area-at, main-next, place-next, window-holds}
@@ -38,10 +37,7 @@ leaves_by : (place ended : ℕ) (r : Row) (silent lost : Bool) → is_silent r �
     → (lost ≡ false → StandWell place ended r)
     → LeavesBytes place ended (cond (silent || lost) ended (end_of_data place r))
     (own_area r.header) (cond lost 0 (payload_bytes r.side)) r.side.main_data_begin
-leaves_by place ended r true true silent well = grind arith
-leaves_by place ended r false true silent well = grind arith
-leaves_by place ended r true false silent well = grind (arith, silent_bytes)
-leaves_by place ended r false false silent well = grind (arith, ltb-false, cases_lt)
+leaves_by h ended r silent lost h5 well = grind (arith, silent_bytes, ltb-false, cases_lt)
 
 leaves : (s : SurveyFields) (i : ℕ) (r : Row) → slice_get s.frames i ≡ Some r
     → IsWellPlaced s.head s.class s.frames i r → LeavesBytes (place s.head s.frames i)
@@ -75,8 +71,7 @@ over-holds window input files s i over =
       arith,
       window-last window over.main over.held,
       length-append,
-      window-holds window
-          over.main over.held,
+      window-holds window over.main over.held,
       append-nil,
     )
 

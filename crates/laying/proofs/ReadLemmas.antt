@@ -59,17 +59,12 @@ take-next : (rows : List Row) (i : ℕ) (r : Row) → slice_get rows i ≡ Some 
     → take (i + 1) rows ≡ take i rows ++ r ∷ []
 take-next [] i r is = absurd cc
 take-next (q ∷ rows) zero r is = ap (λ (x : Row). x ∷ []) cc
-take-next (q ∷ rows) (suc i) r is =
-    let more : suc i + 1 ≡ suc (i + 1) = omega arith in
-    ap (λ n. take n (q ∷ rows)) more ∙ ap (λ (l : List Row). q ∷ l) (take-next rows i r is)
+take-next (q ∷ rows) (suc i) r is = grind (arith, take-next rows i r is)
 
 sum-last : (rows : List Row) (r : Row) → sum_by (λ (q : Row). own_area q.header) (rows ++ r ∷ [])
     ≡ sum_by (λ (q : Row). own_area q.header) rows + own_area r.header
 sum-last [] r = sum_by-cons (λ (q : Row). own_area q.header) r [] ∙ omega arith
-sum-last (q ∷ rows) r =
-    sum_by-cons (λ (x : Row). own_area x.header) q (rows ++ r ∷ [])
-    ∙ ap (λ n. own_area q.header + n) (sum-last rows r)
-    ∙ omega (arith, sum_by-cons (λ (x : Row). own_area x.header) q rows)
+sum-last (q ∷ rows) r = search (arith, sum_by-cons, sum-last rows r)
 
 areas-last : (file : List ℕ) (rows : List Row) (r : Row)
     → flat_map (λ (q : Row). area_bytes file q.offset q.header) (rows ++ r ∷ []) ≡ flat_map
@@ -97,8 +92,7 @@ areas-append : (file : List ℕ) (rows more : List Row)
     ≡ flat_map (λ (q : Row). area_bytes file q.offset q.header) rows
     ++ flat_map (λ (q : Row). area_bytes file q.offset q.header) more
 areas-append file [] more = refl
-areas-append file (q ∷ rows) more =
-    grind (arith, append_assoc, flat_map, areas-append file rows more)
+areas-append file (q ∷ rows) more = grind (arith, append_assoc, areas-append file rows more)
 
 -- the main data of the first frames are the beginning of the main data of all
 pub main-front : (file : List ℕ) (head : Option Head) (rows : List Row) (n : ℕ)

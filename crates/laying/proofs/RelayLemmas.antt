@@ -1,12 +1,12 @@
 -- Frames in order, as they are planned.
 use Rattle.std.proofs.Common.{ap, append-nil, append_assoc, arith, Bool, cond, drop, false, get_or}
-use Rattle.std.proofs.Common.{inl, inr, length, List, map, min, refl, slice_get, slice_range, Some}
-use Rattle.std.proofs.Common.{suc, sym, true, zero, ℕ, [], ◌++◌, ◌+◌, ◌<◌, ◌∙◌, ◌∷◌, ◌≡◌, ◌≤◌, ◌⊎◌}
+use Rattle.std.proofs.Common.{length, List, map, min, refl, slice_get, slice_range, Some, suc, sym}
+use Rattle.std.proofs.Common.{true, zero, ℕ, [], ◌++◌, ◌+◌, ◌<◌, ◌∙◌, ◌∷◌, ◌≡◌, ◌≤◌, ◌⊎◌}
 use Rattle.std.{proofs.lemmas.{Bool.cases_lt, Option.slice_get-get_or}, specs.List.enumerate_from}
 use Rattle.frame_header.specs.Tables.{area_of, class_of}
 use Rattle.frame_writer.specs.{Frames.{all_frame_data, Frame}, Laid.BeginsWithin, Writing.Writing}
 use Rattle.laying.proofs.PassLemmas.{lays_as}
-use Rattle.laying.proofs.PlannedFrameLemmas.{AreNeedsOf, next-map, one, relaid_frames-cons}
+use Rattle.laying.proofs.PlannedFrameLemmas.{AreNeedsOf, next-map, relaid_frames-cons}
 use Rattle.laying.specs.Fits.{FitsFromReach, last_reach, placed_area, placed_bytes, reach_behind}
 use Rattle.laying.specs.{Needs.need_of, Passing.{LaysFrames, LaysPart}}
 use Rattle.laying.specs.Relaid.{all_frames, planned_frame, relaid_frames, rest_behind, survey_frame}
@@ -26,10 +26,6 @@ drop-next (y ∷ xs) (suc i) x is = grind (arith, drop-next xs i x is)
 pub range-next : {X : Type 0} (xs : List X) (i to : ℕ) (x : X) → slice_get xs i ≡ Some x → i < to
     → slice_range xs i to ≡ x ∷ slice_range xs (i + 1) to
 range-next xs i to x is within = grind (arith, drop-next)
-
--- after its end there is nothing
-pub range-none : {X : Type 0} (xs : List X) (i to : ℕ) → to ≤ i → slice_range xs i to ≡ []
-range-none xs i to past = grind arith
 
 module _ {X : Type 0} (xs : List X) (i : ℕ) (x : X) (within : i < length xs)
     (is : x ≡ get_or xs i x) where
@@ -70,8 +66,7 @@ module _ {X : Type 0} (xs : List X) where
 pub left-range : {X : Type 0} (xs : List X) (i to next : ℕ) (x : X) (b : Bool)
     → slice_get xs i ≡ Some x → i < to → next ≡ i + cond b 0 1
     → rest_behind b x (slice_range xs (i + 1) to) ≡ slice_range xs next to
-left-range xs i to next x true found within is = grind (arith, range-next, slice_range)
-left-range xs i to next x false found within is = ap (λ n. slice_range xs n to) (sym is)
+left-range xs i to next x b found within is = grind (arith, range-next)
 
 -- ---- the frames of a file
 
@@ -125,8 +120,7 @@ module _ (s : SurveyFields) (i to next : ℕ) (row : Row) (p : Placed) (placed :
       → relaid_frames (slice_range (all_frames file s) i to) (p ∷ placed) ≡
       planned_frame p (survey_frame file s i row)
       ∷ relaid_frames (slice_range (all_frames file s) next to) placed
-  relaid_frames-next file =
-      grind (arith, all-get, range-next, relaid_frames-cons, slice_range, left-range)
+  relaid_frames-next file = grind (arith, all-get, range-next, relaid_frames-cons, left-range)
 
 -- ---- as many places as frames
 
@@ -141,16 +135,14 @@ fits-some window reach s i to p placed fits = by_cases (cases_lt i to)
     none-fits (need ∷ needs) none fits = absurd cc
 
     by_cases : (i < to) ⊎ (to ≤ i) → i < to
-    by_cases (inl within) = within
-    by_cases (inr past) = grind (arith, slice_range, range-none)
+    by_cases h = grind arith
 
 -- ---- the end
 
 -- after no places the reach stays
 pub fits-none : (window reach : ℕ) (needs : List Need) → last_reach window reach needs [] ≡ reach
 unfolding last_reach
-fits-none window reach [] = refl
-fits-none window reach (need ∷ needs) = refl
+fits-none window reach needs = grind arith
 
 -- no frames are laid in any places
 pub relaid_frames-none : (placed : List Placed) → relaid_frames [] placed ≡ []
@@ -160,14 +152,9 @@ relaid_frames-none placed = refl
 -- no frames are laid in no places
 pub relaid_frames-end : (frames : List Frame) → relaid_frames frames [] ≡ []
 unfolding relaid_frames
-relaid_frames-end [] = refl
-relaid_frames-end (f ∷ frames) = refl
+relaid_frames-end frames = grind arith
 
 -- ---- where later frames begin
-
-one_begin : (b : Bool) (p : Placed) (f : Frame) → (one b p f).kept.side.main_data_begin ≡ p.begin
-one_begin true p f = refl
-one_begin false p f = refl
 
 -- the frames that are left begin within reach
 pub begins-left : (window reach : ℕ) (needs : List Need) (fs : List Frame) (placed : List Placed)
@@ -175,12 +162,7 @@ pub begins-left : (window reach : ℕ) (needs : List Need) (fs : List Frame) (pl
     → BeginsWithin (last_reach window reach needs placed) (all_frame_data more)
     → BeginsWithin reach (all_frame_data (relaid_frames fs placed ++ more))
 unfolding FitsFromReach last_reach relaid_frames
-begins-left window reach [] [] [] more are fits begins = begins
-begins-left window reach [] (f ∷ fs) placed more are fits begins = absurd are
-begins-left window reach (need ∷ needs) [] placed more are fits begins = absurd are
-begins-left window reach (need ∷ needs) (f ∷ fs) (p ∷ placed) more are fits begins =
-    omega (arith, one_begin p.lead_in p f, fits.0)
-begins-left window reach _ _ _ more are fits begins = absurd fits
+begins-left window reach needs fs placed more are fits begins = grind arith
 
 -- a failed write among the first frames is one among all of them
 pub part_more : (input output : List ℕ) (made rest whole : List ℕ → List Frame) (reach last : ℕ)
@@ -222,8 +204,7 @@ pub record LaysUpTo (input output : List ℕ) (whole rest : List ℕ → List Fr
 
 -- a place takes at most one frame
 pub step-most : (b : Bool) → cond b 0 1 ≤ 1
-step-most true = omega arith
-step-most false = omega arith
+step-most b = grind arith
 
 module _ (input output : List ℕ) (whole rest : List ℕ → List Frame) (old new : Writing)
     (before after : Files) (sofar : LaysUpTo input output whole rest old new before after) where

@@ -1,9 +1,9 @@
 -- The frames of a surveyed file: their main data are within the
 -- file, and have as many bits as their side information says.
 use Rattle.std.proofs.Common.{ap, ap₂, arith, Bool, cond, drop, false, flat_map, length}
-use Rattle.std.proofs.Common.{length-append, length-drop, List, map, None, Ok, Option, option_map}
-use Rattle.std.proofs.Common.{refl, slice_get, Some, subst, suc, sum_by, take, true, zero, ℕ, []}
-use Rattle.std.proofs.{Common.{◌*◌, ◌++◌, ◌+◌, ◌-◌, ◌/◌, ◌∙◌, ◌∷◌, ◌≡◌, ◌≤◌}, lemmas.Bool.ltb-false}
+use Rattle.std.proofs.Common.{length-append, length-drop, List, map, Ok, Option, option_map, refl}
+use Rattle.std.proofs.Common.{slice_get, Some, subst, suc, sum_by, take, true, zero, ℕ, [], ◌*◌}
+use Rattle.std.proofs.{Common.{◌++◌, ◌+◌, ◌-◌, ◌/◌, ◌∙◌, ◌∷◌, ◌≡◌, ◌≤◌}, lemmas.Bool.ltb-false}
 use Rattle.std.proofs.lemmas.List.{drop_at, length-take-le, take_at, Sums.sum_by-cons}
 use Rattle.std.specs.List.{cons_option, enumerate_from}
 use Rattle.bit_fields.proofs.BitsLemmas.{AreBelow-append, AreBelow-drop, AreBelow-take}
@@ -18,9 +18,8 @@ use Rattle.laying.specs.LaidFiles.{AreStreamEntries, HasPairs, IsStreamEntry, st
 use Rattle.laying.specs.{Laws.SurveysCanBeRelaid, Relaid.{all_frames, packed_bytes}}
 use Rattle.laying.specs.Surveys.{AreWholeRows, CanBeRelaid, HasWholeHead, IsWholeFrameAt}
 use Rattle.laying.specs.Surveys.{IsWholeRow}
-use Rattle.side_info.proofs.FrameLemmas.{shaped-side_in}
-use Rattle.side_info.proofs.SideLemmas.{bits_least, IsShaped, SideFits-no_side}
-use Rattle.side_info.specs.{Frame.side_in, Side.{no_side, payload_bits, payload_bytes, SideFits}}
+use Rattle.side_info.proofs.{FrameLemmas.shaped-side_in, SideLemmas.{bits_least, IsShaped}}
+use Rattle.side_info.specs.Side.{no_side, payload_bits, payload_bytes, SideFits}
 use Rattle.side_info.specs.declared.side.Side.{Side}
 use Rattle.sync_survey.proofs.EmptiedLemmas.{no_bytes}
 use Rattle.sync_survey.proofs.ItemsLemmas.{header_front-in_range, stands-at}
@@ -50,12 +49,7 @@ AreWholeFrames file (p ∷ ps) = IsWholeFrameAt file p.offset p.header × AreWho
 frame_more : (file : List ℕ) (at : ℕ) (item : Item) (ps : List PlacedFrame) → item_at file at ≡ item
     → at + size_of item ≤ length file → AreWholeFrames file ps
     → AreWholeFrames file (cons_option (frame_of_item at item) ps)
-frame_more file at (FrameItem h) ps is within are =
-    grind (
-      arith,
-      header_front-in_range (drop at file) h (stands-at file at (FrameItem h) is),
-      stands-at file,
-    )
+frame_more file at (FrameItem h) ps is within are = search (arith, header_front-in_range, stands-at)
 frame_more file at _ ps is within are = are
 
 ends-frames : (file : List ℕ) (from : ℕ) (ps : List PlacedItem) (to : ℕ)
@@ -68,9 +62,7 @@ ends-frames file from (p ∷ ps) to ends =
 
 numbered_frames-whole : (file : List ℕ) (head : Option Head) (ps : List PlacedFrame)
     → AreWholeFrames file ps → AreWholeFrames file (numbered_frames head ps)
-numbered_frames-whole file None ps are = are
-numbered_frames-whole file (Some head) [] are = tt
-numbered_frames-whole file (Some head) (p ∷ ps) are = are.1
+numbered_frames-whole file head ps are = grind arith
 
 -- side information with lists as long as the arrays has pairs of granules and channels
 pub shaped_pairs : (s : Side) → IsShaped s → HasPairs s
@@ -79,14 +71,8 @@ shaped_pairs s shaped = grind arith
 rows-whole : (file : List ℕ) (ps : List PlacedFrame) → AreWholeFrames file ps
     → AreWholeRows file (rows_of file ps)
 rows-whole file [] are = tt
-rows-whole file (p ∷ ps) are = (
-  record {
-    frame = are.0;
-    pairs = shaped_pairs (side_in p.header (drop p.offset file))
-        (shaped-side_in p.header (drop p.offset file));
-  },
-  rows-whole file ps are.1,
-)
+rows-whole file (p ∷ ps) are =
+    search (arith, shaped_pairs, shaped-side_in, rows-whole file ps are.1)
 
 marks-whole : (file : List ℕ) (head : Option Head) (rows : List Row) (n : ℕ) (more : List Row)
     → AreWholeRows file more → AreWholeRows file
@@ -105,8 +91,7 @@ marked_rows-whole file head rows are = marks-whole file head rows 0 rows are
 head_by : (file : List ℕ) (p : PlacedFrame) (o : Option ℕ) → IsWholeFrameAt file p.offset p.header
     → HasWholeHead file
     (option_map (λ at. record { offset = p.offset; header = p.header; text_at = at }) o)
-head_by file p None is = tt
-head_by file p (Some at) is = is
+head_by file p o is = grind arith
 
 -- the head of a whole frame is whole
 pub head-whole : (file : List ℕ) (p : PlacedFrame) → IsWholeFrameAt file p.offset p.header
@@ -125,19 +110,11 @@ areas-length : (file : List ℕ) (rows : List Row) → AreWholeRows file rows
     ≡ sum_by (λ (r : Row). own_area r.header) rows
 areas-length file [] are = refl
 areas-length file (r ∷ rows) are =
-    omega (
-      arith,
-      length-append (area_bytes file r.offset r.header)
-          (flat_map (λ (q : Row). area_bytes file q.offset q.header) rows),
-      area-length file r.offset r.header are.0.frame,
-      areas-length file rows are.1,
-      sum_by-cons (λ (q : Row). own_area q.header) r rows,
-    )
+    search (arith, length-append, area-length, sum_by-cons, areas-length file rows are.1)
 
 head-length : (file : List ℕ) (head : Option Head) → HasWholeHead file head
     → length (head_bytes file head) ≡ head_area head
-head-length file None is = refl
-head-length file (Some head) is = area-length file head.offset head.header is
+head-length file head is = grind (arith, area-length)
 
 area-among : (rows : List Row) (i : ℕ) (r : Row) → slice_get rows i ≡ Some r
     → sum_by (λ (q : Row). own_area q.header) (take i rows) + own_area r.header
@@ -150,12 +127,7 @@ area-among (q ∷ rows) zero r is =
       ap (λ (x : Row). own_area x.header) same,
       sum_by-cons (λ (x : Row). own_area x.header) q rows,
     )
-area-among (q ∷ rows) (suc i) r is = omega (
-  arith,
-  area-among rows i r is,
-  sum_by-cons (λ (x : Row). own_area x.header) q rows,
-  sum_by-cons (λ (x : Row). own_area x.header) q (take i rows),
-)
+area-among (q ∷ rows) (suc i) r is = search (arith, sum_by-cons, area-among rows i r is)
 
 -- the main data of the file reach to the end of the area of each frame
 pub main-reaches : (file : List ℕ) (head : Option Head) (rows : List Row) (i : ℕ) (r : Row)
@@ -228,14 +200,12 @@ module _ (bs : List ℕ) (are : AreBits bs) where
 
 -- the side information has its pairs, whether or not the frame was lost
 pub side_paired : (lost : Bool) (s : Side) → HasPairs s → HasPairs (cond lost no_side s)
-side_paired true s pairs = record { scfsi = refl; granules = refl; first = refl; second = refl }
-side_paired false s pairs = pairs
+side_paired lost s pairs = grind arith
 
 -- the fields of the side information are within their bits, whether or not the frame was lost
 pub side_fits : (c : ClassFields) (lost : Bool) (s : Side) → SideFits c s
     → SideFits c (cond lost no_side s)
-side_fits c true s fits = SideFits-no_side c
-side_fits c false s fits = fits
+side_fits c lost s fits = grind arith
 
 bytes_of_bits : (s : Side) (n : ℕ) → n ≡ payload_bits s → (n + 7) / 8 ≡ payload_bytes s
 unfolding payload_bytes
@@ -384,14 +354,13 @@ survey_fields-whole file allowed s e =
 -- by a survey without fault its file can be repacked
 pub surveys-had : SurveysCanBeRelaid
 surveys-had file allowed s e =
-    let is = survey_fields-whole file allowed s e in
-    record {
-      long = ap (λ (t : SurveyFields). t.length) (survey_fields-parts file allowed s e).2;
-      head = is.head;
-      rows = is.rows;
-      placed = survey_fields-placed file allowed s e;
-      blocks = surveyed-blocks file allowed s e;
-    }
+    grind (
+      arith,
+      survey_fields-whole file allowed s e,
+      survey_fields-parts file allowed s e,
+      survey_fields-placed file allowed s e,
+      surveyed-blocks file allowed s e,
+    )
 
 -- by a survey of a file that isn't too long its file can be repacked
 pub survey-had : (file : List ℕ) (allowed : ℕ) (s : SurveyFields) → survey_of file allowed ≡ Ok s

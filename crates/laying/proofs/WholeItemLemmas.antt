@@ -1,7 +1,7 @@
 -- Bytes that are concatenated items: where they are in a file, the items are its run.
 use Rattle.std.proofs.Common.{ap, append_assoc, arith, drop, length, length-append, length-drop}
-use Rattle.std.proofs.Common.{List, None, option_map, refl, Some, subst, sym, take, true, ℕ, []}
-use Rattle.std.proofs.{Common.{◌++◌, ◌+◌, ◌∙◌, ◌∷◌, ◌≡◌, ◌≤◌}, Math.Seq.take-length}
+use Rattle.std.proofs.Common.{List, None, refl, Some, subst, sym, take, true, ℕ, [], ◌++◌, ◌+◌, ◌∙◌}
+use Rattle.std.proofs.{Common.{◌∷◌, ◌≡◌, ◌≤◌}, Math.Seq.take-length}
 use Rattle.std.{proofs.lemmas.List.{drop-drop, drop_at}, specs.List.concat}
 use Rattle.laying.specs.LaidFiles.{AreBlocks, blocks_from, IsBlock}
 use Rattle.sync_survey.proofs.ItemBytesLemmas.{block_front-bytes, IsItem}
@@ -108,5 +108,4 @@ blocks-no_frame at (b ∷ blocks) are = blocks-no_frame (at + are.0.0.length) bl
 pub blocks-placed : (at : ℕ) (blocks : List (List ℕ)) (are : AreBlocks blocks)
     → blocks_of (placed at (block_items blocks are)) ≡ blocks_from at blocks
 blocks-placed at [] are = refl
-blocks-placed at (b ∷ blocks) are =
-    grind (arith, option_map, blocks-placed (at + length b) blocks are.1)
+blocks-placed at (b ∷ blocks) are = grind (arith, blocks-placed (at + length b) blocks are.1)

@@ -1,7 +1,7 @@
 -- Gains that can move: when a change of gains is refused, and when it isn't.
-use Rattle.std.proofs.Common.{ap, arith, Bool, cond, Err, false, inl, inr, length, List, None, not}
-use Rattle.std.proofs.Common.{Ok, Option, pos, refl, Result, rules, Some, subst, suc, sym, true}
-use Rattle.std.proofs.Common.{zero, ℕ, ℤ, [], ◌&&◌, ◌<◌, ◌==◌, ◌∙◌, ◌∷◌, ◌≡◌, ◌≢◌, ◌≤◌, ◌⊎◌}
+use Rattle.std.proofs.Common.{ap, arith, Bool, cond, false, length, List, None, not, Ok, Option}
+use Rattle.std.proofs.Common.{pos, refl, Result, rules, Some, subst, suc, sym, true, ℕ, ℤ, [], ◌&&◌}
+use Rattle.std.proofs.Common.{◌<◌, ◌==◌, ◌∙◌, ◌∷◌, ◌≡◌, ◌≢◌, ◌≤◌, ◌⊎◌}
 use Rattle.std.{proofs.lemmas.Bool.{le-ltb, ltb-false, ne_eqb}, specs.Option.option_or}
 use Rattle.std.specs.Prelude.{nat_lt, unsigned_abs}
 use Rattle.commands.proofs.RefusingLemmas.{first-cons, first-nil, none_both, none_first}
@@ -29,14 +29,13 @@ use Rattle.moved_gains.specs.Gains.{gain_out_of_range, is_out_of_range, side_out
 use Rattle.moved_gains.specs.{TagPlace.tag_offset, TagReading.{file_tag, longest_tag}}
 use Rattle.moved_gains.specs.declared.gains.OutOfRange.{OutOfRange}
 use Rattle.moved_gains.specs.declared.tag_fault.FileTagFault.{FileTagFault}
-use Rattle.requests.specs.{Shifts.steps_of, declared.shift.Channels.Channels}
-use Rattle.requests.specs.declared.shift.{Channels.TheVariants.{Both, Left, Right}, Shift.Shift}
+use Rattle.requests.specs.{Shifts.steps_of, declared.shift.{Channels.Channels, Shift.Shift}}
 use Rattle.requests.specs.declared.shift.Steps.{Steps}
 use Rattle.side_info.specs.{Side.granule_in, declared.side.Side.Side}
 use Rattle.sync_survey.specs.{Faults.{longest_file, SurveyFields}, Row.Row}
 use Rattle.tag_blocks.specs.{Tags.{tag_bytes, TagFields}, UndoItems.undo_from}
 use Rattle.tag_blocks.specs.declared.undo.{Undo.Undo, UndoItem.UndoItem}
-use Rattle.tag_blocks.specs.declared.undo.UndoItem.TheVariants.{Bad, Found, Missing}
+use Rattle.tag_blocks.specs.declared.undo.UndoItem.TheVariants.{Found, Missing}
 
 -- ---- one gain
 
@@ -49,18 +48,14 @@ stays-inside sum gain = ap is_out_of_range gain.2 ∙ le-ltb 255 gain.0 gain.1
 
 loud-inside : (silent outside : Bool) (x : OutOfRange)
     → cond (not silent && outside) (Some x) None ≡ None → silent ≡ false → outside ≡ false
-loud-inside true outside x e loud = absurd cc
-loud-inside false true x e loud = absurd cc
-loud-inside false false x e loud = refl
+loud-inside silent outside x e loud = grind arith
 
 inside-none : (silent outside : Bool) (x : OutOfRange) → (silent ≡ false → outside ≡ false)
     → cond (not silent && outside) (Some x) None ≡ None
-inside-none true outside x inside = refl
-inside-none false outside x inside = ap (λ b. cond b (Some x) None) (inside refl)
+inside-none silent outside x inside = grind arith
 
 is-some : (n : ℕ) → (n == 0) ≡ false → 0 < n
-is-some zero e = absurd cc
-is-some (suc n) e = omega arith
+is-some n e = grind arith
 
 -- the gain of a granule and channel can move
 abbrev GranuleMoves : ℤ → Side → ℕ → ℕ → Type 0
@@ -78,20 +73,17 @@ moves-granule steps s granule channel moves = grind (arith, inside-none, pos, st
 -- ---- one frame
 
 none-or : {A : Type 0} (a b : Option A) → option_or a b ≡ None → (a ≡ None) × (b ≡ None)
-none-or None b e = (refl, e)
-none-or (Some x) b e = absurd cc
+none-or a b e = grind arith
 
 or-none : {A : Type 0} (a b : Option A) → a ≡ None → b ≡ None → option_or a b ≡ None
 or-none a b e d = ap (λ o. option_or o b) e ∙ d
 
 strict : (wrap : Bool) (o : Option OutOfRange) → cond wrap None o ≡ None → wrap ≡ false → o ≡ None
-strict true o e is = absurd cc
-strict false o e is = e
+strict wrap o e is = grind arith
 
 unless-wrap : (wrap : Bool) (o : Option OutOfRange) → (wrap ≡ false → o ≡ None)
     → cond wrap None o ≡ None
-unless-wrap true o none = refl
-unless-wrap false o none = none refl
+unless-wrap wrap o none = grind arith
 
 -- each of the four gains of a frame can move
 abbrev SideMoves : Steps → Side → Type 0
@@ -120,13 +112,7 @@ side-moves steps s none is = λ granule channel g c. at granule channel g c
 
     at : (granule channel : ℕ) → granule < 2 → channel < 2
         → GranuleMoves (channel_steps steps channel) s granule channel
-    at zero zero g c = granule-moves steps.left s 0 0 first.0
-    at zero (suc zero) g c = granule-moves steps.right s 0 1 second.0
-    at (suc zero) zero g c = granule-moves steps.left s 1 0 third.0
-    at (suc zero) (suc zero) g c = granule-moves steps.right s 1 1 third.1
-    at zero (suc (suc n)) g c = absurd (omega (arith, c))
-    at (suc zero) (suc (suc n)) g c = absurd (omega (arith, c))
-    at (suc (suc n)) channel g c = absurd (omega (arith, g))
+    at granule channel g c = search (rules, granule-moves)
 
 moves-side : (steps : Steps) (s : Side) → (steps.wrap ≡ false → SideMoves steps s)
     → side_out_of_range steps s ≡ None
@@ -224,34 +210,25 @@ separate-none s are = grind (arith, ne_eqb, apart-each)
 
 can-change : (channels : Channels) (s : SurveyFields)
     → cond (are_both channels) None (single_channel_fault s) ≡ None → CanChange channels s
-can-change Both s none = tt
-can-change Left s none = separate s none
-can-change Right s none = separate s none
+can-change channels s none = search (rules, separate)
 
 change-none : (channels : Channels) (s : SurveyFields) → CanChange channels s
     → cond (are_both channels) None (single_channel_fault s) ≡ None
-change-none Both s can = refl
-change-none Left s can = separate-none s can
-change-none Right s can = separate-none s can
+change-none channels s can = search (rules, separate-none)
 
 -- ---- the tag
 
 noted-ok : (at : ℕ) (item : UndoItem) (undo : Undo) → noted_undo at item ≡ Ok undo
     → (item ≡ Found undo) ⊎ ((item ≡ Missing) × (undo ≡ no_undo))
-noted-ok at Missing undo e = inr (refl, cc)
-noted-ok at (Bad place) undo e = absurd cc
-noted-ok at (Found found) undo e = inl cc
+noted-ok at item undo e = grind arith
 
 ok-noted : (at : ℕ) (item : UndoItem) (undo : Undo)
     → (item ≡ Found undo) ⊎ ((item ≡ Missing) × (undo ≡ no_undo)) → noted_undo at item ≡ Ok undo
-ok-noted at item undo (inl found) = ap (noted_undo at) found
-ok-noted at item undo (inr none) = ap (noted_undo at) none.0 ∙ ap Ok (sym none.1)
+ok-noted at item undo h = grind arith
 
 found-ok : (at : ℕ) (item : UndoItem) (undo : Undo) → found_undo at item ≡ Ok undo
     → item ≡ Found undo
-found-ok at Missing undo e = absurd cc
-found-ok at (Bad place) undo e = absurd cc
-found-ok at (Found found) undo e = cc
+found-ok at item undo e = grind arith
 
 -- a number that isn't refused is at most what it may be
 most : (n m : ℕ) (x : Refusal) → cond (nat_lt m n) (Some x) None ≡ None → n ≤ m
@@ -302,8 +279,7 @@ module _ (shift : Shift) (file : List ℕ) (s : SurveyFields) where
   pub gain-legal : (tags : Bool) (change : FileChange) → gain_change shift tags file s ≡ Ok change
       → IsLegalGain shift tags input
   unfolding gain_change
-  gain-legal true change e = noted-legal change e
-  gain-legal false change e = plain-legal change e
+  gain-legal tags change e = search (rules, noted-legal, plain-legal)
 
   free : (tags : Bool) → IsLegalGain shift tags input
       → range_fault (constant_steps (steps_of shift)) s.frames ≡ None
@@ -350,8 +326,7 @@ module _ (shift : Shift) (file : List ℕ) (s : SurveyFields) where
   pub legal-gain : (tags : Bool) → IsLegalGain shift tags input
       → (change : FileChange) × (gain_change shift tags file s ≡ Ok change)
   unfolding gain_change
-  legal-gain true legal = legal-noted legal
-  legal-gain false legal = legal-plain legal
+  legal-gain tags legal = search (rules, legal-noted, legal-plain)
 
 -- ---- undo
 
@@ -391,5 +366,4 @@ legal-undo file s legal =
 pub with-parts : (file : List ℕ) (s : SurveyFields) (r : Result FileChange EditFault)
     (bytes : List ℕ) → changed_or_fault file s r ≡ Ok bytes
     → (change : FileChange) × (r ≡ Ok change)
-with-parts file s (Ok change) bytes e = (change, refl)
-with-parts file s (Err fault) bytes e = absurd cc
+with-parts file s r bytes e = grind arith

@@ -1,6 +1,6 @@
 -- Names that are apart, and the surveys of inputs.
 use Rattle.std.proofs.Common.{ap, arith, bytes_eq, cond, Contains, false, length, List, None, Ok}
-use Rattle.std.proofs.Common.{refl, Some, subst, suc, zero, ℕ, [], ◌+◌, ◌∙◌, ◌∷◌, ◌≡◌, ◌≤◌}
+use Rattle.std.proofs.Common.{refl, Some, suc, ℕ, [], ◌+◌, ◌∙◌, ◌∷◌, ◌≡◌, ◌≤◌}
 use Rattle.std.proofs.lemmas.{Bool.false_from_ne_true, List.{Elements.All-cons, Folds.list_any_at}}
 use Rattle.std.proofs.lemmas.{Map.Views.Contains-from_any, Slice.Eq.bytes_eq-Decides}
 use Rattle.std.specs.List.{list_any}
@@ -22,14 +22,12 @@ use Rattle.sync_survey.specs.{MainData.rows_of, Survey.survey_of, Walk.head_of}
 -- what holds of the first element and of each after it holds of each
 pub each-cons : {A : Type 0} (P : ℕ → A → Type 0) (x : A) (xs : List A) → P 0 x
     → HoldsOfEach xs (λ i y. P (suc i) y) → HoldsOfEach (x ∷ xs) P
-each-cons P x xs first rest zero y is = let same : x ≡ y = cc in subst (P 0) same first
-each-cons P x xs first rest (suc i) y is = rest i y is
+each-cons P x xs first rest h y is = grind arith
 
 -- what holds of the first two elements and of each two neighbours after them holds of each two
 pub next-cons : {A : Type 0} (P : A → A → Type 0) (x y : A) (more : List A) → P x y
     → HoldsOfEachNext (y ∷ more) P → HoldsOfEachNext (x ∷ y ∷ more) P
-next-cons P x y more first rest zero p q is next = grind arith
-next-cons P x y more first rest (suc i) p q is next = rest i p q is next
+next-cons P x y more first rest h p q is next = grind arith
 
 -- ---- names
 

@@ -99,9 +99,7 @@ module _ (asked : Request) (files : Contents) (input : List ℕ)
 
   the-one : (inputs : List FileInput) → AreInputs files (input ∷ []) inputs
       → input_frames inputs ≤ most_frames_of asked → AreLegalChoices asked files inputs → IsOneOf
-  the-one [] are few choices = absurd are
-  the-one (one ∷ []) are few choices = grind arith
-  the-one (one ∷ next ∷ inputs) are few choices = absurd are.1
+  the-one inputs are few choices = grind arith
 
   one-legal : IsLegalFor asked files ↔ (AreApart (input ∷ []) × IsOneOf)
   one-legal = (
@@ -328,10 +326,7 @@ LegalIn mode i = IsLegalPack mode i.survey
 pack-choice : (mode : PackMode) (file : List ℕ) (s : SurveyFields) (bytes : List ℕ)
     → survey_of file most_frames ≡ Ok s → making_in mode file s ≡ Ok bytes
     → LegalIn mode (record { bytes = file; survey = s })
-pack-choice Least file s bytes surveyed e = tt
-pack-choice Best file s bytes surveyed e = tt
-pack-choice (Constant rate) file s bytes surveyed e = constant-legal file s surveyed rate bytes e
-pack-choice (Floor rate) file s bytes surveyed e = floor-legal file s surveyed rate bytes e
+pack-choice mode file s bytes surveyed e = grind (arith, constant-legal, floor-legal)
 
 choice-pack : (mode : PackMode) (file : List ℕ) (s : SurveyFields)
     → survey_of file most_frames ≡ Ok s → LegalIn mode (record { bytes = file; survey = s })

@@ -243,12 +243,7 @@ module _ (file : List ℕ) (s : SurveyFields) (is : survey_of file most_frames �
           ≡ Err (Refused (Unfit i)) → (none : no_rate (Constant rate) s.class ≡ None)
           × (least_menu_plan (window_of s.class.version) (menu_in (Constant rate) s.class) needs
           ≡ Err i)
-      at true is e = (
-        ap (λ b. cond b None (Some (NoRate rate))) is,
-        menu (least_menu_plan (window_of s.class.version) (menu_in (Constant rate) s.class) needs)
-            e,
-      )
-      at false is e = absurd cc
+      at b is e = grind arith
 
   -- a packing that is refused with `Unfit` has a bit rate of the class, and names that frame
   pub made-unfit : (rate i : ℕ)

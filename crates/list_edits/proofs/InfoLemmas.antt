@@ -1,8 +1,7 @@
 -- The lines about a file, one of which may be absent, and the frames that they are about.
-use Rattle.std.proofs.Common.{arith, Bool, drop, false, fold, get_or, length, List, max, min}
-use Rattle.std.proofs.Common.{Option, refl, Some, true, ℕ, [], ◌++◌, ◌+◌, ◌<◌, ◌∷◌, ◌≡◌}
-use Rattle.std.proofs.{Math.Seq.drop-cons, lemmas.List.drop_more}
-use Rattle.std.specs.Prelude.{flat_map, if◌then◌else◌, slice_get}
+use Rattle.std.proofs.Common.{arith, Bool, drop, fold, get_or, length, List, max, min, Option, Some}
+use Rattle.std.proofs.{Common.{ℕ, [], ◌++◌, ◌+◌, ◌<◌, ◌∷◌, ◌≡◌}, Math.Seq.drop-cons}
+use Rattle.std.{proofs.lemmas.List.drop_more, specs.Prelude.{flat_map, if◌then◌else◌, slice_get}}
 use Rattle.list_edits.specs.InfoText.{gain_lines}
 use Rattle.list_edits.specs.Totals.{greatest_rate, least_rate, row_rate, row_rates}
 use Rattle.moved_gains.proofs.ExtremesLemmas.{joined_extremes-append}
@@ -16,8 +15,7 @@ use Rattle.sync_survey.specs.Row.{Row}
 pub unless-lines : (none : Bool) (line : List ℕ) (others : List (List ℕ))
     → flat_map (λ l. l) ((if none then [] else line ∷ []) ++ others)
     ≡ (if none then [] else line) ++ flat_map (λ l. l) others
-unless-lines true line others = refl
-unless-lines false line others = refl
+unless-lines none line others = grind arith
 
 -- the line that is met, and the lines that are left
 pub line-at : (lines : List (List ℕ)) (i : ℕ) (line : List ℕ) → i < length lines

@@ -1,19 +1,17 @@
 -- What a command that sends a text of one file leaves, given the survey of its input.
-use Rattle.std.proofs.Common.{ap, ap₂, arith, Err, inl, inr, length, List, Ok, refl, Result, Some}
-use Rattle.std.proofs.Common.{subst, sym, ℕ, [], ◌+◌, ◌∙◌, ◌≡◌, ◌≤◌}
-use Rattle.std.specs.{Prelude.{IfErr, OnErr, OnOk}, Result.IsErrAnd}
+use Rattle.std.proofs.Common.{ap, ap₂, arith, Err, length, List, Ok, refl, Result, Some, subst, sym}
+use Rattle.std.{proofs.Common.{ℕ, [], ◌+◌, ◌∙◌, ◌≡◌, ◌≤◌}, specs.Prelude.{IfErr, OnErr, OnOk}}
+use Rattle.std.specs.Result.{IsErrAnd}
 use Rattle.commands.proofs.{InputLemmas.of_bytes_behind, MakeLemmas.{made-same, ok_made}}
 use Rattle.commands.proofs.NamedLemmas.{lost_name, missed_name, unread_name}
 use Rattle.commands.proofs.{RefusingLemmas.before_first, TellingLemmas.{says-all, says-prefix}}
 use Rattle.commands.proofs.WhyLemmas.{each_why}
-use Rattle.commands.specs.AfterCall.{HasNumbers, HasSurveyNumbers, IsCommandDone, IsCommandFault}
-use Rattle.commands.specs.AfterCall.{TakesMemory}
-use Rattle.commands.specs.Command.{Command, HasAnswer, HoldsStreams, Made, MakesStreams}
-use Rattle.commands.specs.{Command.written_files, SentText.{answer_fault, IsCommandText, SaysText}}
+use Rattle.commands.specs.AfterCall.{HasSurveyNumbers, IsCommandDone, IsCommandFault, TakesMemory}
+use Rattle.commands.specs.Command.{HasAnswer, HoldsStreams, Made, MakesStreams, written_files}
+use Rattle.commands.specs.SentText.{answer_fault, IsCommandText, SaysText}
 use Rattle.commands.specs.SingleOutput.{IsFileFault, most_frames}
 use Rattle.commands.specs.declared.fault.EditFault.{EditFault}
-use Rattle.commands.specs.declared.fault.EditFault.TheVariants.{EqualNames, Input, Memory, Refused}
-use Rattle.commands.specs.declared.fault.EditFault.TheVariants.{Sent as NotSent, Write}
+use Rattle.commands.specs.declared.fault.EditFault.TheVariants.{Input, Memory, Sent as NotSent}
 use Rattle.list_edits.specs.TextCommand.{input_text, IsTextRun, surveyed_text, text_command}
 use Rattle.outside.{proofs.FilesLemmas.{there_holds, touches_none}, specs.BufferOutput.SentPrefix}
 use Rattle.outside.specs.Counts.{Counts, HasCause, OnlyReads}
@@ -33,16 +31,14 @@ use Rattle.sync_survey.specs.declared.survey_fault.SurveyFault.{SurveyFault, The
 pub told_by : {T : Type 0} (P : Result T EditFault → Type 0) → ((x : T) → P (Ok x))
     → P (Err NotSent) → (result : Result T EditFault) → IfErr result (λ fault. fault ≡ NotSent)
     → P result
-told_by P all part (Ok x) is = all x
-told_by P all part (Err fault) is = subst (λ f. P (Err f)) (sym is) part
+told_by P all part result is = grind arith
 
 -- ---- what the contents of the files make of the command
 
 module _ (text : List ℕ → SurveyFields → List ℕ) (input : List ℕ) where
   gives_absent : (files : Files) → IsFileMissing files input
       → HasAnswer (text_command text input) files (Err (Input 0 Absent))
-  gives_absent (Untold touched) missing = tt
-  gives_absent (Told f) missing = ap (input_text text) missing
+  gives_absent files missing = grind arith
 
   gives_survey : (f : Contents) (bytes : List ℕ) (r : Result SurveyFields SurveyFault)
       → f input ≡ Some bytes → survey_of bytes most_frames ≡ r
@@ -53,22 +49,19 @@ module _ (text : List ℕ → SurveyFields → List ℕ) (input : List ℕ) wher
       → ((bytes : List ℕ) → Holds files input bytes
       → surveyed_text (text bytes) (survey_of bytes most_frames) ≡ answer)
       → HasAnswer (text_command text input) files answer
-  gives_bytes (Untold touched) answer there is = tt
-  gives_bytes (Told f) answer there is = grind (arith, there_holds)
+  gives_bytes files answer there is = grind arith
 
   -- ---- a fault of the survey
 
   survey_takes : (bytes : List ℕ) (r : Result SurveyFields SurveyFault)
       → ((fault : SurveyFault) → r ≡ Err fault → IsOfBytes fault)
       → TakesMemory (surveyed_text (text bytes) r)
-  survey_takes bytes (Ok s) of = tt
-  survey_takes bytes (Err fault) of = of_bytes_behind fault (of fault refl)
+  survey_takes bytes r of = grind (arith, of_bytes_behind)
 
   takes_memory : (files : Files) → IsFileThere files input
       → ((bytes : List ℕ) → Holds files input bytes → length bytes ≤ longest_file)
       → IfTold files (λ f. TakesMemory ((text_command text input).makes f))
-  takes_memory (Untold touched) there few = tt
-  takes_memory (Told f) there few =
+  takes_memory files there few =
       grind (
         arith,
         there_holds,
@@ -165,8 +158,7 @@ module _ (text : List ℕ → SurveyFields → List ℕ) (input : List ℕ) wher
 
     -- the text of the command is this one
     only_text : (told : List ℕ) → IsCommandText (text_command text input) files told → said ≡ told
-    only_text told (inl always) = absurd cc
-    only_text told (inr known) = grind (arith, gives, made-same)
+    only_text told h = grind arith
 
     -- all of the text was sent or, if a write failed, a prefix
     pub says : {T : Type 0} (old new : Heard) (result : Result T EditFault)
@@ -178,30 +170,10 @@ module _ (text : List ℕ → SurveyFields → List ℕ) (input : List ℕ) wher
 
 -- ---- a call that is refused before anything is sent
 
-unsaid : (command : Command) (files : Files) (heard : Heard) (fault : EditFault)
-    → HasSurveyNumbers 0 fault → SaysText command files heard heard (Some fault)
-unsaid command files heard (Input place fault) of = refl
-unsaid command files heard Memory of = refl
-unsaid command files heard (EqualNames place) of = absurd of
-unsaid command files heard (Refused refusal) of = absurd of
-unsaid command files heard (Write place) of = absurd of
-unsaid command files heard NotSent of = absurd of
-
-survey_numbers : (text : List ℕ → SurveyFields → List ℕ) (input : List ℕ) (fault : EditFault)
-    → HasSurveyNumbers 0 fault → HasNumbers (text_command text input) fault
-survey_numbers text input (Input place fault) of = (omega (arith, of.0), of.1, of.2, inl of.0)
-survey_numbers text input Memory of = tt
-survey_numbers text input (EqualNames place) of = absurd of
-survey_numbers text input (Refused refusal) of = absurd of
-survey_numbers text input (Write place) of = absurd of
-survey_numbers text input NotSent of = absurd of
-
 -- a run that the survey refuses: nothing was sent, and the files stay
 pub refused_run : (text : List ℕ → SurveyFields → List ℕ) (input : List ℕ) (old new : Seen)
     (heard : Heard) (answer : Result (Unit {0}) EditFault) (fault : EditFault)
     → IsErrAnd answer (λ y. y ≡ fault) → IsCommandFault (text_command text input) old new fault
     → HasSurveyNumbers 0 fault → new.files ≡ old.files → OnlyReads old.counts new.counts
     → IsTextRun (text_command text input) old new heard heard answer
-refused_run text input old new heard (Ok x) fault is left of files counts = absurd is
-refused_run text input old new heard (Err first) fault is left of files counts =
-    grind (arith, says, unsaid, survey_numbers)
+refused_run text input old new heard answer fault is left of files counts = grind arith

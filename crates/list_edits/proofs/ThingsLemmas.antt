@@ -1,6 +1,6 @@
 -- The things of a file are two lists, each in order of offset.
-use Rattle.std.proofs.Common.{arith, false, List, map, None, Option, refl, Some, subst, ℕ, [], ◌++◌}
-use Rattle.std.{proofs.Common.{◌+◌, ◌∷◌, ◌≡◌, ◌≤◌}, specs.Prelude.{is_some, MatchOption}}
+use Rattle.std.proofs.Common.{arith, false, List, map, None, Option, refl, Some, ℕ, [], ◌++◌, ◌+◌}
+use Rattle.std.{proofs.Common.{◌∷◌, ◌≡◌, ◌≤◌}, specs.Prelude.{is_some, MatchOption}}
 use Rattle.frame_header.specs.Tables.{class_of, length_of}
 use Rattle.list_edits.specs.Things.{frames_from, frames_left, head_thing, IsLeadingOffset}
 use Rattle.list_edits.specs.Things.{leading_things, offset_of, ordered_things, stream_things}
@@ -32,8 +32,7 @@ frames_rise from to number (r ∷ rows) laid =
 
 head_rises : (first : ℕ) (head : Option Head) (ts : List Thing) → RisesBy offset_of first ts
     → RisesBy offset_of first (head_thing first head ++ ts)
-head_rises first None ts rises = rises
-head_rises first (Some head) ts rises = (omega arith, rises)
+head_rises first head ts rises = grind arith
 
 -- the junk, the head and the frames are in order of offset
 pub stream_rises : (s : SurveyFields) → IsSurveyLaidOut s
@@ -58,13 +57,11 @@ ordered_things-is s laid = ordered_both offset_of (map Block s.blocks)
 
 from_frames : (at number : ℕ) (rows : List Row) → IsFirstFrom (λ (r : Row). r.offset) at rows
     → IsFirstFrom offset_of at (frames_from number rows)
-from_frames at number [] from = tt
-from_frames at number (r ∷ rows) from = from
+from_frames at number rows from = grind arith
 
 from_leading : (at least : ℕ) (ts us : List Thing) → IsLeadingOffset (Some at) ts → least ≤ at
     → IsFirstFrom offset_of least (ts ++ us)
-from_leading at least [] us is le = absurd is
-from_leading at least (t ∷ ts) us is le = subst (λ n. least ≤ n) is le
+from_leading at least ts us is le = grind arith
 
 module _ (old new : Things) where
   -- a block is met
@@ -89,8 +86,7 @@ module _ (old new : Things) where
       (λ t. leading_things old ≡ t ∷ leading_things new)
       → MatchOption result (things_left old ≡ []) (λ t. things_left old ≡ t ∷ things_left new)
   unfolding things_left
-  leading_things-met None at is after same none = absurd (subst (IsLeadingOffset (Some at)) none is)
-  leading_things-met (Some t) at is after same first = grind (arith, merged_other, after_map)
+  leading_things-met result at is after same none = grind (arith, merged_other, after_map)
 
   module _ (none : leading_things old ≡ []) (none_now : leading_things new ≡ []) where
     -- a frame is met

@@ -20,9 +20,7 @@ use Rattle.sync_survey.specs.declared.survey_fault.SurveyFault.{SurveyFault}
 
 some_frames : (file : List ℕ) (frames : List PlacedFrame) (o : Option SurveyFault)
     → end_fault file frames o ≡ None → frames ≡ [] → ⊥
-some_frames file [] (Some fault) e none = absurd cc
-some_frames file [] None e none = absurd cc
-some_frames file (p ∷ ps) o e none = absurd cc
+some_frames file frames o e none = grind arith
 
 -- the blocks of concatenated items are the blocks of the first items, then of the others
 pub blocks-append : (ps qs : List PlacedItem) → blocks_of (ps ++ qs) ≡ blocks_of ps ++ blocks_of qs

@@ -63,8 +63,7 @@ pub moved_first : (steps : ℕ → Steps) (lost : ℕ → Bool) (file : List ℕ
       offset = first.offset;
       item = Frame first.header;
     } ∷ ps) ≡ first_bytes steps lost file first o ++ moved_items steps lost file ps
-moved_first steps lost file first ps None = grind (arith, moved-cons)
-moved_first steps lost file first ps (Some head) = grind (arith, append-nil)
+moved_first steps lost file first ps o = grind (arith, moved-cons, append-nil)
 
 -- the offsets of the lost frames of a file
 abbrev pub lost_from : List ℕ → Start → ℕ → Bool

@@ -1,8 +1,8 @@
 -- The least and the greatest of gains: for two lists together, and that they are two of the gains.
-use Rattle.std.proofs.Common.{ap, arith, Contains, drop, fold, get_or, inl, inr, length, List, max}
-use Rattle.std.proofs.Common.{min, None, Option, refl, Some, suc, sym, zero, ℕ, [], ◌++◌, ◌+◌, ◌<◌}
-use Rattle.std.proofs.{Common.{◌∷◌, ◌≡◌, ◌≤◌}, lemmas.Bool.cases_lt}
-use Rattle.std.proofs.lemmas.List.{append-nil, drop_all, drop_more, Sums.fold-append}
+use Rattle.std.proofs.Common.{arith, Contains, drop, fold, get_or, inl, inr, length, List, max, min}
+use Rattle.std.proofs.Common.{None, Option, refl, Some, suc, zero, ℕ, [], ◌++◌, ◌+◌, ◌<◌, ◌∷◌, ◌≡◌}
+use Rattle.std.proofs.{Common.◌≤◌, lemmas.{Bool.cases_lt, List.{append-nil, drop_all, drop_more}}}
+use Rattle.std.proofs.lemmas.List.Sums.{fold-append}
 use Rattle.std.specs.Prelude.{IfNone, IfSome, slice_get, slice_index_or}
 use Rattle.moved_gains.proofs.CourseLemmas.{out_classed}
 use Rattle.moved_gains.specs.GainExtremes.{AreExtremes, extremes, extremes_of, HasChannel}
@@ -24,22 +24,16 @@ fold-max a b (x ∷ xs) = grind (arith, fold-max a (max b x) xs)
 pub joined_extremes-append : (xs ys : List ℕ)
     → joined_extremes (extremes xs) (extremes ys) ≡ extremes (xs ++ ys)
 unfolding extremes
-joined_extremes-append [] ys = refl
-joined_extremes-append (x ∷ xs) [] = ap extremes (sym (append-nil (x ∷ xs)))
-joined_extremes-append (x ∷ xs) (y ∷ ys) = grind (arith, fold-append, fold-min, fold-max)
+joined_extremes-append xs ys = grind (arith, append-nil, fold-append, fold-min, fold-max)
 
 -- joining extreme gains is associative
 pub joined_extremes-assoc : (f g h : Option Gains)
     → joined_extremes (joined_extremes f g) h ≡ joined_extremes f (joined_extremes g h)
-joined_extremes-assoc None g h = refl
-joined_extremes-assoc (Some f) None h = refl
-joined_extremes-assoc (Some f) (Some g) None = refl
-joined_extremes-assoc (Some f) (Some g) (Some h) = grind arith
+joined_extremes-assoc f g h = grind arith
 
 -- joining with no gains changes nothing
 pub joined_extremes-None : (g : Option Gains) → joined_extremes g None ≡ g
-joined_extremes-None None = refl
-joined_extremes-None (Some g) = refl
+joined_extremes-None g = grind arith
 
 -- ---- frames
 
@@ -69,8 +63,7 @@ extremes-cons channel row rows = grind (arith, moving-cons, joined_extremes-appe
 -- if there are no extreme gains, there are no gains
 pub extremes-None : (xs : List ℕ) → extremes xs ≡ None → xs ≡ []
 unfolding extremes
-extremes-None [] e = refl
-extremes-None (x ∷ xs) e = absurd cc
+extremes-None xs e = grind arith
 
 module _ (a x : ℕ) (xs : List ℕ) (n : ℕ) where
   min_there : (k : ℕ) → k < length (min a x ∷ xs) → slice_index_or (min a x ∷ xs) k n ≡ n
@@ -128,13 +121,11 @@ extremes-Some (x ∷ xs) g e = grind (arith, are_extremes x xs)
 
 -- the two gains that a call returns are the least and the greatest
 pub some_extremes : (xs : List ℕ) (o : Option Gains) → o ≡ extremes xs → IfSome o (AreExtremes xs)
-some_extremes xs None is = tt
-some_extremes xs (Some g) is = extremes-Some xs g (sym is)
+some_extremes xs o is = grind (arith, extremes-Some)
 
 -- if a call returns no gains, there are none
 pub no_extremes : (xs : List ℕ) (o : Option Gains) → o ≡ extremes xs → IfNone o (xs ≡ [])
-no_extremes xs None is = extremes-None xs (sym is)
-no_extremes xs (Some g) is = tt
+no_extremes xs o is = grind (arith, extremes-None)
 
 -- ---- frame by frame
 

@@ -1,9 +1,9 @@
 -- The tag's block that a survey finds: it is an APEv2 block, within the file, and is there.
 use Rattle.std.proofs.Common.{ap, arith, Bool, cond, drop, Err, false, length, length-drop, List}
 use Rattle.std.proofs.Common.{None, Ok, Option, refl, Some, subst, sym, take, true, ℕ, [], ◌+◌, ◌∙◌}
-use Rattle.std.proofs.{Common.{◌∷◌, ◌≡◌, ◌≤◌}, lemmas.Bool.false≢true}
-use Rattle.std.proofs.lemmas.List.{append-nil, length-take-le, Folds.find-append}
-use Rattle.std.specs.{List.{cons_option, find}, Option.option_or}
+use Rattle.std.proofs.{Common.{◌∷◌, ◌≡◌, ◌≤◌}, lemmas.List.{append-nil, length-take-le}}
+use Rattle.std.{proofs.lemmas.List.Folds.find-append, specs.List.{cons_option, find}}
+use Rattle.std.specs.Option.{option_or}
 use Rattle.moved_gains.specs.TagPlace.{is_tag, last_end, row_end, tag_block}
 use Rattle.sync_survey.proofs.{ItemBytesLemmas.kept_item, ItemsLemmas.stands}
 use Rattle.sync_survey.proofs.RunsLemmas.{item_run-ends, whole_item_at-is}
@@ -26,8 +26,7 @@ use Rattle.tag_blocks.specs.declared.block.Kind.{Kind, TheVariants.Ape}
 ape_by : (at size : ℕ) (kind : Kind)
     → is_tag (record { offset = at; block = record { kind = kind; length = size } }) ≡ true
     → kind ≡ Ape
-ape_by at size Ape is = refl
-ape_by at size _ is = absurd (false≢true is)
+ape_by at size kind is = grind arith
 
 -- a tag is an APEv2 block
 pub tag_kind : (b : Piece) → is_tag b ≡ true
@@ -37,8 +36,7 @@ tag_kind b is = grind (arith, ape_by)
 found_by : (x b : Piece) (xs : List Piece) (P : Type 0) (t : Bool) → is_tag x ≡ t
     → cond t (Some x) (find is_tag xs) ≡ Some b → (is_tag x ≡ true → x ≡ b → P)
     → (is_tag x ≡ false → find is_tag xs ≡ Some b → P) → P
-found_by x b xs P true is e here later = here is cc
-found_by x b xs P false is e here later = later is e
+found_by x b xs P t is e here later = grind arith
 
 -- the first tag is the first block, or the first tag after it
 pub found_case : (x b : Piece) (xs : List Piece) (P : Type 0) → find is_tag (x ∷ xs) ≡ Some b
@@ -79,8 +77,7 @@ module _ (part : Region) (file : List ℕ) where
       → (find is_tag bs ≡ Some b → whole_item_at part file b.offset ≡ Some (Block b.block))
       → find is_tag (cons_option (block_of_item at item) bs) ≡ Some b
       → whole_item_at part file b.offset ≡ Some (Block b.block)
-  one_found at (Block x) bs b here later e = grind (arith, found_case)
-  one_found at _ bs b here later e = later e
+  one_found at item bs b here later e = grind arith
 
   -- a block found among consecutive items is there
   pub found_item : (from : ℕ) (ps : List PlacedItem) (to : ℕ) (b : Piece)
@@ -149,8 +146,7 @@ tag-there file allowed s b e found =
 
 survey_cases : (file : List ℕ) (allowed : ℕ) (fault : SurveyFault) (s : SurveyFields) (long : Bool)
     → cond long (Err fault) (survey_fields file allowed) ≡ Ok s → survey_fields file allowed ≡ Ok s
-survey_cases file allowed fault s true e = absurd cc
-survey_cases file allowed fault s false e = e
+survey_cases file allowed fault s long e = grind arith
 
 -- the survey of a file that isn't too long is the survey of its bytes
 pub survey_of-survey_fields : (file : List ℕ) (allowed : ℕ) (s : SurveyFields)

@@ -1,26 +1,16 @@
 -- Side information with moved gains still fits its class.
-use Rattle.std.proofs.Common.{ap, arith, Bool, false, MatchBool, negsuc, pos, true, unsigned_abs, ℤ}
-use Rattle.std.{proofs.Common.{◌<◌, ◌≡◌}, specs.Int.int_rem_euclid}
+use Rattle.std.proofs.Common.{arith, Bool, MatchBool, ℤ, ◌≡◌}
 use Rattle.frame_header.specs.{Fields.ClassFields, declared.version.Version.Version}
 use Rattle.moved_gains.specs.Gains.{moved_granule, moved_side}
 use Rattle.requests.specs.declared.shift.Steps.{Steps}
 use Rattle.side_info.{proofs.SideLemmas.granules_fit, specs.Granule.{GranuleFits, no_granule}}
 use Rattle.side_info.specs.{Side.SideFits, declared.{granule.Granule.Granule, side.Side.Side}}
 
-below : (sum : ℤ) → unsigned_abs (int_rem_euclid sum (pos 256)) < 256
-below (pos n) = omega arith
-below (negsuc n) = omega arith
-
-moved_granule-fits : (version : Version) (steps : ℤ) (g : Granule) → GranuleFits version g
-    → GranuleFits version (moved_granule steps g)
-moved_granule-fits version steps g fits = grind (arith, below, pos)
-
 -- a granule that the class lacks stays
 moved_at : (version : Version) (has : Bool) (steps : ℤ) (g : Granule)
     → MatchBool has (GranuleFits version g) (g ≡ no_granule) → MatchBool has
     (GranuleFits version (moved_granule steps g)) (moved_granule steps g ≡ no_granule)
-moved_at version true steps g fits = moved_granule-fits version steps g fits
-moved_at version false steps g none = ap (moved_granule steps) none
+moved_at version has steps g fits = grind arith
 
 -- side information with moved gains still has its fields within their bits
 pub SideFits-moved_side : (c : ClassFields) (steps : Steps) (s : Side) → SideFits c s

@@ -1,11 +1,10 @@
 -- A file whose frames are in another one, each at an offset that depends only on its own, with
 -- moved gains unless it stays: its frames have rows, faults and marks there as they have here,
 -- and hold the same main data.
-use Rattle.std.proofs.Common.{ap, ap₂, arith, Bool, drop, false, flat_map, length, List, map, None}
-use Rattle.std.proofs.Common.{not, Ok, Option, option_map, refl, slice_get, Some, subst, suc, sym}
-use Rattle.std.proofs.Common.{true, zero, ℕ, [], ◌&&◌, ◌++◌, ◌+◌, ◌==◌, ◌∙◌, ◌∷◌, ◌≡◌, ◌≤◌}
-use Rattle.std.proofs.lemmas.{Bool.{eq-eqb, eqb-true, not-false}, List.{drop_all, take_at}}
-use Rattle.std.specs.List.{enumerate_from}
+use Rattle.std.proofs.Common.{ap, ap₂, arith, Bool, drop, false, flat_map, length, List, map, not}
+use Rattle.std.proofs.Common.{Ok, Option, option_map, refl, slice_get, Some, subst, suc, sym, true}
+use Rattle.std.proofs.Common.{zero, ℕ, [], ◌&&◌, ◌++◌, ◌+◌, ◌==◌, ◌∙◌, ◌∷◌, ◌≡◌, ◌≤◌}
+use Rattle.std.{proofs.lemmas.{Bool.eq-eqb, List.{drop_all, take_at}}, specs.List.enumerate_from}
 use Rattle.bit_fields.specs.Bits.{AreBytes}
 use Rattle.frame_header.proofs.{HeaderLemmas.IsClass-class_of, LengthLemmas.area_some}
 use Rattle.frame_header.specs.Fields.{HeaderFields, IsHeader}
@@ -53,8 +52,7 @@ module _ (file : List ℕ) (p : PlacedFrame) (header : IsHeader p.header) where
 
   wrong_by : (b : Bool) (said right : ℕ) → (b && not (said == right)) ≡ false → b ≡ true
       → said ≡ right
-  wrong_by true said right none is = eqb-true said right (not-false (said == right) none)
-  wrong_by false said right none is = absurd cc
+  wrong_by b said right none is = grind arith
 
   -- a frame without a wrong check word has the right one or none
   pub own-right : has_wrong_crc (stored_crc bytes) (row_of file p) ≡ false
@@ -169,8 +167,7 @@ head_placed : (to : ℕ → ℕ) (p : PlacedFrame) (o : Option ℕ)
     → option_map (λ at. record { offset = to p.offset; header = p.header; text_at = at }) o
     ≡ option_map (head_by to)
     (option_map (λ at. record { offset = p.offset; header = p.header; text_at = at }) o)
-head_placed to p None = refl
-head_placed to p (Some at) = refl
+head_placed to p o = grind arith
 
 module _ (to : ℕ → ℕ) (file new : List ℕ) (p : PlacedFrame) where
   -- a frame with the same bytes is a head there exactly if it is one here
@@ -186,8 +183,7 @@ module _ (to : ℕ → ℕ) (file new : List ℕ) (p : PlacedFrame) where
       ≡ area_bytes file p.offset p.header → head_bytes new (option_map (head_by to) (option_map
       (λ at. record { offset = p.offset; header = p.header; text_at = at }) o)) ≡ head_bytes file
       (option_map (λ at. record { offset = p.offset; header = p.header; text_at = at }) o)
-  head_area_cases None same = refl
-  head_area_cases (Some at) same = same
+  head_area_cases o same = grind arith
 
   -- a head has the same area there if its frame has
   pub head_area-by : area_bytes new (to p.offset) p.header ≡ area_bytes file p.offset p.header

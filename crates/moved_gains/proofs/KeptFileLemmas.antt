@@ -52,8 +52,7 @@ patches_earlier file at to (patch ∷ patches) low order =
 
 begins_later : (at to : ℕ) (patches : List Patch) → at < to → ArePatchesInOrder to patches
     → BeginsAfter at patches
-begins_later at to [] low order = tt
-begins_later at to (patch ∷ patches) low order = omega (arith, low, order.0)
+begins_later at to patches low order = grind arith
 
 module _ (T : List ℕ → Type 0) (steps : ℕ → Steps) (file : List ℕ) (s : SurveyFields) where
   -- ---- the patches of frames

@@ -192,8 +192,7 @@ own_word protected frame = cond protected (take 2 (drop 4 frame)) []
 
 behind_word : (protected : Bool) (frame : List ℕ)
     → drop 4 frame ≡ own_word protected frame ++ drop (side_place protected) frame
-behind_word true frame = grind (arith, take-append-drop, drop-drop)
-behind_word false frame = refl
+behind_word protected frame = grind arith
 
 -- a frame, part by part
 parts : (h : HeaderFields) (frame : List ℕ) → IsClass (class_of h) → AreBytes frame
@@ -291,5 +290,4 @@ row_differs steps file row here = by_lost row.lost
         (cond lost frame (frame_with_side h (moved_side steps row.side) frame) ≡ frame)
         (DiffersInGains h frame
         (cond lost frame (frame_with_side h (moved_side steps row.side) frame)))
-    by_lost true = refl
-    by_lost false = grind (arith, frame_differs steps h frame here.whole here.right)
+    by_lost lost = grind (arith, frame_differs)

@@ -10,7 +10,6 @@ use Rattle.sync_survey.{proofs.SurveyPartsLemmas.{frames_from, told_from}, specs
 use Rattle.sync_survey.specs.{MainData.{is_lost, marked_row, marked_rows, row_of, rows_of}, Row.Row}
 use Rattle.sync_survey.specs.Runs.{AreEndToEnd, frame_of_item, frames_of, PlacedItem}
 use Rattle.sync_survey.specs.{Walk.{head_of, numbered_frames, stream_run}, declared.items.Item.Item}
-use Rattle.sync_survey.specs.declared.items.Item.TheVariants.{Block, Frame, Zero}
 use Rattle.sync_survey.specs.declared.places.{Head.Head, PlacedFrame.PlacedFrame, Start.Start}
 use Rattle.sync_survey.specs.declared.runs.Region.{Region, TheVariants.Stream}
 
@@ -74,10 +73,7 @@ module _ (lost : ℕ → Bool) (file : List ℕ) where
   end_more : (at : ℕ) (item : Item) (frames : List PlacedFrame) (to : ℕ) → 0 < size_of item
       → EndBy (at + size_of item) (rows_by lost file frames) to
       → EndBy at (rows_by lost file (cons_option (frame_of_item at item) frames)) to
-  end_more at (Frame h) frames to some ends = (omega arith, omega (arith, some), ends)
-  end_more at (Block b) frames to some ends = grind (arith, end_earlier)
-  end_more at Zero frames to some ends = grind (arith, end_earlier)
-  end_more at _ frames to some ends = grind (arith, end_earlier)
+  end_more at item frames to some ends = grind (arith, end_earlier)
 
   -- the frames of consecutive items
   pub items_end : (part : Region) (from : ℕ) (ps : List PlacedItem) (to : ℕ)
@@ -92,13 +88,11 @@ module _ (lost : ℕ → Bool) (file : List ℕ) where
 -- ---- the lost frame at an offset
 
 not_there : (lost other same : Bool) → same ≡ false → ((lost && same) || other) ≡ other
-not_there true other same is = ap (λ b. b || other) is
-not_there false other same is = refl
+not_there lost other same is = grind arith
 
 there_alone : (lost other same : Bool) → same ≡ true → other ≡ false
     → ((lost && same) || other) ≡ lost
-there_alone true other same is none = ap (λ b. b || other) is
-there_alone false other same is none = none
+there_alone lost other same is none = grind arith
 
 none_lost : (rows : List Row) (at : ℕ) → AreRising (suc at) rows → is_lost_at rows at ≡ false
 none_lost [] at rise = refl
@@ -180,8 +174,7 @@ items_rising file part from ps to ends = end_rising from (rows_of file (frames_o
 
 numbered_frames-rising : (file : List ℕ) (from : ℕ) (o : Option Head) (ps : List PlacedFrame)
     → AreRising from (rows_of file ps) → AreRising from (rows_of file (numbered_frames o ps))
-numbered_frames-rising file from (Some head) (p ∷ ps) rise = grind (arith, rising_less)
-numbered_frames-rising file from _ _ rise = rise
+numbered_frames-rising file from o ps rise = grind (arith, rising_less)
 
 -- the frames of a walk are in order
 pub walk_rising : (file : List ℕ) (start : Start) (o : Option Head) → AreRising start.first.offset

@@ -1,6 +1,6 @@
 -- A frame with moved gains: what it has in common with the frame, moved twice, and not at all.
 use Rattle.std.proofs.Common.{ap, arith, Bool, cond, drop, false, length, List, MatchBool, Ok, refl}
-use Rattle.std.proofs.Common.{suc, take, true, zero, ℕ, ℤ, [], ◌++◌, ◌+◌, ◌-◌, ◌<◌, ◌∙◌, ◌≡◌}
+use Rattle.std.proofs.Common.{take, true, ℕ, ℤ, [], ◌++◌, ◌+◌, ◌-◌, ◌<◌, ◌∙◌, ◌≡◌}
 use Rattle.bit_fields.proofs.BitsLemmas.{AreBelow-append, AreBelow-drop, AreBelow-take}
 use Rattle.bit_fields.proofs.BitsLemmas.{AreBits-bits_of, AreBytes-bytes}
 use Rattle.bit_fields.specs.Bits.{AreBytes, bits_of, bytes}
@@ -38,13 +38,7 @@ moved_granules : (steps : Steps) (m p a b : ℕ) (g h k l : Granule) (granule ch
     → AreGranulesAlike (granule_in (side_with m p a b g h k l) granule channel)
     (granule_in (moved_side steps (side_with m p a b g h k l)) granule channel)
 unfolding moved_side
-moved_granules steps m p a b g h k l zero zero = moved_granule-alike steps.left g
-moved_granules steps m p a b g h k l zero (suc zero) = moved_granule-alike steps.right h
-moved_granules steps m p a b g h k l zero (suc (suc channel)) = refl
-moved_granules steps m p a b g h k l (suc zero) zero = moved_granule-alike steps.left k
-moved_granules steps m p a b g h k l (suc zero) (suc zero) = moved_granule-alike steps.right l
-moved_granules steps m p a b g h k l (suc zero) (suc (suc channel)) = refl
-moved_granules steps m p a b g h k l (suc (suc granule)) channel = refl
+moved_granules steps m p a b g h k l granule channel = grind arith
 
 -- moved side information differs only in gains
 pub other_gains : (steps : Steps) (s : Side) → IsShaped s → HasOtherGains s (moved_side steps s)
@@ -78,8 +72,7 @@ last_bytes-moved steps h frame class all room =
 
 word_bytes : (h : HeaderFields) (s : Side) (b : Bool)
     → AreBytes (cond b (bytes (bits_of 16 (check_word_of h s))) [])
-word_bytes h s true = grind (arith, AreBytes-bytes, AreBits-bits_of)
-word_bytes h s false = tt
+word_bytes h s b = grind (arith, AreBytes-bytes, AreBits-bits_of)
 
 frame_bytes : (h : HeaderFields) (s : Side) (frame : List ℕ) → AreBytes frame
     → AreBytes (frame_with_side h s frame)
@@ -164,8 +157,7 @@ whole_item h frame whole =
 -- a gain that fits is below 256
 pub gain_fits : (c : ClassFields) (has : Bool) (g : Granule)
     → MatchBool has (GranuleFits c.version g) (g ≡ no_granule) → g.global_gain < 256
-gain_fits c true g fits = omega (arith, fits.global_gain)
-gain_fits c false g none = omega (arith, ap (λ (h : Granule). h.global_gain) none)
+gain_fits c has g fits = grind arith
 
 -- all gains of side information that fits are below 256
 pub gains_fit : (c : ClassFields) (s : Side) → SideFits c s → GainsFit s

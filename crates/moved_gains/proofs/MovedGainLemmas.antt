@@ -1,12 +1,10 @@
 -- Moved gains: moved twice, not at all, and what moving leaves unchanged.
-use Rattle.std.proofs.Common.{ap, ap₂, arith, Bool, cond, false, flat_map, List, map, negsuc, None}
-use Rattle.std.proofs.Common.{not, Option, pos, refl, Some, sym, take, true, unsigned_abs, ℕ, ℤ}
-use Rattle.std.proofs.Common.{◌+ℤ◌, [], ◌&&◌, ◌+◌, ◌/◌, ◌<◌, ◌==◌, ◌||◌, ◌∙◌, ◌∷◌, ◌≡◌}
-use Rattle.std.proofs.{Math.IntN.{+ℤ_assoc, +ℤ_idr}, lemmas.Bool.{false≢true, ltb-false}}
-use Rattle.std.{proofs.lemmas.Int.{int_rem_euclid_is, ints}, specs.Int.int_rem_euclid}
-use Rattle.std.specs.Option.{option_or}
+use Rattle.std.proofs.Common.{ap, ap₂, arith, Bool, cond, false, flat_map, List, map, None, not}
+use Rattle.std.proofs.Common.{Option, pos, refl, Some, sym, take, true, unsigned_abs, ℕ, ℤ, ◌+ℤ◌}
+use Rattle.std.proofs.Common.{◌&&◌, ◌+◌, ◌/◌, ◌<◌, ◌==◌, ◌||◌, ◌∙◌, ◌≡◌}
+use Rattle.std.{proofs.Math.IntN.{+ℤ_assoc, +ℤ_idr}, specs.{Int.int_rem_euclid, Option.option_or}}
 use Rattle.frame_header.specs.{Fields.HeaderFields, Tables.granules_of}
-use Rattle.frame_header.specs.declared.version.Version.{Version, TheVariants.{One, Two, TwoFive}}
+use Rattle.frame_header.specs.declared.version.Version.{Version}
 use Rattle.moved_gains.specs.Gains.{gain_out_of_range, is_out_of_range, is_silent_granule}
 use Rattle.moved_gains.specs.Gains.{moved_gain, moved_granule, moved_side, moved_side_unless_lost}
 use Rattle.moved_gains.specs.{Gains.side_out_of_range, declared.gains.OutOfRange.OutOfRange}
@@ -23,10 +21,7 @@ rem z = unsigned_abs (int_rem_euclid z (pos 256))
 
 -- the remainder of a sum depends on the remainder of its first part
 rem_sum : (z b : ℤ) → rem (pos (rem z) +ℤ b) ≡ rem (z +ℤ b)
-rem_sum (pos n) (pos m) = omega arith
-rem_sum (pos n) (negsuc m) = grind (arith, unsigned_abs, int_rem_euclid_is, pos, negsuc, ints)
-rem_sum (negsuc n) (pos m) = grind (arith, unsigned_abs, int_rem_euclid_is, negsuc, pos, ints)
-rem_sum (negsuc n) (negsuc m) = grind (arith, unsigned_abs, int_rem_euclid_is, pos, negsuc, ints)
+rem_sum z b = grind arith
 
 -- moved twice is moved by the sum
 gain_twice : (a b : ℤ) (gain : ℕ) → moved_gain b (moved_gain a gain) ≡ moved_gain (a +ℤ b) gain
@@ -47,9 +42,7 @@ pub record IsGain (sum : ℤ) : Type 0 where
 
 -- a sum that isn't outside the range is a gain
 pub within : (sum : ℤ) → is_out_of_range sum ≡ false → IsGain sum
-within (pos n) inside =
-    record { gain = n; is = refl; small = omega (arith, ltb-false 255 n inside) }
-within (negsuc n) inside = absurd (false≢true (sym inside))
+within sum inside = grind arith
 
 -- after a sum within the range, the next leaves it exactly if the sum of both moves does
 gain_next : (a b : ℤ) (gain : ℕ) → is_out_of_range (pos gain +ℤ a) ≡ false
@@ -167,15 +160,13 @@ pub side_none : (steps : Steps) → IsNoStep steps → (s : Side) → IsShaped s
 side_none steps none s shaped = each_shaped (NoneGoal steps) (none-with steps none) s shaped
 
 free_of : (b : Bool) (stuck : OutOfRange) → cond b (Some stuck) None ≡ None → b ≡ false
-free_of true stuck e = absurd cc
-free_of false stuck e = refl
+free_of b stuck e = grind arith
 
 none_of : (b : Bool) (stuck : OutOfRange) → b ≡ false → cond b (Some stuck) None ≡ None
 none_of b stuck e = ap (λ a. cond a (Some stuck) None) e
 
 none_each : (a b : Option OutOfRange) → option_or a b ≡ None → (a ≡ None) × (b ≡ None)
-none_each None b e = (refl, e)
-none_each (Some x) b e = absurd cc
+none_each a b e = grind arith
 
 none_both : (a b : Option OutOfRange) → a ≡ None → b ≡ None → option_or a b ≡ None
 none_both a b p q = ap₂ option_or p q
@@ -295,8 +286,7 @@ IsShaped-moved steps s shaped =
 -- the main data have as many bits as before, also if a lost frame stays
 pub payload_bits-unless : (lost : Bool) (steps : Steps) (s : Side) → IsShaped s
     → payload_bits (moved_side_unless_lost lost steps s) ≡ payload_bits s
-payload_bits-unless true steps s shaped = refl
-payload_bits-unless false steps s shaped = payload_bits-moved steps s shaped
+payload_bits-unless lost steps s shaped = grind (arith, payload_bits-moved)
 
 -- the main data have as many bytes as before, moved or lost
 pub payload-unless : (lost : Bool) (steps : Steps) (s : Side) → IsShaped s
@@ -308,8 +298,7 @@ payload-unless lost steps s shaped = ap (λ n. (n + 7) / 8) (payload_bits-unless
 pub begin-unless : (lost : Bool) (steps : Steps) (s : Side)
     → (moved_side_unless_lost lost steps s).main_data_begin ≡ s.main_data_begin
 unfolding moved_side
-begin-unless true steps s = refl
-begin-unless false steps s = refl
+begin-unless lost steps s = grind arith
 
 -- the lengths of the main data of each granule and channel that a class has
 abbrev lengths_of : Version → Bool → Side → List ℕ
@@ -320,11 +309,7 @@ lengths-with : (steps : Steps) (version : Version) (mono : Bool) (m p a b : ℕ)
     → lengths_of version mono (moved_side steps (side_with m p a b g h k l))
     ≡ lengths_of version mono (side_with m p a b g h k l)
 unfolding moved_side
-lengths-with steps One true m p a b g h k l = grind (arith, moved_granule-payload)
-lengths-with steps One false m p a b g h k l = grind (arith, moved_granule-payload)
-lengths-with steps Two false m p a b g h k l = grind (arith, moved_granule-payload)
-lengths-with steps TwoFive false m p a b g h k l = grind (arith, moved_granule-payload)
-lengths-with steps _ true m p a b g h k l = λ i. moved_granule-payload steps.left g i ∷ []
+lengths-with steps version mono m p a b g h k l = grind arith
 
 -- the lengths of all parts of main data stay
 pub lengths-moved : (steps : Steps) (h : HeaderFields) (s : Side) → IsShaped s

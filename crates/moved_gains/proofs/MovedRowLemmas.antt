@@ -29,23 +29,19 @@ head_by to head = record head { offset = to head.offset }
 -- what is true of all frames and of those after the first is true of those that have numbers
 pub numbered_either : (P : List PlacedFrame → Type 0) (o : Option Head) (p : PlacedFrame)
     (ps : List PlacedFrame) → P (p ∷ ps) → P ps → P (numbered_frames o (p ∷ ps))
-numbered_either P None p ps all rest = all
-numbered_either P (Some head) p ps all rest = rest
+numbered_either P o p ps all rest = grind arith
 
 -- the frames that have numbers, elsewhere
 pub numbered_frames-by : (to : ℕ → ℕ) (o : Option Head) (frames : List PlacedFrame)
     → numbered_frames (option_map (head_by to) o) (map (frame_by to) frames)
     ≡ map (frame_by to) (numbered_frames o frames)
-numbered_frames-by to (Some head) (p ∷ ps) = refl
-numbered_frames-by to _ _ = refl
+numbered_frames-by to o frames = grind arith
 
 -- the end of the file is still no fault
 pub end_fault-by : (file new : List ℕ) (to : ℕ → ℕ) (frames : List PlacedFrame)
     (o : Option SurveyFault) → end_fault file frames o ≡ None
     → end_fault new (map (frame_by to) frames) None ≡ None
-end_fault-by file new to [] (Some fault) e = absurd cc
-end_fault-by file new to [] None e = absurd cc
-end_fault-by file new to (p ∷ ps) o e = refl
+end_fault-by file new to frames o e = grind arith
 
 -- ---- lists of what is made of numbered rows
 
@@ -96,8 +92,7 @@ module _ (to : ℕ → ℕ) (side : Row → Side) (head : Option Head) (rows : L
       ∙ sym (sum_by-cons (λ (q : Row). own_area q.header) r rs)
 
   head_area-by : (o : Option Head) → head_area (option_map (head_by to) o) ≡ head_area o
-  head_area-by None = refl
-  head_area-by (Some found) = refl
+  head_area-by o = grind arith
 
   -- the areas are where they were
   pub place-by : (i : ℕ) → place new_head new_rows i ≡ place head rows i
@@ -127,9 +122,7 @@ module _ (to : ℕ → ℕ) (side : Row → Side) (head : Option Head) (rows : L
         → ((r : Row) → o ≡ Some r → KeepsData r.side (side r)) → new_place ≡ place_now
         → new_ended ≡ ended → data_end_after new_place new_ended (option_map changed o)
         ≡ data_end_after place_now ended o
-    behind-by place_now new_place ended new_ended None kept same_place same_ended = same_ended
-    behind-by place_now new_place ended new_ended (Some r) kept same_place same_ended =
-        grind (arith, lacks-by, data_end-by)
+    behind-by place_now new_place ended new_ended o kept same_place same_ended = grind arith
 
     end-by : (i : ℕ) → data_end_before new_head new_rows i ≡ data_end_before head rows i
     unfolding data_end_before

@@ -74,13 +74,11 @@ moved_from-later steps file at size (row ∷ rows) behind =
 -- frames after an offset are after any earlier one
 pub behind_earlier : (at later : ℕ) (rows : List Row) → at ≤ later → IsBehind later rows
     → IsBehind at rows
-behind_earlier at later [] le behind = tt
-behind_earlier at later (row ∷ rows) le behind = omega (arith, le, behind)
+behind_earlier at later rows le behind = grind arith
 
 -- frames in order from an offset on are after it
 pub is_behind : (at : ℕ) (rows : List Row) (to : ℕ) → EndBy at rows to → IsBehind at rows
-is_behind at [] to ends = tt
-is_behind at (row ∷ rows) to ends = ends.0
+is_behind at rows to ends = grind arith
 
 -- the frames of consecutive items
 frames_behind : (lost : ℕ → Bool) (file : List ℕ) (part : Region) (ps : List PlacedItem)
@@ -115,8 +113,7 @@ module _ (steps : ℕ → Steps) (lost : ℕ → Bool) (part : Region) (file : L
       (rows_by lost file (option_to_list (frame_of_item at item) ++ frames))
       ≡ moved_item (steps at) (lost at) item (item_bytes file at item)
       ++ moved_from steps file (at + size_of item) (rows_by lost file frames)
-  item_step (Frame h) here behind = frame_step h here
-  item_step item here behind = grind (arith, moved_from-later steps file)
+  item_step item here behind = grind (arith, frame_step, moved_from-later)
 
 -- consecutive items are written as the moved items
 pub moved_from-items : (steps : ℕ → Steps) (lost : ℕ → Bool) (part : Region) (file : List ℕ)

@@ -24,7 +24,6 @@ use Rattle.tag_blocks.proofs.BlocksLemmas.{block_front-least}
 use Rattle.tag_blocks.proofs.TagsLemmas.{IsTag-in, tag_bytes-in, tag_of-ok}
 use Rattle.tag_blocks.specs.{Blocks.block_front, Tags.{IsTag, tag_bytes, TagFields}}
 use Rattle.tag_blocks.specs.declared.{block.Kind.TheVariants.Ape, tag_fault.TagFault.TagFault}
-use Rattle.tag_blocks.specs.declared.tag_fault.TagFault.TheVariants.{BadTag}
 
 -- ---- a file that got another tag
 
@@ -114,9 +113,7 @@ own_are file allowed s e (Some b) is =
 read_by : (at size : ℕ) (tag : TagFields) (long : Bool) (r : Result TagFields TagFault)
     → cond long (Err (TooLarge size)) (tag_result_in_file at r) ≡ Ok tag
     → (long ≡ false) × (r ≡ Ok tag)
-read_by at size tag false (Ok found) e = (refl, cc)
-read_by at size tag false (Err (BadTag inside)) e = absurd cc
-read_by at size tag _ _ e = absurd cc
+read_by at size tag long r e = grind arith
 
 -- a block whose tag can be read isn't too long, and its bytes are those of the tag
 block_bytes : (at : ℕ) (block : List ℕ) (tag : TagFields) → AreBytes block

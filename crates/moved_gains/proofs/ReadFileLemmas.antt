@@ -1,6 +1,6 @@
 -- A file that was read without fault: its first frame, and where its items end.
-use Rattle.std.proofs.Common.{ap, arith, drop, inl, inr, length, length-append, length-drop, List}
-use Rattle.std.proofs.Common.{Some, sym, ℕ, ◌+◌, ◌∙◌, ◌∷◌, ◌≡◌, ◌≤◌}
+use Rattle.std.proofs.Common.{ap, arith, drop, length, length-append, length-drop, List, Some, sym}
+use Rattle.std.proofs.Common.{ℕ, ◌+◌, ◌∙◌, ◌∷◌, ◌≡◌, ◌≤◌}
 use Rattle.moved_gains.proofs.WholeFileLemmas.{front_end-is}
 use Rattle.sync_survey.proofs.ItemListLemmas.{items-length, kept_items}
 use Rattle.sync_survey.proofs.RunsLemmas.{IsItemOf, item_run-ends, item_run-next}
@@ -33,8 +33,7 @@ pub record HasStream (file : List ℕ) (start : Start) : Type 0 where
 
 low_cases : (file : List ℕ) (start : Start) → IsLeastStart file start
     → start.front_end ≤ start.first.offset
-low_cases file start (inl same) = omega (arith, same)
-low_cases file start (inr least) = omega (arith, least.0)
+low_cases file start h = grind arith
 
 -- a file without fault is such a file
 pub has_stream : (file : List ℕ) (allowed : ℕ) (start : Start) → IsRead file allowed start

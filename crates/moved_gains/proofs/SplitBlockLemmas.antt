@@ -7,7 +7,7 @@ use Rattle.moved_gains.specs.TagPlace.{stands_before, stands_behind, tag_length,
 use Rattle.sync_survey.proofs.{ItemListLemmas.{ends-rise, piece_by}, RunsLemmas.whole_item_at-is}
 use Rattle.sync_survey.specs.{Faults.SurveyFields, Items.size_of}
 use Rattle.sync_survey.specs.Runs.{AreEndToEnd, block_of_item, blocks_of, PlacedItem}
-use Rattle.sync_survey.specs.declared.{items.Item.{Item, TheVariants.Block}, places.Piece.Piece}
+use Rattle.sync_survey.specs.declared.{items.Item.Item, places.Piece.Piece}
 use Rattle.sync_survey.specs.declared.runs.Region.TheVariants.{Stream}
 
 -- these blocks begin between two offsets
@@ -22,8 +22,7 @@ begin_lower low from to (b ∷ bs) le begin = grind (arith, begin_lower low from
 
 begin_more : (from to at : ℕ) (item : Item) (bs : List Piece) → from ≤ at → at < to
     → BeginBetween from to bs → BeginBetween from to (cons_option (block_of_item at item) bs)
-begin_more from to at (Block b) bs low high begin = (low, high, begin)
-begin_more from to at _ bs low high begin = begin
+begin_more from to at item bs low high begin = grind arith
 
 -- each block of items between two offsets begins between them
 pub items-begin : (file : List ℕ) (from : ℕ) (ps : List PlacedItem) (to : ℕ)
@@ -77,16 +76,11 @@ module _ (s : SurveyFields) (before behind : List Piece) (old : Option Piece) (e
       → filter test blocks ≡ xs ++ (ys ++ zs)
   three test xs ys zs first second third = grind (arith, filter-append)
 
-  one_false : (test : Piece → Bool) (b : Piece) → test b ≡ false → filter test (b ∷ []) ≡ []
-  one_false test b fails = rw fails refl
-
   old_before : (o : Option Piece) → IsOld s o → filter (stands_before s) (option_to_list o) ≡ []
-  old_before None old_is = refl
-  old_before (Some b) old_is = grind (arith, one_false, le-ltb)
+  old_before o old_is = grind arith
 
   old_behind : (o : Option Piece) → IsOld s o → filter (stands_behind s) (option_to_list o) ≡ []
-  old_behind None old_is = refl
-  old_behind (Some b) old_is = grind (arith, one_false, lt-leb)
+  old_behind o old_is = grind arith
 
   -- the blocks that are before the tag
   pub blocks-before : filter (stands_before s) blocks ≡ before

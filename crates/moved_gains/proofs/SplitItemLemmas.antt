@@ -7,15 +7,14 @@ use Rattle.moved_gains.specs.TagPlace.{is_tag, last_end}
 use Rattle.sync_survey.specs.{Items.size_of, MainData.{marked_row, marked_rows, rows_of}, Row.Row}
 use Rattle.sync_survey.specs.Runs.{AreEndToEnd, block_of_item, blocks_of, frame_of_item, frames_of}
 use Rattle.sync_survey.specs.{Runs.{PlacedItem, whole_item_at}, Walk.numbered_frames}
-use Rattle.sync_survey.specs.declared.items.Item.{Item, TheVariants.{Block, Frame}}
-use Rattle.sync_survey.specs.declared.places.{Head.Head, Piece.Piece, PlacedFrame.PlacedFrame}
+use Rattle.sync_survey.specs.declared.{items.Item.Item, places.{Head.Head, Piece.Piece}}
+use Rattle.sync_survey.specs.declared.places.PlacedFrame.{PlacedFrame}
 use Rattle.sync_survey.specs.declared.runs.Region.TheVariants.{Stream}
 
 -- prepending an item that may be there commutes with appending
 pub cons-append : {X : Type 0} (o : Option X) (xs ys : List X)
     → cons_option o xs ++ ys ≡ cons_option o (xs ++ ys)
-cons-append None xs ys = refl
-cons-append (Some x) xs ys = refl
+cons-append o xs ys = grind arith
 
 -- The items of a file are those up to an offset, these blocks,
 -- and those from a later offset on; no tag is before them.
@@ -45,8 +44,7 @@ split_here file ps rest cut next to old ends frames blocks = record {
 
 none_more : (o : Option Piece) (xs : List Piece) → ((x : Piece) → o ≡ Some x → is_tag x ≡ false)
     → find is_tag xs ≡ None → find is_tag (cons_option o xs) ≡ None
-none_more None xs other none = none
-none_more (Some x) xs other none = rw (other x refl) none
+none_more o xs other none = grind arith
 
 -- one more item before them, which is no tag
 push : (file : List ℕ) (at : ℕ) (item : Item) (ps : List PlacedItem) (cut next to : ℕ)
@@ -74,8 +72,7 @@ tag_more : (file : List ℕ) (at : ℕ) (item : Item) (ps : List PlacedItem) (to
     → (find is_tag (blocks_of ps) ≡ Some b → IsSplitAt file (at + size_of item) ps to b)
     → find is_tag (cons_option (block_of_item at item) (blocks_of ps)) ≡ Some b
     → IsSplitAt file at (record { offset = at; item = item } ∷ ps) to b
-tag_more file at (Block x) ps to b is ends later e = grind (arith, found_case, split_here, push)
-tag_more file at item ps to b is ends later e = grind (arith, push)
+tag_more file at item ps to b is ends later e = grind (arith, found_case, split_here, push)
 
 -- the items are those before the tag, the tag, and those after it
 pub split-tag : (file : List ℕ) (from : ℕ) (ps : List PlacedItem) (to : ℕ) (b : Piece)
@@ -127,9 +124,7 @@ module _ (file : List ℕ) (to : ℕ) where
       → cons_option (frame_of_item at item) (frames_of ps) ≡ p ∷ rest
       → find is_tag (cons_option (block_of_item at item) (blocks_of ps)) ≡ None
       → IsSplitBehind file at (record { offset = at; item = item } ∷ ps) to (stop_of (final p rest))
-  last_item at (Frame h) ps p rest is ends later e none = grind (arith, last_frame, none)
-  last_item at (Block x) ps p rest is ends later e none = grind (arith, none_first, none, push)
-  last_item at item ps p rest is ends later e none = grind (arith, push, none)
+  last_item at item ps p rest is ends later e none = grind (arith, last_frame, none_first, push)
 
   -- without a tag the items are those up to the last frame and those after it
   pub split-last : (from : ℕ) (ps : List PlacedItem) (p : PlacedFrame) (rest : List PlacedFrame)

@@ -68,8 +68,7 @@ module _ (lost : ℕ → Bool) (file : List ℕ) where
     sized_more : (part : Region) (at : ℕ) (item : Item) (frames : List PlacedFrame)
         → IsItemOf part file at item → AreSized steps file (by frames)
         → AreSized steps file (by (cons_option (frame_of_item at item) frames))
-    sized_more part at (Frame h) frames here sized = (one_sized part at h here (lost at), sized)
-    sized_more part at _ frames here sized = sized
+    sized_more part at item frames here sized = grind (arith, one_sized)
 
     -- with moved gains the frames of items end to end are as long as before
     pub items_sized : (part : Region) (from : ℕ) (ps : List PlacedItem) (to : ℕ)
@@ -317,8 +316,7 @@ module _ (steps : ℕ → Steps) (file : List ℕ) (allowed : ℕ) (start : Star
   apart_place = grind (arith, place_by, find-append, blocks_later)
 
   somewhere : IsInFront s ⊎ IsApart s → IsInFront s ⊎ IsAmong s
-  somewhere (inl front) = inl front
-  somewhere (inr apart) = inr apart.among
+  somewhere h = grind arith
 
   -- the tag is before the junk or among the frames
   pub stands : StandsSomewhere steps file s

@@ -6,8 +6,7 @@ use Rattle.moved_gains.proofs.FoundTagLemmas.{survey_of-survey_fields, tag-there
 use Rattle.moved_gains.specs.TagPlace.{tag_block, tag_length, tag_offset}
 use Rattle.moved_gains.specs.TagReading.{empty_tag, file_tag, IsBlockCause, IsFileSurvey}
 use Rattle.moved_gains.specs.TagReading.{IsTagCause, longest_tag, RefusesTag, tag_of_block}
-use Rattle.moved_gains.specs.declared.tag_fault.FileTagFault.{FileTagFault}
-use Rattle.moved_gains.specs.declared.tag_fault.FileTagFault.TheVariants.{Bad, Memory, TooLarge}
+use Rattle.moved_gains.specs.declared.tag_fault.FileTagFault.{FileTagFault, TheVariants.TooLarge}
 use Rattle.outside.specs.{Counts.Counts, Files.{Files, Holds}}
 use Rattle.sync_survey.specs.{Faults.SurveyFields, declared.places.Piece.Piece}
 use Rattle.tag_blocks.specs.{Blocks.block_front, Tags.TagFields}
@@ -71,6 +70,4 @@ module _ (name : List ℕ) (files : Files) (s : SurveyFields) (surveyed : (bytes
     -- the fault of the tag is that of the block
     pub block-cause : (before after : Counts) (fault : FileTagFault) → after ≡ before
         → IsBlockCause b.offset block fault → IsTagCause name files s before after fault
-    block-cause before after (Bad at) same cause = grind (arith, place-some, tag_is, front_there)
-    block-cause before after Memory same cause = same
-    block-cause before after _ same cause = absurd cause
+    block-cause before after fault same cause = grind (arith, place-some, tag_is, front_there)

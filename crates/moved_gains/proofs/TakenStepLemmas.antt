@@ -1,11 +1,9 @@
 -- The steps that gains take: no gain of a list leaves
 -- the range exactly if the least and the greatest don't.
-use Rattle.std.proofs.Common.{ap, ap₂, arith, Bool, cond, false, is_some, leb, List, ltb, max, min}
-use Rattle.std.proofs.Common.{neg_ℤ, negsuc, None, not, Option, pos, refl, Some, suc, sym, true}
-use Rattle.std.proofs.Common.{zero, ℕ, ℤ, ◌+ℤ◌, [], ◌&&◌, ◌++◌, ◌-◌, ◌<◌, ◌||◌, ◌∙◌, ◌∷◌, ◌≡◌}
-use Rattle.std.proofs.lemmas.Bool.{and_from, and_parts, le-leb, le-ltb, leb-true, lt-leb, lt-ltb}
-use Rattle.std.{proofs.lemmas.{Bool.{ltb-false, ltb-true}, List.append-nil}, specs.Cmp.both_ways}
-use Rattle.std.specs.{Option.option_or, Prelude.{int_le, MatchBool}}
+use Rattle.std.proofs.Common.{ap, ap₂, arith, Bool, cond, false, is_some, List, ltb, None, not}
+use Rattle.std.proofs.Common.{Option, pos, refl, Some, suc, sym, true, ℕ, ℤ, ◌+ℤ◌, [], ◌&&◌, ◌++◌}
+use Rattle.std.proofs.{Common.{◌<◌, ◌||◌, ◌∙◌, ◌∷◌, ◌≡◌}, lemmas.Bool.{and_from, and_parts, le-ltb}}
+use Rattle.std.{proofs.lemmas.List.append-nil, specs.{Option.option_or, Prelude.MatchBool}}
 use Rattle.frame_header.specs.{Fields.ClassFields, Tables.{class_of, granules_of}}
 use Rattle.frame_header.specs.declared.version.Version.{Version}
 use Rattle.moved_gains.proofs.ExtremesLemmas.{joined_extremes-append, moving-cons, moving-nil}
@@ -28,14 +26,7 @@ use Rattle.sync_survey.specs.Row.{Row}
 -- ---- tests
 
 and_true : (x : Bool) → x ≡ (x && true)
-and_true true = refl
-and_true false = refl
-
-leb-min : (n a b : ℕ) → leb n (min a b) ≡ (leb n a && leb n b)
-leb-min n a b = grind (arith, leb-true, and_from, le-leb, and_parts)
-
-ltb-min : (n a b : ℕ) → ltb n (min a b) ≡ (ltb n a && ltb n b)
-ltb-min n a b = grind (arith, ltb-true, and_from, lt-ltb, and_parts)
+and_true x = grind arith
 
 -- ---- one gain
 
@@ -52,48 +43,17 @@ abbrev pub AreSmall : List ℕ → Type 0
 AreSmall [] = Unit {0}
 AreSmall (gain ∷ gains) = (gain < 256) × AreSmall gains
 
--- upward the greatest gain decides, and downward the least
-takes_steps-up : (g : Gains) (n : ℕ) → takes_steps (Some g) (pos n) ≡ leb n (255 - g.greatest)
-takes_steps-up g n = by_least g.least
-  where
-    by_least : (a : ℕ)
-        → (int_le (neg_ℤ (pos a)) (pos n) && leb n (255 - g.greatest)) ≡ leb n (255 - g.greatest)
-    by_least zero = ap (λ b. b && leb n (255 - g.greatest)) (le-leb 0 n (omega arith))
-    by_least (suc a) = refl
-
-takes_steps-down : (g : Gains) (n : ℕ) → takes_steps (Some g) (negsuc n) ≡ ltb n g.least
-takes_steps-down g n = by_least g.least
-  where
-    by_least : (a : ℕ) → (int_le (neg_ℤ (pos a)) (negsuc n) && true) ≡ ltb n a
-    by_least zero = sym (le-ltb n 0 (omega arith))
-    by_least (suc a) =
-        sym (and_true (leb n a))
-        ∙ both_ways (leb n a) (ltb n (suc a))
-        (λ is. lt-ltb n (suc a) (omega (arith, leb-true n a is)))
-        (λ is. le-leb n a (omega (arith, ltb-true n (suc a) is)))
-
 -- one gain takes steps exactly if it doesn't leave the range by them
 pub takes_steps-one : (gain : ℕ) (steps : ℤ) → gain < 256
     → takes_steps (Some (record { least = gain; greatest = gain })) steps ≡ inside steps gain
-takes_steps-one gain (pos n) small =
-    grind (arith, takes_steps-up, lt-leb, ltb-true, le-leb, ltb-false)
-takes_steps-one gain (negsuc n) small =
-    grind (arith, takes_steps-down, negsuc, pos, le-ltb, ltb-true, lt-ltb, ltb-false)
+takes_steps-one gain steps small = grind arith
 
 -- ---- many gains
 
 -- the gains of two lists together take the steps that both lists take
 pub takes_steps-joined_extremes : (f g : Option Gains) (steps : ℤ)
     → takes_steps (joined_extremes f g) steps ≡ (takes_steps f steps && takes_steps g steps)
-takes_steps-joined_extremes None g steps = refl
-takes_steps-joined_extremes (Some f) None steps = and_true (takes_steps (Some f) steps)
-takes_steps-joined_extremes (Some f) (Some g) (pos n) =
-    let least : 255 - max f.greatest g.greatest ≡ min (255 - f.greatest) (255 - g.greatest) =
-    omega arith in
-    takes_steps-up (record { least = min f.least g.least; greatest = max f.greatest g.greatest }) n
-    ∙ ap (leb n) least ∙ leb-min n (255 - f.greatest) (255 - g.greatest)
-    ∙ sym (ap₂ (λ (a b : Bool). a && b) (takes_steps-up f n) (takes_steps-up g n))
-takes_steps-joined_extremes (Some f) (Some g) (negsuc n) = grind (arith, takes_steps-down, ltb-min)
+takes_steps-joined_extremes f g steps = grind arith
 
 extremes-one : (gain : ℕ) → extremes (gain ∷ []) ≡ Some (record { least = gain; greatest = gain })
 unfolding extremes
@@ -115,8 +75,7 @@ takes_steps-all (gain ∷ gains) steps small =
     ∙ takes_steps-one gain steps small.0) (takes_steps-all gains steps small.1)
 
 and_assoc : (a b c : Bool) → (a && (b && c)) ≡ ((a && b) && c)
-and_assoc true b c = refl
-and_assoc false b c = refl
+and_assoc a b c = grind arith
 
 -- no gain of two lists together leaves the range exactly if none of either list does
 pub inside-append : (steps : ℤ) (xs ys : List ℕ)
@@ -136,12 +95,10 @@ inside-none (gain ∷ gains) small = grind (arith, and_from, pos, le-ltb, inside
 -- ---- one frame
 
 some_or : (o p : Option OutOfRange) → is_some (option_or o p) ≡ (is_some o || is_some p)
-some_or (Some x) p = refl
-some_or None p = refl
+some_or o p = grind arith
 
 some_if : (b : Bool) (x : OutOfRange) → is_some (cond b (Some x) None) ≡ b
-some_if true x = refl
-some_if false x = refl
+some_if b x = grind arith
 
 some_at : (steps : ℤ) (s : Side) (granule channel : ℕ)
     → is_some (gain_out_of_range steps s granule channel)
@@ -157,12 +114,7 @@ gains_inside : (steps : ℤ) (s : Side) (channel : ℕ) → all_inside steps (si
 gains_inside steps s channel = grind (arith, inside-append, moves_inside)
 
 one_of_four : (a b c d : Bool) → (a || (b || (c || d))) ≡ not ((not a && not c) && (not b && not d))
-one_of_four true b c d = refl
-one_of_four false true true d = refl
-one_of_four false true false d = refl
-one_of_four false false true d = refl
-one_of_four false false false true = refl
-one_of_four false false false false = refl
+one_of_four a b c d = grind arith
 
 some_of_four : (o p q r : Option OutOfRange) → is_some (option_or o (option_or p (option_or q r)))
     ≡ (is_some o || (is_some p || (is_some q || is_some r)))
@@ -195,11 +147,7 @@ unfolding is_some_out_of_range
 stuck-cons steps row rows = refl
 
 first_or_other : (a b p q : Bool) → (not (a && b) || not (p && q)) ≡ not ((a && p) && (b && q))
-first_or_other false b p q = refl
-first_or_other true false true q = refl
-first_or_other true false false q = refl
-first_or_other true true true q = refl
-first_or_other true true false q = refl
+first_or_other a b p q = grind arith
 
 inside-nil : (channel : ℕ) (steps : ℤ) → all_inside steps (moving_gains channel []) ≡ true
 inside-nil channel steps = ap (all_inside steps) (moving-nil channel)
@@ -264,8 +212,7 @@ small_moving channel (row ∷ rows) fits = small-append (row_gains channel row)
 
 lacks : (has : Bool) (version : Version) (g : Granule) → has ≡ false
     → MatchBool has (GranuleFits version g) (g ≡ no_granule) → g ≡ no_granule
-lacks true version g none fits = absurd cc
-lacks false version g none fits = fits
+lacks has version g none fits = grind arith
 
 no_second : (c : ClassFields) (granule : ℕ) → c.channels ≡ 1 → has_granule c granule 1 ≡ false
 no_second c granule one = by_granule (ltb granule (granules_of c.version))
@@ -274,8 +221,7 @@ no_second c granule one = by_granule (ltb granule (granules_of c.version))
     few = le-ltb 1 c.channels (omega (arith, one))
 
     by_granule : (b : Bool) → (b && ltb 1 c.channels) ≡ false
-    by_granule true = few
-    by_granule false = refl
+    by_granule b = grind arith
 
 mono_at : (class : ClassFields) (row : Row) → class_of row.header ≡ class → class.channels ≡ 1
     → SideFits (class_of row.header) row.side → row_gains 1 row ≡ []

@@ -1,7 +1,7 @@
 -- What is written, with the new tag in its place, is the changed file.
 use Rattle.std.proofs.Common.{ap, append_assoc, ap₂, arith, Bool, cond, drop, false, length}
 use Rattle.std.proofs.Common.{length-append, length-drop, List, None, Option, refl, Some, subst}
-use Rattle.std.proofs.Common.{sym, true, ℕ, [], ◌&&◌, ◌++◌, ◌+◌, ◌-◌, ◌<◌, ◌∙◌, ◌∷◌, ◌≡◌, ◌≤◌}
+use Rattle.std.proofs.Common.{sym, ℕ, [], ◌&&◌, ◌++◌, ◌+◌, ◌-◌, ◌<◌, ◌∙◌, ◌∷◌, ◌≡◌, ◌≤◌}
 use Rattle.std.proofs.lemmas.{Bool.{le-leb, lt-leb}, List.length-take-le}
 use Rattle.moved_gains.proofs.LostOffsetLemmas.{end_rises, EndBy}
 use Rattle.moved_gains.proofs.MovingLemmas.{IsBehind, moved_from, moved_from-later, moved_to}
@@ -98,8 +98,7 @@ moved_split steps file at to (row ∷ before) behind ends next =
 -- ---- with a new tag
 
 not_all : (a b c : Bool) (l m : List ℕ) → c ≡ false → cond (a && (b && c)) l m ≡ m
-not_all true true true l m e = absurd cc
-not_all _ _ _ l m e = refl
+not_all a b c l m e = grind arith
 
 module _ (steps : ℕ → Steps) (file : List ℕ) (tag : NewTag) where
   abbrev new : List ℕ

@@ -36,8 +36,7 @@ module _ (first gap : ℕ) where
   found_moved : (p : Piece) (b : Bool) (x y : Option Piece)
       → x ≡ option_map (edited_block first gap) y → cond b (Some (edited_block first gap p)) x
       ≡ option_map (edited_block first gap) (cond b (Some p) y)
-  found_moved p true x y same = refl
-  found_moved p false x y same = same
+  found_moved p b x y same = grind arith
 
   find_moved : (blocks : List Piece) → find is_tag (map (edited_block first gap) blocks)
       ≡ option_map (edited_block first gap) (find is_tag blocks)

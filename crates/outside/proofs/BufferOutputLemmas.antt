@@ -1,28 +1,25 @@
 -- Laws of what a buffer passed on to a file.
-use Rattle.std.proofs.Common.{append_assoc, arith, drop, length, length-append, List, subst, sym}
-use Rattle.std.proofs.{Common.{take, ℕ, ◌++◌, ◌≡◌, ◌≤◌}, Math.Seq.take-append-add}
+use Rattle.std.proofs.Common.{append_assoc, arith, drop, length, length-append, List, take, ℕ, ◌++◌}
+use Rattle.std.proofs.{Common.{◌≡◌, ◌≤◌}, Math.Seq.take-append-add}
 use Rattle.std.proofs.lemmas.List.{length-take, take-append-drop, take-append-le, take-take}
-use Rattle.std.specs.Prelude.{Err, IfErr, IsErrAnd, Ok, OnErr, Result}
+use Rattle.std.specs.Prelude.{IfErr, IsErrAnd, Ok, OnErr, Result}
 use Rattle.outside.proofs.FilesLemmas.{appended_nothing, appended_there, appended_twice}
 use Rattle.outside.specs.{Answers.PushAnswer, BufferOutput.{AppendedPrefix, AppendsWaiting}}
 use Rattle.outside.specs.{Files.{Files, IsFileThere, with_appended_bytes}, Seen.Seen}
 
 -- a fact that holds on every error
 pub on_err : {T E P : Type 0} (r : Result T E) → P → OnErr r P
-on_err (Ok x) p = tt
-on_err (Err e) p = p
+on_err r p = grind arith
 
 -- a fact of the error that is returned
 pub err_at : {T E : Type 0} (r : Result T E) (P : E → Type 0) {e : E} → IsErrAnd r (λ y. y ≡ e)
     → P e → IfErr r P
-err_at (Ok x) P is p = absurd is
-err_at (Err y) P is p = subst P (sym is) p
+err_at r P is p = grind arith
 
 -- what follows from a fact of every error holds of every error
 pub err_by : {T E : Type 0} {P Q : E → Type 0} (r : Result T E) → ((e : E) → P e → Q e) → IfErr r P
     → IfErr r Q
-err_by (Ok x) f p = tt
-err_by (Err e) f p = f e p
+err_by r f p = grind arith
 
 -- a buffer that passed on nothing
 pub passed_nothing : (files : Files) (name bytes : List ℕ) → IsFileThere files name

@@ -1,12 +1,12 @@
 -- Laws of what is known of a folder's files, and of a sink's bytes.
-use Rattle.std.proofs.Common.{ap, append_assoc, arith, inl, inr, length, List, refl, take, ℕ, []}
-use Rattle.std.proofs.{Common.{◌++◌, ◌∷◌, ◌≡◌, ◌≢◌}, lemmas.Bool.false_from_ne_true}
+use Rattle.std.proofs.Common.{ap, append_assoc, arith, length, List, refl, take, ℕ, [], ◌++◌, ◌∷◌}
+use Rattle.std.proofs.{Common.{◌≡◌, ◌≢◌}, lemmas.Bool.false_from_ne_true}
 use Rattle.std.proofs.lemmas.List.{append-nil, take_all}
 use Rattle.std.proofs.lemmas.List.Elements.{All-cons, All-head, All-nil, All-tail}
 use Rattle.std.proofs.lemmas.Map.{update-update, update_other, update_same}
 use Rattle.std.{proofs.lemmas.Slice.Eq.bytes_eq-Decides, specs.{List.All, Map.update}}
-use Rattle.std.specs.Prelude.{Bool, bytes_eq, Err, false, IfOk, is_some, IsSome, None, Ok, Option}
-use Rattle.std.specs.Prelude.{Result, Some, true, unwrap_or, ◌||◌}
+use Rattle.std.specs.Prelude.{Bool, bytes_eq, Err, false, IfOk, IsSome, Ok, Option, Result, Some}
+use Rattle.std.specs.Prelude.{true, unwrap_or, ◌||◌}
 use Rattle.outside.specs.Files.{Contents, FailsToCreate, Files, Holds, is_some_byte, is_told}
 use Rattle.outside.specs.Files.{IsFileThere, OnlyTouches, Sent, sent_and_more, Told, Touched}
 use Rattle.outside.specs.Files.{Untold, untold_files, with_appended_bytes, with_empty_file}
@@ -73,8 +73,7 @@ untouched : (touched : Touched) (name : List ℕ) → with_touch touched name fa
 untouched touched name = grind (arith, same_touched)
 
 some_byte_joined : (xs ys : List ℕ) → (is_some_byte xs || is_some_byte ys) ≡ is_some_byte (xs ++ ys)
-some_byte_joined [] ys = refl
-some_byte_joined (x ∷ xs) ys = refl
+some_byte_joined xs ys = grind arith
 
 -- touching a name leaves every other
 touch_other : (touched : Touched) (name : List ℕ) (is_so : Bool) (other : List ℕ) → other ≢ name
@@ -95,8 +94,7 @@ appended_twice (Told f) name xs ys = grind (arith, with_file_twice, with_file_he
 pub appended_nothing : (files : Files) (name : List ℕ) → IsFileThere files name
     → with_appended_bytes files name [] ≡ files
 unfolding with_appended_bytes
-appended_nothing (Untold touched) name there = ap Untold (untouched touched name)
-appended_nothing (Told f) name there = grind (arith, append-nil, with_file_same)
+appended_nothing files name there = grind (arith, untouched, append-nil, with_file_same)
 
 -- known contents in which a name has no bytes are those with it emptied
 pub emptied_is : (f new : Contents) (name : List ℕ) → new ≡ with_file f name []
@@ -115,77 +113,66 @@ appended_is f new name bytes is = grind (arith, take_all)
 pub written_holds : (files : Files) (name bytes : List ℕ) → is_told files ≡ true
     → Holds (with_appended_bytes (with_empty_file files name) name bytes) name bytes
 unfolding with_empty_file with_appended_bytes
-written_holds (Untold touched) name bytes told = cc
-written_holds (Told f) name bytes told = grind (arith, with_file_here)
+written_holds files name bytes told = grind (arith, with_file_here)
 
 -- when a name is emptied, every other holds what it held
 pub emptied_holds_other : (files : Files) (name other bytes : List ℕ) → other ≢ name
     → Holds files other bytes → Holds (with_empty_file files name) other bytes
 unfolding with_empty_file
-emptied_holds_other (Untold touched) name other bytes apart holds = holds
-emptied_holds_other (Told f) name other bytes apart holds = grind (arith, with_file_other)
+emptied_holds_other files name other bytes apart holds = grind (arith, with_file_other)
 
 -- when a name is appended to, every other holds what it held
 pub appended_holds_other : (files : Files) (name more other bytes : List ℕ) → other ≢ name
     → Holds files other bytes → Holds (with_appended_bytes files name more) other bytes
 unfolding with_appended_bytes
-appended_holds_other (Untold touched) name more other bytes apart holds = holds
-appended_holds_other (Told f) name more other bytes apart holds = grind (arith, with_file_other)
+appended_holds_other files name more other bytes apart holds = grind (arith, with_file_other)
 
 -- when a name is emptied, every other held what it holds
 pub emptied_held_other : (files : Files) (name other bytes : List ℕ) → other ≢ name
     → Holds (with_empty_file files name) other bytes → Holds files other bytes
 unfolding with_empty_file
-emptied_held_other (Untold touched) name other bytes apart holds = holds
-emptied_held_other (Told f) name other bytes apart holds = grind (arith, with_file_other)
+emptied_held_other files name other bytes apart holds = grind (arith, with_file_other)
 
 -- when a name is appended to, every other held what it holds
 pub appended_held_other : (files : Files) (name more other bytes : List ℕ) → other ≢ name
     → Holds (with_appended_bytes files name more) other bytes → Holds files other bytes
 unfolding with_appended_bytes
-appended_held_other (Untold touched) name more other bytes apart holds = holds
-appended_held_other (Told f) name more other bytes apart holds = grind (arith, with_file_other)
+appended_held_other files name more other bytes apart holds = grind (arith, with_file_other)
 
 -- a name that was emptied is there
 pub emptied_there : (files : Files) (name : List ℕ) → IsFileThere (with_empty_file files name) name
 unfolding with_empty_file
-emptied_there (Untold touched) name = tt
-emptied_there (Told f) name = ap is_some (with_file_here f name [])
+emptied_there files name = grind (arith, with_file_here)
 
 -- a name that was appended to is there
 pub appended_there : (files : Files) (name more : List ℕ)
     → IsFileThere (with_appended_bytes files name more) name
 unfolding with_appended_bytes
-appended_there (Untold touched) name more = tt
-appended_there (Told f) name more = ap is_some (with_file_here f name _)
+appended_there files name more = grind (arith, with_file_here)
 
 -- a name that was there is still there when one is emptied
 pub emptied_keeps : (files : Files) (name other : List ℕ) → IsFileThere files other
     → IsFileThere (with_empty_file files name) other
 unfolding with_empty_file
-emptied_keeps (Untold touched) name other there = tt
-emptied_keeps (Told f) name other there = is_some_with_file f name [] other there
+emptied_keeps files name other there = grind (arith, is_some_with_file)
 
 -- a name that was there is still there when one is appended to
 pub appended_keeps : (files : Files) (name more other : List ℕ) → IsFileThere files other
     → IsFileThere (with_appended_bytes files name more) other
 unfolding with_appended_bytes
-appended_keeps (Untold touched) name more other there = tt
-appended_keeps (Told f) name more other there = is_some_with_file f name _ other there
+appended_keeps files name more other there = grind (arith, is_some_with_file)
 
 -- emptying a name doesn't change whether the content of the files is known
 pub emptied_told : (files : Files) (name : List ℕ)
     → is_told (with_empty_file files name) ≡ is_told files
 unfolding with_empty_file
-emptied_told (Untold touched) name = refl
-emptied_told (Told f) name = refl
+emptied_told files name = grind arith
 
 -- appending to a name doesn't change whether the content of the files is known
 pub appended_told : (files : Files) (name more : List ℕ)
     → is_told (with_appended_bytes files name more) ≡ is_told files
 unfolding with_appended_bytes
-appended_told (Untold touched) name more = refl
-appended_told (Told f) name more = refl
+appended_told files name more = grind arith
 
 -- a folder that may have touched any name still may have when it is written to
 pub untold_files-written : {E : Type 0} (r : Result ℕ E) (name bytes : List ℕ)
@@ -203,18 +190,12 @@ All-split P (x ∷ xs) ys all = let rest = All-split P xs ys (All-tail P x (xs +
 
 -- if no file changes, only these names are touched, whichever they are
 pub touches_none : (names : List (List ℕ)) (files : Files) → OnlyTouches names files files
-touches_none names (Told f) = λ other apart. refl
-touches_none names (Untold touched) = λ other apart. refl
+touches_none names files = grind arith
 
 -- two calls that touch only these names are one that does
 pub touches_then : (names : List (List ℕ)) (a b c : Files) → OnlyTouches names a b
     → OnlyTouches names b c → OnlyTouches names a c
-touches_then names (Told f) (Told g) (Told h) first second = grind arith
-touches_then names (Untold f) (Untold g) (Untold h) first second = grind arith
-touches_then names (Told f) (Untold g) c first second = absurd first
-touches_then names (Untold f) (Told g) c first second = absurd first
-touches_then names (Told f) (Told g) (Untold h) first second = absurd second
-touches_then names (Untold f) (Untold g) (Told h) first second = absurd second
+touches_then names a b c first second = grind arith
 
 -- a call that touches only some names touches only these and more
 pub touches_more : (few many : List (List ℕ)) (old new : Files)
@@ -250,8 +231,7 @@ emptied_touches (Untold touched) name = search (arith, touch_other, first_apart)
 pub appended_touches : (files : Files) (name more : List ℕ)
     → OnlyTouches (name ∷ []) files (with_appended_bytes files name more)
 unfolding with_appended_bytes
-appended_touches (Told f) name more = search (arith, with_file_other, first_apart)
-appended_touches (Untold touched) name more = search (arith, touch_other, first_apart)
+appended_touches files name more = grind (arith, with_file_other, first_apart, touch_other)
 
 with_tried_create-touches : (files : Files) (name : List ℕ)
     → OnlyTouches (name ∷ []) files (with_tried_create files name)
@@ -262,23 +242,18 @@ with_tried_create-touches (Untold touched) name = search (arith, touch_other, fi
 -- a call to create a name that fails touches it alone
 pub fails_touches : (old new : Files) (name : List ℕ) → FailsToCreate name old new
     → OnlyTouches (name ∷ []) old new
-fails_touches old new name (inl same) = grind (arith, touches_none)
-fails_touches old new name (inr touched) = grind (arith, with_tried_create-touches)
+fails_touches old new name h = grind (arith, touches_none, with_tried_create-touches)
 
 -- a call to create a name that failed left files whose content is known
 pub fails_told : (f : Contents) (new : Files) (name : List ℕ) → FailsToCreate name (Told f) new
     → new ≡ Told f
 unfolding with_tried_create
-fails_told f new name (inl same) = same
-fails_told f new name (inr touched) = touched
+fails_told f new name h = grind arith
 
 -- touching names doesn't change whether the content of the files is known
 pub touches_told : (names : List (List ℕ)) (old new : Files) → OnlyTouches names old new
     → is_told new ≡ is_told old
-touches_told names (Told f) (Told g) only = refl
-touches_told names (Untold f) (Untold g) only = refl
-touches_told names (Told f) (Untold g) only = absurd only
-touches_told names (Untold f) (Told g) only = absurd only
+touches_told names old new only = grind arith
 
 -- ---- what is known
 
@@ -297,14 +272,12 @@ nothing_told (Told f) name there none = grind (arith, there_holds)
 pub sent_twice : (sent : Sent) (xs ys : List ℕ)
     → sent_and_more (sent_and_more sent xs) ys ≡ sent_and_more sent (xs ++ ys)
 unfolding sent_and_more
-sent_twice None xs ys = refl
-sent_twice (Some s) xs ys = ap Some (append_assoc s xs ys)
+sent_twice sent xs ys = grind (arith, append_assoc)
 
 -- sending nothing changes nothing
 pub sent_nothing : (sent : Sent) → sent_and_more sent [] ≡ sent
 unfolding sent_and_more
-sent_nothing None = refl
-sent_nothing (Some s) = ap Some (append-nil s)
+sent_nothing sent = grind (arith, append-nil)
 
 -- known bytes with these after them are the bytes with these sent
 pub sent_is : (s new bytes : List ℕ) → new ≡ s ++ bytes

@@ -13,10 +13,7 @@ use Rattle.outside.specs.Pass.{AppendsMadeBytes, AppendsPart, AppendsPrefix, Are
 use Rattle.outside.specs.Pass.{bytes_between, HasPassCause, IsPassReady, IsReadPassFault}
 use Rattle.outside.specs.Pass.{pass_fault_of, PassMakes, Route, route_of, WritesMadeBytes}
 use Rattle.outside.specs.{Pass.WritesPrefix, ReadCauses.HasReadCause, Seen.Seen}
-use Rattle.outside.specs.declared.exact.ReadFault.{ReadFault}
-use Rattle.outside.specs.declared.exact.ReadFault.TheVariants.{Failed, Shrunk as ShrunkRead}
-use Rattle.outside.specs.declared.pass.{Pass.Pass, PassFault.PassFault}
-use Rattle.outside.specs.declared.pass.PassFault.TheVariants.{Read, Shrunk, Write}
+use Rattle.outside.specs.declared.{exact.ReadFault.ReadFault, pass.{Pass.Pass, PassFault.PassFault}}
 
 -- The first of the bytes were passed on, and the rest are still to come.
 pub record WritesUpTo (pass : Pass) (whole rest : List ℕ → List ℕ) (before after : List ℕ)
@@ -227,31 +224,26 @@ part_behind_none {input} {output} {made} {before} {old} {new} {fault} none part 
 pub read_cause : (way : Route) (files : Files) (before after : Counts) (fault : ReadFault)
     → HasReadCause way.input way.size files before after fault
     → HasPassCause way files before after (pass_fault_of fault)
-read_cause way files before after Failed cause = cause
-read_cause way files before after (ShrunkRead first second) cause = cause
+read_cause way files before after fault cause = grind arith
 
 -- a fault of reading is no fault of writing
 pub read_kind : (fault : ReadFault) → IsReadPassFault (pass_fault_of fault)
-read_kind Failed = tt
-read_kind (ShrunkRead first second) = tt
+read_kind fault = grind arith
 
 -- a cause after a step that succeeded is a cause of both steps
 pub cause_later : (way : Route) (old now : Files) (output more : List ℕ) (before mid after : Counts)
     (fault : PassFault) → now ≡ with_appended_bytes old output more → mid ≡ before
     → HasPassCause way now mid after fault → HasPassCause way old before after fault
-cause_later way old now output more before mid after Read grown same cause = grind arith
-cause_later way old now output more before mid after (Shrunk first second) grown same cause =
+cause_later way old now output more before mid after fault grown same cause =
     grind (arith, appended_told)
-cause_later way old now output more before mid after Write grown same cause = grind arith
 
 -- a result's cause after a step that succeeded is a cause of both steps
 pub causes_later : {T : Type 0} (r : Result T PassFault) (way : Route) (old now : Files)
     (output more : List ℕ) (before mid after : Counts) → now ≡ with_appended_bytes old output more
     → mid ≡ before → IfErr r (HasPassCause way now mid after)
     → IfErr r (HasPassCause way old before after)
-causes_later (Ok x) way old now output more before mid after grown same cause = tt
-causes_later (Err fault) way old now output more before mid after grown same cause =
-    cause_later way old now output more before mid after fault grown same cause
+causes_later r way old now output more before mid after grown same cause =
+    grind (arith, cause_later)
 
 -- after bytes that were passed on:
 module _ {pass : Pass} {made : List ℕ → List ℕ} {before mid : List ℕ} {old now : Files}

@@ -67,8 +67,7 @@ sent_prefix_of {bytes} {s} {t} behind p = grind (arith, length-append, take-appe
 pub sent_over : {T E : Type 0} (r : Result T E) (waits piece after : List ℕ) (s t u : Sent)
     → t ≡ sent_and_more s waits → after ≡ [] → OnOk r (u ≡ sent_and_more t piece)
     → OnOk r (SendsWaiting (waits ++ piece) after s u)
-sent_over (Err e) waits piece after s t u first none more = tt
-sent_over (Ok x) waits piece after s t u first none more = grind (arith, sent_out, sent_twice)
+sent_over r waits piece after s t u first none more = grind (arith, sent_out, sent_twice)
 
 -- if a write of the piece failed, a prefix of what waited and the piece was sent
 pub sent_over_prefix : {T E : Type 0} (r : Result T E) (waits piece : List ℕ) (s t u : Sent) → t

@@ -1,22 +1,20 @@
 -- A file of at most as many frames as are allowed: its faults, and that it has none if more frames
 -- are allowed.
-use Rattle.std.proofs.Common.{ap, arith, Bool, Err, false, IfErr, inl, inr, length, List, None, Ok}
-use Rattle.std.proofs.Common.{Option, refl, Result, rules, Some, ℕ, ◌==◌, ◌∙◌, ◌≡◌, ◌≤◌}
+use Rattle.std.proofs.Common.{ap, arith, Bool, Err, false, IfErr, inl, inr, length, List, Ok}
+use Rattle.std.proofs.Common.{Option, Result, rules, Some, ℕ, ◌==◌, ◌∙◌, ◌≡◌, ◌≤◌}
 use Rattle.std.proofs.lemmas.{Bool.ne_eqb, Option.{slice_get_cases, slice_get_within}}
 use Rattle.bit_fields.specs.Bits.{AreBytes}
 use Rattle.commands.proofs.InputLemmas.{of_bytes_behind}
 use Rattle.commands.proofs.NamedLemmas.{lost_name, missed_name, unread_name}
 use Rattle.commands.proofs.{RefusingLemmas.before_first, WhyLemmas.each_why}
 use Rattle.commands.specs.AfterCall.{IsLateFault}
-use Rattle.commands.specs.SingleOutput.{file_task, HasTaskNumbers, IsEarlyFault, IsFileFault}
-use Rattle.commands.specs.SingleOutput.{IsMaking, IsProperTask, Making, Task, TaskRefuses}
-use Rattle.commands.specs.declared.fault.EditFault.{EditFault, TheVariants.{Input, Memory, Refused}}
-use Rattle.commands.specs.declared.fault.Refusal.{Refusal}
+use Rattle.commands.specs.SingleOutput.{file_task, IsEarlyFault, IsFileFault, IsMaking}
+use Rattle.commands.specs.SingleOutput.{IsProperTask, Making, Task, TaskRefuses}
+use Rattle.commands.specs.declared.fault.{EditFault.{EditFault, TheVariants.Input}, Refusal.Refusal}
 use Rattle.frame_header.specs.Fields.{ClassFields}
-use Rattle.outside.proofs.FilesLemmas.{there_holds}
 use Rattle.outside.specs.Files.{Files, Holds, IfTold, IsFileMissing, IsFileThere, Told, Untold}
 use Rattle.outside.specs.Seen.{Seen}
-use Rattle.pack_edits.specs.Modes.{limited_result, limited_task, survey_fault_or}
+use Rattle.pack_edits.specs.Modes.{limited_result, limited_task}
 use Rattle.sync_survey.proofs.BytesFaultLemmas.{survey_fields-of_bytes}
 use Rattle.sync_survey.proofs.FoldersLemmas.{survey_of-short}
 use Rattle.sync_survey.proofs.SurveyPartsLemmas.{all_faults-none_sound, AreSound, frames_from}
@@ -86,14 +84,12 @@ survey_of-more file allowed other s more e =
 limited-sound : (allowed : ℕ) (o : Option (List ℕ)) (made : Result (List ℕ) EditFault)
     → ((file : List ℕ) → o ≡ Some file → (s : SurveyFields) × (survey_of file allowed ≡ Ok s))
     → limited_result (Some allowed) o made ≡ made
-limited-sound allowed None made sound = refl
-limited-sound allowed (Some file) made sound = ap (λ r. survey_fault_or r made) (sound file refl).1
+limited-sound allowed o made sound = grind arith
 
 -- what was made within the limit is made without it
 pub limited-made : (allowed : ℕ) (o : Option (List ℕ)) (made : Result (List ℕ) EditFault)
     (new : List ℕ) → limited_result (Some allowed) o made ≡ Ok new → made ≡ Ok new
-limited-made allowed None made new is = is
-limited-made allowed (Some file) made new is = grind arith
+limited-made allowed o made new is = grind arith
 
 limited-late : (allowed : ℕ) (file : List ℕ) (made : Result (List ℕ) EditFault) → length file
     ≤ longest_file → IfErr made IsLateFault
@@ -106,31 +102,6 @@ module _ (allowed : ℕ) (task : Task) where
   abbrev pub IsFaultless : Files → Type 0
   IsFaultless files = (file : List ℕ) → Holds files task.source file
       → (s : SurveyFields) × (survey_of file allowed ≡ Ok s)
-
-  limited_task-refuses : (files : Files) (fault : EditFault) → IsFaultless files
-      → TaskRefuses task files fault → TaskRefuses (limited_task (Some allowed) task) files fault
-  limited_task-refuses (Untold touched) fault sound is = tt
-  limited_task-refuses (Told f) fault sound is = grind (arith, limited-sound)
-
-  limited_task-before : (files : Files) (P : EditFault → Type 0) → IsFaultless files
-      → IfTold files (λ f. IfErr (task.makes f) P)
-      → IfTold files (λ f. IfErr ((limited_task (Some allowed) task).makes f) P)
-  limited_task-before (Untold touched) P sound is = tt
-  limited_task-before (Told f) P sound is = grind (arith, limited-sound)
-
-  module _ (old new : Seen) (fault : EditFault) (sound : IsFaultless old.files) where
-    -- a fault before the output is created is one with the limit too
-    pub limited_task-early : IsEarlyFault task old new fault
-        → IsEarlyFault (limited_task (Some allowed) task) old new fault
-    limited_task-early h = search (arith, each_why, limited_task-refuses, limited_task-before)
-
-  -- a fault with the numbers of the task has the numbers of the task with the limit
-  pub limited_task-numbers : (fault : EditFault) → HasTaskNumbers task fault
-      → HasTaskNumbers (limited_task (Some allowed) task) fault
-  limited_task-numbers (Input place fault) h = h
-  limited_task-numbers (Refused refusal) h = h
-  limited_task-numbers Memory h = tt
-  limited_task-numbers _ h = absurd h
 
   -- what the task makes is made within the limit
   pub limited_task-making : (made : List ℕ → List ℕ) (files : Files) → IsFaultless files
@@ -166,13 +137,11 @@ module _ (allowed : ℕ) (make : Making) (stream : List ℕ → List StreamFrame
   file-refused : (files : Files) (fault : SurveyFault) → IsFileThere files input
       → ((bytes : List ℕ) → Holds files input bytes → survey_of bytes allowed ≡ Err fault)
       → TaskRefuses (limited_task (Some allowed) of_file) files (Input 0 fault)
-  file-refused (Untold touched) fault there is = tt
-  file-refused (Told f) fault there is = grind (arith, there_holds)
+  file-refused files fault there is = grind arith
 
   file-missing : (files : Files) → IsFileMissing files input
       → TaskRefuses (limited_task (Some allowed) of_file) files (Input 0 Absent)
-  file-missing (Untold touched) missing = tt
-  file-missing (Told f) missing = grind arith
+  file-missing files missing = grind arith
 
   module _ (old new : Seen) (fault : EditFault) where
     -- a fault of the file with the limit is one met before the output is created

@@ -12,7 +12,6 @@ use Rattle.frame_header.proofs.SlotLemmas.{length-all_slots}
 use Rattle.frame_header.specs.Fields.{ClassFields, IsClass, IsSlot, SlotFields}
 use Rattle.frame_header.specs.Slots.{all_slots, areas_of, largest_slot, slot_of, slots_to}
 use Rattle.frame_header.specs.{Tables.{area_of, rate_of, rates}, declared.version.Version.Version}
-use Rattle.frame_header.specs.declared.version.Version.TheVariants.{One}
 use Rattle.pack_edits.specs.Rates.{allows, is_rate, menu_in, no_rate, rate_refusal}
 use Rattle.rate_plan.specs.Menus.{HasAscendingAreas}
 use Rattle.requests.specs.declared.mode.PackMode.{PackMode, TheVariants.{Constant, Floor}}
@@ -82,8 +81,7 @@ rate-is rate class none = omega
 rates-top : (version : Version) → list_all (λ (s : SlotFields). leb (slice_index (rates version)
     (s.rate_index - 1)) (slice_index (rates version) 13)) all_slots ≡ true
 unfolding all_slots slots_to
-rates-top One = refl
-rates-top _ = refl
+rates-top version = grind arith
 
 -- if all of these numbers are at most `most`, so is one of them
 any-most : (f : SlotFields → ℕ) (n most : ℕ) (xs : List SlotFields)
@@ -113,8 +111,7 @@ contains-kept p xs x has passes = walk xs has.0 has.1 has.2
 
     here : (y : SlotFields) (ys : List SlotFields) → y ≡ x → (b : Bool) → p y ≡ b
         → Contains (cond b (y ∷ filter p ys) (filter p ys)) x
-    here y ys same true is = (0, omega arith, same)
-    here y ys same false is = absurd cc
+    here y ys same b is = grind arith
 
     walk : (xs : List SlotFields) (k : ℕ) → k < length xs → get_or xs k x ≡ x
         → Contains (filter p xs) x
@@ -146,6 +143,4 @@ kept-some mode class has = omega (arith, has.1)
 -- with a bit rate of the class the menu has a slot
 pub menu-some : (mode : PackMode) (class : ClassFields) → no_rate mode class ≡ None
     → 1 ≤ length (menu_in mode class)
-menu-some (Constant rate) class none = rate-is rate class none
-menu-some (Floor rate) class none = kept-some (Floor rate) class (floor-largest rate class none)
-menu-some x class none = kept-some x class (largest-kept x class refl)
+menu-some mode class none = grind (arith, rate-is, kept-some, floor-largest, largest-kept)

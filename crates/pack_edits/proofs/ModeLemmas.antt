@@ -1,7 +1,6 @@
 -- What the one body requires of a packing in each mode.
 use Rattle.std.proofs.Common.{arith, IfErr, inr, length, List, Ok, refl, ℕ, ◌<◌, ◌≡◌, ◌≤◌}
-use Rattle.commands.proofs.InputLemmas.{fault_is_input, input_is_early, input_numbers}
-use Rattle.commands.proofs.InputLemmas.{of_survey_input}
+use Rattle.commands.proofs.InputLemmas.{fault_is_input, input_is_early, of_survey_input}
 use Rattle.commands.specs.AfterCall.{HasInputNumbers, HasSurveyNumbers, IsLateFault}
 use Rattle.commands.specs.SingleOutput.{HasTaskNumbers, IsEarlyFault, IsFileFault, IsInputFault}
 use Rattle.commands.specs.SingleOutput.{IsMaking, IsProperTask, most_frames, Task}
@@ -14,8 +13,7 @@ use Rattle.frame_header.specs.{Fields.ClassFields, Tables.window_of}
 use Rattle.laying.specs.NeedsFit.{any_choice, IsPlacedSurvey}
 use Rattle.outside.specs.{Files.{Files, Holds}, Seen.Seen}
 use Rattle.pack_edits.proofs.BestLemmas.{best-fitting}
-use Rattle.pack_edits.proofs.LimitLemmas.{limited_task-early, limited_task-making}
-use Rattle.pack_edits.proofs.LimitLemmas.{limited_task-numbers, limited_task-proper, survey-early}
+use Rattle.pack_edits.proofs.LimitLemmas.{limited_task-making, limited_task-proper, survey-early}
 use Rattle.pack_edits.proofs.PlanLemmas.{chosen-fitting, IsFittingFew, rates-late}
 use Rattle.pack_edits.specs.Modes.{allowed_frames, mode_planning, mode_refuses, most_best}
 use Rattle.pack_edits.specs.Modes.{pack_task}
@@ -26,8 +24,7 @@ use Rattle.sync_survey.specs.{Faults.SurveyFields, Survey.survey_of}
 
 -- no mode allows more frames than other commands
 pub allowed-most : (mode : PackMode) → allowed_frames mode ≤ most_frames
-allowed-most Best = omega arith
-allowed-most _ = omega arith
+allowed-most mode = grind arith
 
 -- frames can be laid by the plan of a mode
 module _ (chosen : Chosen) (s : SurveyFields) (placed : IsPlacedSurvey s)
@@ -95,28 +92,17 @@ abbrev pub IsAllowed : PackMode → List ℕ → Files → Type 0
 IsAllowed mode input files = (file : List ℕ) → Holds files input file
     → (s : SurveyFields) × (survey_of file (allowed_frames mode) ≡ Ok s)
 
-free_early : (mode : PackMode) (input : List ℕ) (old new : Seen) (fault : EditFault)
-    → IsInputFault (laying_making all_choice (mode_planning mode)) input old new fault
-    → IsEarlyFault (free_task mode input) old new fault
-free_early mode input old new fault is = grind (arith, input_is_early)
-
 -- a fault met after the survey is one met before the output is created
 pub mode_early : (mode : PackMode) (input : List ℕ) (old new : Seen) (fault : EditFault)
     → IsAllowed mode input old.files
     → IsInputFault (laying_making all_choice (mode_planning mode)) input old new fault
     → IsEarlyFault (pack_task mode input) old new fault
-mode_early Best input old new fault sound is = grind (arith, limited_task-early, free_early)
-mode_early mode input old new fault sound is = free_early mode input old new fault is
-
-free_numbers : (mode : PackMode) (input : List ℕ) (fault : EditFault)
-    → HasInputNumbers (mode_refuses mode) fault → HasTaskNumbers (free_task mode input) fault
-free_numbers mode input fault is = grind (arith, input_numbers)
+mode_early mode input old new fault sound is = grind arith
 
 -- the numbers of a fault of the input are in the range of the command's inputs
 pub mode_numbers : (mode : PackMode) (input : List ℕ) (fault : EditFault)
     → HasInputNumbers (mode_refuses mode) fault → HasTaskNumbers (pack_task mode input) fault
-mode_numbers Best input fault is = grind (arith, limited_task-numbers, free_numbers)
-mode_numbers mode input fault is = free_numbers mode input fault is
+mode_numbers mode input fault is = grind arith
 
 -- the numbers of a fault of the survey are in the range of the command's inputs
 pub mode_survey_numbers : (mode : PackMode) (input : List ℕ) (fault : EditFault)

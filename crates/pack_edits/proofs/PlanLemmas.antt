@@ -1,8 +1,8 @@
 -- The plan with the slots of some bit rates: frames can be laid by it, and with all bit rates from
 -- one on there is always one.
-use Rattle.std.proofs.Common.{All, ap, append-nil, arith, Bool, Contains, Err, false, IfErr, length}
-use Rattle.std.proofs.Common.{length-drop, List, map, MatchResult, None, Ok, refl, Result, subst}
-use Rattle.std.proofs.Common.{true, ℕ, [], ◌+◌, ◌<◌, ◌∙◌, ◌∷◌, ◌≡◌, ◌≤◌}
+use Rattle.std.proofs.Common.{All, ap, append-nil, arith, Bool, Contains, Err, IfErr, length}
+use Rattle.std.proofs.Common.{length-drop, List, map, MatchResult, None, Ok, refl, Result, subst, ℕ}
+use Rattle.std.proofs.Common.{[], ◌+◌, ◌<◌, ◌∙◌, ◌∷◌, ◌≡◌, ◌≤◌}
 use Rattle.std.proofs.lemmas.List.{length-map, length-take}
 use Rattle.commands.proofs.RefusingLemmas.{refusal_or-late, refusal_or-ok, then_late, then_ok}
 use Rattle.commands.specs.{AfterCall.IsLateFault, Refusing.refusal_or}
@@ -23,9 +23,7 @@ use Rattle.rate_plan.proofs.{LargestSlotLemmas.largest-fits, LeastMenuPlanLemmas
 use Rattle.rate_plan.specs.LeastMenuPlan.{IsMenuFault, least_menu_plan}
 use Rattle.rate_plan.specs.Menus.{HasAscendingAreas, IsMenu, IsMenuPlan, menu_choices, menu_items}
 use Rattle.rate_plan.specs.declared.fault.RateFault.{RateFault}
-use Rattle.rate_plan.specs.declared.fault.RateFault.TheVariants.{Memory as NoMemory, Unfit}
-use Rattle.requests.specs.declared.mode.PackMode.{PackMode}
-use Rattle.requests.specs.declared.mode.PackMode.TheVariants.{Best, Constant, Floor, Least}
+use Rattle.requests.specs.declared.mode.PackMode.{PackMode, TheVariants.{Constant, Floor}}
 use Rattle.slot_plan.specs.{Layouts.{begins_of, HasLayout}, Lists.frames_with_areas}
 use Rattle.slot_plan.specs.Parts.{AreNeedsOfClass, need_item, open_frame, PlanItem, window_in}
 use Rattle.slot_plan.specs.{Plans.{AreItemSlots, entries, item_areas}, declared.needs.Need.Need}
@@ -38,9 +36,7 @@ use Rattle.sync_survey.specs.{Faults.SurveyFields, Row.Row}
 pub asks-from : (lead_in : Bool) (menu : List SlotFields) (needs : List Need)
     → Asks (menu_items lead_in menu needs) needs
 unfolding menu_items
-asks-from false menu needs = asks-each (menu_choices menu) needs
-asks-from true menu [] = tt
-asks-from true menu (first ∷ needs) = grind (arith, asks-each)
+asks-from lead_in menu needs = grind (arith, asks-each)
 
 module _ (menu : List SlotFields)
     (slots : (slot : SlotFields) → Contains menu slot → IsSlot slot) where
@@ -50,16 +46,12 @@ module _ (menu : List SlotFields)
 
   open-from : (lead_in : Bool) (needs : List Need) → AreOpen (menu_items lead_in menu needs)
   unfolding menu_items
-  open-from false needs = open-needs needs
-  open-from true [] = tt
-  open-from true (first ∷ needs) = (slots, open-needs (first ∷ needs))
+  open-from lead_in needs = grind (arith, open-needs)
 
 from-length : (lead_in : Bool) (menu : List SlotFields) (needs : List Need)
     → length (menu_items lead_in menu needs) ≤ length needs + 1
 unfolding menu_items
-from-length false menu needs = omega (arith, length-map needs (need_item (menu_choices menu)))
-from-length true menu [] = omega arith
-from-length true menu (first ∷ needs) = grind (arith, length-map)
+from-length lead_in menu needs = grind (arith, length-map)
 
 -- frames can be laid by the plan, with at most one lead-in
 pub record IsFittingFew (window : ℕ) (needs : List Need) (placed : List Placed) : Type 0 where
@@ -106,12 +98,10 @@ menu-fitting window menu needs placed slots is =
 -- a plan that isn't refused is the plan that was found
 pub fitted_plan-ok : (r : Result (List Placed) ℕ) (placed : List Placed) → fitted_plan r ≡ Ok placed
     → r ≡ Ok placed
-fitted_plan-ok (Ok first) placed is = cc
-fitted_plan-ok (Err i) placed is = absurd cc
+fitted_plan-ok r placed is = grind arith
 
 fitted_plan-late : (r : Result (List Placed) ℕ) → IfErr (fitted_plan r) IsLateFault
-fitted_plan-late (Ok placed) = tt
-fitted_plan-late (Err i) = refl
+fitted_plan-late r = grind arith
 
 -- the refusals of a plan are late
 pub rates-late : (mode : PackMode) (class : ClassFields) (needs : List Need)
@@ -139,15 +129,13 @@ rates-fitting mode class needs placed sound same some planned =
 pub window-is : (class : ClassFields) (needs : List Need) → AreNeedsOfClass class needs
     → 1 ≤ length needs → window_in needs ≡ window_of class.version
 unfolding AreNeedsOfClass
-window-is class [] same some = absurd (omega (arith, some))
-window-is class (first ∷ needs) same some = ap (λ (c : ClassFields). window_of c.version) same.0
+window-is class needs same some = grind arith
 
 -- slots with ascending areas are a menu
 pub is-menu : (class : ClassFields) (menu : List SlotFields) (needs : List Need)
     → AreNeedsOfClass class needs → HasAscendingAreas class menu → IsMenu menu needs
 unfolding AreNeedsOfClass
-is-menu class menu [] same ascend = tt
-is-menu class menu (first ∷ needs) same ascend = grind arith
+is-menu class menu needs same ascend = grind arith
 
 -- what the planner is given for frames
 pub needs-one : (rows : List Row) → needs_of_parts (rows ∷ []) ≡ map need_of rows
@@ -257,16 +245,10 @@ module _ (chosen : Chosen) (s : SurveyFields) (placed : IsPlacedSurvey s)
   -- a fault of the planner of a menu is a fault of the mode
   pub menu-fault : (mode : PackMode) (fault : RateFault) → IsNamed mode → no_rate mode s.class
       ≡ None → IsMenuFault (menu_answer mode) fault → IsFaultIn mode (rate_edit_fault fault)
-  menu-fault (Constant rate) (Unfit i) named none is = grind (arith, plan-is)
-  menu-fault (Floor rate) (Unfit i) named none is = absurd (floor-unfit rate i none is)
-  menu-fault Least (Unfit i) named none is = absurd named
-  menu-fault Best (Unfit i) named none is = absurd named
-  menu-fault mode NoMemory named none is = tt
+  menu-fault mode fault named none is = grind (arith, plan-is, floor-unfit)
 
   -- the plan of a mode that names a bit rate is what the menu gives
   pub menu-plan : (mode : PackMode) (plan : List Placed) → IsNamed mode → no_rate mode s.class
       ≡ None → menu_answer mode ≡ Ok plan
       → mode_planning mode s.class (chosen_needs chosen s) ≡ Ok plan
-  menu-plan (Constant rate) plan named none is = plan-is (Constant rate) (Ok plan) none is
-  menu-plan (Floor rate) plan named none is = plan-is (Floor rate) (Ok plan) none is
-  menu-plan _ plan named none is = absurd named
+  menu-plan mode plan named none is = grind arith

@@ -67,9 +67,7 @@ wide-each (need ∷ needs) = (refl, wide-each needs)
 wide-behind : (lead_in : Bool) (needs : List Need)
     → AreWide (items_with_lead_in lead_in any_choice needs)
 unfolding items_with_lead_in
-wide-behind false needs = wide-each needs
-wide-behind true [] = tt
-wide-behind true (first ∷ needs) = (refl, wide-each (first ∷ needs))
+wide-behind lead_in needs = grind (arith, wide-each)
 
 for-flagged : (items : List PlanItem) (placed : List Placed) → AreWide items → Flagged items placed
     → AreInSlots placed → AreItemSlots items placed
@@ -118,9 +116,7 @@ all-each c (need ∷ needs) same = (same.0, all-each c needs same.1)
 all-behind : (c : ClassFields) (lead_in : Bool) (needs : List Need) → AreNeedsOfClass c needs
     → AreAllOf c (items_with_lead_in lead_in any_choice needs)
 unfolding items_with_lead_in AreNeedsOfClass
-all-behind c false needs same = all-each c needs same
-all-behind c true [] same = tt
-all-behind c true (first ∷ needs) same = (same.0, all-each c (first ∷ needs) same)
+all-behind c lead_in needs same = grind (arith, all-each)
 
 -- the bytes of frames outside their areas
 abbrev overheads : List PlanItem → ℕ

@@ -30,14 +30,13 @@ use Rattle.sync_survey.proofs.WalkLemmas.{numbered_frames-run}
 use Rattle.sync_survey.specs.Faults.{class_from, has_wrong_crc, SurveyFields}
 use Rattle.sync_survey.specs.Items.{item_at, item_fits, size_of}
 use Rattle.sync_survey.specs.MainData.{data_end_after, data_end_before, is_lost, lacks_data}
-use Rattle.sync_survey.specs.MainData.{marked_row, marked_rows, place, points_too_far, row_of}
-use Rattle.sync_survey.specs.{MainData.rows_of, Row.Row}
+use Rattle.sync_survey.specs.{MainData.{marked_row, marked_rows, place, row_of, rows_of}, Row.Row}
 use Rattle.sync_survey.specs.Runs.{AreEndToEnd, block_of_item, blocks_of, frame_of_item, frames_of}
 use Rattle.sync_survey.specs.Runs.{item_run, PlacedItem, whole_item_at}
 use Rattle.sync_survey.specs.Start.{anchored_frame, first_anchored, front_end_of, longest_junk}
 use Rattle.sync_survey.specs.Start.{start_after_junk, start_at}
 use Rattle.sync_survey.specs.Walk.{head_of, numbered_frames, numbered_offset, stream_run}
-use Rattle.sync_survey.specs.declared.items.Item.{Item, TheVariants.{Block, Frame, Free, Zero}}
+use Rattle.sync_survey.specs.declared.items.Item.{Item, TheVariants.{Block, Frame, Free}}
 use Rattle.sync_survey.specs.declared.places.{Head.Head, PlacedFrame.PlacedFrame, Start.Start}
 use Rattle.sync_survey.specs.declared.runs.Region.TheVariants.{Stream}
 use Rattle.sync_survey.specs.declared.survey_fault.SurveyFault.{SurveyFault}
@@ -46,8 +45,7 @@ use Rattle.sync_survey.specs.declared.survey_fault.SurveyFault.{SurveyFault}
 
 right_by : (protected right : Bool) → (protected && not right) ≡ false
     → (not protected || right) ≡ true
-right_by true false is = absurd cc
-right_by _ _ is = refl
+right_by protected right is = grind arith
 
 -- the frame is of the class, and its check word isn't wrong
 pub record HasNoFault (file : List ℕ) (class : ClassFields) (r : Row) : Type 0 where
@@ -90,13 +88,11 @@ read_by file class at item here reads = grind arith
 item_reads : (file : List ℕ) (class : ClassFields) (at : ℕ) (item : Item) (ps : List PlacedFrame)
     → AreUsable file class (cons_option (frame_of_item at item) ps)
     → is_item_read file (Later class) at item ≡ true
-item_reads file class at (Frame h) ps usable = usable.0
-item_reads file class at _ ps usable = refl
+item_reads file class at item ps usable = grind arith
 
 rest_usable : (file : List ℕ) (class : ClassFields) (o : Option PlacedFrame) (ps : List PlacedFrame)
     → AreUsable file class (cons_option o ps) → AreUsable file class ps
-rest_usable file class None ps usable = usable
-rest_usable file class (Some p) ps usable = usable.1
+rest_usable file class o ps usable = grind arith
 
 things_are : (file : List ℕ) (class : ClassFields) (from : ℕ) (ps : List PlacedItem) (to : ℕ)
     → AreEndToEnd Stream file from ps to → AreUsable file class (frames_of ps) → length file ≤ to
@@ -123,8 +119,7 @@ runs_as first later = record { first = first; later = later }
 frame_run : (o : Option PlacedFrame) (runs : FrameRuns) (ps : List PlacedFrame)
     → runs ≡ runs_as ps []
     → runs_as (option_to_list o ++ runs.first) runs.later ≡ runs_as (cons_option o ps) []
-frame_run None runs ps is = is
-frame_run (Some q) runs ps is = ap (λ (t : FrameRuns). runs_as (q ∷ t.first) t.later) is
+frame_run o runs ps is = grind arith
 
 one_run : (ps : List PlacedItem) → runs_of (map as_thing ps) ≡ runs_as (frames_of ps) []
 one_run [] = refl
@@ -132,32 +127,9 @@ one_run (p ∷ ps) = grind (arith, frame_run, one_run ps)
 
 -- ---- the marks of the survey are the same
 
-sound_well : (place ended : ℕ) (r : Row) → StandWell place ended r → is_sound place ended r ≡ true
-sound_well place ended r well = grind arith
-
-unsound_far : (place ended : ℕ) (r : Row) → points_too_far place r ≡ true
-    → is_sound place ended r ≡ false
-unsound_far place ended r far = grind arith
-
-second : (a b : Bool) → (a && b) ≡ true → b ≡ true
-second true b is = is
-second false b is = absurd cc
-
 not_sound : (place ended : ℕ) (r : Row) (lost : Bool) → lacks_data place ended r ≡ lost
     → (lost ≡ false → StandWell place ended r) → not (is_sound place ended r) ≡ lost
-not_sound place ended r true is well = ap not (unsound_far place ended r (second _ _ is))
-not_sound place ended r false is well = ap not (sound_well place ended r (well refl))
-
-swap : (silent sound : Bool) (end ended : ℕ)
-    → cond (sound && not silent) end ended ≡ cond (silent || not sound) ended end
-swap true true end ended = refl
-swap true false end ended = refl
-swap false true end ended = refl
-swap false false end ended = refl
-
-end_same : (place ended : ℕ) (r : Row) → not (is_sound place ended r) ≡ lacks_data place ended r
-    → sound_end place ended (Some r) ≡ data_end_after place ended (Some r)
-end_same place ended r same = grind (arith, swap, same)
+not_sound h ended r lost is well = grind arith
 
 module _ (file : List ℕ) (head : Option Head) (class : ClassFields) (allowed : ℕ) (rows : List Row)
     (sound : AreSound file head class allowed rows) where
@@ -168,8 +140,7 @@ module _ (file : List ℕ) (head : Option Head) (class : ClassFields) (allowed :
   end_step : (i : ℕ) (o : Option Row) → slice_get rows i ≡ o → end_of_sound head rows i
       ≡ data_end_before head rows i → sound_end (place head rows i) (end_of_sound head rows i) o
       ≡ data_end_after (place head rows i) (data_end_before head rows i) o
-  end_step i None is so_far = so_far
-  end_step i (Some r) is so_far = grind (arith, end_same, one_same)
+  end_step i o is so_far = grind arith
 
   ends_same : (i : ℕ) → end_of_sound head rows i ≡ data_end_before head rows i
   unfolding end_of_sound data_end_before
@@ -229,10 +200,7 @@ no_frame : (file : List ℕ) (at : ℕ) (item : Item) (b : Bool) → item_at fil
     → ((h : HeaderFields) → item ≡ Frame h → ⊥)
     → option_and_then (frame_of_item at) (item_read file First at) ≡ None
 unfolding item_read whole_item_at
-no_frame file at (Frame h) b is none = absurd (none h refl)
-no_frame file at (Block block) b is none = grind (arith, option_and_then)
-no_frame file at Zero b is none = grind (arith, option_and_then)
-no_frame file at _ b is none = grind (arith, option_and_then)
+no_frame file at item b is none = grind arith
 
 usable_here : (file : List ℕ) (role : Role) (at : ℕ) (p : PlacedFrame) → anchored_frame file at
     ≡ Some p → is_usable role p (drop p.offset file) ≡ true → usable_frame_at file role at ≡ Some p
@@ -255,23 +223,13 @@ module _ (file : List ℕ) (at : ℕ) (start : Start)
       (λ k low high. not_usable file First k (first.1.none k low high))
 
   start_same : (o : Option PlacedFrame) → start_after_junk at o ≡ Ok start → o ≡ Some start.first
-  start_same None e = absurd cc
-  start_same (Some p) e = grind arith
+  start_same o e = grind arith
 
   here_first : (h : HeaderFields) (b : Bool) (fault : SurveyFault)
       → whole_item_at Stream file start.first.offset ≡ Some (Frame start.first.header)
       → cond b (Ok (record { front_end = at; first = record { offset = at; header = h } }))
       (Err fault) ≡ Ok start → first_frame file at ≡ Some start.first
-  here_first h true fault here e =
-      let same : record { front_end = at; first = record { offset = at; header = h } } ≡ start =
-      cc in
-      let first : record { offset = at; header = h } ≡ start.first = ap (λ s. s.first) same in
-      first_here file at (record { offset = at; header = h })
-      (read_first file at h
-      (subst (λ p. whole_item_at Stream file p.offset ≡ Some (Frame p.header)) (sym first) here)
-      (subst (λ p. is_usable First p (drop p.offset file) ≡ true) (sym first) usable))
-      ∙ ap Some first
-  here_first h false fault here e = absurd cc
+  here_first h b fault here e = grind (arith, first_here, read_first)
 
   first_by : (item : Item) → item_at file at ≡ item → start_at file at item ≡ Ok start
       → whole_item_at Stream file start.first.offset ≡ Some (Frame start.first.header)

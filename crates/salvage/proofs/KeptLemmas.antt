@@ -51,8 +51,7 @@ module _ (head : Option Head) where
       → ended ≤ base + b.ended → ended ≤ now → (cond (not sound || silent) ended (end_of_data now r)
       ≤ base + cond (sound && not silent) (end_of_data b.place r) b.ended)
       × (cond (not sound || silent) ended (end_of_data now r) ≤ now + own_area r.header)
-  end_by base now ended b r true false is other at low high = grind (arith, sound_within)
-  end_by base now ended b r _ _ is other at low high = (low, omega (arith, high))
+  end_by base now ended b r sound silent is other at low high = grind arith
 
   module _ (rows : List Row) (b : ReservoirState) (kept : AreKeptTo head rows b) (r : Row) where
     abbrev marked_one : Row

@@ -27,14 +27,13 @@ use Rattle.salvage.specs.{Walk.{things, things_up_to}, declared.{gap.Gap.Gap, us
 use Rattle.salvage.specs.declared.usable.Role.TheVariants.{First, Later}
 use Rattle.side_info.proofs.FrameLemmas.{fits-side_in}
 use Rattle.sync_survey.proofs.ItemsLemmas.{header_front-in_range, stands-at}
-use Rattle.sync_survey.proofs.RunsLemmas.{IsItemOf, item_run-ends, whole_cases}
-use Rattle.sync_survey.specs.{Faults.longest_file, Items.size_of, MainData.{head_area, row_in}}
-use Rattle.sync_survey.specs.Row.{Row}
+use Rattle.sync_survey.{proofs.RunsLemmas.{IsItemOf, item_run-ends}, specs.Faults.longest_file}
+use Rattle.sync_survey.specs.{Items.size_of, MainData.{head_area, row_in}, Row.Row}
 use Rattle.sync_survey.specs.Runs.{AreEndToEnd, block_of_item, blocks_of, frame_of_item, item_run}
 use Rattle.sync_survey.specs.{Runs.PlacedItem, Start.front_end_of}
 use Rattle.sync_survey.specs.Survey.{BlocksAreLaid, FramesAreLaid, IsWholeHead}
 use Rattle.sync_survey.specs.{Walk.{head_of, numbered_offset}, declared.items.Item.Item}
-use Rattle.sync_survey.specs.declared.items.Item.TheVariants.{Block, Frame, Free, Zero}
+use Rattle.sync_survey.specs.declared.items.Item.TheVariants.{Block, Frame, Free}
 use Rattle.sync_survey.specs.declared.places.{Head.Head, Piece.Piece, PlacedFrame.PlacedFrame}
 use Rattle.sync_survey.specs.declared.{rows.ReservoirState.ReservoirState, runs.Region.Region}
 use Rattle.sync_survey.specs.declared.runs.Region.TheVariants.{Front, Stream}
@@ -62,10 +61,7 @@ gaps-earlier from later (g ∷ gaps) to low laid = (omega (arith, low, laid.0), 
 -- an item that is read passes the test of what is read
 read-by : (file : List ℕ) (role : Role) (at : ℕ) (o : Option Item) (item : Item)
     → item_if_read file role at o ≡ Some item → is_item_read file role at item ≡ true
-read-by file role at None item e = absurd cc
-read-by file role at (Some i) item e =
-    let cases = whole_cases (is_item_read file role at i) i item e in
-    subst (λ (j : Item). is_item_read file role at j ≡ true) cases.1 cases.0
+read-by file role at o item e = grind arith
 
 frame-class : (file : List ℕ) (class : ClassFields) (at : ℕ) (h : HeaderFields)
     → item_read file (Later class) at ≡ Some (Frame h) → class_of h ≡ class
@@ -86,9 +82,7 @@ module _ (file : List ℕ) (class : ClassFields) where
 
   met-by : (at : ℕ) (o : Option Item) → at < length file → item_read file (Later class) at ≡ o
       → IsMet at (thing_or_gap file class at o)
-  met-by at (Some item) before is = is
-  met-by at None before is = let ends = gap_end-is file class at before in
-      record { some = omega (arith, ends.some); within = omega (arith, ends.some, ends.within) }
+  met-by at o before is = grind (arith, gap_end-is)
 
   thing-met : (at : ℕ) → at < length file → IsMet at (thing_at file class at)
   unfolding thing_at
@@ -96,8 +90,7 @@ module _ (file : List ℕ) (class : ClassFields) where
 
   met-within : (at : ℕ) (thing : ItemOrGap) → IsMet at thing
       → at + size_of_thing thing ≤ length file
-  met-within at (IsItem item) met = (item_read-is file (Later class) at item met).within
-  met-within at (IsGap n) met = met.within
+  met-within at thing met = grind (arith, item_read-is)
 
   -- ---- all things from an offset on
 
@@ -209,13 +202,7 @@ module _ (file : List ℕ) (class : ClassFields) where
 block-first : (from at : ℕ) (item : Item) (blocks : List Piece) (to : ℕ) → from ≤ at
     → BlocksAreLaid (at + size_of item) blocks to
     → BlocksAreLaid from (cons_option (block_of_item at item) blocks) to
-block-first from at (Block b) blocks to low laid = (low, laid)
-block-first from at (Frame h) blocks to low laid =
-    blocks-earlier from (at + size_of (Frame h)) blocks to (omega (arith, low)) laid
-block-first from at Zero blocks to low laid =
-    blocks-earlier from (at + 1) blocks to (omega (arith, low)) laid
-block-first from at _ blocks to low laid =
-    blocks-earlier from (at + 0) blocks to (omega (arith, low)) laid
+block-first from at item blocks to low laid = grind (arith, blocks-earlier)
 
 ends-order : (part : Region) (file : List ℕ) (from : ℕ) (ps : List PlacedItem) (to : ℕ)
     → AreEndToEnd part file from ps to → BlocksAreLaid from (blocks_of ps) to
@@ -232,12 +219,7 @@ blocks-behind from (b ∷ xs) ys mid to front back =
 gaps-behind : (from first : ℕ) (gaps : List Gap) (to : ℕ) (some : Bool) → ltb from first ≡ some
     → from ≤ first → GapsAreLaid first gaps to
     → GapsAreLaid 0 (cond some (record { offset = from; length = first - from } ∷ []) [] ++ gaps) to
-gaps-behind from first gaps to true is low laid = (
-  omega arith,
-  omega (arith, ltb-true from first is),
-  gaps-earlier (from + (first - from)) first gaps to (omega (arith, low)) laid,
-)
-gaps-behind from first gaps to false is low laid = gaps-earlier 0 first gaps to (omega arith) laid
+gaps-behind from first gaps to some is low laid = grind (arith, ltb-true, gaps-earlier)
 
 first-by : (file : List ℕ) (at : ℕ) (o : Option Item) (next : Option PlacedFrame)
     (first : PlacedFrame) → ((item : Item) → o ≡ Some item → IsItemOf Stream file at item)
@@ -266,13 +248,7 @@ record IsBehindHead (file : List ℕ) (first : PlacedFrame) (head : Option Head)
 head-by : (file : List ℕ) (first : PlacedFrame) (o : Option ℕ)
     → IsItemOf Stream file first.offset (Frame first.header) → IsBehindHead file first
     (option_map (λ at. record { offset = first.offset; header = first.header; text_at = at }) o)
-head-by file first None is =
-    record { whole = tt; low = omega arith; high = omega (arith, is.within) }
-head-by file first (Some at) is = record {
-  whole = record { place = refl; class_is = refl; within = is.within };
-  low = omega arith;
-  high = grind arith;
-}
+head-by file first o is = grind arith
 
 head-behind : (file : List ℕ) (first : PlacedFrame)
     → IsItemOf Stream file first.offset (Frame first.header)
@@ -402,8 +378,7 @@ damaged_fields-laid file d e long =
 
 length-by : (b : Bool) (n : ℕ) (r : Result DamagedFields SurveyFault) (d : DamagedFields)
     → cond b (Err (TooLong n)) r ≡ Ok d → (b ≡ false) × (r ≡ Ok d)
-length-by true n r d e = absurd cc
-length-by false n r d e = (refl, e)
+length-by b n r d e = grind arith
 
 -- a file of which something is read is no longer than allowed
 pub damaged_of-is : (file : List ℕ) (d : DamagedFields) → damaged_of file ≡ Ok d
@@ -423,8 +398,7 @@ row-many : (file : List ℕ) (b : ReservoirState) (at : ℕ) (thing : ItemOrGap)
     (frames : List PlacedFrame) → length rows ≡ length frames
     → length (thing_rows file b at thing ++ rows)
     ≡ length (cons_option (frame_of_thing at thing) frames)
-row-many file b at (IsItem (Frame h)) rows frames same = ap suc same
-row-many file b at _ rows frames same = same
+row-many file b at thing rows frames same = grind arith
 
 rows-many : (file : List ℕ) (b : ReservoirState) (ts : List PlacedThing)
     → length (rows_left file b ts) ≡ length (frames_of_things ts)

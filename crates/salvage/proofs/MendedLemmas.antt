@@ -1,8 +1,8 @@
 -- With its emptied frames as frames without main data, what is read of a damaged file is laid out
 -- like a file without fault.
-use Rattle.std.proofs.Common.{ap, ap₂, arith, Bool, cond, false, List, map, None, Option}
-use Rattle.std.proofs.Common.{option_to_list, refl, slice_get, Some, subst, suc, sym, true, zero, ℕ}
-use Rattle.std.proofs.{Common.{[], ◌++◌, ◌+◌, ◌∙◌, ◌∷◌, ◌≡◌}, lemmas.List.length-map}
+use Rattle.std.proofs.Common.{ap₂, arith, Bool, false, List, map, Option, option_to_list, refl}
+use Rattle.std.proofs.Common.{slice_get, Some, subst, suc, sym, zero, ℕ, [], ◌++◌, ◌+◌, ◌∙◌, ◌∷◌}
+use Rattle.std.proofs.{Common.◌≡◌, lemmas.List.length-map}
 use Rattle.frame_header.specs.{Fields.{ClassFields, IsHeader}, Tables.{class_of, length_of}}
 use Rattle.salvage.{proofs.KeptLemmas.sound_within, specs.DamagedFiles.DamagedFields}
 use Rattle.salvage.specs.{EmptiedFrames.{emptied_frame, emptied_from}, KeptFrames.end_of_kept}
@@ -71,15 +71,7 @@ module _ (d : DamagedFields) (laid : IsDamagedLaidOut d) where
 
 none_lost : (number : ℕ) (r : Row) (rest : List Emptied) (b : Bool) → r.lost ≡ b
     → option_to_list (emptied_frame number r) ++ rest ≡ [] → (r.lost ≡ false) × (rest ≡ [])
-none_lost number r rest true is e = let found = ap (λ b. option_to_list (cond b (Some (record {
-  number = number;
-  offset = r.offset;
-})) None) ++ rest) (sym is) ∙ e in absurd cc
-none_lost number r rest false is e = (
-  is,
-  ap (λ b. option_to_list (cond b (Some (record { number = number; offset = r.offset })) None)
-      ++ rest) (sym is) ∙ e,
-)
+none_lost number r rest b is e = grind arith
 
 -- if no frame becomes an empty one, all frames are unchanged
 pub mended_none : (number : ℕ) (rows : List Row) → emptied_from number rows ≡ []

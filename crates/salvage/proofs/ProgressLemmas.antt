@@ -1,17 +1,15 @@
 -- One more thing is read.
-use Rattle.std.proofs.Common.{ap, append-nil, arith, Bool, cond, drop, Err, false, IfSome, length}
-use Rattle.std.proofs.Common.{List, ltb, None, Ok, Option, refl, slice_get, Some, subst, sym, true}
-use Rattle.std.proofs.Common.{ℕ, [], ◌++◌, ◌+◌, ◌-◌, ◌<◌, ◌==◌, ◌∙◌, ◌∷◌, ◌≡◌, ◌≤◌}
-use Rattle.std.proofs.lemmas.{Bool.{and_parts, ltb-true}, Option.slice_get_past}
-use Rattle.std.specs.List.{prefix_len}
+use Rattle.std.proofs.Common.{ap, append-nil, arith, Bool, cond, drop, Err, IfSome, length, List}
+use Rattle.std.proofs.Common.{ltb, None, Ok, Option, refl, slice_get, Some, subst, sym, true, ℕ, []}
+use Rattle.std.proofs.Common.{◌++◌, ◌+◌, ◌-◌, ◌<◌, ◌==◌, ◌∙◌, ◌∷◌, ◌≡◌, ◌≤◌}
+use Rattle.std.{proofs.lemmas.{Bool.and_parts, Option.slice_get_past}, specs.List.prefix_len}
 use Rattle.frame_header.proofs.{ClassLemmas.same_class-is, HeaderLemmas.IsClass-class_of}
 use Rattle.frame_header.specs.{Fields.{ClassFields, HeaderFields, IsHeader}, Tables.class_of}
 use Rattle.salvage.proofs.KeptLemmas.{kept_frame, kept_gap, kept_none}
 use Rattle.salvage.proofs.{ReadFaultLemmas.damaged_of-short, SoundLemmas.runs-left}
 use Rattle.salvage.proofs.WalkLemmas.{item_passed, things-gap, things-item, things-past}
 use Rattle.salvage.specs.DamagedFiles.{damaged_fields, damaged_from, damaged_of, damaged_with_count}
-use Rattle.salvage.specs.DamagedFiles.{DamagedFields, excess_or_damaged, gap_between, most_frames}
-use Rattle.salvage.specs.DamagedFiles.{no_frame_or_damaged}
+use Rattle.salvage.specs.DamagedFiles.{DamagedFields, gap_between, most_frames, no_frame_or_damaged}
 use Rattle.salvage.specs.JudgedFrames.{AddsGap, AddsItem, empty_state, IsPastMost, item_rows}
 use Rattle.salvage.specs.JudgedFrames.{row_judged_in, rows_left, state_after_frame}
 use Rattle.salvage.specs.{JudgedFrames.state_after_item, KeptFrames.AreKeptTo}
@@ -244,8 +242,7 @@ get_first (x ∷ xs) ys r n is = grind (arith, get_first xs ys r (length xs) ref
 no_frame_or_damaged-many : (front_end : ℕ) (rows : List Row) (d : DamagedFields) (r : Row)
     → slice_get rows most_frames ≡ Some r
     → no_frame_or_damaged front_end rows d ≡ Err (TooManyFrames r.offset)
-no_frame_or_damaged-many front_end [] d r is = absurd cc
-no_frame_or_damaged-many front_end (q ∷ rows) d r is = ap (λ o. excess_or_damaged o d) is
+no_frame_or_damaged-many front_end rows d r is = grind arith
 
 -- a frame past the number that there may be is the fault of the file
 pub past_most : (file : List ℕ) (b : Begun) (found : DamagedSoFar) (item : Item)
@@ -297,8 +294,7 @@ no_first file front_end front few none = grind (arith, damaged_of-short, first_n
 -- frames that are some, and not too many, have no fault by their number
 pub no_frame_or_damaged-few : (front_end : ℕ) (rows : List Row) (d : DamagedFields)
     → (rows ≡ [] → ⊥) → length rows ≤ most_frames → no_frame_or_damaged front_end rows d ≡ Ok d
-no_frame_or_damaged-few front_end [] d some few = absurd (some refl)
-no_frame_or_damaged-few front_end (r ∷ rows) d some few = grind (arith, slice_get_past, rows)
+no_frame_or_damaged-few front_end rows d some few = grind (arith, slice_get_past)
 
 -- what the code returns is what is read
 told_is : (file : List ℕ) (b : Begun) (found : DamagedSoFar) → BeginsAsRead file b
@@ -333,8 +329,7 @@ all_read file b found begins few size read some most =
 -- a frame too many refuses the file, with the right numbers
 pub past_rightly : (item : Item) (found : DamagedSoFar) (fault : SurveyFault)
     → IsPastMost item found fault → RefusesRightly fault
-past_rightly (Frame h) found fault past = subst RefusesRightly (sym past.0) (refl, tt)
-past_rightly _ found fault past = absurd past
+past_rightly item found fault past = grind arith
 
 -- ---- where the reading begins
 
@@ -361,8 +356,7 @@ begun_read file b found begins first blocks =
 
 between_laid : (from to at : ℕ) (less : Bool) → ltb from to ≡ less → from ≤ to → to ≤ at
     → GapsAreLaid 0 (cond less (record { offset = from; length = to - from } ∷ []) []) at
-between_laid from to at true is low high = grind (arith, ltb-true)
-between_laid from to at false is low high = omega arith
+between_laid from to at less is low high = grind arith
 
 -- what was found where the reading begins is in order
 pub begun_laid : (b : Begun) (found : DamagedSoFar) → IsFirst b found
@@ -386,8 +380,7 @@ head_within : (b : Begun) (head : Option Head)
     → b.start.first.offset + size_of (Frame b.start.first.header) ≤ b.size
     → IfSome head (IsFrameOf b.start.first)
     → IfSome head (IsWholeHead b.start.first.offset (begun_class b) b.size)
-head_within b None whole same = tt
-head_within b (Some head) whole same = grind arith
+head_within b head whole same = grind arith
 
 some_of : (rows : List Row) → (rows ≡ [] → ⊥) → 0 < length rows
 some_of [] none = absurd (none refl)

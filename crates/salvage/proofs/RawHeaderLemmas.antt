@@ -1,8 +1,8 @@
 -- What the bytes of a frame say before its header is read.
 use Rattle.std.proofs.Common.{ap, arith, Bool, codes, cond, drop, eqb, Err, false, get_or, inl, inr}
-use Rattle.std.proofs.Common.{is_some, length, List, lit<, not, Ok, option_map, refl, subst, suc}
-use Rattle.std.proofs.Common.{sym, take, true, zero, ℕ, [], ◌%◌, ◌*◌, ◌+◌, ◌-◌, ◌/◌, ◌<◌, ◌^◌, ◌∙◌}
-use Rattle.std.proofs.Common.{◌∷◌, ◌≡◌, ◌≢◌, ◌≤◌, ◌⊎◌}
+use Rattle.std.proofs.Common.{is_some, length, List, lit<, not, Ok, option_map, refl, subst, sym}
+use Rattle.std.proofs.Common.{take, true, ℕ, [], ◌%◌, ◌*◌, ◌+◌, ◌-◌, ◌/◌, ◌<◌, ◌^◌, ◌∙◌, ◌∷◌, ◌≡◌}
+use Rattle.std.proofs.Common.{◌≢◌, ◌≤◌, ◌⊎◌}
 use Rattle.std.proofs.lemmas.Bool.{and_from, and_parts, and_right, eq-eqb, eqb-false, eqb-true}
 use Rattle.std.proofs.lemmas.Bool.{false≢true, ne_eqb, not-true, or_cases}
 use Rattle.std.proofs.lemmas.List.{drop-drop, get_or-drop, get_or-take, length-take}
@@ -104,9 +104,7 @@ record Read (h : List ℕ) (fields : HeaderFields) : Type 0 where
 read_cases : (h : List ℕ) (r z : Bool) (fields : HeaderFields) → is_readable h ≡ r
     → eqb (rate_bits h) 0 ≡ z
     → cond r (cond z (Err FreeHeader) (Ok (header_fields h))) (Err No) ≡ Ok fields → Read h fields
-read_cases h true false fields is none e =
-    record { readable = is; some = eqb-false _ _ none; is = cc }
-read_cases h _ _ fields is none e = absurd cc
+read_cases h r z fields is none e = grind arith
 
 read_in : (h : List ℕ) (fields : HeaderFields) → header_in h ≡ Ok fields → Read h fields
 unfolding header_in
@@ -206,8 +204,7 @@ entry v t v_few t_few =
 
 padded : (v : Version) (f r n : ℕ) → n < 2 → length_by v f r (eqb n 1) ≡ length_by v f r false + n
 unfolding length_of rate_of frequency_of
-padded v f r (suc (suc n)) few = absurd (omega (arith, few))
-padded v f r _ few = omega arith
+padded v f r n few = grind arith
 
 -- the table of 256 lengths gives this length
 pub length_told : (second third : ℕ) → second < 256 → third < 256
@@ -224,9 +221,7 @@ length_told second third second_few third_few =
 -- ---- what may be an anchor
 
 numbered : (n : ℕ) → n < 4 → n ≢ 1 → version_number (raw_version n) ≡ n
-numbered (suc zero) few not_one = absurd (not_one refl)
-numbered (suc (suc (suc (suc n)))) few not_one = absurd (omega (arith, few))
-numbered _ few not_one = refl
+numbered n few not_one = grind arith
 
 version_number_said : (bytes : List ℕ) (h : HeaderFields) → Says bytes h
     → version_number h.version ≡ get_or bytes 1 0 / 8 % 4
@@ -278,8 +273,7 @@ block_named Ape bytes is = named bytes (codes "APETAGEX") (lit< tt) (ape_named b
 not_same : (own next : List ℕ) (h g : HeaderFields) → Says own h → Says next g
     → may_follow_header own next
     ≡ false → (b : Bool) → same_class (class_of g) (class_of h) ≡ b → b ≡ false
-not_same own next h g o n bare true e = absurd (false≢true (sym bare ∙ follows own next h g o n e))
-not_same own next h g o n bare false e = refl
+not_same own next h g o n bare b e = grind (arith, false≢true, follows)
 
 -- there is no anchor if neither a header of the class nor a block begins with these bytes, and
 -- there are some
@@ -304,8 +298,7 @@ not_anchor own next h own_few next_few many is bare letters =
 side_cases : (first lower : Bool) (channels : ℕ)
     → side_bytes_of (cond first One (cond lower Two TwoFive)) channels
     ≡ cond first (cond (eqb channels 1) 17 32) (cond (eqb channels 1) 9 17)
-side_cases false true channels = refl
-side_cases _ _ channels = refl
+side_cases first lower channels = grind arith
 
 side_is : (bytes : List ℕ) (h : HeaderFields) → Says bytes h
     → side_size_of (class_of h) ≡ raw_side_size (get_or bytes 1 0) (get_or bytes 3 0)
@@ -333,9 +326,8 @@ text_begins at frame is = letter_by at frame (or_cases _ _ is)
 
 text_cases : (at size : ℕ) (own : List ℕ) → may_begin_text (get_or own at 0) ≡ false → (b : Bool)
     → has_text at (take size own) ≡ b → b ≡ false
-text_cases at size own none true is =
-    grind (arith, has_text-within, is, get_or-take, length-take, false≢true, text_begins)
-text_cases at size own none false is = refl
+text_cases at size own none b is =
+    grind (arith, has_text-within, get_or-take, length-take, false≢true, text_begins)
 
 no_text : (at size : ℕ) (own : List ℕ) → may_begin_text (get_or own at 0) ≡ false
     → has_text at (take size own) ≡ false

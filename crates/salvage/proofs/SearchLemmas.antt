@@ -1,8 +1,8 @@
 -- The next usable frame.
-use Rattle.std.proofs.Common.{ap, arith, Bool, cond, drop, Err, false, get_or, IfOk, inl, inr, leb}
-use Rattle.std.proofs.Common.{length, List, None, Ok, Option, option_and_then, refl, Result, Some}
-use Rattle.std.proofs.Common.{subst, suc, sym, true, zero, ℕ, [], ◌+◌, ◌-◌, ◌<◌, ◌∙◌, ◌∷◌, ◌≡◌, ◌≤◌}
-use Rattle.std.proofs.{Common.◌⊎◌, lemmas.Bool.{and_right, false≢true, leb-false, leb-true}}
+use Rattle.std.proofs.Common.{ap, arith, Bool, cond, drop, false, get_or, IfOk, leb, length, List}
+use Rattle.std.proofs.Common.{None, Ok, Option, option_and_then, refl, Result, Some, subst, suc}
+use Rattle.std.proofs.Common.{sym, zero, ℕ, [], ◌+◌, ◌-◌, ◌<◌, ◌∙◌, ◌∷◌, ◌≡◌, ◌≤◌, ◌⊎◌}
+use Rattle.std.proofs.lemmas.Bool.{and_right, false≢true, leb-false, leb-true}
 use Rattle.frame_header.specs.{Fields.HeaderFields, Tables.{class_of, length_of}}
 use Rattle.outside.specs.Files.{Files, Holds}
 use Rattle.salvage.proofs.{RawHeaderLemmas.header_begins, UsableLemmas.usable_behind}
@@ -72,8 +72,7 @@ bare_joined P from mid to before behind k low high = grind (arith, leb-true, leb
 unusable : (file : List ℕ) (role : Role) (p : PlacedFrame) (b : Bool)
     → is_usable role p (drop p.offset file) ≡ false
     → frame_if_usable file role (cond b (Some p) None) ≡ None
-unusable file role p true is = ap (λ u. cond u (Some p) None) is
-unusable file role p false is = refl
+unusable file role p b is = grind arith
 
 module _ (file : List ℕ) (at : ℕ) (front : List ℕ) (left : ℕ)
     (shows : Shows file at front left) where
@@ -93,16 +92,12 @@ module _ (file : List ℕ) (at : ℕ) (front : List ℕ) (left : ℕ)
       → (is_anchor (class_of h) (item_front (drop (k + length_of (class_of h) h.slot) front))
       ≡ false) ⊎ (is_usable role (record { offset = at + k; header = h }) (drop k front) ≡ false)
       → frame_if_usable file role (anchored_item file (at + k) (Frame h)) ≡ None
-  bare_frame role k h shown near (inl none) = grind (arith, no_anchor)
-  bare_frame role k h shown near (inr none) =
-      unusable file role (record { offset = at + k; header = h }) (has_anchor file (at + k) h)
-      (sym (usable_behind file at front left shows role k h near shown) ∙ none)
+  bare_frame role k h shown near h5 = grind (arith, no_anchor, unusable, usable_behind)
 
   bare_by : (role : Role) (k : ℕ) (item : Item) → item_front (drop k front) ≡ item
       → HasNoUsableFrame role at front k
       → frame_if_usable file role (anchored_item file (at + k) item) ≡ None
-  bare_by role k (Frame h) shown bare = grind (arith, bare_frame)
-  bare_by role k _ shown bare = refl
+  bare_by role k item shown bare = grind (arith, bare_frame)
 
   bare_usable : (role : Role) (k : ℕ) → k ≤ 4064 → HasNoUsableFrame role at front k
       → usable_frame_at file role (at + k) ≡ None
@@ -142,9 +137,8 @@ next_usable_frame-some file role from at p low high here none =
 none_by_end : (file : List ℕ) (role : Role) (from to at : ℕ) → length file ≤ to
     → ((k : ℕ) → from ≤ k → k < to → usable_frame_at file role k ≡ None) → from ≤ at → (b : Bool)
     → leb to at ≡ b → usable_frame_at file role at ≡ None
-none_by_end file role from to at end none low true e =
-    not_usable file role at (anchored_frame-past file at (omega (arith, end, leb-true to at e)))
-none_by_end file role from to at end none low false e = none at low (leb-false to at e)
+none_by_end file role from to at end none low b e =
+    grind (arith, not_usable, anchored_frame-past, leb-true, leb-false)
 
 -- if there is no usable frame before the end of the file, there is no next one
 pub next_usable_frame-none : (file : List ℕ) (role : Role) (from to : ℕ) → length file ≤ to
@@ -177,5 +171,4 @@ pub first_behind : (name : List ℕ) (files mid : Files) (front_end : ℕ)
     (λ o. (bytes : List ℕ) → Holds mid name bytes
     → o ≡ next_usable_frame bytes First (front_end + 1))
     → IfOk r (λ o. (bytes : List ℕ) → Holds files name bytes → o ≡ first_frame bytes front_end)
-first_behind name files mid front_end (Ok o) same none next = grind (arith, first_later)
-first_behind name files mid front_end (Err fault) same none next = tt
+first_behind name files mid front_end r same none next = grind (arith, first_later)

@@ -6,11 +6,10 @@ use Rattle.salvage.specs.JudgedFrames.{empty_state, row_judged_in, rows_left, st
 use Rattle.salvage.specs.JudgedFrames.{state_after_thing, thing_rows}
 use Rattle.salvage.specs.SoundFrames.{end_of_sound, FrameRuns, judged_row, judged_rows, judged_runs}
 use Rattle.salvage.specs.SoundFrames.{runs_of, runs_with_thing, sound_end}
-use Rattle.salvage.specs.Walk.{IsItem, ItemOrGap, PlacedThing}
+use Rattle.salvage.specs.Walk.{ItemOrGap, PlacedThing}
 use Rattle.sync_survey.proofs.FaultsLemmas.{IsRuled, place-more, place-next, place-none, ruled}
 use Rattle.sync_survey.specs.{MainData.{head_area, place, rows_of}, Row.Row}
-use Rattle.sync_survey.specs.declared.{items.Item.TheVariants.Frame, places.Head.Head}
-use Rattle.sync_survey.specs.declared.places.PlacedFrame.{PlacedFrame}
+use Rattle.sync_survey.specs.declared.places.{Head.Head, PlacedFrame.PlacedFrame}
 use Rattle.sync_survey.specs.declared.rows.ReservoirState.{ReservoirState}
 
 -- ---- one run
@@ -81,8 +80,7 @@ runs-from file head runs = grind (arith, judged_rows-from, later_same)
 thing_first : (file : List ℕ) (b : ReservoirState) (at : ℕ) (thing : ItemOrGap) (runs : FrameRuns)
     → runs_from file b (runs_with_thing at thing runs)
     ≡ thing_rows file b at thing ++ runs_from file (state_after_thing file b at thing) runs
-thing_first file b at (IsItem (Frame h)) runs = refl
-thing_first file b at _ runs = refl
+thing_first file b at thing runs = grind arith
 
 all_things : (file : List ℕ) (b : ReservoirState) (ts : List PlacedThing)
     → runs_from file b (runs_of ts) ≡ rows_left file b ts

@@ -257,8 +257,7 @@ module _ (file : List ℕ) where
   length_head : (head : Option Head) (first size : ℕ) (class : ClassFields)
       → IfSome head (IsWholeHead first class size) → size ≤ length file
       → length (head_bytes file head) ≡ head_area head
-  length_head None first size class whole few = refl
-  length_head (Some head) first size class whole few = grind (arith, length_area)
+  length_head head first size class whole few = grind (arith, length_area)
 
   all_stream : (head : Option Head) (runs : FrameRuns)
       → length (head_bytes file head) ≡ head_area head → AreWhole file (judged_runs file head runs)

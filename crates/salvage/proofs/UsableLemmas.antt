@@ -1,7 +1,7 @@
 -- A look shows whether a frame is usable.
-use Rattle.std.proofs.Common.{ap, arith, Bool, cond, drop, Err, false, is_some, length, List, None}
-use Rattle.std.proofs.Common.{Ok, Option, refl, Result, Some, sym, take, true, ℕ, ◌+◌, ◌-◌, ◌<◌}
-use Rattle.std.proofs.{Common.{◌∙◌, ◌≡◌, ◌≤◌}, lemmas.Bool.leb-true}
+use Rattle.std.proofs.Common.{ap, arith, Bool, cond, drop, Err, is_some, length, List, None, Ok}
+use Rattle.std.proofs.Common.{Option, refl, Result, Some, sym, take, true, ℕ, ◌+◌, ◌-◌, ◌<◌, ◌∙◌}
+use Rattle.std.proofs.{Common.{◌≡◌, ◌≤◌}, lemmas.Bool.leb-true}
 use Rattle.std.proofs.lemmas.List.{drop-drop, drop-take, take-take}
 use Rattle.bit_fields.specs.Bits.{bits}
 use Rattle.frame_header.specs.{Fields.HeaderFields, Reading.header_at}
@@ -11,7 +11,6 @@ use Rattle.salvage.specs.Steps.{admits_item}
 use Rattle.salvage.specs.UsableFrames.{frame_if_usable, has_right_crc, is_head, is_usable}
 use Rattle.salvage.specs.UsableFrames.{usable_frame_at}
 use Rattle.salvage.specs.{Walk.{is_item_read, item_if_read, item_read}, declared.usable.Role.Role}
-use Rattle.salvage.specs.declared.usable.Role.TheVariants.{First, Later}
 use Rattle.side_info.proofs.FrameLemmas.{overhead-few, side_in-take, stored_crc-take}
 use Rattle.side_info.specs.{Frame.{side_in, side_part}, Side.side_at}
 use Rattle.sync_survey.proofs.{LooksLemmas.item_at-shown, RunsLemmas.whole_item_at-whole}
@@ -27,8 +26,7 @@ use Rattle.sync_survey.specs.declared.runs.{Region.TheVariants.Stream, Step.Step
 
 header_cases : (b : Bool) (r : Result HeaderFields NotHeader) (h : HeaderFields)
     → cond b r (Err No) ≡ Ok h → (b ≡ true) × (r ≡ Ok h)
-header_cases true r h e = (refl, e)
-header_cases false r h e = absurd cc
+header_cases b r h e = grind arith
 
 -- a header with which bytes begin is read from four bytes
 pub header_four : (bytes : List ℕ) (h : HeaderFields) → header_front bytes ≡ Ok h
@@ -57,8 +55,7 @@ usable-take : (role : Role) (p : PlacedFrame) (n : ℕ) (bytes : List ℕ) → 6
     → overhead_of (class_of p.header) p.header.protected ≤ n
     → length_of (class_of p.header) p.header.slot ≤ n
     → is_usable role p (take n bytes) ≡ is_usable role p bytes
-usable-take First p n bytes six room few = grind (arith, word-take, head-take)
-usable-take (Later class) p n bytes six room few = grind (arith, word-take)
+usable-take role p n bytes six room few = grind (arith, word-take, head-take)
 
 module _ (file : List ℕ) (at : ℕ) (front : List ℕ) (left : ℕ)
     (shows : Shows file at front left) where
@@ -130,8 +127,7 @@ module _ (file : List ℕ) (at : ℕ) (front : List ℕ) (left : ℕ)
 
   read_shown : (role : Role) (item : Item) → item_front front ≡ item
       → admits_item role at item front ≡ is_item_read file role at item
-  read_shown role (Frame h) is = usable_shown role (record { offset = at; header = h }) refl is
-  read_shown role _ is = refl
+  read_shown role item is = grind (arith, usable_shown)
 
   whole_by : (item : Item) (size : ℕ) → item ≡ item_front front → belongs Stream item ≡ true → 0
       < size_of item → size_of item ≤ size → size ≤ left → whole_item_at Stream file at ≡ Some item

@@ -1,5 +1,5 @@
 -- What is in a damaged file, thing by thing.
-use Rattle.std.proofs.Common.{ap, arith, Bool, cond, drop, false, length, List, ltb, None, Option}
+use Rattle.std.proofs.Common.{ap, arith, Bool, cond, drop, length, List, ltb, None, Option}
 use Rattle.std.proofs.Common.{option_to_list, refl, Some, subst, suc, sym, true, zero, ℕ, [], ◌++◌}
 use Rattle.std.proofs.Common.{◌+◌, ◌-◌, ◌<◌, ◌∙◌, ◌∷◌, ◌≡◌, ◌≤◌}
 use Rattle.std.{proofs.lemmas.Bool.{le-ltb, lt-ltb, ltb-true}, specs.List.prefix_len}
@@ -11,7 +11,7 @@ use Rattle.salvage.specs.Walk.{item_read, ItemOrGap, offset_or_end, PlacedThing,
 use Rattle.salvage.specs.Walk.{thing_at, thing_or_gap, things, things_up_to}
 use Rattle.salvage.specs.declared.usable.Role.{Role, TheVariants.Later}
 use Rattle.sync_survey.proofs.LooksLemmas.{zero_at, zero_test, zeros_shown}
-use Rattle.sync_survey.proofs.RunsLemmas.{cons_list, IsItemOf, whole_cases, whole_item_at-is}
+use Rattle.sync_survey.proofs.RunsLemmas.{cons_list, IsItemOf, whole_item_at-is}
 use Rattle.sync_survey.proofs.StartLemmas.{anchored_frame-is, first_of-is, IsAnchoredAt}
 use Rattle.sync_survey.specs.{Items.size_of, Looks.Shows, Runs.{block_of_item, whole_item_at}}
 use Rattle.sync_survey.specs.{Start.anchored_frame, declared.items.Item.Item}
@@ -25,8 +25,7 @@ use Rattle.sync_survey.specs.declared.runs.Region.TheVariants.{Stream}
 read_by : (file : List ℕ) (role : Role) (at : ℕ) (o : Option Item) (item : Item)
     → whole_item_at Stream file at ≡ o → item_if_read file role at o ≡ Some item
     → whole_item_at Stream file at ≡ Some item
-read_by file role at None item is e = absurd cc
-read_by file role at (Some i) item is e = is ∙ ap Some (whole_cases _ i item e).1
+read_by file role at o item is e = grind arith
 
 -- an item that is read at an offset is a whole one of the stream
 pub item_read-is : (file : List ℕ) (role : Role) (at : ℕ) (item : Item)
@@ -36,15 +35,10 @@ item_read-is file role at item e = search (arith, whole_item_at-is, read_by)
 
 -- ---- the next frame
 
-usable_cases : (b : Bool) (p q : PlacedFrame) → cond b (Some p) None ≡ Some q → p ≡ q
-usable_cases true p q e = cc
-usable_cases false p q e = absurd cc
-
 usable_by : (file : List ℕ) (role : Role) (at : ℕ) (o : Option PlacedFrame) (p : PlacedFrame)
     → anchored_frame file at ≡ o → frame_if_usable file role o ≡ Some p
     → anchored_frame file at ≡ Some p
-usable_by file role at None p is e = absurd cc
-usable_by file role at (Some q) p is e = is ∙ ap Some (usable_cases _ q p e)
+usable_by file role at o p is e = grind arith
 
 usable_frame_at-is : (file : List ℕ) (role : Role) (at : ℕ) (p : PlacedFrame)
     → usable_frame_at file role at ≡ Some p → IsAnchoredAt file at p
@@ -101,8 +95,7 @@ module _ (file : List ℕ) (class : ClassFields) where
 
   some_by : (at : ℕ) (o : Option Item) → at < length file → item_read file (Later class) at ≡ o
       → 0 < size_of_thing (thing_or_gap file class at o)
-  some_by at None before is = omega (arith, (gap_end-is file class at before).some)
-  some_by at (Some item) before is = (item_read-is file (Later class) at item is).some
+  some_by at o before is = grind (arith, gap_end-is, item_read-is)
 
   thing_some : (at : ℕ) → at < length file → 0 < size_of_thing (thing_at file class at)
   unfolding thing_at
@@ -128,8 +121,7 @@ module _ (file : List ℕ) (class : ClassFields) where
   onward-same : (at : ℕ) (next later : ℕ → List PlacedThing) (b : Bool)
       → (b ≡ true → next (at + size_of_thing (thing_at file class at))
       ≡ later (at + size_of_thing (thing_at file class at))) → onward at next b ≡ onward at later b
-  onward-same at next later true same = grind arith
-  onward-same at next later false same = refl
+  onward-same at next later b same = grind arith
 
   -- any bound that is at least the number of bytes left gives the same things
   enough : (m n at : ℕ) → length file ≤ m + at → length file ≤ n + at

@@ -3,10 +3,10 @@
 use Rattle.std.proofs.Common.{ap, append-nil, append_assoc, ap₂, arith, Bool, drop, eqb, false}
 use Rattle.std.proofs.Common.{flat_map, length, List, map, min, None, Option, refl, Some, subst}
 use Rattle.std.proofs.Common.{suc, sym, take, true, zero, ℕ, [], ◌%◌, ◌*◌, ◌++◌, ◌+◌, ◌-◌, ◌/◌, ◌∙◌}
-use Rattle.std.proofs.{Common.{◌∷◌, ◌≡◌, ◌≤◌}, lemmas.Bool.{and_parts, eqb-true, leb-true}}
+use Rattle.std.proofs.{Common.{◌∷◌, ◌≡◌, ◌≤◌}, lemmas.Bool.{and_parts, leb-true}}
 use Rattle.std.proofs.lemmas.List.{drop-append-le, drop-drop, length-append, length-drop}
 use Rattle.std.proofs.lemmas.List.{length-map, length-take-le, map-append, take-append-drop}
-use Rattle.std.proofs.lemmas.{Nat.div-add-mod', Option.slice_get-map, Slice.Eq.bytes_eq-Decides}
+use Rattle.std.proofs.lemmas.{Option.slice_get-map, Slice.Eq.bytes_eq-Decides}
 use Rattle.std.specs.Option.{option_or}
 use Rattle.std.specs.Prelude.{bytes_eq, if◌then◌else◌, nat_le, option_and_then, option_map}
 use Rattle.std.specs.Prelude.{slice_get, unwrap_or, ◌&&◌}
@@ -64,8 +64,7 @@ alike-sounds (f ∷ fs) (g ∷ gs) is =
 pub joining_frames-sounds : (window : ℕ) (run rest frames : List RunFrame)
     → joining_frames window run rest ≡ Some frames → sounds frames ≡ sounds rest
 unfolding joining_frames
-joining_frames-sounds window run [] frames is = let same : [] ≡ frames = cc in ap sounds (sym same)
-joining_frames-sounds window run (f ∷ fs) frames is = grind (arith, is, frames)
+joining_frames-sounds window run rest frames is = grind arith
 
 -- ---- what is shared
 
@@ -90,21 +89,7 @@ module _ (class : ClassFields) (rest start frames : ℕ) (overlap : Overlap) whe
   shared-test : (b : Bool) → (eqb ((start + rest) % samples) 0 && nat_le whole_frames frames) ≡ b
       → (if b then Some made else None) ≡ Some overlap
       → IsShared class rest start frames overlap
-  shared-test false test none = absurd cc
-  shared-test true test some =
-      let parts = and_parts (eqb ((start + rest) % samples) 0) (nat_le whole_frames frames) test in
-      let same : made ≡ overlap = cc in
-      subst (IsShared class rest start frames) same
-      (record {
-        whole = omega (
-          arith,
-          div-add-mod' (start + rest) samples,
-          eqb-true ((start + rest) % samples) 0 parts.0,
-        );
-        there = leb-true whole_frames frames parts.1;
-        early = omega arith;
-        within = omega arith;
-      })
+  shared-test b test none = grind arith
 
   is-shared : shared_overlap class rest start frames ≡ Some overlap
       → IsShared class rest start frames overlap
@@ -140,8 +125,7 @@ module _ (class : ClassFields) (run : List RunFrame) (before input : Brought) wh
     by_joined : (overlap : Overlap) (o : Option (List RunFrame)) → joined_by overlap ≡ o
         → option_map (joint_with (Follows overlap.frames)) o ≡ Some joint
         → (joined_by overlap ≡ Some joint.frames) × (joint.seam ≡ Follows overlap.frames)
-    by_joined overlap None found none = absurd cc
-    by_joined overlap (Some frames) found some = grind (arith, frames, found)
+    by_joined overlap o found none = grind arith
 
     by_alike : (p q : Played) (overlap : Overlap) (b : Bool) → before.played ≡ Some p
         → input.played ≡ Some q → shared_by p q ≡ Some overlap
@@ -169,24 +153,19 @@ module _ (class : ClassFields) (run : List RunFrame) (before input : Brought) wh
         → shared_by p q ≡ o
         → option_and_then (overlap_joint class run input) o ≡ Some joint
         → IsFollowing class run before input joint
-    by_shared p q None ended_is played_is shared none = absurd cc
-    by_shared p q (Some overlap) ended_is played_is shared some =
-        grind (arith, by_alike, overlap, ended_is, played_is, shared)
+    by_shared p q o ended_is played_is shared none = grind (arith, by_alike)
 
     by_played : (p : Played) (o : Option Played) → before.played ≡ Some p → input.played ≡ o
         → option_and_then (overlap_joint class run input) (option_and_then (shared_by p) o)
         ≡ Some joint → IsFollowing class run before input joint
-    by_played p None ended_is played_is none = absurd cc
-    by_played p (Some q) ended_is played_is some =
-        by_shared p q (shared_by p q) ended_is played_is refl some
+    by_played p o ended_is played_is none = grind (arith, by_shared)
 
     by_ended : (o : Option Played) → before.played ≡ o
         → option_and_then (overlap_joint class run input)
         (option_and_then (λ (p : Played). option_and_then (shared_by p) input.played) o)
         ≡ Some joint
         → IsFollowing class run before input joint
-    by_ended None ended_is none = absurd cc
-    by_ended (Some p) ended_is some = by_played p input.played ended_is refl some
+    by_ended o ended_is none = grind (arith, by_played)
 
     following_joint-is : following_joint class run before input ≡ Some joint
         → IsFollowing class run before input joint

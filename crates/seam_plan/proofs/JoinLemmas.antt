@@ -99,8 +99,7 @@ pub joining_frames-empty : (window : ℕ) (seam : Seam) (run rest : List RunFram
     → needs ≡ needs_of rest → length needs ≡ 0 → IsJointOfFrames seam
     (joining_frames window run rest) (Some (record { seam = seam; slot = None }))
 unfolding joining_frames
-joining_frames-empty window seam run [] needs is none = record { seam = refl; slot = refl }
-joining_frames-empty window seam run (f ∷ fs) needs is none = grind arith
+joining_frames-empty window seam run rest needs is none = grind arith
 
 first-known : (class : ClassFields) (first : RunFrame) (frames : List RunFrame) (needs : List Need)
     → needs ≡ needs_of (first ∷ frames) → AreNeedsOfClass class needs → IsClass class
@@ -125,8 +124,7 @@ pub join-fit : (class : ClassFields) (left : ℕ) (needs : List Need) (slot : Sl
     → IsJoinSlot (window_of class.version) left needs (Some slot)
     → AddedFramesFit class left needs (Some slot)
 unfolding IsJoinSlot needs_with_first_slot
-join-fit class left [] slot joins = joins
-join-fit class left (x ∷ xs) slot joins = joins.joins.fits
+join-fit class left needs slot joins = grind arith
 
 -- frames that fit after no bytes fit in their own slots after what a run leaves
 pub whole-fit : (class : ClassFields) (left : ℕ) (needs : List Need) (first : Need)
@@ -134,6 +132,4 @@ pub whole-fit : (class : ClassFields) (left : ℕ) (needs : List Need) (first : 
     → FitsBehind (window_of class.version) 0 needs
     → AddedFramesFit class left needs (Some first.header.slot)
 unfolding needs_with_first_slot
-whole-fit class left [] first some at fits = absurd (omega (arith, some))
-whole-fit class left (x ∷ xs) first some at fits =
-    grind (arith, more-behind (window_of class.version) 0 left (x ∷ xs) (omega arith) fits)
+whole-fit class left needs first some at fits = grind (arith, more-behind)

@@ -1,15 +1,14 @@
 -- The lead-in at the front of an input.
-use Rattle.std.proofs.Common.{ap, arith, Bool, drop, eqb, false, length, List, refl, Some, suc, sym}
-use Rattle.std.proofs.{Common.{true, zero, ℕ, [], ◌<◌, ◌∙◌, ◌∷◌, ◌≡◌, ◌≤◌}, lemmas.Bool.eqb-true}
-use Rattle.std.proofs.lemmas.{Bool.Decides.same_from_decides, List.drop-map}
-use Rattle.std.{proofs.lemmas.Slice.Eq.bytes_eq-Decides, specs.Bool.Decides}
+use Rattle.std.proofs.Common.{ap, arith, Bool, drop, eqb, false, length, List, Some, sym, true, ℕ}
+use Rattle.std.proofs.{Common.{◌<◌, ◌∙◌, ◌∷◌, ◌≡◌, ◌≤◌}, lemmas.Bool.Decides.same_from_decides}
+use Rattle.std.{proofs.lemmas.{List.drop-map, Slice.Eq.bytes_eq-Decides}, specs.Bool.Decides}
 use Rattle.std.specs.Prelude.{bytes_eq, cond, not, option_map, slice_index_or, ◌&&◌}
 use Rattle.bit_fields.{proofs.BitsLemmas.bits-injective, specs.Bits.{AreBytes, bits}}
 use Rattle.frame_header.proofs.HeaderLemmas.{IsClass-class_of}
 use Rattle.frame_header.specs.Fields.{ClassFields, HeaderFields, IsClass, IsHeader, SlotFields}
 use Rattle.frame_header.specs.{HeaderBits.header_bits, Slots.all_slots}
 use Rattle.frame_header.specs.Tables.{area_of, class_of, window_of}
-use Rattle.seam_plan.proofs.{FitLemmas.{fits-tested, wanted-tested}, SlotLemmas.find-least}
+use Rattle.seam_plan.proofs.{FitLemmas.fits-tested, SlotLemmas.find-least}
 use Rattle.seam_plan.specs.{Decisions.IsBroughtInput, Frames.{Brought, needs_of, RunFrame}}
 use Rattle.seam_plan.specs.Joins.{fits_behind, has_lead_in, is_same_header, lead_in_header}
 use Rattle.seam_plan.specs.{Joins.leads_others, Seams.front_left_out_count}
@@ -21,8 +20,7 @@ use Rattle.slot_plan.specs.declared.needs.Need.{Need}
 -- frames that want nothing fit after no bytes
 pub alone-tested : (window wanted : ℕ) (needs : List Need) → IsLeastWanted window needs wanted
     → Decides (eqb wanted 0) (FitsBehind window 0 needs)
-alone-tested window zero needs is = grind (arith, wanted-tested)
-alone-tested window (suc wanted) needs is = grind (arith, eqb-true)
+alone-tested window wanted needs is = grind arith
 
 -- frames want nothing exactly if they fit after no bytes
 pub alone-is : (window wanted : ℕ) (needs : List Need) → IsLeastWanted window needs wanted
@@ -59,18 +57,13 @@ pub leads-is : (window : ℕ) (needs : List Need) (first : Need) (header : Heade
     → IsLeadInHeader window (drop 1 needs) header
     → is_same_header first.header header ≡ leads_others window needs
 unfolding IsLeadInHeader
-leads-is window [] first header at many known is = absurd (omega (arith, many))
-leads-is window (x ∷ []) first header at many known is = absurd (omega (arith, many))
-leads-is window (x ∷ y ∷ others) first header at many known is =
-    grind (arith, lead-in-is, IsClass-class_of)
+leads-is window needs first header at many known is = grind (arith, lead-in-is, IsClass-class_of)
 
 -- a frame alone leads none
 pub leads-none : (window : ℕ) (needs : List Need) → length needs < 2
     → false ≡ leads_others window needs
 unfolding lead_in_header
-leads-none window [] few = refl
-leads-none window (x ∷ []) few = refl
-leads-none window (x ∷ y ∷ others) few = absurd (omega (arith, few))
+leads-none window needs few = grind arith
 
 -- ---- the lead-in of an input
 

@@ -86,8 +86,7 @@ pub joining_frames-own : (window : ℕ) (run frames : List RunFrame) → AreHead
     → fits_behind window window (needs_of (run ++ frames)) ≡ true
     → joining_frames window run frames ≡ Some frames
 unfolding joining_frames
-joining_frames-own window run [] known fits = refl
-joining_frames-own window run (f ∷ frames) known fits = grind (arith, needs-append, own-slot)
+joining_frames-own window run frames known fits = grind (arith, needs-append, own-slot)
 
 -- ---- what becomes of a piece
 

@@ -1,7 +1,6 @@
 -- The places of the last frames of a run.
-use Rattle.std.proofs.Common.{ap, append_assoc, arith, drop, inl, inr, length, List, max, sym, ℕ}
-use Rattle.std.proofs.Common.{[], ◌++◌, ◌+◌, ◌-◌, ◌<◌, ◌∙◌, ◌∷◌, ◌≡◌, ◌≤◌, ◌⊎◌}
-use Rattle.std.proofs.lemmas.Bool.{cases_lt}
+use Rattle.std.proofs.Common.{ap, append_assoc, arith, drop, length, List, max, sym, ℕ, [], ◌++◌}
+use Rattle.std.proofs.{Common.{◌+◌, ◌-◌, ◌<◌, ◌∙◌, ◌∷◌, ◌≡◌, ◌≤◌, ◌⊎◌}, lemmas.Bool.cases_lt}
 use Rattle.std.proofs.lemmas.List.{drop-append-le, drop-drop, drop_all, length-append, length-drop}
 use Rattle.std.proofs.lemmas.List.{map-append}
 use Rattle.std.proofs.lemmas.List.FromFn.{length-map-range_with_len, map-range_with_len_more}
@@ -110,6 +109,4 @@ pub note-all : (old items : List FramePlace) (input from first to : ℕ) → fro
     → (first ≡ from) ⊎ (to - first ≡ 7) → Notes old items input first to
     → (places : List FramePlace) → old ≡ last_seven places
     → items ≡ last_seven (places ++ frame_places input from (to - from))
-note-all old items input from first to after within (inl same) notes places is = grind arith
-note-all old items input from first to after within (inr seven) notes places is =
-    notes places is ∙ last-from places input from first to after within seven
+note-all old items input from first to after within h notes places is = grind (arith, last-from)

@@ -1,6 +1,6 @@
 -- What is known of an input, and of what a run leaves.
-use Rattle.std.proofs.Common.{ap, arith, drop, length, List, None, Option, Some, subst, sym, ℕ, []}
-use Rattle.std.proofs.Common.{◌++◌, ◌+◌, ◌-◌, ◌<◌, ◌∙◌, ◌∷◌, ◌≡◌, ◌≤◌}
+use Rattle.std.proofs.Common.{ap, arith, drop, length, List, Option, Some, subst, sym, ℕ, ◌++◌, ◌+◌}
+use Rattle.std.proofs.Common.{◌-◌, ◌<◌, ◌∙◌, ◌∷◌, ◌≡◌, ◌≤◌}
 use Rattle.std.proofs.lemmas.List.{length-append, length-drop, length-map, map-append}
 use Rattle.std.proofs.lemmas.List.FromFn.{length-map-range_with_len}
 use Rattle.std.specs.Prelude.{IfSome, option_map, slice_index_or}
@@ -111,21 +111,18 @@ run-begins class input first run brings same left last rest =
 in-window : (class : ClassFields) (left : ℕ) (needs : List Need) (slot : SlotFields)
     → AddedFramesFit class left needs (Some slot)
     → FitsBehind (window_of class.version) left (needs_with_first_slot slot needs)
-in-window class left [] slot fit = absurd fit
-in-window class left (x ∷ xs) slot fit = fit
+in-window class left needs slot fit = grind arith
 
 first-moved : (needs : List Need) (slot : SlotFields) (first : Need) → 0 < length needs
     → first ≡ slice_index_or needs 0 first
     → needs_with_first_slot slot needs ≡ need_in_slot slot first ∷ drop 1 needs
 unfolding needs_with_first_slot
-first-moved [] slot first some at = absurd (omega (arith, some))
-first-moved (x ∷ xs) slot first some at = ap (λ (n : Need). need_in_slot slot n ∷ xs) (sym at)
+first-moved needs slot first some at = grind arith
 
 -- if frames fit with the first in a slot, there is a frame
 pub some-in : (class : ClassFields) (left : ℕ) (needs : List Need) (slot : SlotFields)
     → AddedFramesFit class left needs (Some slot) → 0 < length needs
-some-in class left [] slot fit = absurd fit
-some-in class left (x ∷ xs) slot fit = omega arith
+some-in class left needs slot fit = grind arith
 
 -- the first of some frames in this slot, and the others, which fit after what is left
 module _ (class : ClassFields) (left : ℕ) (needs : List Need) (slot : SlotFields)
@@ -187,5 +184,4 @@ drop-fits k needs fit = grind (arith, class-drop, fits-drop)
 pub can-follow : (class : ClassFields) (input : Input) (shared : Option Overlap)
     → IfSome shared IsOverlap → IfSome shared (λ o. o.frames ≤ length input.needs.now)
     → IfSome shared (IsOverlapShort class) → IfSome shared (CanFollow input)
-can-follow class input None overlap within short = tt
-can-follow class input (Some o) overlap within short = grind arith
+can-follow class input shared overlap within short = grind arith

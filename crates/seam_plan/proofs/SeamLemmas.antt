@@ -12,11 +12,10 @@ use Rattle.seam_plan.specs.Decisions.{joined_needs, overlap_if_alike}
 use Rattle.seam_plan.specs.Frames.{Brought, needs_of, RunFrame}
 use Rattle.seam_plan.specs.Joins.{fits_behind, frame_in_slot, has_lead_in, is_lead_in_wanted}
 use Rattle.seam_plan.specs.Joins.{join_slot, joining_frames}
-use Rattle.seam_plan.specs.Seams.{compared_frames, ends_alike, following_joint, joint_of}
-use Rattle.seam_plan.specs.Seams.{joint_with, joint_without_lead_in, JointFrames, left_out_count}
-use Rattle.seam_plan.specs.Seams.{overlap_joint, overlap_of, whole_joint}
-use Rattle.seam_plan.specs.declared.{input.Input.Input, run.Joint.Joint, seam.Seam.Seam}
-use Rattle.seam_plan.specs.declared.seam.Seam.TheVariants.{Follows, LeadIn, Whole}
+use Rattle.seam_plan.specs.Seams.{following_joint, joint_of, joint_with, joint_without_lead_in}
+use Rattle.seam_plan.specs.Seams.{JointFrames, left_out_count, overlap_joint, overlap_of}
+use Rattle.seam_plan.specs.{Seams.whole_joint, declared.{input.Input.Input, run.Joint.Joint}}
+use Rattle.seam_plan.specs.declared.seam.Seam.{Seam, TheVariants.{Follows, LeadIn, Whole}}
 use Rattle.slot_plan.specs.{FreeBytes.needs_with_first_slot, declared.needs.Need.Need}
 
 -- ---- an input that follows
@@ -43,8 +42,7 @@ module _ (class : ClassFields) (run : List RunFrame) (before brought : Brought) 
       at : (shared : Option Overlap)
           → option_and_then (overlap_joint class run brought) shared ≡ option_and_then
           (follows_with class run brought) (option_and_then (overlap_if_alike run brought) shared)
-      at None = refl
-      at (Some overlap) = by_test overlap (ends_alike run (compared_frames overlap brought))
+      at shared = grind arith
 
   -- an input follows as the frames after the overlap that is alike join, if there is one
   pub follow-by : (alike overlap : Option Overlap) (result : Option Joint)
@@ -85,9 +83,7 @@ without-led class run input =
 
     by_test : (b : Bool) → (b ≡ true → has_lead_in (window_of class.version) input ≡ true)
         → IfWithout (window_of class.version) input (without_if class run input b)
-    by_test true has =
-        by_joined (joining_frames (window_of class.version) run (drop 1 input.frames)) (has refl)
-    by_test false has = tt
+    by_test b has = grind arith
 
 module _ (class : ClassFields) (run : List RunFrame) (input : Input) (brought : Brought)
     (has : Bool) (is : IsBroughtInput input brought)
@@ -138,22 +134,17 @@ needs-drop k input brought is =
 -- what becomes of an input is the first choice, if there is one
 pub joint-first : (x y : Option JointFrames) (z : JointFrames) (result : Joint)
     → AreJoint x (Some result) → IsJoint (unwrap_or (option_or x y) z) result
-joint-first None y z result is = absurd is
-joint-first (Some joint) y z result is = is
+joint-first x y z result is = grind arith
 
 -- if there is no first choice, it is the second
 pub joint-second : (x y : Option JointFrames) (z : JointFrames) (result : Joint)
     → AreJoint x None → AreJoint y (Some result) → IsJoint (unwrap_or (option_or x y) z) result
-joint-second None None z result first is = absurd is
-joint-second None (Some joint) z result first is = is
-joint-second (Some joint) y z result first is = absurd first
+joint-second x y z result first is = grind arith
 
 -- if there is neither, it is the last
 pub joint-last : (x y : Option JointFrames) (z : JointFrames) (result : Joint) → AreJoint x None
     → AreJoint y None → IsJoint z result → IsJoint (unwrap_or (option_or x y) z) result
-joint-last None None z result first second is = is
-joint-last None (Some joint) z result first second is = absurd second
-joint-last (Some joint) y z result first second is = absurd first
+joint-last x y z result first second is = grind arith
 
 -- ---- a property of what becomes of an input
 
@@ -254,9 +245,7 @@ joint-adds class run before brought =
 pub length-moved : (slot : Option SlotFields) (needs : List Need)
     → length (joined_needs slot needs) ≡ length needs
 unfolding needs_with_first_slot
-length-moved None needs = refl
-length-moved (Some slot) [] = refl
-length-moved (Some slot) (need ∷ needs) = refl
+length-moved slot needs = grind arith
 
 -- ---- a whole input
 

@@ -1,7 +1,6 @@
 -- The first of slots with ascending areas that passes a test is the least that does.
-use Rattle.std.proofs.Common.{ap, arith, Bool, cond, Contains, false, List, None, refl, Some, suc}
-use Rattle.std.proofs.{Common.{true, zero, [], ◌∷◌, ◌≡◌, ◌≤◌}, lemmas.Bool.both_ways}
-use Rattle.std.specs.Prelude.{find}
+use Rattle.std.proofs.Common.{arith, Bool, cond, Contains, false, List, None, refl, Some, suc, true}
+use Rattle.std.{proofs.Common.{zero, [], ◌∷◌, ◌≡◌, ◌≤◌}, specs.Prelude.find}
 use Rattle.frame_header.specs.{Fields.{ClassFields, SlotFields}, Tables.area_of}
 use Rattle.slot_plan.proofs.{AreaLemmas.Ascend, LeastPlanLemmas.{area-later, ascend-behind}}
 use Rattle.slot_plan.specs.Parts.{slot_areas}
@@ -20,15 +19,13 @@ module _ (c : ClassFields) (p : Bool) (test : SlotFields → Bool) where
 
   behind : (s : SlotFields) (slots : List SlotFields) (slot : SlotFields)
       → Contains (s ∷ slots) slot → test slot ≡ true → test s ≡ false → Contains slots slot
-  behind s slots slot (zero, within, at) passes fails = grind (arith, both_ways)
-  behind s slots slot (suc k, within, at) passes fails = (k, omega (arith, within), at)
+  behind s slots slot h passes fails = grind arith
 
   -- the slot is the first, if this passes, or otherwise found among the others
   found : (s : SlotFields) (slots : List SlotFields) (slot : SlotFields) (b : Bool)
       → (b ≡ true → s ≡ slot) → (b ≡ false → find test slots ≡ Some slot)
       → cond b (Some s) (find test slots) ≡ Some slot
-  found s slots slot true here later = ap Some (here refl)
-  found s slots slot false here later = later refl
+  found s slots slot b here later = grind arith
 
   -- the first of slots with ascending areas that passes the test is the least that does
   pub find-least : (slots : List SlotFields) (slot : SlotFields) → Ascend (slot_areas c p slots)
@@ -43,8 +40,7 @@ module _ (c : ClassFields) (p : Bool) (test : SlotFields → Bool) where
 none-found : (test : SlotFields → Bool) (s : SlotFields) (slots : List SlotFields) (b : Bool)
     → (b ≡ true → ⊥) → (b ≡ false → find test slots ≡ None)
     → cond b (Some s) (find test slots) ≡ None
-none-found test s slots true never later = absurd (never refl)
-none-found test s slots false never later = later refl
+none-found test s slots b never later = grind arith
 
 -- if no slot passes the test, none is found
 pub find-none : (test : SlotFields → Bool) (slots : List SlotFields)

@@ -12,7 +12,7 @@ use Rattle.std.specs.Prelude.{unwrap_or, ◌&&◌}
 use Rattle.exact_span.specs.{Overlaps.shared_overlap, PlayedPositions.{rest_of, samples_in}}
 use Rattle.exact_span.specs.declared.{overlap.Overlap.Overlap, played.Played.Played}
 use Rattle.frame_header.specs.{Fields.ClassFields, Tables.{samples_of, window_of}}
-use Rattle.frame_header.specs.declared.version.Version.{Version, TheVariants.{One, Two, TwoFive}}
+use Rattle.frame_header.specs.declared.version.Version.{Version}
 use Rattle.seam_plan.proofs.{FitLemmas.fits-tested, FollowLemmas.added}
 use Rattle.seam_plan.proofs.PieceRunLemmas.{empty-fits, front-fits, joining_frames-own}
 use Rattle.seam_plan.proofs.PieceRunLemmas.{known-behind, known-front}
@@ -93,18 +93,9 @@ record AreShared (v : Version) (start rest shared frames : ℕ) : Type 0 where
   whole : (start + rest) / samples_of v ≡ shared
 
 module _ (start rest shared frames : ℕ) (there : shared ≤ frames) where
-  shared-by : (v : Version) → (start + rest) % samples_of v ≡ 0
-      → (start + rest) / samples_of v ≡ shared → AreShared v start rest shared frames
-  shared-by v none whole_joint = record {
-    test = grind (arith, and_from, le-leb);
-    whole = whole_joint;
-  }
-
   are-shared : (v : Version) → start + rest ≡ shared * samples_of v
       → AreShared v start rest shared frames
-  are-shared One same = shared-by One (omega (arith, same)) (omega (arith, same))
-  are-shared Two same = shared-by Two (omega (arith, same)) (omega (arith, same))
-  are-shared TwoFive same = shared-by TwoFive (omega (arith, same)) (omega (arith, same))
+  are-shared v same = grind arith
 
 -- the sum of what is before the first played position of a
 -- span and what is after the last one of the span before it
@@ -114,25 +105,17 @@ sum-is : (v : Version) (start end leads leads_before from from_before last mid :
     → mid ≤ last * samples_of v → from < last → from_before ≤ last
     → start + ((leads_before + (last - from_before)) * samples_of v - end)
     ≡ (leads + last - from) * samples_of v
-sum-is One start end leads leads_before from from_before last mid starts ends most some before =
-    omega (arith, starts, ends, most, some, before)
-sum-is Two start end leads leads_before from from_before last mid starts ends most some before =
-    omega (arith, starts, ends, most, some, before)
-sum-is TwoFive start end leads leads_before from from_before last mid starts ends most some before =
-    omega (arith, starts, ends, most, some, before)
+sum-is v start end leads leads_before from from_before last mid starts ends most some before =
+    grind arith
 
 first-late : (v : Version) (start leads from mid : ℕ)
     → start + from * samples_of v ≡ mid + leads * samples_of v → from * samples_of v ≤ mid
     → leads ≤ start / samples_of v
-first-late One start leads from mid starts before = omega (arith, starts, before)
-first-late Two start leads from mid starts before = omega (arith, starts, before)
-first-late TwoFive start leads from mid starts before = omega (arith, starts, before)
+first-late v start leads from mid starts before = grind arith
 
 below-last : (v : Version) (from last mid : ℕ) → from * samples_of v < mid
     → mid ≤ last * samples_of v → from < last
-below-last One from last mid early most = omega (arith, early, most)
-below-last Two from last mid early most = omega (arith, early, most)
-below-last TwoFive from last mid early most = omega (arith, early, most)
+below-last v from last mid early most = grind arith
 
 -- ---- a span after the one before it
 

@@ -275,16 +275,7 @@ remainder-push : (word byte : ℕ) (xs : List ℕ) → byte < 256
     → remainder word (bits (xs ++ byte ∷ []))
     ≡ bit_xor (behind (remainder word (bits xs))) (get_or (table 0) byte 0)
 remainder-push word byte xs few =
-    grind (
-      arith,
-      bits-append,
-      bits-one,
-      remainder-append,
-      remainder-top,
-      behind-xor,
-      bit_xor,
-      entry,
-    )
+    grind (arith, bits-append, bits-one, remainder-append, remainder-top, behind-xor, entry)
 
 -- two bytes are divided in order
 pub remainder-pair : (word a b : ℕ)
@@ -402,9 +393,7 @@ pub eight_list : (word : ℕ) (xs : List ℕ) → word < 2 ^ 16 → ((i : ℕ) �
     (get_or (table 5) (get_or xs 2 0) 0)) (get_or (table 4) (get_or xs 3 0) 0)) (get_or (table 3)
     (get_or xs 4 0) 0)) (get_or (table 2) (get_or xs 5 0) 0)) (get_or (table 1) (get_or xs 6 0) 0))
     (get_or (table 0) (get_or xs 7 0) 0) ≡ remainder word (bits (take 8 xs))
-eight_list word (a ∷ b ∷ c ∷ d ∷ e ∷ f ∷ g ∷ h ∷ rest) small few long = sym (remainder-eight word a
-    b c d e f g h small (few 0) (few 1) (few 2) (few 3) (few 4) (few 5) (few 6) (few 7))
-eight_list word _ small few long = absurd (omega (arith, long))
+eight_list word xs small few long = grind (arith, remainder-eight)
 
 -- eight bytes more are divided after those before them
 pub remainder-eight_more : (word : ℕ) (xs : List ℕ) (at : ℕ)

@@ -27,10 +27,7 @@ use Rattle.side_info.specs.declared.side.Side.{Side}
 number-two : (a b : ℕ) → AreBytes (a ∷ b ∷ [])
     → number (bits (a ∷ b ∷ [])) ≡ from_be_bytes w16 (a ∷ b ∷ [])
 number-two a b h =
-    let one : number (bits (a ∷ [])) ≡ a = ap number (bits-one a) ∙ number-bits_of-below 8 a h.0 in
-    let two : number (bits (a ∷ b ∷ [])) ≡ number (bits (a ∷ [])) * 256 + b =
-    number-bits-push (a ∷ []) b h.1.0 in
-    omega arith
+    grind (arith, bits-one a, number-bits_of-below 8 a h.0, number-bits-push (a ∷ []) b h.1.0)
 
 -- two bytes are the big-endian number that their bits spell
 pub number-word : (xs : List ℕ) → length xs ≡ 2 → AreBytes xs
@@ -55,8 +52,7 @@ bytes-word n h = sym (bytes-bits (to_be_bytes w16 n) (AreBytes-word n)) ∙ ap b
 -- the number of a frame's fifth and sixth byte is the number of the 16 bits after the header
 pub word_at : (frame : List ℕ) → 6 ≤ length frame → AreBytes frame
     → get_or frame 4 0 * 256 + get_or frame 5 0 ≡ number (bits (take 2 (drop 4 frame)))
-word_at (a ∷ b ∷ c ∷ d ∷ e ∷ f ∷ rest) long all = grind (arith, number-two)
-word_at frame long all = absurd (omega arith)
+word_at frame long all = grind (arith, number-two)
 
 -- ---- room for what is before the area
 
@@ -81,12 +77,10 @@ pub overhead-unprotected : (h : HeaderFields) → h.protected ≡ false
 overhead-unprotected h is = grind (arith, overhead-is)
 
 place-least : (protected : Bool) → 4 ≤ side_place protected
-place-least true = omega arith
-place-least false = omega arith
+place-least protected = grind arith
 
 place-most : (protected : Bool) → side_place protected ≤ 6
-place-most true = omega arith
-place-most false = omega arith
+place-most protected = grind arith
 
 -- the area never begins before the fifth byte
 pub overhead-least : (c : ClassFields) (protected : Bool) → 4 ≤ overhead_of c protected
@@ -135,8 +129,7 @@ frame_with_side-unprotected h s frame is = rw is refl
 -- the header and the check word, where there is one, are the bytes before the side information
 pub length-crc_part : (h : HeaderFields) (s : Side) (b : Bool)
     → length (cond b (bytes (bits_of 16 (check_word_of h s))) []) + 4 ≡ side_place b
-length-crc_part h s true = ap (λ n. n + 4) (length-word (check_word_of h s))
-length-crc_part h s false = refl
+length-crc_part h s b = grind (arith, length-word)
 
 -- the parts of a frame with other side information
 record IsMade (h : HeaderFields) (s : Side) (frame : List ℕ) : Type 0 where
@@ -174,8 +167,7 @@ length-frame_with_side h s frame class shaped room =
 pub header-frame_with_side : (h : HeaderFields) (s : Side) (frame : List ℕ) → HasRoom h frame
     → take 4 (frame_with_side h s frame) ≡ take 4 frame
 unfolding frame_with_side
-header-frame_with_side h s frame room =
-    take_at (take 4 frame) _ 4 (omega (arith, room-least h frame room, length-take 4 frame))
+header-frame_with_side h s frame room = grind (arith, room-least h frame room, length-take 4 frame)
 
 -- the bytes before the area of a frame with other side information
 front_length : (h : HeaderFields) (s : Side) (frame : List ℕ) → IsMade h s frame
@@ -274,9 +266,8 @@ word_of-said frame all long =
 word_cases : (h : HeaderFields) (s : Side) (frame : List ℕ) (b : Bool) → h.protected ≡ b
     → AreBytes frame → HasRoom h frame → (h.protected ≡ true → stored_crc frame ≡ check_word_of h s)
     → cond b (bytes (bits_of 16 (check_word_of h s))) [] ++ drop (side_place b) frame ≡ drop 4 frame
-word_cases h s frame true is all room right =
+word_cases h s frame b is all room right =
     grind (arith, word_of-said, room-protected, drop-drop, take-append-drop)
-word_cases h s frame false is all room right = refl
 
 -- the side information that is read from a frame is written as the bytes that are there
 pub side_there : (h : HeaderFields) (frame : List ℕ) → IsClass (class_of h) → AreBytes frame

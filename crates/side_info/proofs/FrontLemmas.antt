@@ -124,8 +124,7 @@ pub record Written (a : Inside) : Type 0 where
 -- the lists in the side information of a front are as long as the arrays
 pub shaped : (a : Inside) → IsShaped (side_of a)
 unfolding side_of
-shaped a =
-    IsShaped-side_at (class_of (header_of a)) (bits (own_side (class_of (header_of a)) a.side))
+shaped a = search (arith, IsShaped-side_at)
 
 -- the fields of the side information of a front are within their bits
 pub fits : (a : Inside) → AreFrontBytes a → SideFits (class_of (header_of a)) (side_of a)
@@ -288,11 +287,7 @@ four_long h four is = ap length is ∙ length-bytes 4 (header_bits h) (length-he
 pub head-alone : (h : HeaderFields) (s : Side) (four rest : List ℕ) → four ≡ bytes (header_bits h)
     → h.protected ≡ false → take 4 (four ++ rest) ≡ bytes (header_bits h) ++ crc_part h s
 head-alone h s four rest is open_frame =
-    take_at four rest 4 (four_long h four is)
-    ∙ is
-    ∙ sym (append-nil (bytes (header_bits h)))
-    ∙ ap (λ b. bytes (header_bits h) ++ cond b (bytes (bits_of 16 (check_word_of h s))) [])
-    (sym open_frame)
+    grind (arith, take_at four rest 4 (four_long h four is), append-nil (bytes (header_bits h)))
 
 -- a check word is put right after the header
 pub head-word : (h : HeaderFields) (s : Side) (word : ℕ) (four frame new : List ℕ)
@@ -325,8 +320,7 @@ head-word h s word four frame new is protected right put =
 pub put-first : (n : ℕ) (front part zeros rest new : List ℕ)
     → new ≡ front ++ ((part ++ zeros) ++ rest) → length front + length part ≡ n
     → take n new ≡ front ++ part
-put-first n front part zeros rest new is long =
-    grind (arith, append_assoc, rest, take_at, length-append)
+put-first n front part zeros rest new is long = grind (arith, append_assoc, take_at, length-append)
 
 -- the 32 bytes begin with the side information
 pub room-is : (a : Inside) → AreFrontBytes a

@@ -1,14 +1,13 @@
 -- Gains put in place: how that changes the bits of granules, of side information, of a frame.
-use Rattle.std.proofs.Common.{ap, append-nil, append_assoc, ap₂, arith, Bool, cond, drop, false}
-use Rattle.std.proofs.Common.{get_or, length, length-append, List, refl, sym, take}
-use Rattle.std.proofs.Common.{take-append-drop, true, ℕ, [], ◌*◌, ◌++◌, ◌+◌, ◌∙◌, ◌∷◌, ◌≡◌, ◌≤◌}
+use Rattle.std.proofs.Common.{ap, append-nil, append_assoc, ap₂, arith, drop, false, get_or, length}
+use Rattle.std.proofs.Common.{length-append, List, refl, sym, take, take-append-drop, true, ℕ, []}
+use Rattle.std.proofs.Common.{◌*◌, ◌++◌, ◌+◌, ◌∙◌, ◌∷◌, ◌≡◌, ◌≤◌}
 use Rattle.std.proofs.lemmas.List.{drop-drop, drop_at, length-take-le, take-take, take_at}
 use Rattle.bit_fields.proofs.BitsLemmas.{AreBelow-drop, AreBelow-take, bytes-bits, length-bits_of}
 use Rattle.bit_fields.proofs.GroupsLemmas.{length-group_bits}
 use Rattle.bit_fields.specs.{Bits.{AreBytes, bits, bits_of, bytes}, Groups.group_bits}
 use Rattle.frame_header.specs.{Fields.{ClassFields, HeaderFields, IsClass}, HeaderBits.flag_of}
 use Rattle.frame_header.specs.{Tables.{class_of, side_size_of}, declared.version.Version.Version}
-use Rattle.frame_header.specs.declared.version.Version.TheVariants.{One}
 use Rattle.side_info.proofs.FrameLemmas.{frame_with_side-protected, frame_with_side-unprotected}
 use Rattle.side_info.proofs.GranuleLemmas.{bits-parts, length-flat, length-granule_bits}
 use Rattle.side_info.proofs.{SideLemmas.IsShaped, WriteLemmas.{flat_one, flat_two, side_bits-parts}}
@@ -109,14 +108,8 @@ length-pair_bits : (version : Version) (channels : ℕ) (gs : List Granule) → 
     → channels ≤ 2 → length (pair_bits version channels gs) ≡ channels * granule_size version
 length-pair_bits version channels gs two few = grind (arith, length-flat, length-take-le)
 
-four_in : (mono : Bool) (one two : List ℕ) → length one ≡ 4 → length two ≡ 4
-    → length (cond mono one two) ≡ 4
-four_in true one two h k = h
-four_in false one two h k = k
-
 four_widths : (version : Version) (channels : ℕ) → length (front_widths_of version channels) ≡ 4
-four_widths One channels = grind (arith, four_in)
-four_widths _ channels = grind (arith, four_in)
+four_widths version channels = grind arith
 
 length-front : (version : Version) (channels m p : ℕ) (cs : List ℕ) → length cs ≡ 2
     → length (group_bits (front_widths_of version channels) (m ∷ p ∷ cs))

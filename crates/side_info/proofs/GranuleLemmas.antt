@@ -1,7 +1,7 @@
 -- The laws of a granule's side information: fields and bits give each other back.
-use Rattle.std.proofs.Common.{ap, append_assoc, ap₂, arith, Bool, drop, false, get_or, length}
-use Rattle.std.proofs.Common.{length-append, length-drop, List, one-add, refl, suc, sym, take, true}
-use Rattle.std.proofs.Common.{zero, ℕ, [], ◌*◌, ◌++◌, ◌+◌, ◌<◌, ◌^◌, ◌∙◌, ◌∷◌, ◌≡◌, ◌≤◌}
+use Rattle.std.proofs.Common.{ap, append_assoc, ap₂, arith, Bool, drop, get_or, length}
+use Rattle.std.proofs.Common.{length-append, length-drop, List, one-add, refl, suc, sym, take, zero}
+use Rattle.std.proofs.Common.{ℕ, [], ◌*◌, ◌++◌, ◌+◌, ◌<◌, ◌∙◌, ◌∷◌, ◌≡◌, ◌≤◌}
 use Rattle.std.proofs.Math.Nat.{add-mul, add_assoc, add_comm, one-mul, suc-mul, zero-mul}
 use Rattle.std.proofs.{Math.Seq.{drop-append-add, take-add}, lemmas.List.drop-drop}
 use Rattle.std.specs.List.{flat_map}
@@ -12,7 +12,6 @@ use Rattle.bit_fields.proofs.GroupsLemmas.{length-NumbersFit, numbers_at-group_b
 use Rattle.bit_fields.{proofs.GroupsLemmas.NumbersFit-numbers_at, specs.Bits.{AreBits, bits_of}}
 use Rattle.bit_fields.specs.Groups.{group_bits, numbers_at, NumbersFit}
 use Rattle.frame_header.specs.{HeaderBits.flag_of, declared.version.Version.Version}
-use Rattle.frame_header.specs.declared.version.Version.TheVariants.{One}
 use Rattle.side_info.specs.Granule.{compress_width, granule_at, granule_bits, granule_numbers}
 use Rattle.side_info.specs.Granule.{granule_of, granule_size, granule_widths, GranuleFits, is_set}
 use Rattle.side_info.specs.{Granule.{no_granule, preflag_width}, Side.nth_granule}
@@ -21,18 +20,11 @@ use Rattle.side_info.specs.declared.granule.Granule.{Granule}
 -- ---- one bit as a truth
 -- a flag as a bit is this flag
 pub is_set-flag_of : (flag : Bool) → is_set (flag_of flag) ≡ flag
-is_set-flag_of true = refl
-is_set-flag_of false = refl
-
--- a bit as a flag is this bit
-pub flag_of-is_set : (bit : ℕ) → bit < 2 → flag_of (is_set bit) ≡ bit
-flag_of-is_set (suc (suc bit)) h = absurd (omega arith)
-flag_of-is_set _ h = refl
+is_set-flag_of flag = grind arith
 
 -- a flag as a bit is 0 or 1
 pub flag_of-below : (flag : Bool) → flag_of flag < 2
-flag_of-below true = omega arith
-flag_of-below false = omega arith
+flag_of-below flag = grind arith
 
 -- ---- fields and the numbers of the groups
 -- the fields of a granule that fits are within the widths of its groups
@@ -46,17 +38,10 @@ pub granule_of-numbers : (g : Granule) → granule_of (granule_numbers g) ≡ g
 unfolding granule_of granule_numbers
 granule_of-numbers g = grind (arith, is_set-flag_of)
 
--- preflag is at most one bit
-preflag-below : (version : Version) (n : ℕ) → n < 2 ^ preflag_width version → n < 2
-preflag-below One n h = omega arith
-preflag-below _ n h = omega arith
-
 numbers_same : (version : Version) (ns : List ℕ) → NumbersFit (granule_widths version) ns
     → length ns ≡ 9 → granule_numbers (granule_of ns) ≡ ns
 unfolding granule_of granule_numbers
-numbers_same version (a ∷ b ∷ c ∷ d ∷ e ∷ f ∷ g ∷ h ∷ k ∷ []) fit l =
-    grind (arith, flag_of-is_set, preflag-below)
-numbers_same version ns fit l = absurd (omega arith)
+numbers_same version ns fit l = grind arith
 
 -- numbers within the widths are the numbers of the granule that they give
 pub numbers-granule_of : (version : Version) (ns : List ℕ) → NumbersFit (granule_widths version) ns
@@ -66,9 +51,7 @@ numbers-granule_of version ns fit = search (arith, numbers_same, length-NumbersF
 fields_fit : (version : Version) (ns : List ℕ) → NumbersFit (granule_widths version) ns
     → length ns ≡ 9 → GranuleFits version (granule_of ns)
 unfolding granule_of
-fields_fit version (a ∷ b ∷ c ∷ d ∷ e ∷ f ∷ g ∷ h ∷ k ∷ []) fit l =
-    grind (arith, flag_of-is_set, preflag-below)
-fields_fit version ns fit l = absurd (omega arith)
+fields_fit version ns fit l = grind arith
 
 -- the fields of the granule that they give are within their bits
 pub GranuleFits-granule_of : (version : Version) (ns : List ℕ)
@@ -103,13 +86,7 @@ pub granule_at-granule_bits : (version : Version) (g : Granule) (more : List ℕ
     → GranuleFits version g → granule_at version (granule_bits version g ++ more) ≡ g
 unfolding granule_at granule_bits
 granule_at-granule_bits version g more h =
-    grind (
-      arith,
-      numbers_at-group_bits_more (granule_widths version) (granule_numbers g) more
-          (NumbersFit-granule version g h),
-      NumbersFit-granule version g h,
-      granule_of-numbers g,
-    )
+    search (arith, numbers_at-group_bits_more, NumbersFit-granule, granule_of-numbers)
 
 -- the granule with which bits begin is written as these bits
 pub granule_bits-granule_at : (version : Version) (bs : List ℕ) → AreBits bs → granule_size version

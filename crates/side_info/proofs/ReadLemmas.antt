@@ -1,5 +1,5 @@
 -- Side fields as parts of the numbers that are read.
-use Rattle.std.proofs.Common.{ap, ap₂, arith, drop, eqb, false, length, length-drop, List, lit≤}
+use Rattle.std.proofs.Common.{ap, ap₂, arith, drop, eqb, false, length, length-drop, List}
 use Rattle.std.proofs.Common.{mod-eq_of_lt, pow_mono, refl, slice_set, sum, sym, take, ℕ, [], ◌%◌}
 use Rattle.std.proofs.Common.{◌*◌, ◌++◌, ◌+◌, ◌-◌, ◌/◌, ◌<◌, ◌^◌, ◌∙◌, ◌∷◌, ◌≡◌, ◌≤◌}
 use Rattle.std.proofs.{Math.Nat.{div-one, zero-mul}, lemmas.List.drop-drop}
@@ -10,7 +10,7 @@ use Rattle.bit_fields.{proofs.GroupsLemmas.sum-cons, specs.Bits.{AreBits, number
 use Rattle.bit_fields.specs.Groups.{group, numbers_at}
 use Rattle.frame_header.specs.Fields.{ClassFields, IsClass}
 use Rattle.frame_header.specs.Tables.{granules_of, side_bytes_of, side_size_of}
-use Rattle.frame_header.specs.declared.version.Version.{Version, TheVariants.One}
+use Rattle.frame_header.specs.declared.version.Version.{Version}
 use Rattle.side_info.proofs.{SideLemmas.each_class, WriteLemmas.preflag_most}
 use Rattle.side_info.specs.Granule.{compress_width, granule_at, granule_of, granule_size}
 use Rattle.side_info.specs.Granule.{no_granule, preflag_width}
@@ -65,8 +65,7 @@ module _ (bs : List ℕ) (begin private first second n : ℕ) (all : AreBits bs)
 -- a granule has 54 bits, plus the bits of scalefac_compress and preflag
 pub size-is : (version : Version)
     → granule_size version ≡ 54 + compress_width version + preflag_width version
-size-is One = refl
-size-is _ = refl
+size-is version = grind arith
 
 -- preflag is all that is above the two lowest bits
 pub preflag_once : (version : Version) (last : ℕ) → last < 2 ^ (preflag_width version + 2)
@@ -165,8 +164,7 @@ pair_of_two version channels at width bs first second wide is next two = grind (
 
 -- ---- the whole, from its parts
 sizes : (version : Version) (channels : ℕ) → side_bytes_of version channels ≤ 32
-sizes One channels = grind (arith, lit≤)
-sizes _ channels = grind (arith, lit≤)
+sizes version channels = grind arith
 
 -- side information has at most 32 bytes
 pub side_size-small : (c : ClassFields) → side_size_of c ≤ 32

@@ -1,10 +1,9 @@
 -- The laws of the side information: fields and bits give each other back.
-use Rattle.std.proofs.Common.{ap, append-nil, ap₂, arith, Bool, drop, false, get_or, length}
-use Rattle.std.proofs.Common.{length-append, length-drop, List, lit<, refl, suc, sum, sym, take}
-use Rattle.std.proofs.Common.{take-append-drop, take_all, true, zero, ℕ, [], ◌*◌, ◌++◌, ◌+◌, ◌/◌}
-use Rattle.std.proofs.{Common.{◌<◌, ◌^◌, ◌∙◌, ◌∷◌, ◌≡◌, ◌≤◌}, Math.Nat.{zero-add, zero-mul}}
-use Rattle.std.{proofs.lemmas.{List.drop_at, Nat.pow_pos}, specs.{Bool.MatchBool, Int.div_ceil}}
-use Rattle.std.specs.List.{flat_map, sum_by}
+use Rattle.std.proofs.Common.{append-nil, arith, drop, get_or, length, length-append, length-drop}
+use Rattle.std.proofs.Common.{List, refl, suc, sum, sym, take-append-drop, take_all, zero, ℕ, []}
+use Rattle.std.proofs.Common.{◌*◌, ◌++◌, ◌+◌, ◌/◌, ◌<◌, ◌^◌, ◌∙◌, ◌∷◌, ◌≡◌, ◌≤◌}
+use Rattle.std.{proofs.{Math.Nat.{zero-add, zero-mul}, lemmas.List.drop_at}, specs.Bool.MatchBool}
+use Rattle.std.specs.{Int.div_ceil, List.{flat_map, sum_by}}
 use Rattle.bit_fields.proofs.BitsLemmas.{AreBelow-append, AreBelow-drop, AreBits-bits, length-bits}
 use Rattle.bit_fields.proofs.GroupsLemmas.{AreBits-group_bits, group_bits-numbers_at_front}
 use Rattle.bit_fields.proofs.GroupsLemmas.{length-group_bits, numbers_at-group_bits_more}
@@ -70,21 +69,20 @@ pub side_bits-side_at : (c : ClassFields) → IsClass c → (bs : List ℕ) → 
     → length bs ≡ 8 * side_size_of c → side_bits c (side_at c bs) ≡ bs
 unfolding side_bits
 side_bits-side_at c class bs all h =
-    let front : ℕ = sum (front_widths c) in
-    let rest : List ℕ = drop (sum (front_widths c)) bs in
-    let whole : front + granule_count c * granule_size c.version ≡ length bs =
-    widths_sum c class ∙ sym h in
-    let l : length rest ≡ granule_count c * granule_size c.version = grind (arith, length-drop) in
-    let most : (0 + granule_count c) * granule_size c.version ≤ length rest =
-    rw zero-add (omega arith) in
-    ap₂ (λ cs ds. cs ++ ds)
-    (front-side_at c class bs ∙ group_bits-numbers_at_front (front_widths c) bs all (omega arith))
-    (ap (flat_map (granule_bits c.version)) (granules_in-side_at c class bs)
-    ∙ flat-granules_from c.version 0 (granule_count c) rest (AreBelow-drop 2 front bs all) most
-    ∙ ap (λ k. take (granule_count c * granule_size c.version) (drop k rest))
-    (zero-mul (granule_size c.version))
-    ∙ take_all (granule_count c * granule_size c.version) rest (omega arith))
-    ∙ take-append-drop front bs
+    grind (
+      arith,
+      widths_sum,
+      length-drop,
+      zero-add,
+      front-side_at,
+      group_bits-numbers_at_front,
+      granules_in-side_at,
+      flat-granules_from,
+      AreBelow-drop,
+      zero-mul,
+      take_all,
+      take-append-drop,
+    )
 
 -- ---- fields to bits and back
 -- the lists in side information are as long as the arrays
@@ -231,21 +229,11 @@ module _ (f m p a b : ℕ) (g h k l : Granule) where
 -- what fits MPEG-2.5 fits MPEG-2, and the other way round
 fits_two : (f channels : ℕ) (s : Side) → SideFits (class_with TwoFive f channels) s
     → SideFits (class_with Two f channels) s
-fits_two f channels s fits = record {
-  main_data_begin = fits.main_data_begin;
-  private_bits = fits.private_bits;
-  scfsi = fits.scfsi;
-  granules = fits.granules;
-}
+fits_two f channels s fits = grind arith
 
 fits_two_five : (f channels : ℕ) (s : Side) → SideFits (class_with Two f channels) s
     → SideFits (class_with TwoFive f channels) s
-fits_two_five f channels s fits = record {
-  main_data_begin = fits.main_data_begin;
-  private_bits = fits.private_bits;
-  scfsi = fits.scfsi;
-  granules = fits.granules;
-}
+fits_two_five f channels s fits = grind arith
 
 back_as_two : (f channels : ℕ) (s : Side) → GivesBack (class_with Two f channels) s
     → GivesBack (class_with TwoFive f channels) s
@@ -280,20 +268,7 @@ length-side_bits = search (arith, each_side, long)
 -- the lists in side information that was read are as long as the arrays
 pub IsShaped-side_at : (c : ClassFields) (bs : List ℕ) → IsShaped (side_at c bs)
 unfolding side_at
-IsShaped-side_at c bs = record {
-  scfsi = refl;
-  granules = refl;
-  first = refl;
-  second = grind arith;
-}
-
-no_granule-fits : (version : Version) → GranuleFits version no_granule
-no_granule-fits version = grind (arith, lit<, pow_pos)
-
-none_fits : (version : Version) (has : Bool)
-    → MatchBool has (GranuleFits version no_granule) (◌≡◌ {A = Granule} no_granule no_granule)
-none_fits version true = no_granule-fits version
-none_fits version false = refl
+IsShaped-side_at c bs = grind arith
 
 some_fits : (version : Version) (bs : List ℕ) (n : ℕ) → AreBits bs
     → GranuleFits version (nth_granule version n bs)
@@ -303,13 +278,6 @@ abbrev FitsAt : ClassFields → Side → ℕ → ℕ → Type 0
 FitsAt c s granule channel =
     MatchBool (has_granule c granule channel) (GranuleFits c.version (granule_in s granule channel))
     (granule_in s granule channel ≡ no_granule)
-
--- the scfsi of both channels fit if each does
-pub scfsi_fit : (c : ClassFields) (a b : ℕ) → a < 2 ^ front_width c 2 → b < 2 ^ front_width c 3
-    → (channel : ℕ) → get_or (a ∷ b ∷ []) channel 0 < 2 ^ front_width c (2 + channel)
-scfsi_fit c a b ha hb zero = ha
-scfsi_fit c a b ha hb (suc zero) = hb
-scfsi_fit c a b ha hb (suc (suc channel)) = pow_pos (front_width c (2 + suc (suc channel)))
 
 abbrev pub FrontFits : ClassFields → Side → Type 0
 FrontFits c s = (s.main_data_begin < 2 ^ front_width c 0) × (s.private_bits < 2 ^ front_width c 1)
@@ -324,22 +292,11 @@ module _ (c : ClassFields) (m p a b : ℕ) (g h k l : Granule) where
       → FitsAt c (side_with m p a b g h k l) 0 1 → FitsAt c (side_with m p a b g h k l) 1 0
       → FitsAt c (side_with m p a b g h k l) 1 1 → (granule channel : ℕ)
       → FitsAt c (side_with m p a b g h k l) granule channel
-  granules_fit x0 x1 x2 x3 zero zero = x0
-  granules_fit x0 x1 x2 x3 zero (suc zero) = x1
-  granules_fit x0 x1 x2 x3 zero (suc (suc channel)) = grind (arith, none_fits)
-  granules_fit x0 x1 x2 x3 (suc zero) zero = x2
-  granules_fit x0 x1 x2 x3 (suc zero) (suc zero) = x3
-  granules_fit x0 x1 x2 x3 (suc zero) (suc (suc channel)) = grind (arith, none_fits)
-  granules_fit x0 x1 x2 x3 (suc (suc granule)) channel = grind (arith, none_fits)
+  granules_fit x0 x1 x2 x3 granule channel = grind arith
 
   fits_with : FrontFits c (side_with m p a b g h k l) → PairFits c (side_with m p a b g h k l) 0
       → PairFits c (side_with m p a b g h k l) 1 → SideFits c (side_with m p a b g h k l)
-  fits_with front first second = record {
-    main_data_begin = front.0;
-    private_bits = front.1;
-    scfsi = scfsi_fit c a b front.2 front.3;
-    granules = granules_fit first.0 first.1 second.0 second.1;
-  }
+  fits_with front first second = grind arith
 
   -- side information fits if the fields before the granules and the granules fit
   fits_by : (m < 2 ^ front_width c 0) × ((p < 2 ^ front_width c 1)
@@ -403,12 +360,7 @@ SideFits-side_at = each_class (λ c. (bs : List ℕ) → AreBits bs → SideFits
 
 -- the fields of the empty side information are within their bits
 pub SideFits-no_side : (c : ClassFields) → SideFits c no_side
-SideFits-no_side c = record {
-  main_data_begin = pow_pos (front_width c 0);
-  private_bits = pow_pos (front_width c 1);
-  scfsi = scfsi_fit c 0 0 (pow_pos (front_width c 2)) (pow_pos (front_width c 3));
-  granules = grind (arith, granules_fit, none_fits);
-}
+SideFits-no_side c = grind arith
 
 -- ---- the main data
 -- the main data of the two channels of a granule are the sum over the list

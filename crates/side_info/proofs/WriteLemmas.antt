@@ -1,16 +1,15 @@
 -- Side fields joined to words, and the words that are written.
-use Rattle.std.proofs.Common.{ap, append-nil, append_assoc, ap₂, arith, Bool, drop, eqb, false}
-use Rattle.std.proofs.Common.{get_or, length, List, lit≤, refl, suc, sum, sym, take, take_all, true}
-use Rattle.std.proofs.Common.{zero, ℕ, [], ◌%◌, ◌*◌, ◌++◌, ◌+◌, ◌-◌, ◌/◌, ◌<◌, ◌^◌, ◌∙◌, ◌∷◌, ◌≡◌}
-use Rattle.std.proofs.{Common.◌≤◌, Math.Nat.div-one, lemmas.{Bool.ne_eqb, Grind.flat_map-append}}
-use Rattle.std.{proofs.lemmas.Nat.one_shl, specs.List.flat_map}
+use Rattle.std.proofs.Common.{ap, append-nil, append_assoc, ap₂, arith, Bool, drop, get_or, length}
+use Rattle.std.proofs.Common.{List, refl, sum, sym, take, take_all, ℕ, [], ◌%◌, ◌*◌, ◌++◌, ◌+◌, ◌-◌}
+use Rattle.std.proofs.{Common.{◌/◌, ◌<◌, ◌^◌, ◌∙◌, ◌∷◌, ◌≡◌, ◌≤◌}, Math.Nat.div-one}
+use Rattle.std.{proofs.lemmas.{Grind.flat_map-append, Nat.one_shl}, specs.List.flat_map}
 use Rattle.bit_fields.proofs.GroupsLemmas.{group_bits-joined, joined, joined-below}
 use Rattle.bit_fields.{proofs.WordLemmas.{into_last, into_word, put_next}, specs.Bits.bits_of}
 use Rattle.bit_fields.specs.Groups.{group_bits}
 use Rattle.frame_header.specs.{Fields.ClassFields, HeaderBits.flag_of}
 use Rattle.frame_header.specs.{Tables.{granules_of, side_size_of}, declared.version.Version.Version}
-use Rattle.frame_header.specs.declared.version.Version.TheVariants.{One, Two, TwoFive}
-use Rattle.side_info.proofs.GranuleLemmas.{flag_of-below, NumbersFit-granule}
+use Rattle.frame_header.specs.declared.version.Version.TheVariants.{One, Two}
+use Rattle.side_info.proofs.GranuleLemmas.{NumbersFit-granule}
 use Rattle.side_info.specs.Granule.{compress_width, granule_bits, granule_numbers, granule_size}
 use Rattle.side_info.specs.Granule.{granule_widths, GranuleFits, no_granule, preflag_width}
 use Rattle.side_info.specs.Parts.{class_with, front_size, second_pair_bits}
@@ -20,8 +19,7 @@ use mir.Val.{bool_byte}
 
 -- a `bool` as a number is the flag as a bit
 pub bool_byte-is : (flag : Bool) → bool_byte flag ≡ flag_of flag
-bool_byte-is true = refl
-bool_byte-is false = refl
+bool_byte-is flag = grind arith
 
 -- ---- one granule and channel as one number
 -- the fields of a granule at their places, added up, are the number that joins them
@@ -32,33 +30,17 @@ granule_joined : (version : Version) (g : Granule)
     + (flag_of g.preflag * 4 + flag_of g.scalefac_scale * 2 + flag_of g.count1table_select)
     ≡ joined (granule_widths version) (granule_numbers g)
 unfolding joined granule_numbers
-granule_joined One g = omega arith
-granule_joined _ g = omega arith
+granule_joined version g = grind arith
 
 granule_most : (version : Version) → 2 ^ granule_size version ≤ 2 ^ 63
-granule_most One = lit≤ tt
-granule_most _ = lit≤ tt
+granule_most version = grind arith
 
 compress_most : (version : Version) → compress_width version ≤ 9
-compress_most One = lit≤ tt
-compress_most _ = lit≤ tt
+compress_most version = grind arith
 
 -- preflag has at most one bit
 pub preflag_most : (version : Version) → preflag_width version ≤ 1
-preflag_most One = lit≤ tt
-preflag_most _ = lit≤ tt
-
--- the fields before preflag, as one number
-abbrev upper_of : Version → Granule → ℕ
-upper_of version g =
-    (g.part2_3_length * 131072 + g.big_values * 256 + g.global_gain) * 2
-    ^ (compress_width version + 23)
-    + (g.scalefac_compress * 8388608 + flag_of g.window_switching * 4194304 + g.detail)
-
-upper_below : (version : Version) (g : Granule) → GranuleFits version g
-    → upper_of version g < 2 ^ 64
-upper_below One g fits = grind (arith, flag_of-below)
-upper_below _ g fits = grind (arith, flag_of-below)
+preflag_most version = grind arith
 
 -- the fields up to detail fit in a word of 64 bits
 pub upper_fits : (version : Version) (g : Granule) → GranuleFits version g
@@ -66,8 +48,7 @@ pub upper_fits : (version : Version) (g : Granule) → GranuleFits version g
     → first ≡ g.part2_3_length * 131072 + g.big_values * 256 + g.global_gain
     → middle ≡ g.scalefac_compress * 8388608 + flag_of g.window_switching * 4194304 + g.detail
     → first * (1 * 2 ^ (compress + 23) % 2 ^ 64) + middle < 2 ^ 64
-upper_fits version g fits compress first middle compress_is first_is middle_is =
-    grind (arith, one_shl, compress_most, upper_below)
+upper_fits version g fits compress first middle compress_is first_is middle_is = grind arith
 
 module _ (version : Version) (g : Granule) (fits : GranuleFits version g)
     (compress preflag first middle last : ℕ) (compress_is : compress ≡ compress_width version)
@@ -79,20 +60,7 @@ module _ (version : Version) (g : Granule) (fits : GranuleFits version g)
   word-joined : (first * (1 * 2 ^ (compress + 23) % 2 ^ 64) + middle)
       * (1 * 2 ^ (preflag + 2) % 2 ^ 64) + last
       ≡ joined (granule_widths version) (granule_numbers g)
-  word-joined =
-      grind (
-        arith,
-        one_shl (compress + 23) 64 (omega (arith, compress_is, compress_most version)),
-        compress_most version,
-        one_shl (preflag + 2) 64 (omega (
-          arith,
-          preflag_is,
-          preflag_most
-              version,
-        )),
-        preflag_most version,
-        granule_joined version g,
-      )
+  word-joined = grind (arith, one_shl, compress_most, preflag_most, granule_joined)
 
   -- the word is below the power of 2 of the granule's bits
   pub word_below : (first * (1 * 2 ^ (compress + 23) % 2 ^ 64) + middle)
@@ -120,11 +88,7 @@ FrontIs ws = (m p : ℕ) (cs : List ℕ) (n : ℕ) → m < 2 ^ get_or ws 0 0 →
     → bits_of (sum ws) n ≡ group_bits ws (m ∷ p ∷ cs)
 
 front_is : (begin private first second : ℕ) → FrontIs (begin ∷ private ∷ first ∷ second ∷ [])
-front_is begin private first second m p (a ∷ b ∷ []) n hm hp hs l e =
-    let ws : List ℕ = begin ∷ private ∷ first ∷ second ∷ [] in
-    ap (bits_of (sum ws)) e
-    ∙ sym (group_bits-joined ws (m ∷ p ∷ a ∷ b ∷ []) (hm, (hp, (hs 0, (hs 1, tt)))))
-front_is begin private first second m p cs n hm hp hs l e = absurd (omega arith)
+front_is begin private first second m p cs n hm hp hs l e = grind (arith, group_bits-joined)
 
 -- the widths before the granules are the ones for one channel where there is one
 pub front_of_one : (version : Version) (channels : ℕ) → channels ≡ 1
@@ -134,8 +98,7 @@ front_of_one version channels e = ap (front_widths_of version) (sym e)
 -- the widths before the granules are the ones for two channels otherwise
 pub front_of_two : (version : Version) (channels : ℕ) → (channels ≡ 1 → ⊥)
     → front_widths_of version 2 ≡ front_widths_of version channels
-front_of_two One channels h = grind (arith, ne_eqb)
-front_of_two _ channels h = let test : eqb channels 1 ≡ false = ne_eqb channels 1 h in rw test refl
+front_of_two version channels h = grind arith
 
 -- the four fields before the granules, joined to a number, spell their bits
 pub front-group_bits : (begin private first second : ℕ) (ws : List ℕ)
@@ -144,8 +107,7 @@ pub front-group_bits : (begin private first second : ℕ) (ws : List ℕ)
     → ((k : ℕ) → get_or cs k 0 < 2 ^ get_or ws (2 + k) 0) → length cs ≡ 2 → n
     ≡ joined (begin ∷ private ∷ first ∷ second ∷ []) (m ∷ p ∷ get_or cs 0 0 ∷ get_or cs 1 0 ∷ [])
     → bits_of (sum ws) n ≡ group_bits ws (m ∷ p ∷ cs)
-front-group_bits begin private first second ws is m p cs n hm hp hs l e =
-    grind (arith, front_is, joined)
+front-group_bits begin private first second ws is m p cs n hm hp hs l e = grind (arith, front_is)
 
 -- ---- the words
 module _ (b0 b1 b2 : List ℕ) (front granule w : ℕ) (room : length b0 ≡ 72)
@@ -224,26 +186,21 @@ four_of gs cs l = absurd (omega arith)
 -- the bits of a granule with one channel are the bits of this channel
 pub flat_one : (version : Version) (gs : List Granule) → length gs ≡ 2
     → flat_map (granule_bits version) (take 1 gs) ≡ granule_bits version (get_or gs 0 no_granule)
-flat_one version (g ∷ h ∷ []) l = append-nil (granule_bits version g)
-flat_one version gs l = absurd (omega arith)
+flat_one version gs l = grind (arith, append-nil)
 
 -- the bits of a granule with two channels are the bits of the first followed by the bits of the
 -- second
 pub flat_two : (version : Version) (gs : List Granule) → length gs ≡ 2
     → flat_map (granule_bits version) (take 2 gs)
     ≡ granule_bits version (get_or gs 0 no_granule) ++ granule_bits version (get_or gs 1 no_granule)
-flat_two version (g ∷ h ∷ []) l = grind (arith, append-nil)
-flat_two version gs l = absurd (omega arith)
+flat_two version gs l = grind (arith, append-nil)
 
 -- ---- the whole, from its parts
 two_granules : (version : Version) (channels : ℕ) (gs : List (List Granule)) → length gs ≡ 2
     → flat_map (granule_bits version) (flat_map (take channels) (take (granules_of version) gs))
     ≡ flat_map (granule_bits version) (take channels (get_or gs 0 []))
     ++ second_pair_bits version channels (get_or gs 1 [])
-two_granules One channels (g ∷ h ∷ []) l = grind (arith, flat_map-append, append-nil)
-two_granules Two channels (g ∷ h ∷ []) l = grind (arith, append-nil)
-two_granules TwoFive channels (g ∷ h ∷ []) l = grind (arith, append-nil)
-two_granules version channels gs l = absurd (omega arith)
+two_granules version channels gs l = grind (arith, flat_map-append, append-nil)
 
 -- side information is written as the fields before the granules, the first granule, and the second
 pub side_bits-parts : (c : ClassFields) (s : Side) → length s.granules ≡ 2 → side_bits c s
@@ -283,23 +240,18 @@ module _ (gs hs : List Granule) (front a b : ℕ) (gs_two : length gs ≡ 2)
   pub two_mono : (version : Version) (channels : ℕ) → granules_of version ≡ 1 → channels ≡ 1
       → bits_of 63 a ≡ granule_bits version (get_or gs 0 no_granule)
       → bits_of 9 front ++ bits_of 63 a ≡ Whole version channels front gs hs
-  two_mono One channels one n left = absurd (omega arith)
-  two_mono Two channels one n left = grind (arith, append-nil, flat_one)
-  two_mono TwoFive channels one n left = grind (arith, append-nil, flat_one)
+  two_mono version channels one n left = grind (arith, append-nil, flat_one)
 
   -- in MPEG-2 and MPEG-2.5 with two channels, the front and two granules are all of these bits
   pub two_stereo : (version : Version) (channels : ℕ) → granules_of version ≡ 1 → channels ≡ 2
       → bits_of 63 a ≡ granule_bits version (get_or gs 0 no_granule)
       → bits_of 63 b ≡ granule_bits version (get_or gs 1 no_granule)
       → bits_of 10 front ++ (bits_of 63 a ++ bits_of 63 b) ≡ Whole version channels front gs hs
-  two_stereo One channels one n left right = absurd (omega arith)
-  two_stereo Two channels one n left right = grind (arith, append-nil, flat_two)
-  two_stereo TwoFive channels one n left right = grind (arith, append-nil, flat_two)
+  two_stereo version channels one n left right = grind (arith, append-nil, flat_two)
 
 -- a granule has 63 bits where there is only one
 pub size_of_two : (version : Version) → granules_of version ≡ 1 → granule_size version ≡ 63
-size_of_two One one = absurd (omega arith)
-size_of_two _ one = refl
+size_of_two version one = grind arith
 
 -- ---- the bytes of each class
 -- MPEG-1 with n channels has the side bytes of the class with n channels
@@ -311,13 +263,8 @@ size_one version channels n v e = ap₂ (λ u k. side_size_of (class_with u 0 k)
 pub size_two : (version : Version) (channels n : ℕ) → granules_of version ≡ 1 → channels ≡ n
     → side_size_of (class_with version 0 channels) ≡ side_size_of (class_with Two 0 n)
 unfolding side_size_of
-size_two One channels n one e = absurd (omega arith)
-size_two Two channels n one e = ap (λ k. side_size_of (class_with Two 0 k)) e
-size_two TwoFive channels n one e = ap (λ k. side_size_of (class_with TwoFive 0 k)) e
+size_two version channels n one e = grind arith
 
 -- channels that aren't one are two
 pub two_channels : (channels : ℕ) → 1 ≤ channels → channels ≤ 2 → (channels ≡ 1 → ⊥) → channels ≡ 2
-two_channels zero some few more = absurd (omega arith)
-two_channels (suc zero) some few more = absurd (more refl)
-two_channels (suc (suc zero)) some few more = refl
-two_channels (suc (suc (suc n))) some few more = absurd (omega arith)
+two_channels channels some few more = grind arith

@@ -1,8 +1,7 @@
 -- The areas of slots: the last is the largest, and the first that is large enough is the smallest.
 use Rattle.std.proofs.Common.{AllPairs, ap, arith, Bool, Contains, false, get_or, inl, inr, length}
-use Rattle.std.proofs.Common.{List, lit≤, subst, suc, sym, zero, ℕ, [], ◌-◌, ◌<◌, ◌∙◌, ◌∷◌, ◌≡◌}
-use Rattle.std.proofs.{Common.◌≤◌, lemmas.Bool.cases_lt}
-use Rattle.std.proofs.lemmas.List.{get_or-map, get_or_default, length-map}
+use Rattle.std.proofs.Common.{List, lit≤, subst, sym, ℕ, [], ◌-◌, ◌<◌, ◌∙◌, ◌∷◌, ◌≡◌, ◌≤◌}
+use Rattle.std.proofs.lemmas.{Bool.cases_lt, List.{get_or-map, get_or_default, length-map}}
 use Rattle.frame_header.proofs.SlotLemmas.{areas-ascend, Contains-all_slots, get_or-place_of}
 use Rattle.frame_header.proofs.SlotLemmas.{length-all_slots}
 use Rattle.frame_header.specs.Fields.{ClassFields, IsClass, SlotFields}
@@ -78,12 +77,10 @@ one-slot c p slots s t ascend first second same =
       arith,
       areas-many c p slots,
       area-at c p slots first.0 0 s first.1,
-      area-at c p slots
-          second.0 0 t second.1,
+      area-at c p slots second.0 0 t second.1,
       cases_lt first.0 second.0,
       cases_lt second.0 first.0,
-      get_or_default
-          slots first.0 s t first.1,
+      get_or_default slots first.0 s t first.1,
     )
 
 -- the first that is large enough has the smallest area
@@ -160,8 +157,7 @@ greatest_number-all c p class =
 -- ---- the one slot of a frame that keeps its own
 -- the slot of a list of one is that one
 pub only_one : (slot other : SlotFields) → Contains (slot ∷ []) other → slot ≡ other
-only_one slot other (zero, within, at) = at
-only_one slot other (suc k, within, at) = absurd (omega arith)
+only_one slot other h = grind arith
 
 -- the greatest of one number is that number
 pub greatest_number-one : (n : ℕ) → greatest_number (n ∷ []) ≡ n

@@ -1,6 +1,6 @@
 -- What loops over needs and places show.
-use Rattle.std.proofs.Common.{arith, drop, get_or, length, List, map, ℕ, [], ◌+◌, ◌<◌, ◌∷◌, ◌≡◌}
-use Rattle.std.{proofs.{Common.◌≤◌, lemmas.List.drop_all}, specs.Prelude.slice_range}
+use Rattle.std.proofs.Common.{arith, drop, get_or, length, List, map, ℕ, ◌+◌, ◌<◌, ◌≡◌, ◌≤◌}
+use Rattle.std.{proofs.lemmas.List.drop_all, specs.Prelude.slice_range}
 use Rattle.frame_header.specs.{Fields.ClassFields, Tables.{class_of, window_of}}
 use Rattle.slot_plan.proofs.FreeByteLemmas.{more-behind, within-fit}
 use Rattle.slot_plan.proofs.PartLemmas.{next_need, one-class, parts-cons, parts-none}
@@ -26,8 +26,7 @@ pub class-all : (class : ClassFields) (needs : List Need) (i : ℕ) (d : Need) �
     → (AreNeedsOfClass class (drop i needs) → AreNeedsOfClass class needs)
     → AreNeedsOfOneClass needs
 unfolding AreNeedsOfClass
-class-all class [] i d some all is on = absurd (omega arith)
-class-all class (first ∷ needs) i d some all is on = grind (arith, drop_all)
+class-all class needs i d some all is on = grind (arith, drop_all)
 
 -- ---- frames that fit
 -- one more frame fits in the bytes before it and its own area

@@ -1,11 +1,10 @@
 -- Frames in their own slots fit after some free bytes exactly if these are at least what
 -- the frames need, and what the frames leave is what is free after the last of them.
-use Rattle.std.proofs.Common.{ap, arith, drop, get_or, length, List, map, refl, subst, sym, zero, ℕ}
-use Rattle.std.proofs.Common.{[], ◌++◌, ◌+◌, ◌-◌, ◌<◌, ◌∙◌, ◌∷◌, ◌≡◌, ◌≤◌}
+use Rattle.std.proofs.Common.{arith, drop, get_or, length, List, map, refl, subst, sym, zero, ℕ, []}
+use Rattle.std.proofs.Common.{◌++◌, ◌+◌, ◌-◌, ◌<◌, ◌∷◌, ◌≡◌, ◌≤◌}
 use Rattle.std.{proofs.lemmas.List.{drop-map, drop_all, map-append}, specs.Prelude.◌↔◌}
 use Rattle.frame_header.specs.Fields.{ClassFields, HeaderFields, SlotFields}
 use Rattle.frame_header.specs.{Tables.{class_of, window_of}, declared.version.Version.Version}
-use Rattle.frame_header.specs.declared.version.Version.TheVariants.{One, Two, TwoFive}
 use Rattle.slot_plan.proofs.AreaLemmas.{greatest_number-one}
 use Rattle.slot_plan.proofs.PartLemmas.{next_need, reserve_before-first, reserve_before-from}
 use Rattle.slot_plan.proofs.PartLemmas.{reserve_before-nothing, same-class}
@@ -73,8 +72,7 @@ pub cons-fits : (window free : ℕ) (need : Need) (needs : List Need) → free �
     → FitsBehind window (free_bytes_behind window free need.bytes (own_slot_area need)) needs
     → FitsBehind window free (need ∷ needs)
 unfolding AllFit
-cons-fits window free need needs within room fits =
-    grind (arith, within-fit, within, fit-within, fits)
+cons-fits window free need needs within room fits = grind (arith, within-fit, fit-within)
 
 -- if a frame and then others fit, the frame has room, and the others fit after what it leaves
 pub fits-cons : (window free : ℕ) (need : Need) (needs : List Need) → free ≤ window
@@ -207,17 +205,7 @@ leaves-fit window free left needs within leaves =
 pub own-left : (window free : ℕ) (needs : List Need) → free ≤ window → FitsBehind window free needs
     → IsMostLeft window free needs (left_after window free (map own_frame needs))
 own-left window free needs within fits =
-    grind (
-      arith,
-      within,
-      left-within,
-      within-fit,
-      append-fit,
-      fit-within,
-      fits,
-      before-fits,
-      leaves-fit,
-    )
+    grind (arith, left-within, within-fit, append-fit, fit-within, before-fits, leaves-fit)
 
 -- there is only one greatest number of bytes that frames leave
 pub one-left : (window free m n : ℕ) (needs : List Need) → IsMostLeft window free needs m
@@ -259,23 +247,11 @@ module _ (window free mid : ℕ) (first others : List Need) (within : free ≤ w
 
   -- If all fit, the others fit after what the first leave.
   pub fits-then : FitsBehind window free (first ++ others) → FitsBehind window mid others
-  fits-then fits =
-      grind (arith, map-append, fit-within, within, fits, fit-append, within-fit, mid-is)
+  fits-then fits = grind (arith, map-append, fit-within, fit-append, within-fit, mid-is)
 
   -- if the others fit after what the first leave, all fit
   pub then-fits : FitsBehind window mid others → FitsBehind window free (first ++ others)
-  then-fits fits =
-      grind (
-        arith,
-        fit-within,
-        within,
-        leaves-fit,
-        mid-is,
-        fits,
-        within-fit,
-        map-append,
-        append-fit,
-      )
+  then-fits fits = grind (arith, fit-within, leaves-fit, mid-is, within-fit, map-append, append-fit)
 
   -- what is free after all is what is free after the others, beginning with what the first leave
   left-both : left_after window free (map own_frame (first ++ others))
@@ -290,8 +266,7 @@ module _ (window free mid : ℕ) (first others : List Need) (within : free ≤ w
   -- what the others leave after what the first leave is what all leave
   pub then-left : (left : ℕ) → IsMostLeft window mid others left
       → IsMostLeft window free (first ++ others) left
-  then-left left behind =
-      grind (arith, then-fits, leaves-fit, left-both, left-value, own-left, within)
+  then-left left behind = grind (arith, then-fits, leaves-fit, left-both, left-value, own-left)
 
 -- ---- from frame to frame
 
@@ -315,14 +290,11 @@ fits-in c d (need ∷ needs) free first second fits = grind (arith, fits)
 pub window-read : (class own : ClassFields) (needs : List Need) (i window : ℕ) (need : Need)
     → AreNeedsOfClass class needs → i < length needs → need ≡ get_or needs i need
     → own ≡ class_of need.header → window ≡ window_of own.version → window ≡ window_of class.version
-window-read class own needs i window need all within is reads gives = gives
-    ∙ ap (λ k. window_of k.version) (reads ∙ sym (same-class class needs i need all within is))
+window-read class own needs i window need all within is reads gives = grind (arith, same-class)
 
 -- no window is longer than 511 bytes
 pub window-most : (version : Version) → window_of version ≤ 511
-window-most One = omega arith
-window-most Two = omega arith
-window-most TwoFive = omega arith
+window-most version = grind arith
 
 -- after the last frame nothing is wanted
 pub wanted-none : (needs : List Need) → 0 ≡ own_needed (drop (length needs) needs)
@@ -371,8 +343,7 @@ LeavesIn free needs i left =
 
 -- before the first frame all free bytes are left
 pub leaves-none : (free : ℕ) (needs : List Need) → LeavesIn free needs 0 free
-leaves-none free needs =
-    λ c of_class within fits. record { within = within; fits = fits; same = refl }
+leaves-none free needs = grind arith
 
 module _ (window free : ℕ) (needs : List Need) (i : ℕ) (need : Need) (left area : ℕ)
     (within : i < length needs) (is : need ≡ get_or needs i need) (own : area ≡ own_slot_area need)
@@ -385,25 +356,14 @@ module _ (window free : ℕ) (needs : List Need) (i : ℕ) (need : Need) (left a
   pub leaves-more : (next : ℕ) → next ≡ free_bytes_behind window left need.bytes area
       → LeavesFrom window free needs (i + 1) next
   unfolding left_after
-  leaves-more next gives =
-      let rest : List Need = drop (i + 1) needs in
-      let parts = fits-cons window left need rest
-      from.within (subst (FitsBehind window left) (next_need needs i need within is) from.fits) in
-      let value : next ≡ free_bytes_behind window left need.bytes (own_slot_area need) =
-      grind arith in
-      record {
-        within = omega (arith, value);
-        fits = subst (λ n. FitsBehind window n rest) (sym value) parts.1;
-        same = grind (arith, next_need, within);
-      }
+  leaves-more next gives = grind (arith, fits-cons, next_need)
 
 -- after the last frame what is left is what all frames leave
 pub leaves-all : (window free : ℕ) (needs : List Need) (i left : ℕ) → length needs ≤ i
     → free ≤ window → FitsBehind window free needs → LeavesFrom window free needs i left
     → IsMostLeft window free needs left
 unfolding left_after
-leaves-all window free needs i left all within fits from =
-    grind (arith, drop_all, own-left, within, fits)
+leaves-all window free needs i left all within fits from = grind (arith, drop_all, own-left)
 
 -- ---- the laws
 

@@ -1,7 +1,7 @@
 -- The lead-in of frames in their own slots, and the slot in which such frames join others.
 use Rattle.std.proofs.Common.{AllPairs, arith, Bool, Contains, drop, false, get_or, length, List}
-use Rattle.std.proofs.Common.{max, None, refl, Some, subst, sym, take, ℕ, [], ◌*◌, ◌+◌, ◌-◌, ◌<◌}
-use Rattle.std.proofs.{Common.{◌∙◌, ◌∷◌, ◌≡◌, ◌≤◌}, lemmas.List.{length-drop, take_all}}
+use Rattle.std.proofs.Common.{max, None, Some, subst, sym, take, ℕ, [], ◌*◌, ◌+◌, ◌-◌, ◌<◌, ◌∙◌}
+use Rattle.std.proofs.{Common.{◌∷◌, ◌≡◌, ◌≤◌}, lemmas.List.{length-drop, take_all}}
 use Rattle.frame_header.proofs.SlotLemmas.{window-spanned}
 use Rattle.frame_header.specs.Fields.{ClassFields, HeaderFields, IsClass, SlotFields}
 use Rattle.frame_header.specs.{Slots.{all_slots, areas_of}, Tables.{area_of, class_of, window_of}}
@@ -13,8 +13,7 @@ use Rattle.slot_plan.specs.FreeBytes.{CanJoinBehind, FitBehindWindow, FitsBehind
 use Rattle.slot_plan.specs.FreeBytes.{IsLeadInHeader, IsLeadInSlot, IsLeastWanted, JoinsInSlot}
 use Rattle.slot_plan.specs.FreeBytes.{need_in_slot}
 use Rattle.slot_plan.specs.Parts.{AreNeedsOfClass, AreRisingSlots, own_slot_area, slot_areas}
-use Rattle.slot_plan.specs.Reserve.{free_bytes_behind, greatest_number, IsLeastSlot}
-use Rattle.slot_plan.specs.declared.needs.Need.{Need}
+use Rattle.slot_plan.specs.{Reserve.{greatest_number, IsLeastSlot}, declared.needs.Need.Need}
 
 -- ---- the lead-in
 
@@ -49,11 +48,7 @@ module _ (window free wanted : ℕ) (first : Need) (needs : List Need) (slot : S
       → FitsBehind window free (need_in_slot slot first ∷ needs)
       → first.bytes + wanted ≤ free + own_slot_area (need_in_slot slot first)
   fits-slot is fits =
-      let parts = fits-cons window free (need_in_slot slot first) needs within fits in
-      let enough =
-      is.least (free_bytes_behind window free first.bytes (own_slot_area (need_in_slot slot first)))
-      parts.1 in
-      omega (arith, parts.0, enough)
+      grind (arith, fits-cons window free (need_in_slot slot first) needs within fits)
 
 module _ (window free wanted area : ℕ) (first : Need) (needs : List Need) (within : free ≤ window)
     (most : wanted ≤ window) (is : IsLeastWanted window needs wanted)
@@ -66,13 +61,7 @@ module _ (window free wanted area : ℕ) (first : Need) (needs : List Need) (wit
   -- frames join in a slot with at least this area
   pub area-joins : (slot : SlotFields) → Contains all_slots slot
       → area ≤ own_slot_area (need_in_slot slot first) → JoinsInSlot window free first needs slot
-  area-joins slot has enough =
-      let is_max = max-is ((first.bytes + wanted) - free) (own_slot_area first) in
-      record {
-        chosen = has;
-        not_less = omega (arith, gives, is_max, enough);
-        fits = grind (arith, slot-fits, within, most);
-      }
+  area-joins slot has enough = grind (arith, max-is, slot-fits)
 
   -- The frames join in the least slot with such an area, if there is one.
   pub least-joins : (slot : SlotFields)
@@ -99,8 +88,7 @@ module _ (window free wanted area : ℕ) (first : Need) (needs : List Need) (wit
 pub rising-all : (class : ClassFields) (protected : Bool) (slots : List SlotFields)
     → slots ≡ all_slots → AllPairs (λ m n. m < n) (areas_of class protected)
     → AreRisingSlots class protected slots
-rising-all class protected slots all ascend =
-    grind (arith, lead-any slots all, class-ascend class class protected slots all refl ascend)
+rising-all class protected slots all ascend = search (arith, lead-any, class-ascend)
 
 -- a lead-in of some slot has what frames that fit after a whole window want
 pub lead-enough : (class : ClassFields) (wanted : ℕ) (needs : List Need) (slots : List SlotFields)
@@ -108,8 +96,7 @@ pub lead-enough : (class : ClassFields) (wanted : ℕ) (needs : List Need) (slot
     → FitsBehind (window_of class.version) (window_of class.version) needs
     → IsLeastWanted (window_of class.version) needs wanted
     → wanted ≤ greatest_number (slot_areas class false slots)
-lead-enough class wanted needs slots known all fits is =
-    grind (arith, fits, leads-span, window-spanned)
+lead-enough class wanted needs slots known all fits is = grind (arith, leads-span, window-spanned)
 
 -- the least slot is the same for equal classes and lists
 pub least-in : (m n : ℕ) (c d : ClassFields) (p q : Bool) (xs ys : List SlotFields)

@@ -17,8 +17,7 @@ use Rattle.slot_plan.specs.{Reserve.{open_frames, reserve_before}, declared.need
 
 -- ---- if some choice fits, there is a least one
 contains-cons : (m : ℕ) (ns : List ℕ) (n : ℕ) → Contains (m ∷ ns) n → (m ≡ n) ⊎ Contains ns n
-contains-cons m ns n (zero, within, at) = inl at
-contains-cons m ns n (suc i, within, at) = inr (i, omega arith, at)
+contains-cons m ns n h = grind arith
 
 behind : (m n : ℕ) (ns : List ℕ) → Contains ns n → Contains (m ∷ ns) n
 behind m n ns c = (suc c.0, omega (arith, c.1), c.2)
@@ -106,8 +105,7 @@ least-areas window free (o ∷ opens) (area ∷ some) chosen enough within =
 chosen-tail : (o : OpenFrame) (opens : List OpenFrame) (areas : List ℕ)
     → AreChosenAreas (o ∷ opens) areas → (rest : List ℕ) × AreChosenAreas opens rest
 unfolding AreChosenAreas
-chosen-tail o opens [] chosen = absurd chosen
-chosen-tail o opens (area ∷ rest) chosen = (rest, chosen.1)
+chosen-tail o opens areas chosen = grind arith
 
 -- the frames after the first need at most a window either
 pub within-tail : (window : ℕ) (o : OpenFrame) (opens : List OpenFrame)
@@ -154,8 +152,7 @@ with-slot window class slot opens rest least =
 -- a slot has one area
 pub only-area : (class : ClassFields) (slot : SlotFields) (n : ℕ)
     → Contains (slot_areas class false (slot ∷ [])) n → area_of class slot false ≡ n
-only-area class slot n (zero, within, at) = at
-only-area class slot n (suc i, within, at) = absurd (omega arith)
+only-area class slot n h = grind arith
 
 not-before : (window : ℕ) (class : ClassFields) (slot other : SlotFields) (opens : List OpenFrame)
     (rest areas : List ℕ) → IsLeastList window (open_frame (lead_in_item class all_slots) ∷ opens)

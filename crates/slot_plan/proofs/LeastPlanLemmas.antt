@@ -153,8 +153,7 @@ module _ (item : PlanItem) (items : List PlanItem) (test : List SlotFields → B
   none-of : (slot : SlotFields) (choices : List SlotFields)
       → ((others : List SlotFields) → AreOf items others → test (slot ∷ others) ≡ true → ⊥)
       → FindsOf item items choices test None → FindsOf item items (slot ∷ choices) test None
-  none-of slot choices none later s others (zero, within, at) of passes = grind (arith, of, passes)
-  none-of slot choices none later s others (suc k, within, at) of passes = grind (arith, of, passes)
+  none-of slot choices none later s others h of passes = grind arith
 
   first-later : (slot : SlotFields) (choices : List SlotFields)
       → ((others : List SlotFields) → AreOf items others → test (slot ∷ others) ≡ true → ⊥)
@@ -162,10 +161,7 @@ module _ (item : PlanItem) (items : List PlanItem) (test : List SlotFields → B
       (s : SlotFields) (others : List SlotFields) → Contains (slot ∷ choices) s → AreOf items others
       → test (s ∷ others) ≡ true → IsNotBehind (item_area item t ∷ areas_by items slots)
       (item_area item s ∷ areas_by items others)
-  first-later slot choices none t slots is s others (zero, within, at) of passes =
-      absurd (none others of (subst (λ r. test (r ∷ others) ≡ true) (sym at) passes))
-  first-later slot choices none t slots is s others (suc k, within, at) of passes =
-      is.first s others (k, omega (arith, within), at) of passes
+  first-later slot choices none t slots is s others h of passes = grind arith
 
   none-more : (slot : SlotFields) (choices : List SlotFields)
       → ((others : List SlotFields) → AreOf items others → test (slot ∷ others) ≡ true → ⊥)
@@ -187,8 +183,7 @@ module _ (item : PlanItem) (items : List PlanItem) (test : List SlotFields → B
       → test (s ∷ others) ≡ true → IsNotBehind (item_area item slot ∷ areas_by items slots)
       (item_area item s ∷ areas_by items others)
   unfolding IsNotBehind
-  first-here slot choices ascend slots is s others (zero, within, at) of passes =
-      grind (arith, of, passes)
+  first-here slot choices ascend slots is s others (zero, within, at) of passes = grind arith
   first-here slot choices ascend slots is s others (suc k, within, at) of passes = inl
       (area-later item.class item.protected slot choices s ascend (k, omega (arith, within), at))
 
@@ -198,12 +193,8 @@ module _ (item : PlanItem) (items : List PlanItem) (test : List SlotFields → B
       → Finds items (λ slots. test (slot ∷ slots)) found → FindsOf item items (slot ∷ choices) test
       (option_or (option_map (λ slots. slot ∷ slots) found) (find test later))
   finds-more slot choices later ascend rest None none = grind (arith, none-more)
-  finds-more slot choices later ascend rest (Some slots) is = record {
-    chosen = (zero, omega arith, refl);
-    of = is.of;
-    passes = is.passes;
-    first = grind (arith, first-here slot choices ascend slots is);
-  }
+  finds-more slot choices later ascend rest (Some slots) is =
+      grind (arith, is.of, is.passes, first-here slot choices ascend slots is)
 
   finds-of : (choices : List SlotFields) → Ascend (slot_areas item.class item.protected choices)
       → ((among : List SlotFields → Bool) → Finds items among (find among (all_lists items)))
@@ -225,33 +216,24 @@ module _ (item : PlanItem) (items : List PlanItem) (test : List SlotFields → B
   whole-none : FindsOf item items item.choices test None → (others : List SlotFields)
       → AreOf (item ∷ items) others → test others ≡ true → ⊥
   unfolding AreOf
-  whole-none none [] of passes = absurd of
-  whole-none none (s ∷ others) of passes = none s others of.0 of.1 passes
+  whole-none none others of passes = grind arith
 
   whole-first : (slot : SlotFields) (slots : List SlotFields)
       → IsFirstOf item items item.choices test slot slots → (others : List SlotFields)
       → AreOf (item ∷ items) others → test others ≡ true
       → IsNotBehind (areas_by (item ∷ items) (slot ∷ slots)) (areas_by (item ∷ items) others)
   unfolding AreOf areas_by
-  whole-first slot slots is [] of passes = absurd of
-  whole-first slot slots is (s ∷ others) of passes = is.first s others of.0 of.1 passes
+  whole-first slot slots is others of passes = grind arith
 
   finds-whole : (found : Option (List SlotFields)) → FindsOf item items item.choices test found
       → Finds (item ∷ items) test found
   unfolding AreOf
-  finds-whole None none = whole-none none
-  finds-whole (Some []) is = absurd is
-  finds-whole (Some (slot ∷ slots)) is =
-      record { of = (is.chosen, is.of); passes = is.passes; first = whole-first slot slots is }
+  finds-whole found none = grind (arith, whole-none, whole-first)
 
 finds-nothing : (test : List SlotFields → Bool) (b : Bool) → test [] ≡ b
     → Finds [] test (cond b (Some []) None)
 unfolding AreOf areas_by IsNotBehind
-finds-nothing test true is = record {
-  of = tt;
-  passes = is;
-  first = λ others of passes. tt;
-}
+finds-nothing test true is = grind arith
 finds-nothing test false is = none
   where
     none : (others : List SlotFields) → AreOf [] others → test others ≡ true → ⊥
@@ -262,9 +244,7 @@ finds : (items : List PlanItem) → AreOrdered items → (test : List SlotFields
     → Finds items test (find test (all_lists items))
 unfolding all_lists
 finds [] ordered test = finds-nothing test (test []) refl
-finds (item ∷ items) ordered test =
-    finds-whole item items test (find test (all_lists (item ∷ items)))
-    (finds-of item items test item.choices ordered.0 (finds items ordered.1))
+finds (item ∷ items) ordered test = search (arith, finds-whole, finds-of, finds items ordered.1)
 
 -- ---- it is the least list
 
@@ -433,9 +413,7 @@ own-chosen : (choices : HeaderFields → List SlotFields) (part : List Need) →
     → AreChosenAreas (open_frames choices part) (map (area_by_header own_area_of) part)
 own-chosen choices [] order = nothing_chosen choices own_area_of
 own-chosen choices (need ∷ part) order =
-    chosen-cons choices own_area_of need part (Contains-area (class_of need.header)
-    need.header.protected (choices need.header) need.header.slot order.0.own)
-    (own-chosen choices part order.1)
+    search (arith, chosen-cons, Contains-area, own-chosen choices part order.1)
 
 module _ (window : ℕ) (choices : HeaderFields → List SlotFields) where
   -- the frames of a part after a lead-in with any slot
@@ -467,8 +445,7 @@ module _ (window : ℕ) (choices : HeaderFields → List SlotFields) where
   unfolding IsLeadIn part_items CanBeLaid
   after-lead first part None can = grind (arith, reserve_before-can, first, after-reserve_before)
   after-lead first part (Some slot) is =
-      let least = (lead-first window choices first part slot is.0 is.2).0 is in
-      (area_of (class_of first.header) slot false ∷ least.0, least.1.chosen, least.1.feasible)
+      grind (arith, lead-first window choices first part slot is.0 is.2)
 
   -- the first slot of the least list is the slot of the lead-in
   first-lead : (first : Need) (part : List Need) (slots : List SlotFields)
@@ -477,8 +454,7 @@ module _ (window : ℕ) (choices : HeaderFields → List SlotFields) where
       (map open_frame (after_any first part)) (areas_by (after_any first part) slots)
       → IsLeadIn window choices (first ∷ part) (slice_get slots 0)
   unfolding part_items AreOf areas_by
-  first-lead first part [] never of least = absurd of
-  first-lead first part (slot ∷ slots) never of least = grind (arith, lead-first, first)
+  first-lead first part slots never of least = grind (arith, lead-first)
 
   lead-by : (first : Need) (part : List Need) → AreInOrder choices (first ∷ part)
       → CanBeLaidAfter first part → (found : Option (List SlotFields))
@@ -510,8 +486,7 @@ module _ (window : ℕ) (choices : HeaderFields → List SlotFields) where
   lead-alone : (part : List Need) (lead_in : Option SlotFields) → AreInOrder choices part
       → IsLeadIn window choices part lead_in → lead_in_alone window choices part ≡ lead_in
   lead-alone [] lead_in order is = search (arith, one_lead, no-part)
-  lead-alone (first ∷ part) lead_in order is =
-      search (arith, one_lead, first, lead-made, after-lead)
+  lead-alone (first ∷ part) lead_in order is = search (arith, one_lead, lead-made, after-lead)
 
   leads-alone : (parts : List (List Need)) (lead_ins : List (Option SlotFields))
       → AllInOrder choices parts → AreLeadIns window choices parts lead_ins
@@ -535,8 +510,7 @@ module _ (window : ℕ) (choices : HeaderFields → List SlotFields) where
 
   ordered_led : (part : List Need) → AreInOrder choices part → AreOrdered (led_items choices part)
   unfolding led_items
-  ordered_led [] order = tt
-  ordered_led (first ∷ part) order = grind (arith, slots_ascend, ordered_frames, first)
+  ordered_led part order = grind (arith, slots_ascend, ordered_frames)
 
   -- the led plan of a part is the first list after one lead-in
   pub led-least : (part : List Need) (placed : List Placed) → PartsChooseInOrder choices (part ∷ [])
@@ -605,8 +579,7 @@ module _ (class : ClassFields) (choices : HeaderFields → List SlotFields) wher
       → HasLayout window_is window_is (map own_frame part)
       → CanBeLaid window_is (map open_frame (led_items choices part))
   unfolding AreNeedsOfClass led_items
-  led-can [] same order feasible = nothing-can window_is
-  led-can (first ∷ part) same order feasible = after-feasible first part same.0 order feasible
+  led-can part same order feasible = grind (arith, nothing-can, after-feasible)
 
   led-made : (part : List Need) → AreNeedsOfClass class part
       → PartsChooseInOrder choices (part ∷ []) → ArePartsFeasible window_is (part ∷ [])

@@ -21,8 +21,7 @@ one-first : (window : ℕ) (class : ClassFields) (slot : SlotFields) (opens : Li
     → IsLeastList window (open_frame (lead_in_item class (slot ∷ [])) ∷ opens) areas
     → IsLeastList window (open_frame (lead_in_item class all_slots) ∷ opens) areas
 unfolding AreChosenAreas frames_with_areas
-one-first window class slot opens rest [] is any one = absurd one.chosen
-one-first window class slot opens rest (area ∷ areas) is any one =
+one-first window class slot opens rest areas is any one =
     grind (arith, only-area, Contains-area, equal_lists)
 
 of-any : (window : ℕ) (class : ClassFields) (slot : SlotFields) (items : List PlanItem)
@@ -61,8 +60,7 @@ module _ (window : ℕ) (choices : HeaderFields → List SlotFields) where
       → IsPlanFor window (all_items choices (part ∷ []) lead_ins) placed
       → IsLedPlan window choices part placed
   unfolding AreLeadIns all_items
-  of-leads part [] placed never alone plan = absurd alone
-  of-leads part (lead_in ∷ lead_ins) placed never alone plan = grind (arith, of-lead, append-nil)
+  of-leads part lead_ins placed never alone plan = grind (arith, of-lead, append-nil)
 
 -- if a part needs a lead-in, its plan is its led plan
 pub led-needed : LedWhereNeeded

@@ -1,17 +1,14 @@
 -- An area of a class, by the lengths without padding.
-use Rattle.std.proofs.Common.{arith, Bool, cond, false, get_or, List, lit≤, refl, true, ℕ, ◌+◌, ◌-◌}
-use Rattle.std.proofs.Common.{◌≡◌, ◌≤◌}
+use Rattle.std.proofs.Common.{arith, Bool, cond, false, get_or, List, ℕ, ◌+◌, ◌-◌, ◌≡◌, ◌≤◌}
 use Rattle.frame_header.proofs.{LengthLemmas.length-most, SlotLemmas.area-is}
 use Rattle.frame_header.specs.{Fields.{ClassFields, IsSlot, SlotFields}, Slots.slot_of}
 use Rattle.frame_header.specs.Tables.{area_of, length_of, overhead_of, rate_of, side_bytes_of}
 use Rattle.frame_header.specs.{Tables.side_size_of, declared.version.Version.Version}
-use Rattle.frame_header.specs.declared.version.Version.TheVariants.{One, Two, TwoFive}
 use Rattle.slot_plan.specs.ClassLengths.{AreLengths}
 use mir.Val.{bool_byte}
 
 byte_is : (flag : Bool) → bool_byte flag ≡ cond flag 1 0
-byte_is true = refl
-byte_is false = refl
+byte_is flag = grind arith
 
 padded : (c : ClassFields) (s : SlotFields)
     → length_of c (slot_of s.rate_index false) + bool_byte s.padding ≡ length_of c s
@@ -19,15 +16,12 @@ unfolding length_of rate_of
 padded c s = omega (arith, byte_is s.padding)
 
 side_most : (version : Version) (channels : ℕ) → side_bytes_of version channels ≤ 32
-side_most One channels = grind (arith, lit≤)
-side_most Two channels = grind (arith, lit≤)
-side_most TwoFive channels = grind (arith, lit≤)
+side_most version channels = grind arith
 
 -- header, check word and side information have at most 38 bytes
 pub overhead-side : (c : ClassFields) (p : Bool) → overhead_of c p ≤ 6 + side_size_of c
 unfolding overhead_of
-overhead-side c true = omega arith
-overhead-side c false = omega arith
+overhead-side c p = grind arith
 
 -- at most 38 bytes are before the area
 pub overhead-most : (c : ClassFields) (p : Bool) → overhead_of c p ≤ 38

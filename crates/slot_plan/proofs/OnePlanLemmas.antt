@@ -156,9 +156,7 @@ ordered_items : (choices : HeaderFields → List SlotFields) (part : List Need)
     (lead_in : Option SlotFields) → AreInOrder choices part
     → AreOrdered (part_items choices part lead_in)
 unfolding part_items
-ordered_items choices part None order = ordered_frames choices part order
-ordered_items choices [] (Some slot) order = tt
-ordered_items choices (need ∷ part) (Some slot) order = grind (arith, one_ascends, ordered_frames)
+ordered_items choices part lead_in order = grind (arith, ordered_frames, one_ascends)
 
 -- the areas of the choices of all parts with their lead-ins ascend
 pub ordered_whole : (choices : HeaderFields → List SlotFields) (parts : List (List Need))

@@ -1,7 +1,7 @@
 -- The plan of one part whose frames keep their slots has a lead-in exactly
 -- if they want something, in the least slot after whose area they fit.
-use Rattle.std.proofs.Common.{arith, false, inl, inr, List, map, None, Option, Some, subst, ℕ, []}
-use Rattle.std.proofs.{Common.{◌∷◌, ◌≤◌}, lemmas.{Bool.cases_lt, List.append-nil}}
+use Rattle.std.proofs.Common.{arith, false, inl, inr, List, map, Option, Some, ℕ, [], ◌∷◌, ◌≤◌}
+use Rattle.std.proofs.lemmas.{Bool.cases_lt, List.append-nil}
 use Rattle.frame_header.specs.{Fields.{ClassFields, SlotFields}, Tables.{area_of, class_of}}
 use Rattle.slot_plan.proofs.AreaLemmas.{only_one}
 use Rattle.slot_plan.proofs.FreeByteLemmas.{chosen-own, fit-own, more-behind, own-from, own-wanted}
@@ -95,26 +95,15 @@ with-lead : (window : ℕ) (needs : List Need) (lead_in : Option SlotFields) (pl
     → IsLeadIn window own_slot needs lead_in
     → AreItemSlots (part_items own_slot needs lead_in) placed → OneWay window needs placed
 unfolding IsLeadIn part_items AreItemSlots AreLedInOwnSlots
-with-lead window needs None placed alone for_items = grind (arith, own-none)
-with-lead window [] (Some slot) placed alone for_items = absurd alone
-with-lead window (first ∷ needs) (Some slot) [] alone for_items = absurd for_items
-with-lead window (first ∷ needs) (Some slot) (p ∷ placed) alone for_items =
-    grind (
-      arith,
-      only_one slot p.slot for_items.1,
-      led-slot window first needs slot alone,
-      never-alone,
-    )
+with-lead window needs lead_in placed alone for_items =
+    grind (arith, own-none, only_one, led-slot, never-alone)
 
 with-leads : (window : ℕ) (needs : List Need) (lead_ins : List (Option SlotFields))
     (placed : List Placed) → AreLeadIns window own_slot (needs ∷ []) lead_ins
     → IsPlanFor window (all_items own_slot (needs ∷ []) lead_ins) placed
     → OneWay window needs placed
 unfolding AreLeadIns all_items
-with-leads window needs [] placed alone plan = absurd alone
-with-leads window needs (lead_in ∷ lead_ins) placed alone plan =
-    with-lead window needs lead_in placed alone.0 (subst (λ items. AreItemSlots items placed)
-    (append-nil (part_items own_slot needs lead_in)) plan.slots)
+with-leads window needs lead_ins placed alone plan = grind (arith, with-lead, append-nil)
 
 -- the plan of frames in their own slots has a lead-in exactly if they want something
 pub lead-where-wanted : LeadInWhereWanted

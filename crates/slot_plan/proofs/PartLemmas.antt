@@ -1,7 +1,7 @@
 -- The frames of a part, from each place on.
 use Rattle.std.proofs.Common.{All, AllPairs, ap, arith, Contains, drop, false, get_or, inl, inr}
-use Rattle.std.proofs.Common.{length, length-append, List, map, None, Option, refl, Some, subst}
-use Rattle.std.proofs.Common.{suc, sym, take, zero, ℕ, [], ◌++◌, ◌+◌, ◌-◌, ◌<◌, ◌∙◌, ◌∷◌, ◌≡◌, ◌≤◌}
+use Rattle.std.proofs.Common.{length, length-append, List, map, Option, refl, Some, subst, suc, sym}
+use Rattle.std.proofs.Common.{take, zero, ℕ, [], ◌++◌, ◌+◌, ◌-◌, ◌<◌, ◌∙◌, ◌∷◌, ◌≡◌, ◌≤◌}
 use Rattle.std.proofs.{Math.Seq.drop-cons, lemmas.Bool.cases_lt}
 use Rattle.std.proofs.lemmas.List.{drop-map, drop_all, length-drop, length-take-le, same_from_push}
 use Rattle.std.{proofs.lemmas.List.take_all, specs.Prelude.{option_to_list, slice_range, unwrap_or}}
@@ -127,8 +127,7 @@ nothing_chosen choices area = tt
 pub popped : (behind rest : List ℕ) (last : Option ℕ) (ns : List ℕ) (n : ℕ) → behind ≡ ns ++ n ∷ []
     → behind ≡ rest ++ option_to_list last → 0 < length (option_to_list last)
     → (last ≡ Some n) × (rest ≡ ns)
-popped behind rest None ns n is parts some = absurd (omega arith)
-popped behind rest (Some m) ns n is parts some = grind (arith, same_from_push)
+popped behind rest last ns n is parts some = grind (arith, same_from_push)
 
 -- ---- the frames of a part from i on have what they need
 -- what the frames from i on need, before the first and after each, is within a window
@@ -184,16 +183,7 @@ module _ (window : ℕ) (choices : HeaderFields → List SlotFields) (area : Hea
   pub reserves-all : (i : ℕ) (reserves : Reserves) → i ≡ 0
       → ReservesFrom window choices area part i reserves.behind.items reserves.before
       → AreReserves window choices area part reserves
-  reserves-all i reserves none from =
-      let all = subst (λ k. ReservesFrom window choices area part k
-      reserves.behind.items reserves.before) none from in
-      record {
-        before = all.before;
-        behind = all.behind;
-        most = all.most;
-        within = all.within;
-        chosen = grind arith;
-      }
+  reserves-all i reserves none from = grind arith
 
 -- ---- forwards: what the next frame needs after it
 -- the last of the list is what is needed after the frame at i, and the rest is for those after it
@@ -225,8 +215,7 @@ pub next-reserve_before : (choices : HeaderFields → List SlotFields) (part : L
     → reserve_before (open_frames choices (drop i part))
     ≡ (need.bytes + reserve_before (open_frames choices (drop (i + 1) part)))
     - greatest_number (open_frame (need_item choices need)).areas
-next-reserve_before choices part i need within is =
-    grind (arith, next_need, within, reserve_before-cons)
+next-reserve_before choices part i need within is = grind (arith, next_need, reserve_before-cons)
 
 -- after the frame at i at most a window is needed either
 pub next-within : (window : ℕ) (choices : HeaderFields → List SlotFields) (part : List Need) (i : ℕ)
@@ -287,8 +276,7 @@ pub area-in : (class : ClassFields) (needs : List Need) (i area : ℕ) (need ope
     (slot : SlotFields) → AreNeedsOfClass class needs → i < length needs
     → need ≡ get_or needs i need → opened ≡ need → area ≡ area_of class slot opened.header.protected
     → area ≡ area_of (class_of need.header) slot need.header.protected
-area-in class needs i area need opened slot all within is same gives =
-    grind (arith, same-class, within)
+area-in class needs i area need opened slot all within is same gives = grind (arith, same-class)
 
 -- the first needs are of the class
 pub class-take : (class : ClassFields) (needs : List Need) (k : ℕ) → AreNeedsOfClass class needs
@@ -315,15 +303,12 @@ class-range class needs from to all = grind (arith, class-take, class-drop)
 pub one-class : (class : ClassFields) (needs : List Need) (d : Need) → AreNeedsOfOneClass needs
     → class ≡ class_of (get_or needs 0 d).header → AreNeedsOfClass class needs
 unfolding AreNeedsOfClass
-one-class class [] d all is = tt
-one-class class (first ∷ needs) d all is = grind arith
+one-class class needs d all is = grind arith
 
 -- the window of a need is the window of the first
 window-at : (needs : List Need) (i : ℕ) (d : Need) → AreNeedsOfOneClass needs → i < length needs
     → window_of (get_or needs i d).header.version ≡ window_in needs
-window-at [] i d all within = absurd (omega arith)
-window-at (first ∷ needs) zero d all within = refl
-window-at (first ∷ needs) (suc i) d all within = grind (arith, class-at)
+window-at needs i d all within = grind (arith, class-at)
 
 -- a part from one place to a later one has frames
 pub part-some : (needs : List Need) (from end : ℕ) → from < end → end ≤ length needs

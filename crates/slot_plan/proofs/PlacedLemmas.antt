@@ -1,7 +1,7 @@
 -- Frames that are placed by what is needed after them are the plan.
 use Rattle.std.proofs.Common.{ap, append_assoc, ap₂, arith, drop, false, get_or, length, List, map}
-use Rattle.std.proofs.Common.{None, Option, refl, Some, subst, sym, true, zero, ℕ, [], ◌++◌, ◌+◌}
-use Rattle.std.proofs.{Common.{◌-◌, ◌<◌, ◌∙◌, ◌∷◌, ◌≡◌, ◌≤◌}, lemmas.List.{append-nil, map-append}}
+use Rattle.std.proofs.Common.{Option, refl, Some, subst, sym, true, zero, ℕ, [], ◌++◌, ◌+◌, ◌-◌}
+use Rattle.std.proofs.{Common.{◌<◌, ◌∙◌, ◌∷◌, ◌≡◌, ◌≤◌}, lemmas.List.{append-nil, map-append}}
 use Rattle.frame_header.specs.{Fields.{ClassFields, HeaderFields, SlotFields}, Slots.all_slots}
 use Rattle.frame_header.specs.Tables.{area_of, class_of}
 use Rattle.slot_plan.proofs.{AreaLemmas.{Contains-area, only_one, slot-area}, PartLemmas.next_need}
@@ -97,31 +97,15 @@ lead_in-alone : (window : ℕ) (choices : HeaderFields → List SlotFields) (par
     (lead_in : Option SlotFields) → IsPlacedLeadIn window all_slots choices part lead_in
     → IsLeadIn window choices part lead_in
 unfolding IsPlacedLeadIn IsLeadIn part_items
-lead_in-alone window choices part None can = can
-lead_in-alone window choices [] (Some slot) is = absurd is
-lead_in-alone window choices (first ∷ part) (Some slot) is =
-    let opens : List OpenFrame = open_frames choices (first ∷ part) in
-    let class : ClassFields = class_of first.header in (
-      (λ can. omega (arith, is.0, (reserve_before-can window opens can).0)),
-      is.1,
-      is.2.chosen,
-      (λ other has less can.
-          let none =
-          (reserve_before-can window (open_frame (lead_in_item class (other ∷ [])) ∷ opens) can).0
-          in
-          let value = lead-reserve_before class other opens in
-          let before = is.2.least other has (omega arith) in
-          omega arith),
-    )
+lead_in-alone window choices part lead_in can =
+    grind (arith, reserve_before-can, lead-reserve_before)
 
 -- with its lead-in a part has a layout
 pub lead_in-can : (window : ℕ) (choices : HeaderFields → List SlotFields) (part : List Need)
     (lead_in : Option SlotFields) → IsLeadIn window choices part lead_in
     → CanBeLaid window (map open_frame (part_items choices part lead_in))
 unfolding IsLeadIn
-lead_in-can window choices part None is = is
-lead_in-can window choices [] (Some slot) is = absurd is
-lead_in-can window choices (first ∷ part) (Some slot) is = is.1
+lead_in-can window choices part lead_in is = grind arith
 
 -- an empty list of frames has a layout
 pub nothing-can : (window : ℕ) → CanBeLaid window []
@@ -141,8 +125,7 @@ whole-can window choices (part ∷ parts) (lead_in ∷ lead_ins) all =
       map-append,
       append-can,
       lead_in-can,
-      whole-can window choices parts lead_ins
-          all.1,
+      whole-can window choices parts lead_ins all.1,
     )
 
 -- ---- placing more frames
@@ -250,8 +233,7 @@ parts-all window choices all free placed on =
       no-leads window choices,
       no-placed window free choices,
       plan-placed,
-      append-nil
-          placed,
+      append-nil placed,
     )
 
 -- ---- the next frame of a part
@@ -357,8 +339,7 @@ module _ (window : ℕ) (leads : List SlotFields) (choices : HeaderFields → Li
       → AreReserves window choices area part reserves → 0 < reserves.before
       → PlacesLedPart window leads choices part free after old new
       → PlacesPart window leads choices part free after old new
-  part-led part reserves free after old new are some led =
-      grind (arith, lead-needing part reserves led.slot are some led.least)
+  part-led part reserves free after old new are some led = search (arith, lead-needing)
 
 -- ---- a part after a lead-in of any slot
 any-slot : (window : ℕ) (class : ClassFields) (slot : SlotFields) (items : List PlanItem)
@@ -367,16 +348,14 @@ any-slot : (window : ℕ) (class : ClassFields) (slot : SlotFields) (items : Lis
     → AreItemsPlaced window 0 (lead_in_item class (slot ∷ []) ∷ items) placed
     → AreItemsPlaced window 0 (lead_in_item class all_slots ∷ items) placed
 unfolding AreItemsPlaced
-any-slot window class slot items [] least all = absurd all
-any-slot window class slot items (p ∷ placed) least all = grind (arith, only_one)
+any-slot window class slot items placed least all = grind arith
 
 led-items : (window : ℕ) (choices : HeaderFields → List SlotFields) (part : List Need)
     (slot : SlotFields) (placed : List Placed) → IsLeastLeadIn all_slots choices part slot
     → AreItemsPlaced window 0 (part_items choices part (Some slot)) placed
     → AreItemsPlaced window 0 (led_items choices part) placed
 unfolding IsLeastLeadIn part_items led_items
-led-items window choices [] slot placed least all = absurd least
-led-items window choices (first ∷ part) slot placed least all = grind (arith, any-slot)
+led-items window choices part slot placed least all = grind (arith, any-slot)
 
 reserve_before-nothing : reserve_before (map open_frame []) ≡ 0
 unfolding reserve_before

@@ -58,14 +58,7 @@ pub record IsTableTo (c : ClassFields) (slots : List SlotFields) (to : ℕ)
 -- before the first slot the table is empty
 pub table-none : (c : ClassFields) (slots items : List SlotFields) → items ≡ []
     → IsTableTo c slots 0 items
-table-none c slots items empty =
-    let none : length items ≡ 0 = ap length empty in
-    record {
-      none = λ _. none;
-      many = λ some. absurd (omega (arith, some));
-      room = λ k less. absurd (omega (arith, less));
-      first = λ wanted d less. absurd (omega (arith, less, none));
-    }
+table-none c slots items empty = grind arith
 
 -- the table of the slots before a place is no longer than the frames of the slot there
 below : (c : ClassFields) (slots items : List SlotFields) (to : ℕ) → to < length slots
@@ -185,13 +178,7 @@ pub least-looked : (table : SlotTable) (slots : List SlotFields) (p : Bool) (wan
     → IsShortestSlot table.lengths slots (wanted + overhead_of table.lengths p) slot
     → IsLeastSlot wanted table.lengths p slots slot
 unfolding area_of
-least-looked table slots p wanted slot is shortest =
-    let c : ClassFields = table.lengths in
-    record {
-      chosen = shortest.chosen;
-      enough = omega (arith, shortest.enough);
-      least = grind (arith, overhead-side);
-    }
+least-looked table slots p wanted slot is shortest = grind (arith, overhead-side)
 
 -- the table has an entry
 table-some : (table : SlotTable) (slots : List SlotFields) → IsSlotTable slots table

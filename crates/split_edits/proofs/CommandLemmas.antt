@@ -14,8 +14,7 @@ use Rattle.commands.specs.Command.{AreStreams, clash_from, clash_of, Command, Ha
 use Rattle.commands.specs.{Command.{HoldsStreams, Made, Output, written_files}, Refusing.then_made}
 use Rattle.commands.specs.SingleOutput.{IsFileFault, most_frames}
 use Rattle.commands.specs.declared.fault.EditFault.{EditFault}
-use Rattle.commands.specs.declared.fault.EditFault.TheVariants.{EqualNames, Input, Memory, Refused}
-use Rattle.commands.specs.declared.fault.EditFault.TheVariants.{Write}
+use Rattle.commands.specs.declared.fault.EditFault.TheVariants.{EqualNames, Input, Memory}
 use Rattle.cut_edits.specs.Heads.{HasHeadNumbers, IsHeadFault}
 use Rattle.laying.specs.Laid.{LaidPart, stream_laid}
 use Rattle.outside.proofs.FilesLemmas.{there_holds, touches_more, touches_none}
@@ -45,8 +44,7 @@ use Rattle.sync_survey.specs.declared.survey_fault.SurveyFault.TheVariants.{Abse
 -- what is laid with a first piece is that piece, and then what is laid for the others
 pub first-parts : (first : LaidPart) (r : Result (List LaidPart) EditFault) (ls : List LaidPart)
     → with_first first r ≡ Ok ls → (more : List LaidPart) × (r ≡ Ok more) × (first ∷ more ≡ ls)
-first-parts first (Ok more) ls e = (more, refl, cc)
-first-parts first (Err fault) ls e = absurd cc
+first-parts first r ls e = grind arith
 
 -- ---- what holds of every refusal once the input was surveyed
 
@@ -54,8 +52,7 @@ module _ {X : Type 0} (cut : Cutting X) (P : EditFault → Type 0) (between : (f
     (file : List ℕ) (s : SurveyFields) → IfErr (cut.between from to file s) P) where
   first-all : (first : LaidPart) (r : Result (List LaidPart) EditFault) → IfErr r P
       → IfErr (with_first first r) P
-  first-all first (Ok more) is = tt
-  first-all first (Err fault) is = is
+  first-all first r is = grind arith
 
   laid-all : (file : List ℕ) (s : SurveyFields) (from : X) (tos : List X)
       → IfErr (piece_parts_from cut file s from tos) P
@@ -64,16 +61,14 @@ module _ {X : Type 0} (cut : Cutting X) (P : EditFault → Type 0) (between : (f
 
   at-all : (file : List ℕ) (s : SurveyFields) (places : List X)
       → IfErr (piece_parts cut file s places) P
-  at-all file s [] = tt
-  at-all file s (place ∷ places) = laid-all file s place places
+  at-all file s places = grind (arith, laid-all)
 
   made-all : (prefix file : List ℕ) (s : SurveyFields) (places : Result (List X) EditFault)
       → IfErr places P → IfErr (then_made places (places_result cut prefix file s)) P
   made-all prefix file s places is = grind (arith, then_all, at-all)
 
 takes : (r : Result Made EditFault) → IfErr r IsLateFault → TakesMemory r
-takes (Ok made) late = tt
-takes (Err fault) late = late
+takes r late = grind arith
 
 module _ {X : Type 0} (cut : Cutting X) (proper : IsProperCutting cut) where
   -- ---- refusals that come after memory was taken
@@ -121,19 +116,16 @@ module _ {X : Type 0} (cut : Cutting X) (proper : IsProperCutting cut) where
     -- all pieces that are laid hold their streams
     pub at-hold : (places : List X) (ls : List LaidPart) → piece_parts cut file s places ≡ Ok ls
         → Hold 1 ls
-    at-hold [] ls e = let none : [] ≡ ls = cc in subst (Hold 1) none tt
-    at-hold (place ∷ places) ls e = from-hold 1 place places ls e
+    at-hold places ls e = grind (arith, from-hold)
 
 -- ---- what the contents of the files make of the command
 
 if-told : (files : Files) {P : Contents → Type 0} → ((f : Contents) → files ≡ Told f → P f)
     → IfTold files P
-if-told (Untold touched) at = tt
-if-told (Told f) at = at f refl
+if-told files at = grind arith
 
 none-equal : (o : Option ℕ) (r : Result Made EditFault) → o ≡ None → equal_names_or o r ≡ r
-none-equal (Some place) r e = absurd cc
-none-equal None r e = refl
+none-equal o r e = grind arith
 
 -- the first input that has the name of a piece
 pub clash-found : {X : Type 0} (cut : Cutting X) (input prefix : List ℕ) (sheets : List (List ℕ))
@@ -152,8 +144,7 @@ module _ {X : Type 0} (cut : Cutting X) (proper : IsProperCutting cut) (input pr
   gives-equal : (files : Files) (place : ℕ) → clash_of command ≡ Some place
       → HasAnswer command files (Err (EqualNames place))
   unfolding split_result
-  gives-equal (Untold touched) place e = tt
-  gives-equal (Told f) place e = grind arith
+  gives-equal files place e = grind arith
 
   -- if the name of an input is one of the 99, the command leaves everything as it was
   pub equal-left : (place : ℕ) (now : Seen) → clash_of command ≡ Some place
@@ -492,12 +483,7 @@ module _ {X : Type 0} (cut : Cutting X) (proper : IsProperCutting cut) (input pr
           pub range-left : (fault : EditFault) → new ≡ mid → (fault ≡ Memory)
               ⊎ (IsEditRefusal cut.refuses fault × ((bytes : List ℕ) → Holds old.files input bytes
               → piece_parts cut bytes s places ≡ Err fault)) → IsCommandFault command old new fault
-          range-left fault same (inl is) = rw is (memory-left same)
-          range-left (Refused refusal) same (inr h) = record {
-            defined = range-refused places are (Refused refusal) h.1;
-            stays = same ∙ stays;
-          }
-          range-left _ same (inr h) = absurd h.0
+          range-left fault same h = grind (arith, memory-left, range-refused)
 
           module _ (pieces : List PlannedPiece) (named : ArePieces prefix (cut.survey s) 1 pieces)
               (laid : (bytes : List ℕ) → Holds old.files input bytes
@@ -529,34 +515,24 @@ module _ {X : Type 0} (cut : Cutting X) (input prefix : List ℕ) where
   -- a fault that was met while the places were found has the right numbers
   pub places-numbers : (fault : EditFault) → HasPlacesNumbers cut fault
       → HasNumbers (split_command cut input prefix) fault
-  places-numbers (Input place fault) is = grind arith
-  places-numbers (Refused refusal) is = is
-  places-numbers Memory is = tt
-  places-numbers _ is = absurd is
+  places-numbers fault is = grind arith
 
   -- a fault of the survey has the right numbers
   pub survey-numbers : (fault : EditFault) → HasSurveyNumbers 0 fault
       → HasNumbers (split_command cut input prefix) fault
-  survey-numbers (Input place fault) is = (omega (arith, is.0), is.1, is.2, inl is.0)
-  survey-numbers Memory is = tt
-  survey-numbers _ is = absurd is
+  survey-numbers fault is = grind arith
 
   -- a fault of the head has the right numbers
   pub head-numbers : (fault : EditFault) → HasHeadNumbers fault
       → HasNumbers (split_command cut input prefix) fault
-  head-numbers (Input place fault) is = (omega (arith, is.0), is.1, is.2, inl is.0)
-  head-numbers _ is = absurd is
+  head-numbers fault is = grind arith
 
   -- a fault of places between which there is nothing has the right numbers
   pub range-numbers : {Y : Type 0} (fault : EditFault) → (fault ≡ Memory)
       ⊎ (IsEditRefusal cut.refuses fault × Y) → HasNumbers (split_command cut input prefix) fault
-  range-numbers fault (inl none) = subst (HasNumbers (split_command cut input prefix)) (sym none) tt
-  range-numbers (Refused refusal) (inr is) = is.0
-  range-numbers _ (inr is) = absurd is.0
+  range-numbers fault h = grind arith
 
   -- a fault of the second pass has the right numbers
   pub pieces-numbers : (count : ℕ) (fault : EditFault) → count < 100 → HasPiecesNumbers count fault
       → HasNumbers (split_command cut input prefix) fault
-  pieces-numbers count (Input place fault) most is = (omega (arith, is.0), is.1, is.2, inl is.0)
-  pieces-numbers count (Write place) most is = omega (arith, names-length prefix, most, is)
-  pieces-numbers count _ most is = absurd is
+  pieces-numbers count fault most is = grind (arith, names-length)

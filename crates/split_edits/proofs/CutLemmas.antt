@@ -1,8 +1,7 @@
 -- What a file is cut into at positions, and at places of samples: no fault comes too early, and
 -- what is laid holds its stream.
-use Rattle.std.proofs.Common.{ap, arith, Bool, cond, Err, false, length, List, None, Ok, Option}
-use Rattle.std.proofs.Common.{refl, Result, Some, subst, true, ℕ, ◌||◌, ◌≡◌}
-use Rattle.std.specs.Prelude.{IfErr, IfSome, replicate}
+use Rattle.std.proofs.Common.{arith, Bool, cond, Err, length, List, None, Ok, Option, refl, Result}
+use Rattle.std.{proofs.Common.{Some, subst, ℕ, ◌≡◌}, specs.Prelude.{IfErr, IfSome, replicate}}
 use Rattle.commands.proofs.RefusingLemmas.{refusal_or-all, then_all, then_ok}
 use Rattle.commands.proofs.SheetLemmas.{sheet-all}
 use Rattle.commands.specs.AfterCall.{IsEditRefusal, IsLateFault, IsNotBefore}
@@ -26,10 +25,9 @@ use Rattle.info_header.specs.declared.fields.Info.{Info}
 use Rattle.laying.{proofs.SurveyFrameLemmas.survey-had, specs.KeptFields.fields_of_head}
 use Rattle.laying.specs.{Laid.{file_laid, LaidPart, stream_laid}, NeedsFit.own_choice}
 use Rattle.split_edits.specs.Cutting.{IsProperCutting}
-use Rattle.split_edits.specs.Split.{cue_sheet_places, cue_sheet_refuses, cut_part, cutting_of}
-use Rattle.split_edits.specs.Split.{exact_cutting_of, exact_places_result, exact_refuses_of}
-use Rattle.split_edits.specs.Split.{places_to_end, refuses_of}
-use Rattle.split_edits.specs.declared.exact_points.ExactPoints.{ExactPoints}
+use Rattle.split_edits.specs.Split.{cue_sheet_places, cut_part, cutting_of, exact_cutting_of}
+use Rattle.split_edits.specs.Split.{exact_places_result, exact_refuses_of, places_to_end}
+use Rattle.split_edits.specs.{Split.refuses_of, declared.exact_points.ExactPoints.ExactPoints}
 use Rattle.split_edits.specs.declared.exact_points.ExactPoints.TheVariants.{Places as ExactPlaces}
 use Rattle.split_edits.specs.declared.exact_points.ExactPoints.TheVariants.{Sheet as InExactSheet}
 use Rattle.split_edits.specs.declared.points.Points.{Points, TheVariants.{Places, Sheet as InSheet}}
@@ -40,8 +38,7 @@ use Rattle.sync_survey.specs.declared.survey_fault.SurveyFault.TheVariants.{Abse
 
 end-all : (P : EditFault → Type 0) → ((fault : CueFault) → P (Refused (Sheet fault)))
     → (r : Result (List Place) CueFault) → IfErr (places_to_end r) P
-end-all P cue (Ok starts) = tt
-end-all P cue (Err fault) = cue fault
+end-all P cue r = grind arith
 
 where-all : (P : EditFault → Type 0) → P (Input 1 Absent)
     → ((size : ℕ) → P (Refused (SheetTooLarge size)))
@@ -57,14 +54,12 @@ where-after = where-all (IsNotBefore (Input 1 Read)) (omega arith) (λ size. tt)
 
 as-all : (P : EditFault → Type 0) (r : Result (List Place) EditFault) → IfErr r P
     → IfErr (exact_places_result r) P
-as-all P (Ok places) is = tt
-as-all P (Err fault) is = is
+as-all P r is = grind arith
 
 -- nothing is refused if the test holds
 unless-test : (P : EditFault → Type 0) (refusal : Refusal) → P (Refused refusal) → (test : Bool)
     → IfSome (cond test None (Some refusal)) (λ r. P (Refused r))
-unless-test P refusal is true = tt
-unless-test P refusal is false = is
+unless-test P refusal is test = grind arith
 
 -- ---- cut at positions
 
@@ -97,9 +92,7 @@ points-proper (InSheet sheet) = search (arith, where-late, where-after, frames-a
 -- a refusal of positions is one that may be returned
 pub points-refusal : (points : Points) (fault : EditFault) → IsEditRefusal cut_refuses fault
     → IsEditRefusal (refuses_of points) fault
-points-refusal (Places places) fault is = is
-points-refusal (InSheet sheet) (Refused refusal) is = ap (λ b. b || cue_sheet_refuses refusal) is
-points-refusal (InSheet sheet) _ is = absurd is
+points-refusal points fault is = grind arith
 
 -- the chosen frames in the slots of their plan, given the known survey
 module _ (from to : Place) (file : List ℕ) (s known : SurveyFields) (same : known ≡ s) where
@@ -151,9 +144,7 @@ exact-points-proper (InExactSheet sheet) =
 -- a refusal of places is one that may be returned
 pub exact-points-refusal : (points : ExactPoints) (fault : EditFault)
     → IsEditRefusal exact_refuses fault → IsEditRefusal (exact_refuses_of points) fault
-exact-points-refusal (ExactPlaces places) fault is = is
-exact-points-refusal (InExactSheet sheet) (Refused refusal) is = grind arith
-exact-points-refusal (InExactSheet sheet) _ is = absurd is
+exact-points-refusal points fault is = grind arith
 
 -- setting the head apart leaves the samples where they are
 span_same : (from to : ExactPlace) (head : Option Info) (s : SurveyFields)

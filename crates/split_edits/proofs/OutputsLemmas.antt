@@ -1,18 +1,17 @@
 -- Outputs that are written in order.
-use Rattle.std.proofs.Common.{ap, append-nil, arith, drop, inl, inr, is_some, length, length-drop}
-use Rattle.std.proofs.Common.{List, map, None, Option, refl, slice_index_or, Some, string_bytes}
-use Rattle.std.proofs.Common.{sym, take, ℕ, [], ◌++◌, ◌+◌, ◌<◌, ◌∙◌, ◌∷◌, ◌≡◌, ◌≢◌}
-use Rattle.std.proofs.Math.Seq.{take-add}
+use Rattle.std.proofs.Common.{ap, append-nil, arith, drop, inl, inr, length, length-drop, List, map}
+use Rattle.std.proofs.Common.{None, Option, refl, slice_index_or, Some, string_bytes, sym, take, ℕ}
+use Rattle.std.proofs.{Common.{[], ◌++◌, ◌+◌, ◌<◌, ◌∙◌, ◌∷◌, ◌≡◌, ◌≢◌}, Math.Seq.take-add}
 use Rattle.std.proofs.lemmas.List.{drop-map, get_or-drop, length-map, length-take, map-append}
-use Rattle.std.proofs.lemmas.List.{take-map, Elements.{All-cons, All-nil, All-take}}
+use Rattle.std.proofs.lemmas.List.{take-map, Elements.All-take}
 use Rattle.commands.specs.Command.{begun_output, LacksBytes, Output, written_files}
 use Rattle.commands.specs.PassFaults.{pass_edit_fault}
 use Rattle.commands.specs.SingleOutput.{files_holding, HoldsLess, HoldsPrefix, IsPassFault}
 use Rattle.laying.specs.Laid.{file_laid, selected_part}
 use Rattle.outside.proofs.FilesLemmas.{touches_both, touches_more, touches_none, touches_told}
 use Rattle.outside.specs.Counts.{Counts}
-use Rattle.outside.specs.Files.{Contents, Files, Holds, IsFileThere, OnlyTouches, Told, Untold}
-use Rattle.outside.specs.{Files.with_file, Seen.seen_folder, declared.pass.PassFault.PassFault}
+use Rattle.outside.specs.Files.{Contents, Files, Holds, IsFileThere, OnlyTouches, with_file}
+use Rattle.outside.specs.{Seen.seen_folder, declared.pass.PassFault.PassFault}
 use Rattle.outside.specs.declared.pass.PassFault.TheVariants.{Read, Shrunk, Write}
 use Rattle.split_edits.specs.Steps.{IsPiecesFault, IsUnfinishedPart, IsWrittenPart, names_of_pieces}
 use Rattle.split_edits.specs.Steps.{output_of, piece_outputs, pieces_of, with_outputs, with_part}
@@ -28,16 +27,13 @@ written-append (x ∷ xs) ys f = written-append xs ys (with_file f x.name x.byte
 
 none-written : (files : Files) → files ≡ with_outputs [] files
 unfolding with_outputs
-none-written (Untold touched) = refl
-none-written (Told f) = refl
+none-written files = grind arith
 
 more-written : (xs : List Output) (name bytes : List ℕ) (files : Files) (input file : List ℕ)
     → Holds files input file → files_holding (with_outputs xs files) name bytes
     ≡ with_outputs (xs ++ record { name = name; bytes = bytes } ∷ []) files
 unfolding with_outputs files_holding
-more-written xs name bytes (Untold touched) input file holds = absurd holds
-more-written xs name bytes (Told f) input file holds =
-    ap Told (sym (written-append xs (record { name = name; bytes = bytes } ∷ []) f))
+more-written xs name bytes files input file holds = grind (arith, written-append)
 
 -- after k whole outputs the next one wasn't created, or holds a prefix
 module _ (k : ℕ) (outputs rest : List Output) (o : Output) (now new : Files) (input file : List ℕ)
@@ -45,16 +41,13 @@ module _ (k : ℕ) (outputs rest : List Output) (o : Output) (now new : Files) (
   not-created : (old : Files) → Holds old input file → now ≡ with_outputs (take k outputs) old
       → new ≡ now → new ≡ with_part k None outputs old
   unfolding with_outputs with_part
-  not-created (Untold touched) holds is stays = absurd holds
-  not-created (Told f) holds is stays = rw (append-nil (take k outputs)) (stays ∙ is)
+  not-created old holds is stays = grind (arith, append-nil)
 
   begun-with : (old : Files) → Holds old input file → now ≡ with_outputs (take k outputs) old
       → (n : ℕ) → new ≡ files_holding now o.name (take n o.bytes)
       → new ≡ with_part k (Some n) outputs old
   unfolding with_outputs with_part files_holding
-  begun-with (Untold touched) holds is n part = absurd holds
-  begun-with (Told f) holds is n part = rw (next, written-append (take k outputs))
-      (part ∙ ap (λ files. files_holding files o.name (take n o.bytes)) is)
+  begun-with old holds is n part = grind (arith, written-append)
 
   module _ (old : Files) (holds : Holds old input file)
       (is : now ≡ with_outputs (take k outputs) old) where
@@ -80,16 +73,7 @@ pub record Stands (input : List ℕ) (old new : Files) : Type 0 where
 
 stands-beside : (input name : List ℕ) (old new : Files) → input ≢ name → IsFileThere old input
     → OnlyTouches (name ∷ []) old new → Stands input old new
-stands-beside input name (Told f) (Told g) apart there only =
-    let at = only input (All-cons (λ n. input ≢ n) name [] apart (All-nil (λ n. input ≢ n))) in
-    record {
-      there = ap is_some at ∙ there;
-      before = λ bytes holds. sym at ∙ holds;
-      after = grind arith;
-    }
-stands-beside input name (Untold before) (Untold after) apart there only =
-    record { there = tt; before = λ bytes holds. holds; after = λ bytes holds. holds }
-stands-beside input name _ _ apart there only = absurd only
+stands-beside input name old new apart there only = grind arith
 
 -- ---- pieces that were written
 

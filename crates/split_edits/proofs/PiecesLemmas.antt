@@ -1,6 +1,6 @@
 -- Pieces, one more at a time, made from the places and written to the outputs.
 use Rattle.std.proofs.Common.{ap, append-nil, append_assoc, arith, bytes_eq, drop, Err, false}
-use Rattle.std.proofs.Common.{get_or, inl, inr, length, List, map, Ok, refl, Result, slice_index_or}
+use Rattle.std.proofs.Common.{get_or, length, List, map, Ok, refl, Result, slice_index_or}
 use Rattle.std.proofs.Common.{string_bytes, subst, suc, sym, take, true, zero, ℕ, [], ◌++◌, ◌+◌}
 use Rattle.std.proofs.Common.{◌-◌, ◌<◌, ◌∙◌, ◌∷◌, ◌≡◌, ◌≢◌, ◌≤◌}
 use Rattle.std.proofs.lemmas.List.{drop_all, get_or-take, length-map, take_all}
@@ -29,8 +29,7 @@ laid_before done (Err fault) = Err fault
 
 before-first : (done : List LaidPart) (first : LaidPart) (r : Result (List LaidPart) EditFault)
     → laid_before done (with_first first r) ≡ laid_before (done ++ first ∷ []) r
-before-first done first (Ok more) = ap Ok (sym (append_assoc done (first ∷ []) more))
-before-first done first (Err fault) = refl
+before-first done first r = grind (arith, append_assoc)
 
 module _ {P : Type 0} (cut : Cutting P) (file : List ℕ) (s : SurveyFields) (index : ℕ) (from : P)
     (rest : List P) (done : List LaidPart) (whole : Result (List LaidPart) EditFault)
@@ -56,19 +55,16 @@ pub laid-is : {P : Type 0} (cut : Cutting P) (file : List ℕ) (s : SurveyFields
     (places : List P) → 2 ≤ length places → from ≡ get_or places 0 from
     → piece_parts cut file s places
     ≡ piece_parts_from cut file s from (take (length places - 1) (drop 1 places))
-laid-is cut file s from [] some is = absurd (omega (arith, some))
-laid-is cut file s from (place ∷ places) some is = grind (arith, take_all)
+laid-is cut file s from places some is = grind (arith, take_all)
 
 -- a fault of a pair of places is a fault of all
 pub fault-of-all : {M A B C : Type 0} → (B → C) → M ⊎ (A × B) → M ⊎ (A × C)
-fault-of-all all (inl none) = inl none
-fault-of-all all (inr is) = inr (is.0, all is.1)
+fault-of-all all h = grind arith
 
 -- what holds of an error holds of the result with it
 pub match_err : {T E : Type 0} (r : Result T E) (P : T → Type 0) (Q : E → Type 0) {e : E}
     → IsErrAnd r (λ y. y ≡ e) → Q e → MatchResult r P Q
-match_err (Ok x) P Q is q = absurd is
-match_err (Err y) P Q is q = subst Q (sym is) q
+match_err r P Q is q = grind arith
 
 -- ---- the names
 

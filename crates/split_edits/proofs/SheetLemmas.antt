@@ -1,17 +1,14 @@
 -- What the bytes of a sheet list.
-use Rattle.std.proofs.Common.{ap, arith, Err, List, map, true, ℕ, [], ◌∷◌, ◌≡◌}
-use Rattle.std.proofs.lemmas.List.{length-map, Elements.{All-cons, All-head, All-nil, All-tail}}
-use Rattle.std.specs.List.{All}
+use Rattle.std.proofs.{Common.{ap, arith, Err, List, map, ℕ, [], ◌∷◌, ◌≡◌}, lemmas.List.length-map}
+use Rattle.std.{proofs.lemmas.List.Elements.{All-cons, All-head, All-nil, All-tail}, specs.List.All}
 use Rattle.commands.{proofs.WhyLemmas.{each_refusal, each_why}, specs.Refusing.then_made}
-use Rattle.commands.specs.Sheet.{HasSheetNumbers, IsSheetFault, sheet_read, sheet_refuses}
-use Rattle.commands.specs.declared.fault.EditFault.{EditFault, TheVariants.Refused}
-use Rattle.commands.specs.declared.fault.Refusal.{Refusal, TheVariants.SheetTooLarge}
+use Rattle.commands.specs.Sheet.{HasSheetNumbers, IsSheetFault, sheet_read}
+use Rattle.commands.specs.declared.fault.EditFault.{EditFault}
 use Rattle.cue_sheet.specs.{Cues.cue_of, Places.IsPlace, declared.place.Place.Place}
 use Rattle.exact_span.specs.Places.{IsExactPlace}
 use Rattle.exact_span.specs.declared.exact_place.ExactPlace.TheVariants.{Place as Position}
 use Rattle.outside.specs.Seen.{Seen}
-use Rattle.split_edits.specs.Cutting.{ArePlaces}
-use Rattle.split_edits.specs.Split.{cue_sheet_refuses, places_in, places_to_end}
+use Rattle.split_edits.specs.{Cutting.ArePlaces, Split.{places_in, places_to_end}}
 use Rattle.split_edits.specs.Steps.{HasCueSheetNumbers, IsCueSheetFault}
 
 -- a sheet whose bytes can't be read lists no positions
@@ -24,14 +21,9 @@ module _ (name : List ℕ) (old new : Seen) (fault : EditFault) where
   pub unread-fault : IsSheetFault name old new fault → IsCueSheetFault name old new fault
   unread-fault h = grind (arith, each_why, each_refusal, read-places)
 
-of_read : (refusal : Refusal) → sheet_refuses refusal ≡ true → cue_sheet_refuses refusal ≡ true
-of_read (SheetTooLarge size) is = is
-of_read _ is = absurd cc
-
 -- a fault of a sheet that can't be read has the number of the sheet
 pub unread-number : (fault : EditFault) → HasSheetNumbers fault → HasCueSheetNumbers fault
-unread-number (Refused refusal) h = of_read refusal h
-unread-number _ h = h
+unread-number fault h = grind arith
 
 -- ---- places of samples that a sheet lists
 

@@ -4,8 +4,7 @@
 use Rattle.std.proofs.Common.{ap, ap₂, arith, Bool, cond, false, List, map, None, Option, refl}
 use Rattle.std.proofs.Common.{slice_get, Some, subst, suc, sum_by, sym, take, true, zero, ℕ, []}
 use Rattle.std.proofs.Common.{◌+◌, ◌-◌, ◌<◌, ◌==◌, ◌||◌, ◌∙◌, ◌∷◌, ◌≡◌, ◌≤◌}
-use Rattle.std.proofs.lemmas.Bool.{and_from, and_parts, and_right, eq-eqb, eqb-true, le-ltb, lt-ltb}
-use Rattle.std.proofs.lemmas.{Bool.{ltb-false, ltb-true}, List.Sums.sum_by-cons}
+use Rattle.std.proofs.lemmas.{Bool.{and_right, le-ltb, ltb-true}, List.Sums.sum_by-cons}
 use Rattle.std.specs.List.{enumerate_from}
 use Rattle.frame_header.specs.Fields.{ClassFields}
 use Rattle.side_info.specs.Side.{payload_bytes}
@@ -22,19 +21,12 @@ use Rattle.sync_survey.specs.{Survey.{AreWellPlaced, IsWellPlaced}, declared.pla
 
 -- ---- one frame
 
--- a frame is lost if its main data begin before the areas, and none end before it
-lacks_by : (place ended : ℕ) (r : Row) → ended ≡ 0 → place < r.side.main_data_begin
-    → lacks_data place ended r ≡ true
-lacks_by place ended r none far = grind (arith, and_from, eq-eqb, none, lt-ltb, far)
-
 record Lacks (place ended : ℕ) (r : Row) : Type 0 where
   none : ended ≡ 0
   far : place < r.side.main_data_begin
 
 lacks_parts : (place ended : ℕ) (r : Row) → lacks_data place ended r ≡ true → Lacks place ended r
-lacks_parts place ended r is =
-    let parts = and_parts (ended == 0) (points_too_far place r) is in
-    record { none = eqb-true ended 0 parts.0; far = ltb-true place r.side.main_data_begin parts.1 }
+lacks_parts place ended r is = grind arith
 
 -- the main data of a frame begin after those before them, and end within its own area
 pub record Stands (place ended : ℕ) (r : Row) : Type 0 where
@@ -44,17 +36,12 @@ pub record Stands (place ended : ℕ) (r : Row) : Type 0 where
 
 -- main data that are where they may be begin after those before them, and end within the own area
 pub stands_by : (place ended : ℕ) (r : Row) → StandWell place ended r → Stands place ended r
-stands_by place ended r well = record {
-  begins = ltb-false place r.side.main_data_begin well.begins;
-  apart = ltb-false (place - r.side.main_data_begin) ended well.apart;
-  within = ltb-false (place + own_area r.header) (end_of_data place r) well.within;
-}
+stands_by place ended r well = grind arith
 
 -- if a frame that doesn't lack data has its main data where they may be, they have no fault
 pub sound-by : (at other : ℕ) (r : Row) (lost : Bool) → lacks_data at other r ≡ lost
     → (lost ≡ false → Stands at other r) → data_faults at other r ≡ []
-sound-by at other r true is stands = rw is refl
-sound-by at other r false is stands = grind (arith, le-ltb)
+sound-by at other r lost is stands = grind arith
 
 -- ---- areas
 
@@ -86,8 +73,7 @@ module _ (area at ended other : ℕ) (r : Row) (less : other ≤ ended - area)
     (well : lacks_data (area + at) ended r ≡ false → Stands (area + at) ended r) where
   far_lacks_by : (lost : Bool) → lacks_data (area + at) ended r ≡ lost → at < r.side.main_data_begin
       → lacks_data at other r ≡ true
-  far_lacks_by true is far = grind (arith, lacks_parts, lacks_by, far)
-  far_lacks_by false is far = grind (arith, lacks_by, far)
+  far_lacks_by lost is far = grind arith
 
   -- a frame whose main data begin before the areas without the head's is lost without it
   far_lacks : at < r.side.main_data_begin → lacks_data at other r ≡ true
@@ -95,24 +81,14 @@ module _ (area at ended other : ℕ) (r : Row) (less : other ≤ ended - area)
 
   near_by : (far : Bool) → points_too_far at r ≡ far → lacks_data at other r ≡ false
       → r.side.main_data_begin ≤ at
-  near_by true is lost = let sure = far_lacks (ltb-true at r.side.main_data_begin is) in absurd cc
-  near_by false is lost = ltb-false at r.side.main_data_begin is
+  near_by far is lost = grind arith
 
   near : lacks_data at other r ≡ false → r.side.main_data_begin ≤ at
   near = near_by (points_too_far at r) refl
 
   stands_apart_by : (lost : Bool) → lacks_data (area + at) ended r ≡ lost
       → lacks_data at other r ≡ false → Stands at other r
-  stands_apart_by true is kept = grind (arith, lacks_parts, near)
-  stands_apart_by false is kept =
-      let stands = well is in
-      let begins = near kept in
-      record {
-        begins = begins;
-        apart = omega (arith, less, stands.apart, begins);
-        within =
-            omega (arith, stands.within, begins);
-      }
+  stands_apart_by lost is kept = grind arith
 
   stands_apart : lacks_data at other r ≡ false → Stands at other r
   stands_apart = stands_apart_by (lacks_data (area + at) ended r) refl
@@ -121,10 +97,7 @@ module _ (area at ended other : ℕ) (r : Row) (less : other ≤ ended - area)
       → lacks_data (area + at) ended r ≡ lost → lacks_data at other r ≡ lost_apart
       → cond (silent || lost_apart) other (end_of_data at r)
       ≤ cond (silent || lost) ended (end_of_data (area + at) r) - area
-  less_by false true false silent is apart = grind (arith, lacks_parts, near, apart)
-  less_by false false true silent is apart = grind arith
-  less_by false false false silent is apart = let begins = near apart in omega (arith, begins)
-  less_by _ _ _ silent is apart = less
+  less_by silent lost lost_apart h is apart = grind arith
 
   less_behind : data_end_after at other (Some r) ≤ data_end_after (area + at) ended (Some r) - area
   less_behind = grind (arith, less_by)
@@ -147,9 +120,7 @@ module _ (head : Option Head) (class : ClassFields) (rows : List Row)
   less_next : (i : ℕ) (o : Option Row) → slice_get rows i ≡ o → data_end_before None rows i
       ≤ data_end_before head rows i - area → data_end_after (at i) (data_end_before None rows i) o
       ≤ data_end_after (area + at i) (data_end_before head rows i) o - area
-  less_next i None found less = less
-  less_next i (Some r) found less = less_behind area (at i) (data_end_before head rows i)
-      (data_end_before None rows i) r less (stands_at i r found)
+  less_next i o found less = grind (arith, less_behind, stands_at)
 
   -- without the head, the main data end no further on, not counting its area
   less_at : (i : ℕ) → data_end_before None rows i ≤ data_end_before head rows i - area
@@ -159,9 +130,7 @@ module _ (head : Option Head) (class : ClassFields) (rows : List Row)
 
   lost_far : (i : ℕ) (r : Row) → slice_get rows i ≡ Some r → at i < r.side.main_data_begin
       → is_lost None rows i r ≡ true
-  lost_far i r found far =
-      far_lacks area (at i) (data_end_before head rows i) (data_end_before None rows i) r
-      (less_at i) (stands_at i r found) far
+  lost_far i r found far = grind (arith, far_lacks, less_at, stands_at)
 
   -- a frame whose main data begin too far back is lost when the head is set apart
   pub apart-lost : (i : ℕ) (r : Row) → slice_get rows i ≡ Some r → points_too_far (at i) r ≡ true
@@ -247,13 +216,11 @@ near_stays rows n (x ∷ xs) near =
     next_same n i = omega arith
 
     or_false : (b : Bool) → (b || false) ≡ b
-    or_false true = refl
-    or_false false = refl
+    or_false b = grind arith
 
 near_set : (head : Option Head) (rows : List Row) → apart_rows rows ≡ rows
     → rows_set_apart head rows ≡ rows
-near_set None rows is = refl
-near_set (Some head) rows is = is
+near_set head rows is = grind arith
 
 -- if all main data begin within the areas without the head's, all frames are unchanged
 pub near-same : (head : Option Head) (rows : List Row)

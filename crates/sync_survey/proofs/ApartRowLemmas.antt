@@ -5,7 +5,7 @@ use Rattle.std.proofs.Common.{List, ltb, map, min, None, refl, slice_get, Some, 
 use Rattle.std.proofs.Common.{true, zero, ℕ, [], ◌&&◌, ◌++◌, ◌+◌, ◌-◌, ◌<◌, ◌==◌, ◌^◌, ◌||◌, ◌∙◌}
 use Rattle.std.proofs.{Common.{◌∷◌, ◌≡◌, ◌≤◌}, Math.ListN.set}
 use Rattle.std.proofs.Math.Nat.{min-eq_left, min-eq_right, min-le_left}
-use Rattle.std.proofs.lemmas.Bool.{eqb-true, le-ltb, lt-ltb, ltb-false, ltb-true}
+use Rattle.std.proofs.lemmas.Bool.{eqb-true, ltb-false, ltb-true}
 use Rattle.std.proofs.lemmas.List.{append-nil, drop_all, drop_more, length-map, length-take-le}
 use Rattle.std.proofs.lemmas.List.{map-append, set_at, take_all, take_more}
 use Rattle.std.{proofs.lemmas.Option.slice_get-get_or, specs.List.enumerate_from}
@@ -34,10 +34,7 @@ module _ (rows now front : List Row) (i : ℕ) (d : Row) (size : length front �
 
   -- writing it is having written one more
   pub written-one : (y : Row) → set now i y ≡ (front ++ y ∷ []) ++ drop (i + 1) rows
-  written-one y =
-      ap (λ l. set l i y) split
-      ∙ set_at front (get_or rows i d) (drop (i + 1) rows) y i size
-      ∙ sym (append_assoc front (y ∷ []) (drop (i + 1) rows))
+  written-one y = grind (arith, set, split, set_at, append_assoc)
 
 -- ---- lost frames become empty ones
 
@@ -85,16 +82,14 @@ module _ (rows : List Row) where
   none_lost_by : (i j : ℕ) (r : Row) → i ≤ j → (zero : Bool)
       → (data_end_before None rows j == 0) ≡ zero → 1 ≤ data_end_before None rows i
       → (zero && points_too_far (place None rows j) r) ≡ false
-  none_lost_by i j r le true is some = grind (arith, ended_before, eqb-true)
-  none_lost_by i j r le false is some = refl
+  none_lost_by i j r le h is some = grind (arith, ended_before, eqb-true)
 
   none_lost : (i j : ℕ) (r : Row) → i ≤ j → 1 ≤ data_end_before None rows i
       → is_lost None rows j r ≡ false
   none_lost i j r le some = none_lost_by i j r le (data_end_before None rows j == 0) refl some
 
   or_false : (b : Bool) → (b || false) ≡ b
-  or_false true = refl
-  or_false false = refl
+  or_false b = grind arith
 
   rest_stays : (i n : ℕ) (xs : List Row) → i ≤ n → 1 ≤ data_end_before None rows i
       → apart_from n xs ≡ xs
@@ -125,14 +120,11 @@ module _ (rows : List Row) where
   -- before the first frame none is marked
   pub marked-none : AreMarkedTo rows 0 0
   unfolding data_end_before place
-  marked-none =
-      record { rows_are = refl; none = refl; few = omega arith; exact = λ lt. omega arith }
+  marked-none = grind arith
 
   far_by : (areas at begin : ℕ) (far few : Bool) → ltb at begin ≡ far → ltb areas 65535 ≡ few
       → areas ≤ at → (areas < 65535 → areas ≡ at) → begin ≤ 65535 → ltb areas begin ≡ far
-  far_by areas at begin true few is short le exact near = grind (arith, ltb-true, lt-ltb)
-  far_by areas at begin false true is short le exact near = grind (arith, exact, ltb-true)
-  far_by areas at begin false false is short le exact near = grind (arith, ltb-false, le-ltb)
+  far_by areas at begin far few is short le exact near = grind arith
 
   end_more : (i : ℕ) (r : Row) → slice_get rows i ≡ Some r → data_end_before None rows (suc i)
       ≡ data_end_after (place None rows i) (data_end_before None rows i) (Some r)
@@ -189,24 +181,21 @@ module _ (rows : List Row) where
         → sum ≡ min (areas + own_area (get_or now i d).header) (2 ^ 64 - 1)
         → AreMarkedTo (set now i new) sum (i + 1)
     marked-next sum empty is =
-        let one_more : i + 1 ≡ suc i = omega arith in
-        let area : own_area (get_or now i d).header ≡ own_area here.header =
-        ap (λ (q : Row). own_area q.header) here_same in
-        let at : place None rows (i + 1) ≡ place None rows i + own_area here.header =
-        ap (place None rows) one_more ∙ area-more rows i here found in
-        let least : sum ≤ areas + own_area (get_or now i d).header =
-        grind (arith, min-le_left) in
-        record {
-          rows_are = rows_next;
-          none = grind (arith, end_next, empty_same);
-          few = omega (arith, least, at, area, to.few);
-          exact = grind (arith, sum_by_min);
-        }
+        grind (
+          arith,
+          here_same,
+          area-more,
+          found,
+          min-le_left,
+          rows_next,
+          end_next,
+          empty_same,
+          sum_by_min,
+        )
 
     loud_end : (silent far : Bool) → is_silent here ≡ silent → (silent || far) ≡ false
         → 1 ≤ cond (silent || far) 0 (end_of_data (place None rows i) here)
-    loud_end false false is kept = loud-end (place None rows i) here is
-    loud_end _ _ is kept = absurd cc
+    loud_end silent far is kept = grind (arith, loud-end)
 
     -- the frame has main data and isn't lost, so no later one is lost
     pub marked-last : (is_silent (get_or now i d) || points_too_far areas (get_or now i d)) ≡ false

@@ -26,8 +26,7 @@ empty_row r = record r { side = no_side; lost = false }
 
 -- an empty frame has the header of the frame
 pub header_by : (b : Bool) (r : Row) → (cond b (empty_row r) r).header ≡ r.header
-header_by true r = refl
-header_by false r = refl
+header_by b r = grind arith
 
 -- a lost frame becomes an empty one
 pub emptied_true : (r : Row) → r.lost ≡ true → emptied_row r ≡ empty_row r
@@ -64,8 +63,7 @@ pub record IsKept (class : ClassFields) (place ended behind : ℕ) (r : Row) : T
 module _ (class : ClassFields) (at ended behind other : ℕ) (r : Row)
     (kept : IsKept class at ended behind r) (less : other ≤ ended) where
   stands_emptied_by : (lost : Bool) → r.lost ≡ lost → Stands at other (emptied_row r)
-  stands_emptied_by true is = grind (arith, emptied_true, no_bytes)
-  stands_emptied_by false is = grind (arith, emptied_false)
+  stands_emptied_by lost is = grind (arith, emptied_true, no_bytes, emptied_false)
 
   stands_emptied : Stands at other (emptied_row r)
   stands_emptied = stands_emptied_by r.lost refl
@@ -74,8 +72,7 @@ module _ (class : ClassFields) (at ended behind other : ℕ) (r : Row)
   none_lost = grind (arith, and_right, le-ltb)
 
   kept_by : (lost : Bool) → r.lost ≡ lost → (emptied_row r).lost ≡ false
-  kept_by true is = ap (λ (q : Row). q.lost) (emptied_true r is)
-  kept_by false is = ap (λ (q : Row). q.lost) (emptied_false r is) ∙ is
+  kept_by lost is = grind arith
 
   unmarked : (emptied_row r).lost ≡ lacks_data at other (emptied_row r)
   unmarked = kept_by r.lost refl ∙ sym none_lost
@@ -83,9 +80,7 @@ module _ (class : ClassFields) (at ended behind other : ℕ) (r : Row)
   goes_by : (silent lost : Bool) → is_silent r ≡ silent → r.lost ≡ lost
       → cond (lost || silent) ended (end_of_data at r) ≤ behind
       → cond (is_silent (emptied_row r) || false) other (end_of_data at (emptied_row r)) ≤ behind
-  goes_by silent true is lost le = rw (emptied_true r lost, no_bits) (omega (arith, less, le))
-  goes_by true false is lost le = rw (emptied_false r lost, is) (omega (arith, less, le))
-  goes_by false false is lost le = rw (emptied_false r lost, is) le
+  goes_by silent lost is h le = grind (arith, emptied_true, no_bits, emptied_false)
 
   goes : data_end_after at other (Some (emptied_row r)) ≤ behind
   goes = grind (arith, none_lost, goes_by)
@@ -93,14 +88,12 @@ module _ (class : ClassFields) (at ended behind other : ℕ) (r : Row)
 -- the side information of a frame still fits, whether or not the frame was emptied
 pub fits_by : (class : ClassFields) (r : Row) (lost : Bool) → r.lost ≡ lost → SideFits class r.side
     → SideFits class (emptied_row r).side
-fits_by class r true is fits = grind (arith, emptied_true, SideFits-no_side)
-fits_by class r false is fits = grind (arith, emptied_false, fits)
+fits_by class r lost is fits = grind arith
 
 -- a frame after the change was one before it
 pub some_row : (o : Option Row) (q : Row) → option_map emptied_row o ≡ Some q
     → (r : Row) × (o ≡ Some r) × (emptied_row r ≡ q)
-some_row None q e = absurd cc
-some_row (Some r) q e = (r, refl, cc)
+some_row o q e = grind arith
 
 -- ---- all frames
 
@@ -117,8 +110,7 @@ areas_same (r ∷ rows) =
 pub place-same : (head : Option Head) (rows : List Row) (i : ℕ)
     → place head (map emptied_row rows) i ≡ place head rows i
 unfolding place
-place-same head rows i =
-    grind (arith, sum_by, take-map emptied_row i rows, areas_same (take i rows))
+place-same head rows i = grind (arith, take-map emptied_row i rows, areas_same (take i rows))
 
 earlier : (rows : List Row) (i : ℕ) (r : Row) → slice_get rows (suc i) ≡ Some r
     → (q : Row) × (slice_get rows i ≡ Some q)
@@ -193,10 +185,7 @@ module _ (head : Option Head) (class : ClassFields) (rows : List Row)
       → (cond (lost || silent) (more + ended) (end_of_data (more + at) r)
       ≤ more + cond (silent || lost) ended (end_of_data at r))
       × (cond (silent || lost) ended (end_of_data at r) ≤ at + own_area r.header)
-  ends_by at ended r false false before well = grind arith
-  ends_by at ended r true true before well = (omega arith, omega (arith, before))
-  ends_by at ended r true false before well = (omega arith, omega (arith, before))
-  ends_by at ended r false true before well = (omega arith, omega (arith, before))
+  ends_by at ended r silent lost before well = grind arith
 
   ends_at : (i : ℕ) (r : Row) → slice_get rows i ≡ Some r → ended i ≤ at i
       → (cond (r.lost || is_silent r) (more + ended i) (end_of_data (more + at i) r)
@@ -236,8 +225,7 @@ laid_one : (from to : ℕ) (r : Row) (rows : List Row) (b : Bool) → from ≤ r
     → SideFits (class_of r.header) r.side
     → FramesAreLaid (r.offset + length_of (class_of r.header) r.header.slot) rows to
     → FramesAreLaid from (cond b (empty_row r) r ∷ rows) to
-laid_one from to r rows true low fits rest = (low, SideFits-no_side (class_of r.header), rest)
-laid_one from to r rows false low fits rest = (low, fits, rest)
+laid_one from to r rows b low fits rest = grind (arith, SideFits-no_side (class_of r.header))
 
 -- emptying lost frames leaves frames laid out
 pub laid_emptied : (from to : ℕ) (rows : List Row) → FramesAreLaid from rows to
@@ -267,22 +255,10 @@ laid_apart (Some head) from to rows laid = laid_from rows 0 from to rows laid
 pub length_apart : (head : Option Head) (rows : List Row)
     → length (rows_set_apart head rows) ≡ length rows
 unfolding apart_rows
-length_apart None rows = refl
-length_apart (Some head) rows = grind (arith, length-map, length-enumerate_from)
+length_apart head rows = grind (arith, length-map, length-enumerate_from)
 
 -- with the head set apart and lost frames emptied, a survey is still laid out
 pub apart-laid : (s : SurveyFields) → IsSurveyLaidOut s
     → IsSurveyLaidOut (emptied_survey (head_apart s))
 apart-laid s laid =
-    grind (
-      arith,
-      length-map (rows_set_apart s.head s.frames) emptied_row,
-      length_apart s.head
-          s.frames,
-      laid_emptied,
-      laid_apart,
-      placed-emptied s.head s.class (rows_set_apart s.head
-          s.frames) (placed-apart s.head s.class s.frames laid.placed),
-      placed-apart s.head s.class
-          s.frames laid.placed,
-    )
+    search (arith, length-map, length_apart, laid_emptied, laid_apart, placed-emptied, placed-apart)

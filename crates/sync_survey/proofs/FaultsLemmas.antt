@@ -20,19 +20,16 @@ use Rattle.sync_survey.specs.declared.survey_fault.SurveyFault.TheVariants.{Mixe
 -- the first fault of two lists is the first of one or, if it has none, of the other
 pub first-append : (xs ys : List SurveyFault)
     → first_of (xs ++ ys) ≡ option_or (first_of xs) (first_of ys)
-first-append [] ys = refl
-first-append (x ∷ xs) ys = refl
+first-append xs ys = grind arith
 
 -- a list without a first fault is empty
 pub none-of : (xs : List SurveyFault) → first_of xs ≡ None → xs ≡ []
-none-of [] e = refl
-none-of (x ∷ xs) e = absurd cc
+none-of xs e = grind arith
 
 -- more faults after it don't change the first fault
 pub some-append : (xs ys : List SurveyFault) (fault : SurveyFault) → first_of xs ≡ Some fault
     → first_of (xs ++ ys) ≡ Some fault
-some-append [] ys fault e = absurd cc
-some-append (x ∷ xs) ys fault e = e
+some-append xs ys fault e = grind arith
 
 -- ---- one frame
 

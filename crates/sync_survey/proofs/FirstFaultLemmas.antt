@@ -1,8 +1,8 @@
 -- The faults of a file are listed in order of offset, so the first of them has the smallest.
-use Rattle.std.proofs.Common.{ap, append_assoc, arith, Bool, cond, drop, Err, false, flat_map}
-use Rattle.std.proofs.Common.{IfErr, inl, inr, length, List, None, Ok, Option, option_to_list, refl}
-use Rattle.std.proofs.Common.{Result, Some, subst, sym, true, ℕ, ⊎_elim, [], ◌++◌, ◌+◌, ◌∙◌, ◌∷◌}
-use Rattle.std.{proofs.Common.{◌≡◌, ◌≤◌, ◌⊎◌}, specs.List.enumerate_from}
+use Rattle.std.proofs.Common.{ap, append_assoc, arith, Bool, cond, drop, Err, flat_map, IfErr, inl}
+use Rattle.std.proofs.Common.{length, List, Ok, Option, option_to_list, refl, Result, Some, subst}
+use Rattle.std.proofs.Common.{sym, ℕ, ⊎_elim, [], ◌++◌, ◌+◌, ◌∙◌, ◌∷◌, ◌≡◌, ◌≤◌, ◌⊎◌}
+use Rattle.std.specs.List.{enumerate_from}
 use Rattle.frame_header.specs.Fields.{ClassFields}
 use Rattle.outside.specs.{Counts.Counts, Files.{Files, Holds}}
 use Rattle.side_info.specs.Frame.{stored_crc}
@@ -16,13 +16,9 @@ use Rattle.sync_survey.specs.{Row.Row, Runs.{AreEndToEnd, frame_of_item, frames_
 use Rattle.sync_survey.specs.{Start.start_of, Survey.{IsSurveyFault, IsSurveyRefusal, survey_of}}
 use Rattle.sync_survey.specs.SurveyFaultKinds.{IsRefused, kind_of}
 use Rattle.sync_survey.specs.Walk.{end_fault, fault_at, numbered_frames, walk_from}
-use Rattle.sync_survey.specs.declared.items.Item.{Item, TheVariants.{Block, End, Frame, Free}}
-use Rattle.sync_survey.specs.declared.places.{Head.Head, PlacedFrame.PlacedFrame, Start.Start}
-use Rattle.sync_survey.specs.declared.runs.Region.{Region, TheVariants.Stream}
-use Rattle.sync_survey.specs.declared.survey_fault.SurveyFault.{SurveyFault}
-use Rattle.sync_survey.specs.declared.survey_fault.SurveyFault.TheVariants.{Absent, FreeFormat}
-use Rattle.sync_survey.specs.declared.survey_fault.SurveyFault.TheVariants.{LostSync, Memory, Read}
-use Rattle.sync_survey.specs.declared.survey_fault.SurveyFault.TheVariants.{Shrunk, TooLong}
+use Rattle.sync_survey.specs.declared.{items.Item.Item, places.{Head.Head, PlacedFrame.PlacedFrame}}
+use Rattle.sync_survey.specs.declared.{places.Start.Start, runs.Region.{Region, TheVariants.Stream}}
+use Rattle.sync_survey.specs.declared.survey_fault.SurveyFault.{SurveyFault, TheVariants.TooLong}
 use Rattle.sync_survey.specs.declared.surveys.Survey.{Survey}
 
 -- ---- lists of faults
@@ -44,8 +40,7 @@ AreAt at (fault ∷ later) = (fault_offset fault ≡ at) × AreAt at later
 
 one_at : (at : ℕ) (b : Bool) (fault : SurveyFault) → fault_offset fault ≡ at
     → AreAt at (fault_if_true b fault)
-one_at at true fault is = (is, tt)
-one_at at false fault is = tt
+one_at at b fault is = grind arith
 
 all_at : (at : ℕ) (xs ys : List SurveyFault) → AreAt at xs → AreAt at ys → AreAt at (xs ++ ys)
 all_at at [] ys p q = q
@@ -61,8 +56,7 @@ own_at : (place ended : ℕ) (r : Row) → AreAt r.offset (own_faults place ende
 own_at place ended r = grind (arith, all_at, one_at)
 
 unless_at : (at : ℕ) (b : Bool) (xs : List SurveyFault) → AreAt at xs → AreAt at (cond b [] xs)
-unless_at at true xs p = tt
-unless_at at false xs p = p
+unless_at at b xs p = grind arith
 
 data_at : (place ended : ℕ) (r : Row) → AreAt r.offset (data_faults place ended r)
 data_at place ended r = grind (arith, unless_at, own_at)
@@ -95,13 +89,7 @@ first_at : (at : ℕ) (xs ys : List SurveyFault) (fault : SurveyFault) → AreAt
     → (xs ≡ []) ⊎ ((fault_offset fault ≡ at) × NoneBefore (fault_offset fault) (xs ++ ys))
 first_at at [] ys fault all is later = inl refl
 first_at at (x ∷ xs) ys fault all is later =
-    let same : x ≡ fault = cc in
-    let place : fault_offset fault ≡ at = sym (ap fault_offset same) ∙ all.0 in
-    inr (
-      place,
-      subst (λ n. NoneBefore n ((x ∷ xs) ++ ys)) (sym place)
-          (none-append at (x ∷ xs) ys (at_none at (x ∷ xs) all) later),
-    )
+    grind (arith, all.0, none-append at (x ∷ xs) ys (at_none at (x ∷ xs) all) later)
 
 module _ (each : ℕ → Row → List SurveyFault) (own : AreOfEach each) where
   rising_none : (at to n : ℕ)
@@ -113,8 +101,7 @@ module _ (each : ℕ → Row → List SurveyFault) (own : AreOfEach each) where
         none-append,
         none-less,
         at_none r.offset (each n r) (own n r),
-        rising_none
-            r.offset to (n + 1) rows rise.1,
+        rising_none r.offset to (n + 1) rows rise.1,
       )
 
   -- the first of the faults of frames and of what comes after them has the smallest offset
@@ -158,8 +145,7 @@ all_least file head class allowed at to rows later fault rise behind last is =
 rising_more : (file : List ℕ) (at : ℕ) (item : Item) (rows : List PlacedFrame) (to : ℕ)
     → AreRising at (rows_of file rows) to
     → AreRising at (rows_of file (option_to_list (frame_of_item at item) ++ rows)) to
-rising_more file at (Frame h) rows to rise = (omega arith, rise)
-rising_more file at _ rows to rise = rise
+rising_more file at item rows to rise = grind arith
 
 rising_less : (low high : ℕ) (rows : List Row) (to : ℕ) → low ≤ high → AreRising high rows to
     → AreRising low rows to
@@ -175,42 +161,28 @@ items_rise file part from (p ∷ ps) to ends =
       rising_less,
       cons_list,
       rising_more,
-      items_rise file part (p.offset + size_of
-          p.item) ps to ends.2,
+      items_rise file part (p.offset + size_of p.item) ps to ends.2,
     )
 
 rise_behind : (file : List ℕ) (at : ℕ) (ps : List PlacedFrame) (to : ℕ)
     → AreRising at (rows_of file ps) to → AreRising at (rows_of file (drop 1 ps)) to
-rise_behind file at [] to rise = rise
-rise_behind file at (p ∷ ps) to rise = rising_less at p.offset (rows_of file ps) to rise.0 rise.1
+rise_behind file at ps to rise = grind (arith, rising_less)
 
 numbered_frames-rise : (file : List ℕ) (at : ℕ) (head : Option Head) (ps : List PlacedFrame)
     (to : ℕ) → AreRising at (rows_of file ps) to
     → AreRising at (rows_of file (numbered_frames head ps)) to
-numbered_frames-rise file at None ps to rise = rise
-numbered_frames-rise file at (Some head) ps to rise = rise_behind file at ps to rise
+numbered_frames-rise file at head ps to rise = grind (arith, rise_behind)
 
 -- ---- the fault where the walk ends
-
-stop_place : (stop : ℕ) (item : Item) (fault : SurveyFault) → fault_at stop item ≡ Some fault
-    → fault_offset fault ≡ stop
-stop_place stop (Frame h) fault e = grind arith
-stop_place stop Free fault e = let same : FreeFormat stop ≡ fault = cc in sym (ap fault_offset same)
-stop_place stop (Block b) fault e = grind arith
-stop_place stop End fault e = absurd cc
-stop_place stop _ fault e = let same : LostSync stop ≡ fault = cc in sym (ap fault_offset same)
 
 end_place : (file : List ℕ) (frames : List PlacedFrame) (stop : ℕ) (o : Option SurveyFault)
     → stop ≤ length file → fault_at stop (item_at file stop) ≡ o
     → NoneBefore stop (option_to_list (end_fault file frames o))
-end_place file frames stop (Some fault) within is = grind (arith, stop_place)
-end_place file (p ∷ ps) stop None within is = tt
-end_place file [] stop None within is = (within, tt)
+end_place file frames stop o within is = grind arith
 
 one_only : (o : Option SurveyFault) (fault : SurveyFault) → first_of (option_to_list o) ≡ Some fault
     → NoneBefore (fault_offset fault) (option_to_list o)
-one_only None fault e = absurd cc
-one_only (Some f) fault e = grind arith
+one_only o fault e = grind arith
 
 -- the first fault of a file with this start has the smallest offset
 pub first_is_least : (file : List ℕ) (allowed : ℕ) (start : Start) (fault : SurveyFault)
@@ -254,18 +226,12 @@ none_at_all (x ∷ xs) = (omega arith, none_at_all xs)
 
 -- a fault that has no offset, or one of the file
 nowhere : (fault : SurveyFault) → (fault_offset fault ≡ 0) ⊎ (kind_of fault ≡ IsRefused)
-nowhere Absent = inl refl
-nowhere (TooLong size) = inl refl
-nowhere (Shrunk first second) = inl refl
-nowhere Read = inl refl
-nowhere Memory = inl refl
-nowhere _ = inr refl
+nowhere fault = grind arith
 
 long_by : (file : List ℕ) (allowed : ℕ) (fault : SurveyFault) (start : Start) (b : Bool)
     → start_of file ≡ Ok start → cond b (Err (TooLong (length file))) (survey_fields file allowed)
     ≡ Err fault → NoneBefore (fault_offset fault) (faults_from file allowed start)
-long_by file allowed fault start true begun e = grind (arith, none_at_all)
-long_by file allowed fault start false begun e = grind (arith, survey_fields-first)
+long_by file allowed fault start b begun e = grind (arith, none_at_all, survey_fields-first)
 
 of_file : (file : List ℕ) (allowed : ℕ) (fault : SurveyFault) (start : Start)
     → start_of file ≡ Ok start → survey_of file allowed ≡ Err fault
@@ -280,8 +246,7 @@ IsFirstOf files name allowed fault = (bytes : List ℕ) → Holds files name byt
 module _ (name : List ℕ) (files : Files) (allowed : ℕ) (before after : Counts) where
   refusal_first : (fault : SurveyFault) → IsSurveyFault name files allowed before after fault
       → (fault_offset fault ≡ 0) ⊎ (kind_of fault ≡ IsRefused) → IsFirstOf files name allowed fault
-  refusal_first fault is (inl zero) = grind (arith, none_at_all)
-  refusal_first fault is (inr kind) = grind (arith, of_file)
+  refusal_first fault is h = grind (arith, none_at_all, of_file)
 
   -- a refusal of a file is the one with the smallest offset
   pub refused_first : (r : Result Survey SurveyFault)

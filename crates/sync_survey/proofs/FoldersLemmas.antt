@@ -1,21 +1,17 @@
 -- The refusals of a survey of a file in a folder.
-use Rattle.std.proofs.Common.{ap, arith, Bool, cond, drop, Err, false, IfErr, IfOk, leb, length}
-use Rattle.std.proofs.Common.{length-drop, List, ltb, min, Ok, refl, Result, subst, sym, take, true}
-use Rattle.std.proofs.Common.{ℕ, ◌-◌, ◌<◌, ◌∙◌, ◌≡◌, ◌≤◌}
-use Rattle.std.proofs.lemmas.{Bool.{le-ltb, leb-false, leb-true, lt-ltb}, List.take_all}
+use Rattle.std.proofs.Common.{ap, arith, Bool, drop, Err, IfErr, IfOk, leb, length, length-drop}
+use Rattle.std.proofs.Common.{List, min, Ok, refl, Result, subst, sym, take, ℕ, ◌-◌, ◌<◌, ◌∙◌, ◌≡◌}
+use Rattle.std.proofs.{Common.◌≤◌, lemmas.{Bool.{leb-false, leb-true}, List.take_all}}
 use Rattle.std.specs.Prelude.{IsErrAnd}
 use Rattle.bit_fields.{proofs.BitsLemmas.AreBytes-from_slice, specs.Bits.AreBytes}
 use Rattle.outside.{proofs.CountsLemmas.only_reads_same, specs.Counts.{Counts, OnlyReads}}
 use Rattle.outside.specs.{Feed.{Fed, IsFedFrom}, Files.{AreOctets, Files, Holds, IsFileThere}}
-use Rattle.outside.specs.{ReadCauses.HasReadCause, Seen.{Seen, seen_folder}}
-use Rattle.outside.specs.declared.exact.ReadFault.{ReadFault}
-use Rattle.outside.specs.declared.exact.ReadFault.TheVariants.{Failed, Shrunk as ShrunkRead}
+use Rattle.outside.specs.Seen.{Seen, seen_folder}
 use Rattle.sync_survey.specs.Answers.{FramesAnswer}
 use Rattle.sync_survey.specs.Faults.{longest_file, survey_fields, survey_from_start}
 use Rattle.sync_survey.specs.{Items.size_of, Looks.{look_size, Shows}, Start.start_of}
-use Rattle.sync_survey.specs.Survey.{HasLength, IsSurveyFaultBy, IsSurveyRefusal, IsWholeFrom}
-use Rattle.sync_survey.specs.Survey.{ReadsBy, RefusesBytes, survey_of}
-use Rattle.sync_survey.specs.SurveyFaultKinds.{RefusesRightly, survey_fault_of}
+use Rattle.sync_survey.specs.Survey.{HasLength, IsSurveyRefusal, IsWholeFrom, ReadsBy, RefusesBytes}
+use Rattle.sync_survey.specs.{Survey.survey_of, SurveyFaultKinds.RefusesRightly}
 use Rattle.sync_survey.specs.declared.{items.Item.TheVariants.Frame, places.PlacedFrame.PlacedFrame}
 use Rattle.sync_survey.specs.declared.{places.Start.Start, survey_fault.SurveyFault.SurveyFault}
 use Rattle.sync_survey.specs.declared.survey_fault.SurveyFault.TheVariants.{Memory, TooLong}
@@ -26,17 +22,13 @@ use Rattle.sync_survey.specs.declared.surveys.Survey.{Survey}
 too_long : (file : List ℕ) (allowed size : ℕ) → size ≡ length file → longest_file < size
     → survey_of file allowed ≡ Err (TooLong size)
 unfolding survey_of
-too_long file allowed size is long =
-    let more : ltb longest_file (length file) ≡ true = grind (arith, lt-ltb) in
-    ap (λ b. cond b (Err (TooLong (length file))) (survey_fields file allowed)) more
-    ∙ ap (λ n. Err (TooLong n)) (sym is)
+too_long file allowed size is long = grind arith
 
 -- the survey of a file that isn't too long is the survey of its bytes
 pub survey_of-short : (file : List ℕ) (allowed : ℕ) → length file ≤ longest_file
     → survey_of file allowed ≡ survey_fields file allowed
 unfolding survey_of
-survey_of-short file allowed few = let short : ltb longest_file (length file) ≡ false =
-    le-ltb longest_file (length file) few in rw short refl
+survey_of-short file allowed few = grind arith
 
 -- octets are bytes, as a list
 pub octets_bytes : (bytes : List ℕ) → AreOctets bytes → AreBytes bytes
@@ -46,11 +38,7 @@ octets_bytes bytes all = AreBytes-from_slice bytes (λ i. record { fits = all i 
 
 take_fewer : (m n : ℕ) (xs : List ℕ) → n ≡ min (length xs) m → (short : Bool)
     → leb (length xs) m ≡ short → take n xs ≡ take m xs
-take_fewer m n xs is true e =
-    let few = leb-true (length xs) m e in
-    take_all n xs (omega (arith, is, few)) ∙ sym (take_all m xs few)
-take_fewer m n xs is false e = let same : n ≡ m = omega (arith, is, leb-false (length xs) m e) in
-    ap (λ k. take k xs) same
+take_fewer m n xs is short e = grind (arith, leb-true, take_all, leb-false)
 
 -- what was read at an offset shows the file there
 pub shown : (file : List ℕ) (at left wanted size : ℕ) (given : List ℕ) → size ≡ length file
@@ -87,11 +75,7 @@ pub read_more : {T : Type 0} {x : T} {feed next : Fed} {name : List ℕ} {files 
     {old between new : Counts} → HasRead feed name files mid old between
     → ReadsBy next name (Ok x) (seen_folder mid between) (seen_folder now new)
     → HasRead next name files now old new
-read_more before reads = record {
-  fed = reads.fed;
-  files = reads.files ∙ before.files;
-  counts = reads.done ∙ before.counts;
-}
+read_more before reads = grind arith
 
 -- what a look showed after the reads, it showed of the file as it was before them
 pub still_shown : {feed : Fed} {name : List ℕ} {files now : Files} {old new : Counts}
@@ -105,10 +89,7 @@ still_shown {name = name} before same shows bytes holds =
 pub whole_from : {from at left size : ℕ} {p : PlacedFrame} → p.offset ≡ at
     → size_of (Frame p.header) ≤ left → left ≡ size - at → at ≤ size → from ≤ at
     → IsWholeFrom from size p
-whole_from offset within left few low = record {
-  behind = omega (arith, offset, low);
-  within = omega (arith, offset, within, left, few);
-}
+whole_from offset within left few low = grind arith
 
 -- a refusal after reads that succeeded is a refusal by all calls together
 pub refusal_after : {feed : Fed} {name : List ℕ} {files mid : Files} {allowed : ℕ}
@@ -157,73 +138,37 @@ module _ (name : List ℕ) (files : Files) (allowed : ℕ) (before after : Count
   pub long_refusal : (size : ℕ) → IsFileThere files name
       → ((bytes : List ℕ) → Holds files name bytes → size ≡ length bytes) → longest_file < size
       → after ≡ before → IsSurveyRefusal name files allowed before after (TooLong size)
-  long_refusal size there is long same =
-      record {
-        cause = record {
-          there = there;
-          bytes = λ bytes holds. too_long bytes allowed size (is bytes holds) long;
-          counts = same;
-        };
-        numbers = long;
-      }
-
-  -- a fault of reading refuses the file, with the cause of the fault
-  pub read_refusal : (size : ℕ) (fault : ReadFault)
-      → HasReadCause name size files before after fault
-      → IsSurveyRefusal name files allowed before after (survey_fault_of fault)
-  read_refusal size Failed cause = record { cause = cause.0; numbers = tt }
-  read_refusal size (ShrunkRead first second) cause = record {
-    cause = record { nothing_told = cause.0; ended = cause.3; counts = cause.4 };
-    numbers = cause.2;
-  }
+  long_refusal size there is long same = grind (arith, too_long)
 
   -- any file may be refused when out of memory
   pub memory_refusal : (size : ℕ) → HasLength files name size → after ≡ before
       → IsSurveyRefusal name files allowed before after Memory
-  memory_refusal size known same = record {
-    cause = record {
-      there = known.there;
-      few = λ bytes holds. omega (arith, known.few, known.long bytes holds);
-      counts = same;
-    };
-    numbers = tt;
-  }
+  memory_refusal size known same = grind arith
 
   kind_refusal : (fault : SurveyFault) → RefusesRightly fault
       → RefusesBytes name files allowed before after fault
       → IsSurveyRefusal name files allowed before after fault
-  kind_refusal fault rightly refuses = record {
-    cause = subst (IsSurveyFaultBy name files allowed before after fault) (sym rightly.0) refuses;
-    numbers = rightly.1;
-  }
+  kind_refusal fault rightly refuses = grind arith
 
   -- a fault of the file's bytes refuses it
   pub bytes_refusal : (size : ℕ) (fault : SurveyFault) → HasLength files name size → after ≡ before
       → RefusesRightly fault
       → ((bytes : List ℕ) → Holds files name bytes → survey_fields bytes allowed ≡ Err fault)
       → IsSurveyRefusal name files allowed before after fault
-  bytes_refusal size fault known same rightly refused =
-      kind_refusal fault rightly (record {
-        there = known.there;
-        bytes = grind (arith, survey_of-short);
-        counts = same;
-      })
+  bytes_refusal size fault known same rightly refused = grind (arith, kind_refusal, survey_of-short)
 
   -- a fault before the first frame refuses the file
   pub start_refusal : (size : ℕ) (fault : SurveyFault) → HasLength files name size → after ≡ before
       → RefusesRightly fault
       → ((bytes : List ℕ) → Holds files name bytes → start_of bytes ≡ Err fault)
       → IsSurveyRefusal name files allowed before after fault
-  start_refusal size fault known same rightly none =
-      bytes_refusal size fault known same rightly
-      (λ bytes holds. survey_fields-by bytes allowed fault (none bytes holds))
+  start_refusal size fault known same rightly none = search (arith, bytes_refusal, survey_fields-by)
 
 -- a result that is a start is the start of the file
 pub start_ok : (r : Result Start SurveyFault) (files : Files) (name : List ℕ)
     → ((bytes : List ℕ) → Holds files name bytes → start_of bytes ≡ r)
     → IfOk r (λ s. (bytes : List ℕ) → Holds files name bytes → start_of bytes ≡ Ok s)
-start_ok (Ok s) files name is = is
-start_ok (Err fault) files name is = tt
+start_ok r files name is = grind arith
 
 -- a result that is an error is such a refusal
 pub start_err : (r : Result Start SurveyFault) (name : List ℕ) (files : Files)

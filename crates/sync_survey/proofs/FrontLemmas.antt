@@ -1,13 +1,11 @@
 -- The front of a file, item by item.
-use Rattle.std.proofs.Common.{ap, append-nil, append_assoc, arith, length, List, None}
-use Rattle.std.proofs.Common.{option_to_list, refl, subst, sym, ℕ, [], ◌++◌, ◌+◌, ◌∙◌, ◌∷◌, ◌≡◌}
-use Rattle.std.proofs.Common.{◌≤◌}
+use Rattle.std.proofs.Common.{append-nil, append_assoc, arith, length, List, None, option_to_list}
+use Rattle.std.proofs.Common.{subst, sym, ℕ, [], ◌++◌, ◌+◌, ◌∷◌, ◌≡◌, ◌≤◌}
 use Rattle.sync_survey.proofs.RunsLemmas.{item_run-stopped_run, whole_item_at-past}
 use Rattle.sync_survey.specs.{Items.size_of, Looks.Passes}
 use Rattle.sync_survey.specs.Runs.{block_of_item, blocks_of, item_run, whole_item_at}
 use Rattle.sync_survey.specs.{Start.front_end_of, Survey.BlocksAreLaid, declared.items.Item.Item}
-use Rattle.sync_survey.specs.declared.{items.Item.TheVariants.Block, places.Piece.Piece}
-use Rattle.sync_survey.specs.declared.runs.Region.TheVariants.{Front}
+use Rattle.sync_survey.specs.declared.{places.Piece.Piece, runs.Region.TheVariants.Front}
 
 -- these blocks were passed, and no others
 pub record IsPassedTo (file : List ℕ) (blocks : List Piece) (at : ℕ) : Type 0 where
@@ -18,17 +16,13 @@ pub record IsPassedTo (file : List ℕ) (blocks : List Piece) (at : ℕ) : Type 
 -- at the beginning no blocks were passed
 pub passed_none : (file : List ℕ) (blocks : List Piece) → blocks ≡ [] → IsPassedTo file blocks 0
 unfolding front_end_of
-passed_none file blocks none =
-    record { pieces = ap (λ l. l ++ blocks_of (item_run Front file 0).items) none; stop = refl }
+passed_none file blocks none = grind arith
 
 -- passing an item of the front adds it, if it is a block
 pub passed_more : (file : List ℕ) (blocks later : List Piece) (at size : ℕ) (item : Item)
     → IsPassedTo file blocks at → Passes Front file at item size
     → later ≡ blocks ++ option_to_list (block_of_item at item) → IsPassedTo file later (at + size)
-passed_more file blocks later at size item so_far passes kept = record {
-  pieces = grind (arith, append_assoc);
-  stop = sym passes.stop ∙ so_far.stop;
-}
+passed_more file blocks later at size item so_far passes kept = grind (arith, append_assoc)
 
 -- the blocks are the blocks of the front, which ends here
 pub record IsFrontPassed (file : List ℕ) (blocks : List Piece) (at : ℕ) : Type 0 where
@@ -38,12 +32,7 @@ pub record IsFrontPassed (file : List ℕ) (blocks : List Piece) (at : ℕ) : Ty
 -- if no further item of the front begins, the front was passed
 pub passed_all : (file : List ℕ) (blocks : List Piece) (at : ℕ) → IsPassedTo file blocks at
     → whole_item_at Front file at ≡ None → IsFrontPassed file blocks at
-passed_all file blocks at so_far none =
-    let stopped = item_run-stopped_run Front file at none in
-    record {
-      pieces = grind (arith, append-nil);
-      end = sym (ap (λ r. r.stop) stopped) ∙ so_far.stop;
-    }
+passed_all file blocks at so_far none = grind (arith, item_run-stopped_run, append-nil)
 
 -- at the end of the file, the front was passed
 pub passed_end : (file : List ℕ) (blocks : List Piece) (at size : ℕ) → size ≡ length file
@@ -73,8 +62,7 @@ laid_none from blocks to later laid low = grind (arith, append-nil, pieces_later
 laid_by : (blocks : List Piece) (at size : ℕ) (item : Item) → BlocksAreLaid 0 blocks at
     → size_of item ≤ size
     → BlocksAreLaid 0 (blocks ++ option_to_list (block_of_item at item)) (at + size)
-laid_by blocks at size (Block b) laid least = grind (arith, laid_push)
-laid_by blocks at size _ laid least = laid_none 0 blocks at (at + size) laid (omega arith)
+laid_by blocks at size item laid least = grind (arith, laid_push, laid_none)
 
 -- one more block follows those before it
 pub blocks_more : (blocks later : List Piece) (at size : ℕ) (item : Item)

@@ -69,8 +69,7 @@ block_of_kind-take kind n bytes within = grind (arith, begins-take, length_of_ki
 -- the bytes that decide the kind are within the block
 known_within : (kind : Kind) (bytes : List ℕ) → known_by kind ≤ length_of_kind kind bytes
 unfolding id3v2_length ape_length
-known_within Id3v2 bytes = omega arith
-known_within _ bytes = omega arith
+known_within kind bytes = grind arith
 
 -- a block is known by its own bytes, whatever is after them
 pub block_front-bytes : (bytes rest : List ℕ) (b : TagBlock) → block_front bytes ≡ Some b

@@ -1,27 +1,23 @@
 -- Bytes that are items joined in order: where they are in a file, the items follow end to end.
 use Rattle.std.proofs.Common.{ap, append_assoc, arith, drop, filter_map, length, length-append}
-use Rattle.std.proofs.Common.{length-drop, List, map, None, Option, option_map, refl, Some, sym}
-use Rattle.std.proofs.Common.{true, ℕ, [], ◌++◌, ◌+◌, ◌-◌, ◌<◌, ◌∙◌, ◌∷◌, ◌≡◌, ◌≤◌}
+use Rattle.std.proofs.Common.{length-drop, List, map, None, Option, option_map, refl, sym, true, ℕ}
+use Rattle.std.proofs.Common.{[], ◌++◌, ◌+◌, ◌-◌, ◌<◌, ◌∙◌, ◌∷◌, ◌≡◌, ◌≤◌}
 use Rattle.std.{proofs.lemmas.List.{drop-drop, drop_at}, specs.List.cons_option}
 use Rattle.sync_survey.proofs.ItemBytesLemmas.{IsItem, kept_item}
 use Rattle.sync_survey.proofs.RunsLemmas.{item_run-only, whole_item_at-is, whole_item_at-whole}
 use Rattle.sync_survey.specs.Items.{item_at, item_front, size_of}
 use Rattle.sync_survey.specs.Runs.{AreEndToEnd, belongs, block_of_item, blocks_of, bytes_of_items}
 use Rattle.sync_survey.specs.Runs.{frame_of_item, frames_of, item_bytes_in, item_run, PlacedItem}
-use Rattle.sync_survey.specs.{Runs.whole_item_at, declared.items.Item.Item}
-use Rattle.sync_survey.specs.declared.items.Item.TheVariants.{Block, End, Frame, Free, Nothing}
-use Rattle.sync_survey.specs.declared.places.{Piece.Piece, PlacedFrame.PlacedFrame}
-use Rattle.sync_survey.specs.declared.runs.Region.{Region, TheVariants.Stream}
+use Rattle.sync_survey.specs.{Runs.whole_item_at, declared.{items.Item.Item, places.Piece.Piece}}
+use Rattle.sync_survey.specs.declared.{places.PlacedFrame.PlacedFrame, runs.Region.Region}
+use Rattle.sync_survey.specs.declared.runs.Region.TheVariants.{Stream}
 
 -- ---- items before the first frame
 
 -- what may be before the first frame may be after it
 pub stream_belongs : (part : Region) (item : Item) → belongs part item ≡ true
     → belongs Stream item ≡ true
-stream_belongs part Free is = is
-stream_belongs part End is = is
-stream_belongs part Nothing is = is
-stream_belongs part _ is = refl
+stream_belongs part item is = grind arith
 
 module _ (part : Region) (file : List ℕ) where
   -- items end to end in the front are end to end in the stream too
@@ -34,8 +30,7 @@ module _ (part : Region) (file : List ℕ) where
         whole_item_at-is,
         whole_item_at-whole,
         stream_belongs,
-        ends-stream (p.offset +
-            size_of p.item) ps to ends.2,
+        ends-stream (p.offset + size_of p.item) ps to ends.2,
       )
 
   -- ---- from where to where
@@ -72,8 +67,7 @@ items-length part file from (p ∷ ps) to bytes ends are =
     grind (
       arith,
       length-append,
-      items-length part file (p.offset + size_of p.item) ps to are.1
-          ends.2 are.4,
+      items-length part file (p.offset + size_of p.item) ps to are.1 ends.2 are.4,
     )
 
 -- the bytes of items of a file are these items
@@ -171,8 +165,7 @@ module _ {A : Type 0} (part_of : ℕ → Item → Option A) (by : A → A) (to :
     (moved : (at : ℕ) (item : Item) → part_of (to at) item ≡ option_map by (part_of at item)) where
   taken_more : (o : Option A) (xs : List A)
       → cons_option (option_map by o) (map by xs) ≡ map by (cons_option o xs)
-  taken_more None xs = refl
-  taken_more (Some x) xs = refl
+  taken_more o xs = grind arith
 
   taken : (ps : List PlacedItem) → filter_map (λ p. part_of p.offset p.item) (map (placed_by to) ps)
       ≡ map by (filter_map (λ p. part_of p.offset p.item) ps)
@@ -181,13 +174,11 @@ module _ {A : Type 0} (part_of : ℕ → Item → Option A) (by : A → A) (to :
 
 moved_frame : (to : ℕ → ℕ) (at : ℕ) (item : Item)
     → frame_of_item (to at) item ≡ option_map (frame_by to) (frame_of_item at item)
-moved_frame to at (Frame h) = refl
-moved_frame to at _ = refl
+moved_frame to at item = grind arith
 
 moved_block : (to : ℕ → ℕ) (at : ℕ) (item : Item)
     → block_of_item (to at) item ≡ option_map (piece_by to) (block_of_item at item)
-moved_block to at (Block b) = refl
-moved_block to at _ = refl
+moved_block to at item = grind arith
 
 -- the frames of items that are moved are these frames moved
 pub frames-by : (to : ℕ → ℕ) (ps : List PlacedItem)
@@ -219,8 +210,7 @@ one_mapped : (f g : Piece → Piece) (at : ℕ) (item : Item) (ys : List Piece)
     → ((p : Piece) → p.offset ≡ at → f p ≡ g p) → map f ys ≡ map g ys
     → map f (cons_option (block_of_item at item) ys)
     ≡ map g (cons_option (block_of_item at item) ys)
-one_mapped f g at (Block b) ys same rest = grind arith
-one_mapped f g at _ ys same rest = rest
+one_mapped f g at item ys same rest = grind arith
 
 -- two changes that agree for blocks between two offsets agree for the blocks that are there
 pub blocks-between : (part : Region) (f g : Piece → Piece) (file : List ℕ) (low high from : ℕ)
@@ -239,8 +229,7 @@ blocks-between part f g file low high from (p ∷ ps) to same ends begin end =
 
 frame_count : (at : ℕ) (item : Item) (xs : List PlacedFrame)
     → length (cons_option (frame_of_item at item) xs) ≤ 1 + length xs
-frame_count at (Frame h) xs = omega arith
-frame_count at _ xs = omega arith
+frame_count at item xs = grind arith
 
 -- there are no more frames than bytes
 pub frames-few : (part : Region) (file : List ℕ) (from : ℕ) (ps : List PlacedItem) (to : ℕ)
@@ -251,6 +240,5 @@ frames-few part file from (p ∷ ps) to ends =
       arith,
       whole_item_at-is,
       frame_count,
-      frames-few part file (p.offset + size_of p.item) ps
-          to ends.2,
+      frames-few part file (p.offset + size_of p.item) ps to ends.2,
     )

@@ -1,32 +1,22 @@
 -- What bytes begin with: one item, and no other.
-use Rattle.std.proofs.Common.{ap, arith, Bool, cond, drop, Err, false, List, None, Ok, Option, refl}
-use Rattle.std.proofs.Common.{Result, Some, subst, sym, take, true, ℕ, [], ◌<◌, ◌==◌, ◌∙◌, ◌∷◌, ◌≡◌}
-use Rattle.std.proofs.lemmas.Bool.{eqb-true, false≢true}
+use Rattle.std.proofs.Common.{arith, Bool, cond, drop, Err, List, Ok, Option, refl, Result, subst}
+use Rattle.std.proofs.{Common.{sym, take, true, ℕ, ◌<◌, ◌∙◌, ◌≡◌}, lemmas.Bool.false≢true}
 use Rattle.frame_header.proofs.HeaderLemmas.{IsClass-class_of, IsHeader-header_at}
 use Rattle.frame_header.{proofs.LengthLemmas.area_some, specs.Fields.{HeaderFields, IsHeader}}
 use Rattle.frame_header.specs.{Reading.header_at, Tables.{class_of, length_of}}
 use Rattle.frame_header.specs.declared.header.NotHeader.{NotHeader, TheVariants.No}
 use Rattle.sync_survey.specs.Items.{block_or_item, byte_item, header_front, header_or_item}
 use Rattle.sync_survey.specs.{Items.{IsItemFront, item_at, item_front, size_of}, Runs.belongs}
-use Rattle.sync_survey.specs.declared.items.Item.{Item, TheVariants.{Block, Frame, Nothing, Zero}}
-use Rattle.sync_survey.specs.declared.runs.Region.{Region}
+use Rattle.sync_survey.specs.declared.{items.Item.{Item, TheVariants.Frame}, runs.Region.Region}
 use Rattle.tag_blocks.{proofs.BlocksLemmas.block_front-least, specs.Blocks.block_front}
 use Rattle.tag_blocks.specs.declared.block.Block.{Block as TagBlock}
 
 -- ---- the item that is found is there
 
-byte_stands : (b : ℕ) (bs : List ℕ) (zero : Bool) → (b == 0) ≡ zero → header_front (b ∷ bs) ≡ Err No
-    → block_front (b ∷ bs) ≡ None → IsItemFront (b ∷ bs) (cond zero Zero Nothing)
-byte_stands b bs true is no_header no_block = ap (λ x. x ∷ []) (eqb-true b 0 is)
-byte_stands b bs false is no_header no_block = grind (arith, false≢true)
-
 stands_by : (bytes : List ℕ) (r : Result HeaderFields NotHeader) (o : Option TagBlock)
     → header_front bytes ≡ r → block_front bytes ≡ o
     → IsItemFront bytes (header_or_item r (block_or_item o (byte_item bytes)))
-stands_by bytes (Err No) (Some b) header block = block
-stands_by [] (Err No) None header block = refl
-stands_by (b ∷ bs) (Err No) None header block = byte_stands b bs (b == 0) refl header block
-stands_by bytes _ o header block = header
+stands_by bytes r o header block = grind arith
 
 -- bytes begin with the item that is found at their front
 pub stands : (bytes : List ℕ) → IsItemFront bytes (item_front bytes)
@@ -54,8 +44,7 @@ stands-at file at item is = subst (IsItemFront (drop at file)) is (stands (drop 
 
 header_cases : (b : Bool) (r : Result HeaderFields NotHeader) (h : HeaderFields)
     → cond b r (Err No) ≡ Ok h → r ≡ Ok h
-header_cases true r h e = e
-header_cases false r h e = absurd cc
+header_cases b r h e = grind arith
 
 -- the header with which bytes begin is the header of their first four bytes
 pub header_at-front : (bytes : List ℕ) (h : HeaderFields) → header_front bytes ≡ Ok h
@@ -75,10 +64,8 @@ frame_some h fields = grind (arith, area_some, IsClass-class_of)
 -- an item with which bytes begin and that belongs to a part has at least one byte
 pub some_by : (bytes : List ℕ) (part : Region) (item : Item) → IsItemFront bytes item
     → belongs part item ≡ true → 0 < size_of item
-some_by bytes part (Frame h) here is = frame_some h (header_front-in_range bytes h here)
-some_by bytes part (Block b) here is = omega (arith, block_front-least bytes b here)
-some_by bytes part Zero here is = omega arith
-some_by bytes part _ here is = absurd (false≢true is)
+some_by bytes part item here is =
+    grind (arith, frame_some, header_front-in_range, block_front-least, false≢true)
 
 -- an item at an offset of a file that belongs to a part has at least one byte
 pub size-some : (part : Region) (file : List ℕ) (at : ℕ) (item : Item) → item_at file at ≡ item

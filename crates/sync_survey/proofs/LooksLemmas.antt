@@ -1,8 +1,7 @@
 -- What a look at a file shows of it.
 use Rattle.std.proofs.Common.{ap, arith, Bool, cond, drop, false, leb, length, length-drop, List}
-use Rattle.std.proofs.Common.{None, refl, Some, subst, suc, sym, take, true, zero, ℕ, [], ◌++◌, ◌+◌}
-use Rattle.std.proofs.Common.{◌-◌, ◌<◌, ◌==◌, ◌∙◌, ◌∷◌, ◌≡◌, ◌≤◌}
-use Rattle.std.proofs.lemmas.Bool.{eqb-true, false≢true, lt-leb}
+use Rattle.std.proofs.Common.{None, refl, Some, subst, sym, take, true, zero, ℕ, [], ◌++◌, ◌+◌, ◌-◌}
+use Rattle.std.proofs.{Common.{◌<◌, ◌==◌, ◌∙◌, ◌∷◌, ◌≡◌, ◌≤◌}, lemmas.Bool.{eqb-true, false≢true}}
 use Rattle.std.proofs.lemmas.List.{drop-drop, drop-take, take-append-drop, take-take}
 use Rattle.std.{proofs.lemmas.List.Sums.prefix_len-le-length, specs.List.prefix_len}
 use Rattle.sync_survey.proofs.{ItemBytesLemmas.header_front-four, ItemsLemmas.{some_by, stands}}
@@ -11,18 +10,15 @@ use Rattle.sync_survey.proofs.RunsLemmas.{blocks-next, frames-next, item_run-nex
 use Rattle.sync_survey.proofs.RunsLemmas.{whole_item_at-whole}
 use Rattle.sync_survey.specs.Items.{byte_item, IsItemFront, item_at, item_fits, item_front, size_of}
 use Rattle.sync_survey.specs.Looks.{look_size, Passes, Shows}
-use Rattle.sync_survey.specs.Runs.{belongs, blocks_of, frames_of, item_if_whole, item_run}
-use Rattle.sync_survey.specs.{Runs.whole_item_at, declared.items.Item.Item}
-use Rattle.sync_survey.specs.declared.items.Item.TheVariants.{Block, Frame, Zero}
+use Rattle.sync_survey.specs.Runs.{belongs, blocks_of, frames_of, item_run, whole_item_at}
+use Rattle.sync_survey.specs.declared.items.Item.{Item, TheVariants.{Block, Frame, Zero}}
 use Rattle.sync_survey.specs.declared.runs.Region.{Region}
 use Rattle.tag_blocks.proofs.BlocksLemmas.{block_front-take}
 
 -- ---- 32 bytes and the length decide what is at an offset
 
 byte_item-take : (n : ℕ) (bytes : List ℕ) → 1 ≤ n → byte_item (take n bytes) ≡ byte_item bytes
-byte_item-take zero bytes some = absurd (omega (arith, some))
-byte_item-take (suc n) [] some = refl
-byte_item-take (suc n) (b ∷ bs) some = refl
+byte_item-take n bytes some = grind arith
 
 -- the first 32 bytes decide which item bytes begin with
 pub item_front-take : (n : ℕ) (bytes : List ℕ) → 32 ≤ n
@@ -59,10 +55,7 @@ module _ {X : Type 0} (file : List ℕ) (f : ℕ → X)
       → (drop (at + 1) file ≡ rest → f (at + 1) ≡ f (at + 1 + n)) → (zero : Bool)
       → zero_test b ≡ zero → f at ≡ f (at + cond zero (1 + n) 0)
   zeros_more rest at n b is later false e = let end : at ≡ at + 0 = omega arith in ap f end
-  zeros_more rest at n b is later true e =
-      let end : at + 1 + n ≡ at + (1 + n) = omega arith in
-      one rest at (is ∙ ap (λ x. x ∷ rest) (eqb-true b 0 e))
-      ∙ later (sym (drop-drop 1 at file) ∙ ap (drop 1) is) ∙ ap f end
+  zeros_more rest at n b is later true e = grind (arith, eqb-true b 0 e, drop-drop 1 at file)
 
   zeros_same : (front rest : List ℕ) (at : ℕ) → drop at file ≡ front ++ rest
       → f at ≡ f (at + prefix_len zero_test front)
@@ -78,8 +71,7 @@ pub record IsSized (item : Item) (left size : ℕ) : Type 0 where
   pub within : size ≤ left
 
 zero_counted : (front : List ℕ) → take 1 front ≡ 0 ∷ [] → 1 ≤ prefix_len zero_test front
-zero_counted [] first = absurd cc
-zero_counted (b ∷ bs) first = grind arith
+zero_counted front first = grind arith
 
 abbrev Counts : Item → List ℕ → ℕ → Type 0
 Counts item front size =
@@ -87,11 +79,7 @@ Counts item front size =
 
 own_size : (item : Item) (left size : ℕ) → 0 < size_of item → size_of item ≤ left
     → size ≡ size_of item → IsSized item left size
-own_size item left size some within is = record {
-  least = omega (arith, is);
-  some = omega (arith, is, some);
-  within = omega (arith, is, within);
-}
+own_size item left size some within is = grind arith
 
 module _ (part : Region) (front : List ℕ) (left size : ℕ) where
   sized_by : (item : Item) → IsItemFront front item → belongs part item ≡ true → size_of item ≤ left
@@ -100,15 +88,7 @@ module _ (part : Region) (front : List ℕ) (left size : ℕ) where
       grind (arith, own_size, some_by front part (Frame h) here is, within)
   sized_by (Block b) here is within all counts =
       grind (arith, own_size, some_by front part (Block b) here is, within)
-  sized_by Zero here is within all counts =
-      let many = zero_counted front here in
-      let size_is = counts.0 refl in
-      record {
-        least = omega (arith, many, size_is);
-        some = omega (arith, many, size_is);
-        within =
-            omega (arith, all, size_is, prefix_len-le-length zero_test front);
-      }
+  sized_by Zero here is within all counts = grind (arith, zero_counted, prefix_len-le-length)
   sized_by _ here is within all counts = absurd (false≢true is)
 
   -- the item with which what is left begins is passed
@@ -146,8 +126,7 @@ module _ (file : List ℕ) (at : ℕ) (front : List ℕ) (left : ℕ)
   none_by : (part : Region) (item : Item) → item_at file at ≡ item → (b : Bool)
       → belongs part item ≡ b → (b ≡ true → left < size_of item) → whole_item_at part file at ≡ None
   unfolding whole_item_at
-  none_by part item is true here past = grind (arith, item_fits-left, lt-leb)
-  none_by part item is false here past = ap (item_if_whole part file at) is ∙ rw here refl
+  none_by part item is b here past = grind arith
 
   -- an item of the part that is longer than what is left isn't whole there
   pub not_here : (part : Region) (item : Item) → item ≡ item_front front
@@ -156,8 +135,7 @@ module _ (file : List ℕ) (at : ℕ) (front : List ℕ) (left : ℕ)
 
   whole_here : (part : Region) (item : Item) → item ≡ item_front front → belongs part item ≡ true
       → 0 < size_of item → size_of item ≤ left → whole_item_at part file at ≡ Some item
-  whole_here part item is here some within = whole_item_at-whole part file at item
-      (sym item_at-shown ∙ sym is) here (omega (arith, some, within, shows.left_is))
+  whole_here part item is here some within = grind (arith, whole_item_at-whole, item_at-shown)
 
   -- what one zero byte doesn't change, all zero bytes that are shown don't change
   pub zeros_shown : {X : Type 0} (f : ℕ → X) (size : ℕ) → size ≡ prefix_len zero_test front

@@ -1,7 +1,7 @@
 -- Lost frames have only silent and lost frames before them, since the main data of any other frame
 -- end after 0.
-use Rattle.std.proofs.Common.{arith, Bool, cond, false, inl, inr, List, None, Option, refl}
-use Rattle.std.proofs.Common.{slice_get, Some, suc, true, zero, ℕ, ◌<◌, ◌==◌, ◌||◌, ◌≡◌, ◌≤◌, ◌⊎◌}
+use Rattle.std.proofs.Common.{arith, Bool, cond, false, inl, inr, List, Option, refl, slice_get}
+use Rattle.std.proofs.Common.{Some, suc, true, zero, ℕ, ◌<◌, ◌==◌, ◌||◌, ◌≡◌, ◌≤◌, ◌⊎◌}
 use Rattle.std.proofs.lemmas.Bool.{and_from, and_parts, eq-eqb, eqb-true}
 use Rattle.side_info.specs.Side.{payload_bits, payload_bytes}
 use Rattle.sync_survey.specs.Laws.{AreSilentOrLost}
@@ -12,8 +12,7 @@ use Rattle.sync_survey.specs.declared.places.Head.{Head}
 -- ---- after one frame
 
 some_bits : (n : ℕ) → (n == 0) ≡ false → 1 ≤ n
-some_bits zero e = absurd cc
-some_bits (suc n) e = omega arith
+some_bits n e = grind arith
 
 -- the main data of a frame that isn't silent end after 0
 pub loud-end : (place : ℕ) (r : Row) → is_silent r ≡ false → 1 ≤ end_of_data place r
@@ -26,19 +25,11 @@ IsEmpty place ended r = (is_silent r ≡ true) ⊎ (lacks_data place ended r ≡
 zero_cases : (place ended : ℕ) (r : Row) (silent lost : Bool) → is_silent r ≡ silent
     → lacks_data place ended r ≡ lost → cond (silent || lost) ended (end_of_data place r) ≡ 0
     → (ended ≡ 0) × IsEmpty place ended r
-zero_cases place ended r true lost is other e = (e, inl is)
-zero_cases place ended r false true is other e = (e, inr other)
-zero_cases place ended r false false is other e = absurd (omega (arith, e, loud-end place r is))
+zero_cases h ended r silent lost is other e = grind (arith, loud-end)
 
 zero_behind : (place ended : ℕ) (r : Row) → data_end_after place ended (Some r) ≡ 0
     → (ended ≡ 0) × IsEmpty place ended r
 zero_behind place ended r e = grind (arith, zero_cases)
-
-empty_cases : (silent lost : Bool) (ended other : ℕ) → (silent ≡ true) ⊎ (lost ≡ true) → ended ≡ 0
-    → cond (silent || lost) ended other ≡ 0
-empty_cases false false ended other (inl e) none = absurd cc
-empty_cases false false ended other (inr e) none = absurd cc
-empty_cases _ _ ended other empty none = none
 
 -- ---- after several
 
@@ -60,8 +51,7 @@ module _ (head : Option Head) (rows : List Row) where
       → (data_end_before head rows i ≡ 0 → AreSilentOrLost head rows i)
       → data_end_after (place head rows i) (data_end_before head rows i) o ≡ 0
       → AreSilentOrLost head rows (suc i)
-  step i None is before e = grind (arith, here_by, at_or_before)
-  step i (Some r) is before e = grind (arith, zero_behind, here_by, at_or_before)
+  step i o is before e = grind (arith, here_by, at_or_before, zero_behind)
 
   -- if no main data end after 0 before a frame, all frames before it are silent or lost
   pub none-empty : (i : ℕ) → data_end_before head rows i ≡ 0 → AreSilentOrLost head rows i
@@ -72,8 +62,7 @@ module _ (head : Option Head) (rows : List Row) where
   behind_empty : (i : ℕ) (o : Option Row) → slice_get rows i ≡ o → data_end_before head rows i ≡ 0
       → ((r : Row) → slice_get rows i ≡ Some r → IsEmptyAt i r)
       → data_end_after (place head rows i) (data_end_before head rows i) o ≡ 0
-  behind_empty i None is none each = none
-  behind_empty i (Some r) is none each = grind (arith, empty_cases)
+  behind_empty i o is none each = grind arith
 
   -- if all frames before a frame are silent or lost, no main data before it end after 0
   pub empty-none : (i : ℕ) → AreSilentOrLost head rows i → data_end_before head rows i ≡ 0

@@ -1,7 +1,7 @@
 -- Bytes begin with at most one item.
-use Rattle.std.proofs.Common.{ap, arith, Bool, cond, drop, Err, false, get_or, length, List, None}
-use Rattle.std.proofs.Common.{Option, refl, Result, Some, sym, take, true, ℕ, [], ◌*◌, ◌++◌, ◌+◌}
-use Rattle.std.proofs.{Common.{◌<◌, ◌==◌, ◌∙◌, ◌∷◌, ◌≡◌, ◌≢◌, ◌≤◌}, Math.Seq.take-append-add}
+use Rattle.std.proofs.Common.{arith, Bool, cond, drop, Err, get_or, length, List, None, Option}
+use Rattle.std.proofs.Common.{refl, Result, Some, sym, take, true, ℕ, [], ◌*◌, ◌++◌, ◌+◌, ◌<◌, ◌∙◌}
+use Rattle.std.proofs.{Common.{◌∷◌, ◌≡◌, ◌≢◌, ◌≤◌}, Math.Seq.take-append-add}
 use Rattle.std.proofs.lemmas.{Bool.{and_parts, eqb-true, leb-true}, List.length-take}
 use Rattle.bit_fields.proofs.BitsLemmas.{AreBelow-take, AreBits-bits, bits-cons, length-bits}
 use Rattle.bit_fields.proofs.BitsLemmas.{length-bits_of, number-append, number-below}
@@ -11,10 +11,10 @@ use Rattle.frame_header.{proofs.HeaderLemmas.header_in-no, specs.Fields.HeaderFi
 use Rattle.frame_header.specs.Reading.{header_at, header_in, is_readable}
 use Rattle.frame_header.specs.declared.header.NotHeader.{NotHeader, TheVariants.No}
 use Rattle.sync_survey.specs.Items.{byte_item, header_front, IsItemFront, item_at, item_front}
-use Rattle.sync_survey.specs.declared.items.Item.{Item, TheVariants.{Block, End, Nothing, Zero}}
+use Rattle.sync_survey.specs.declared.items.Item.{Item, TheVariants.{Nothing, Zero}}
 use Rattle.tag_blocks.proofs.BlocksLemmas.{block_front-first, block_front-not_zero, first_byte}
 use Rattle.tag_blocks.specs.{Blocks.block_front, declared.block.Block.Block as TagBlock}
-use Rattle.tag_blocks.specs.declared.block.Kind.{Kind, TheVariants.Id3v2}
+use Rattle.tag_blocks.specs.declared.block.Kind.{Kind}
 
 -- ---- the first byte of a header
 
@@ -42,18 +42,15 @@ readable_sync h is = grind (arith, eqb-true, and_parts)
 
 readable_cases : (h : List ℕ) (b : Bool) → is_readable h ≡ b → header_in h ≢ Err No
     → is_readable h ≡ true
-readable_cases h true is header = is
-readable_cases h false is header = absurd (header (header_in-no h is))
+readable_cases h b is header = grind (arith, header_in-no)
 
 -- bytes that don't begin with ff are no header
 no_header_by : (b : Bool) (r : Result HeaderFields NotHeader) → (b ≡ true → r ≡ Err No)
     → cond b r (Err No) ≡ Err No
-no_header_by true r none = none refl
-no_header_by false r none = refl
+no_header_by b r none = grind arith
 
 result_cases : (r : Result HeaderFields NotHeader) → (r ≢ Err No → ⊥) → r ≡ Err No
-result_cases (Err No) not = refl
-result_cases _ not = absurd (not (λ e. cc))
+result_cases r not = grind arith
 
 four_bytes : (bytes : List ℕ) → get_or bytes 0 0 < 255 → 4 ≤ length bytes
     → header_at (take 4 bytes) ≡ Err No
@@ -71,45 +68,33 @@ no_header bytes below = grind (arith, no_header_by, four_bytes, leb-true)
 -- ---- the first byte of a block
 
 below_ones : (kind : Kind) → first_byte kind < 255
-below_ones Id3v2 = omega arith
-below_ones _ = omega arith
+below_ones kind = grind arith
 
 block_front-below : (bytes : List ℕ) (b : TagBlock) → block_front bytes ≡ Some b
     → get_or bytes 0 0 < 255
 block_front-below bytes b is = omega (arith, block_front-first bytes b is, below_ones b.kind)
 
 option_cases : (o : Option TagBlock) → ((b : TagBlock) → o ≡ Some b → ⊥) → o ≡ None
-option_cases None not = refl
-option_cases (Some b) not = absurd (not b refl)
+option_cases o not = grind arith
 
 no_block : (bytes : List ℕ) → get_or bytes 0 0 ≡ 0 → block_front bytes ≡ None
 no_block bytes first = grind (arith, option_cases, block_front-not_zero)
 
 -- ---- one item
 
-byte_cases : (b : ℕ) (zero : Bool) → (b == 0) ≡ zero → (b ∷ [] ≢ 0 ∷ [])
-    → cond zero Zero Nothing ≡ Nothing
-byte_cases b true is other = absurd (other (ap (λ x. x ∷ []) (eqb-true b 0 is)))
-byte_cases b false is other = refl
-
 byte_item-nothing : (bytes : List ℕ) → bytes ≢ [] → take 1 bytes ≢ 0 ∷ []
     → byte_item bytes ≡ Nothing
-byte_item-nothing [] some other = absurd (some refl)
-byte_item-nothing (b ∷ bs) some other = byte_cases b (b == 0) refl other
+byte_item-nothing bytes some other = grind arith
 
 byte_item-zero : (bytes : List ℕ) → take 1 bytes ≡ 0 ∷ []
     → (get_or bytes 0 0 ≡ 0) × (byte_item bytes ≡ Zero)
-byte_item-zero [] first = absurd cc
-byte_item-zero (b ∷ bs) first = let same : b ≡ 0 = cc in (same, ap (λ x. byte_item (x ∷ bs)) same)
+byte_item-zero bytes first = grind arith
 
 -- an item with which bytes begin is the one that the definition finds
 pub stands-only : (bytes : List ℕ) (item : Item) → IsItemFront bytes item → item ≡ item_front bytes
 unfolding item_front
-stands-only bytes (Block b) here = grind (arith, no_header, block_front-below)
-stands-only bytes Zero here = grind (arith, byte_item-zero, no_header, no_block)
-stands-only bytes End here = grind (arith, no_header, no_block)
-stands-only bytes Nothing here = grind (arith, byte_item-nothing)
-stands-only bytes _ here = grind arith
+stands-only bytes item here =
+    grind (arith, no_header, block_front-below, byte_item-zero, no_block, byte_item-nothing)
 
 -- an item at an offset of a file is the one that the definition finds there
 pub stands-only_at : (file : List ℕ) (at : ℕ) (item : Item) → IsItemFront (drop at file) item

@@ -1,6 +1,6 @@
 -- Two lists, each in order, as one.
 use Rattle.std.proofs.Common.{ap, arith, List, map, refl, ℕ, [], ◌++◌, ◌<◌, ◌∷◌, ◌≡◌, ◌≤◌}
-use Rattle.std.proofs.lemmas.Bool.{le-ltb, lt-ltb, ltb-false, ltb-true}
+use Rattle.std.proofs.lemmas.Bool.{le-ltb, ltb-false, ltb-true}
 use Rattle.sync_survey.specs.Order.{IsFirstAfter, IsFirstFrom, merged_list, ordered_insert}
 use Rattle.sync_survey.specs.Order.{ordered_list, RisesBy}
 
@@ -22,20 +22,17 @@ module _ {A : Type 0} (key : A → ℕ) where
   pub merged_own : (t : A) (ts us : List A) → IsFirstFrom key (key t) us
       → merged_list key (t ∷ ts) us ≡ t ∷ merged_list key ts us
   unfolding merged_list
-  merged_own t ts [] le = refl
-  merged_own t ts (u ∷ us) le = rw (le-ltb (key u) (key t) le) refl
+  merged_own t ts us le = grind arith
 
   -- one of the others that is before the first list comes first
   pub merged_other : (ts : List A) (u : A) (us : List A) → IsFirstAfter key (key u) ts
       → merged_list key ts (u ∷ us) ≡ u ∷ merged_list key ts us
   unfolding merged_list
-  merged_other [] u us lt = refl
-  merged_other (t ∷ ts) u us lt = rw (lt-ltb (key u) (key t) lt) refl
+  merged_other ts u us lt = grind arith
 
   rises_after : (at from : ℕ) (ts : List A) → RisesBy key from ts → at < from
       → IsFirstAfter key at ts
-  rises_after at from [] rises lt = tt
-  rises_after at from (t ∷ ts) rises lt = omega (arith, rises.0, lt)
+  rises_after at from ts rises lt = grind arith
 
   -- an entry at or before both lists is put before them
   put_before : (t : A) (ts us : List A) → RisesBy key (key t) ts → RisesBy key (key t) us
@@ -62,8 +59,7 @@ module _ {A : Type 0} (key : A → ℕ) where
         ltb-true,
         put_before,
         ltb-false,
-        put_merged t ts us
-            (key u) rises up.1,
+        put_merged t ts us (key u) rises up.1,
       )
 
   -- ---- two lists, each in order
@@ -87,10 +83,8 @@ module _ {A B : Type 0} (key : B → ℕ) (f : A → B) (at : ℕ) where
   -- what is made of entries after an offset is after it
   pub after_map : (ts : List A) → IsFirstAfter (λ t. key (f t)) at ts
       → IsFirstAfter key at (map f ts)
-  after_map [] after = tt
-  after_map (t ∷ ts) after = after
+  after_map ts after = grind arith
 
   -- what is made of entries from an offset on is from it on
   pub from_map : (ts : List A) → IsFirstFrom (λ t. key (f t)) at ts → IsFirstFrom key at (map f ts)
-  from_map [] from = tt
-  from_map (t ∷ ts) from = from
+  from_map ts from = grind arith

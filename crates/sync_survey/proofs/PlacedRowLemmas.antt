@@ -1,5 +1,5 @@
 -- The main data of the frames so far are where they may be, whatever is known of the file.
-use Rattle.std.proofs.Common.{ap, ap₂, arith, false, length, List, map, None, not, Ok, Option}
+use Rattle.std.proofs.Common.{ap, arith, false, length, List, map, None, not, Ok, Option}
 use Rattle.std.proofs.Common.{option_map, refl, slice_get, Some, subst, suc, sum_by, sym, take}
 use Rattle.std.proofs.{Common.{zero, ℕ, [], ◌++◌, ◌+◌, ◌<◌, ◌∙◌, ◌∷◌, ◌≡◌}, lemmas.Bool.not-false}
 use Rattle.std.{proofs.lemmas.List.Sums.sum_by-cons, specs.List.{cons_option, enumerate_from}}
@@ -45,8 +45,7 @@ pub record ArePlacedTo (head : Option Head) (class : ClassFields) (rows : List R
 pub placed_none : (head : Option Head) (class : ClassFields) (place_now : ℕ)
     → place_now ≡ head_area head → ArePlacedTo head class [] place_now 0
 unfolding data_end_before
-placed_none head class place_now is =
-    record { frames = λ i r found. absurd cc; place_is = is ∙ place-none head; ended_is = refl }
+placed_none head class place_now is = grind (arith, place-none)
 
 -- the same frames have the same place and end
 pub placed_same : (head : Option Head) (class : ClassFields) (old new : List Row)
@@ -61,13 +60,7 @@ pub placed_by : (head : Option Head) (class : ClassFields) (rows : List Row) (i 
     → IsHeader r.header → class_of r.header ≡ class → SideFits class r.side
     → r.lost ≡ lacks_data place_now ended r → data_faults place_now ended r ≡ []
     → IsWellPlaced head class rows i r
-placed_by head class rows i r place_now ended at ends known same fits mark none = record {
-  known = known;
-  class_is = same;
-  fits = fits;
-  mark = mark ∙ ap₂ (λ m n. lacks_data m n r) at ends;
-  sound = sym (ap₂ (λ m n. data_faults m n r) at ends) ∙ none;
-}
+placed_by head class rows i r place_now ended at ends known same fits mark none = grind arith
 
 -- frames before more are still well placed
 placed_before : (head : Option Head) (class : ClassFields) (rows more : List Row) (i : ℕ) (r : Row)
@@ -152,8 +145,7 @@ module _ (head : Option Head) (rows : List Row) where
 
   behind-marked : (i m n : ℕ) (o : Option Row)
       → data_end_after m n (option_map (marked_row head rows i) o) ≡ data_end_after m n o
-  behind-marked i m n None = refl
-  behind-marked i m n (Some r) = refl
+  behind-marked i m n o = grind arith
 
   -- marks don't change the end before a frame
   pub end-marked_rows : (i : ℕ)
@@ -166,8 +158,7 @@ module _ (head : Option Head) (rows : List Row) where
   -- what is made of a frame that may be there was made of one that is
   pub from_some : (f : Row → Row) (o : Option Row) (q : Row) → option_map f o ≡ Some q
       → (r : Row) × (o ≡ Some r) × (f r ≡ q)
-  from_some f None q e = absurd cc
-  from_some f (Some r) q e = (r, refl, cc)
+  from_some f o q e = grind arith
 
 row_fits : (file : List ℕ) (ps : List PlacedFrame) (i : ℕ) (r : Row) → IsClass (class_of r.header)
     → slice_get (rows_of file ps) i ≡ Some r → SideFits (class_of r.header) r.side
@@ -202,15 +193,13 @@ known_items part file from (p ∷ ps) to ends =
       arith,
       known_cons,
       whole_item_at-is,
-      known_items part file (p.offset + size_of p.item) ps
-          to ends.2,
+      known_items part file (p.offset + size_of p.item) ps to ends.2,
     )
 
 numbered_frames-known : (head : Option Head) (ps : List PlacedFrame) → AllKnown ps
     → AllKnown (numbered_frames head ps)
 unfolding AllKnown
-numbered_frames-known (Some head) (p ∷ ps) all = all.1
-numbered_frames-known _ _ all = all
+numbered_frames-known head ps all = grind arith
 
 row_known : (file : List ℕ) (ps : List PlacedFrame) (i : ℕ) (r : Row) → AllKnown ps
     → slice_get (rows_of file ps) i ≡ Some r → IsHeader r.header

@@ -1,17 +1,15 @@
 -- Items that follow end to end: one more item, and what they are together.
-use Rattle.std.proofs.Common.{ap, append-nil, append_assoc, arith, Bool, cond, drop, false, length}
-use Rattle.std.proofs.Common.{List, None, Option, option_to_list, refl, Some, suc, sym, true, zero}
-use Rattle.std.proofs.Common.{ℕ, [], ◌++◌, ◌+◌, ◌-◌, ◌<◌, ◌∙◌, ◌∷◌, ◌≡◌, ◌≤◌}
-use Rattle.std.proofs.lemmas.Bool.{and_parts, false≢true, le-leb, leb-true}
-use Rattle.std.proofs.lemmas.List.{drop-drop, take-append-drop, Elements.filter_map-append}
-use Rattle.std.specs.List.{cons_option}
+use Rattle.std.proofs.Common.{ap, append-nil, append_assoc, arith, Bool, cond, drop, length, List}
+use Rattle.std.proofs.Common.{None, Option, option_to_list, refl, Some, suc, sym, true, zero, ℕ, []}
+use Rattle.std.proofs.Common.{◌++◌, ◌+◌, ◌-◌, ◌<◌, ◌∙◌, ◌∷◌, ◌≡◌, ◌≤◌}
+use Rattle.std.proofs.lemmas.{Bool.{and_parts, leb-true}, List.{drop-drop, take-append-drop}}
+use Rattle.std.{proofs.lemmas.List.Elements.filter_map-append, specs.List.cons_option}
 use Rattle.sync_survey.{proofs.ItemsLemmas.size-some, specs.Items.{item_at, item_fits, size_of}}
 use Rattle.sync_survey.specs.Runs.{AreEndToEnd, belongs, block_of_item, blocks_of, bytes_of_items}
 use Rattle.sync_survey.specs.Runs.{frame_of_item, frames_of, item_bytes_in, item_if_whole, item_run}
 use Rattle.sync_survey.specs.Runs.{ItemRun, PlacedItem, run_onward, run_up_to, run_with_item}
 use Rattle.sync_survey.specs.{Runs.{stopped_run, whole_item_at}, declared.items.Item.Item}
-use Rattle.sync_survey.specs.declared.{items.Item.TheVariants.Frame, runs.Region.Region}
-use Rattle.sync_survey.specs.declared.runs.Region.TheVariants.{Front}
+use Rattle.sync_survey.specs.declared.runs.Region.{Region, TheVariants.Front}
 
 -- ---- one item
 
@@ -24,27 +22,23 @@ pub record IsItemOf (part : Region) (file : List ℕ) (at : ℕ) (item : Item) :
 
 -- what is given only if it is whole is whole, and is the item
 pub whole_cases : (b : Bool) (i j : Item) → cond b (Some i) None ≡ Some j → (b ≡ true) × (i ≡ j)
-whole_cases true i j e = (refl, cc)
-whole_cases false i j e = absurd cc
+whole_cases b i j e = grind arith
 
 run_onward-same : (at : ℕ) (next later : ℕ → ItemRun) (o : Option Item)
     → ((item : Item) → o ≡ Some item → next (at + size_of item) ≡ later (at + size_of item))
     → run_onward at next o ≡ run_onward at later o
-run_onward-same at next later None same = refl
-run_onward-same at next later (Some item) same = ap (run_with_item at item) (same item refl)
+run_onward-same at next later o same = grind arith
 
 module _ (part : Region) (file : List ℕ) where
   -- an item that fits is within the file
   pub within_file : (at : ℕ) (item : Item) → item_at file at ≡ item
       → belongs part item ≡ true → item_fits file at item ≡ true → IsItemOf part file at item
   within_file at item is belongs item_fits =
-      let some : 0 < size_of item = size-some part file at item is belongs in
-      record {
-        is = is;
-        belongs = belongs;
-        within = omega (arith, some, leb-true (size_of item) (length file - at) item_fits);
-        some = some;
-      }
+      grind (
+        arith,
+        size-some part file at item is belongs,
+        leb-true (size_of item) (length file - at) item_fits,
+      )
 
   -- an item of a part at an offset is a whole one
   pub whole_item_at-is : (at : ℕ) (item : Item)
@@ -52,23 +46,16 @@ module _ (part : Region) (file : List ℕ) where
   unfolding whole_item_at
   whole_item_at-is at item e = grind (arith, whole_cases, and_parts, within_file)
 
-  item_if_whole-is : (at : ℕ) (item found : Item) → found ≡ item
-      → belongs part item ≡ true → item_fits file at item ≡ true
-      → item_if_whole part file at found ≡ Some item
-  item_if_whole-is at item found is belongs item_fits = grind (arith, is, belongs)
-
   -- a whole item of the part at an offset is the item there
   pub whole_item_at-whole : (at : ℕ) (item : Item) → item_at file at ≡ item
       → belongs part item ≡ true → at + size_of item ≤ length file
       → whole_item_at part file at ≡ Some item
   unfolding whole_item_at
-  whole_item_at-whole at item is belongs within =
-      item_if_whole-is at item (item_at file at) is belongs (le-leb _ _ (omega (arith, within)))
+  whole_item_at-whole at item is belongs within = grind arith
 
   none_behind : (at : ℕ) (o : Option Item)
       → whole_item_at part file at ≡ o → length file ≤ at → o ≡ None
-  none_behind at None is past = refl
-  none_behind at (Some item) is past = grind (arith, whole_item_at-is, is)
+  none_behind at o is past = grind (arith, whole_item_at-is)
 
   -- at the end of the file and past it no item begins
   pub whole_item_at-past : (at : ℕ) → length file ≤ at → whole_item_at part file at ≡ None
@@ -126,8 +113,7 @@ module _ (part : Region) (file : List ℕ) where
   run_onward-ends : (at : ℕ) (next : ℕ → ItemRun) (o : Option Item) → whole_item_at part file at ≡ o
       → ((later : ℕ) → AreEndToEnd part file later (next later).items (next later).stop) →
       AreEndToEnd part file at (run_onward at next o).items (run_onward at next o).stop
-  run_onward-ends at next None is ends = refl
-  run_onward-ends at next (Some item) is ends = (refl, is, ends (at + size_of item))
+  run_onward-ends at next o is ends = grind arith
 
   ends_up_to : (n at : ℕ)
       → AreEndToEnd part file at (run_up_to n part file at).items (run_up_to n part file at).stop
@@ -147,8 +133,7 @@ module _ (part : Region) (file : List ℕ) where
       → whole_item_at part file at ≡ o → ((item : Item) → o ≡ Some item
       → whole_item_at part file (next (at + size_of item)).stop ≡ None)
       → whole_item_at part file (run_onward at next o).stop ≡ None
-  run_onward-last at next None is last = is
-  run_onward-last at next (Some item) is last = last item refl
+  run_onward-last at next o is last = grind arith
 
   last_up_to : (n at : ℕ) → length file ≤ n + at
       → whole_item_at part file (run_up_to n part file at).stop ≡ None
@@ -191,18 +176,15 @@ module _ (part : Region) (file : List ℕ) where
 -- an item that may be there comes before the others
 pub cons_list : {X : Type 0} (o : Option X) (xs : List X)
     → cons_option o xs ≡ option_to_list o ++ xs
-cons_list None xs = refl
-cons_list (Some x) xs = refl
+cons_list o xs = grind arith
 
 no_frame : (at : ℕ) (item : Item) → belongs Front item ≡ true → frame_of_item at item ≡ None
-no_frame at (Frame h) is = absurd (false≢true is)
-no_frame at _ is = refl
+no_frame at item is = grind arith
 
 run_onward-front : (file : List ℕ) (at : ℕ) (next : ℕ → ItemRun) (o : Option Item)
     → whole_item_at Front file at ≡ o → ((later : ℕ) → frames_of (next later).items ≡ [])
     → frames_of (run_onward at next o).items ≡ []
-run_onward-front file at next None is none = refl
-run_onward-front file at next (Some item) is none = grind (arith, whole_item_at-is, is, no_frame)
+run_onward-front file at next o is none = grind (arith, whole_item_at-is, no_frame)
 
 front_up_to : (n : ℕ) (file : List ℕ) (at : ℕ) → frames_of (run_up_to n Front file at).items ≡ []
 unfolding run_up_to

@@ -1,7 +1,6 @@
 -- A frame that is the same from two bytes before its area on is still a head, or still none.
-use Rattle.std.proofs.Common.{ap, arith, codes, drop, List, None, Option, option_map, refl, Some}
-use Rattle.std.proofs.Common.{sym, take, ℕ, ◌+◌, ◌-◌, ◌∙◌, ◌≡◌, ◌≤◌}
-use Rattle.std.proofs.lemmas.List.{drop-drop, drop-take}
+use Rattle.std.proofs.Common.{ap, arith, codes, drop, List, Option, option_map, refl, sym, take, ℕ}
+use Rattle.std.proofs.{Common.{◌+◌, ◌-◌, ◌∙◌, ◌≡◌, ◌≤◌}, lemmas.List.{drop-drop, drop-take}}
 use Rattle.frame_header.specs.Fields.{HeaderFields}
 use Rattle.frame_header.specs.Tables.{area_of, class_of, length_of, overhead_of}
 use Rattle.info_header.specs.HeadText.{has_text, head_text_of, high_place, low_place}
@@ -48,8 +47,7 @@ placed : (gap : ℕ) (p : PlacedFrame) (o : Option ℕ)
     → option_map (λ at. record { offset = p.offset - gap; header = p.header; text_at = at }) o
     ≡ option_map (nearer_head gap)
     (option_map (λ at. record { offset = p.offset; header = p.header; text_at = at }) o)
-placed gap p (Some at) = refl
-placed gap p None = refl
+placed gap p o = grind arith
 
 -- a frame that is `gap` bytes nearer to the beginning of another file, and is the same there from
 -- two bytes before its area on, is a head there exactly if it was one
@@ -68,8 +66,7 @@ area_placed : (old file : List ℕ) (gap : ℕ) (p : PlacedFrame) (o : Option �
       text_at = at;
     }) o)) ≡ head_bytes old
     (option_map (λ at. record { offset = p.offset; header = p.header; text_at = at }) o)
-area_placed old file gap p (Some at) same = same
-area_placed old file gap p None same = refl
+area_placed old file gap p o same = grind arith
 
 -- a head's area is unchanged if the frame's area is the same `gap` bytes nearer to the beginning of
 -- another file

@@ -1,6 +1,6 @@
 -- The first anchored frame, and the start of the stream.
-use Rattle.std.proofs.Common.{ap, arith, Bool, cond, drop, Err, false, filter_map, inl, inr}
-use Rattle.std.proofs.Common.{is_some, leb, length, List, MatchOption, min, None, Ok, Option, refl}
+use Rattle.std.proofs.Common.{ap, arith, Bool, cond, drop, Err, false, filter_map, inr, is_some}
+use Rattle.std.proofs.Common.{leb, length, List, MatchOption, min, None, Ok, Option, refl}
 use Rattle.std.proofs.Common.{slice_get, Some, subst, suc, sym, true, zero, ℕ, ◌&&◌, ◌+◌, ◌<◌, ◌∙◌}
 use Rattle.std.proofs.Common.{◌≡◌, ◌≤◌}
 use Rattle.std.proofs.lemmas.{Bool.{and_parts, le-leb, leb-false, leb-true, lt-leb}, List.drop_all}
@@ -51,16 +51,7 @@ first_cases : (stands : ℕ → Option PlacedFrame) (n from at : ℕ) (p : Place
     (o : Option PlacedFrame) → stands from ≡ o → IsFirstAt stands from (from + suc n) at p →
     (IsFirstAt stands (from + 1) ((from + 1) + n) at p → first_of stands n (from + 1) ≡ Some p)
     → slice_get (cons_option o (filter_map stands (range_with_len (from + 1) n))) 0 ≡ Some p
-first_cases stands n from at p (Some q) is first behind = grind arith
-first_cases stands n from at p None is first behind =
-    let contra : at ≡ from → ⊥ = grind arith in
-    let later : from + 1 ≤ at = omega (arith, first.low, contra) in
-    behind (record {
-      low = later;
-      high = omega (arith, first.high);
-      here = first.here;
-      none = λ earlier low high. first.none earlier (omega (arith, low)) high;
-    })
+first_cases stands n from at p o is first behind = grind arith
 
 -- what is at an offset, with nothing before it, is the first
 pub first_of-some : (stands : ℕ → Option PlacedFrame) (count from at : ℕ) (p : PlacedFrame)
@@ -75,10 +66,7 @@ is_nothing : (stands : ℕ → Option PlacedFrame) (n from at : ℕ) (o : Option
     → slice_get (cons_option o (filter_map stands (range_with_len (from + 1) n))) 0 ≡ None →
     (first_of stands n (from + 1) ≡ None → from + 1 ≤ at → at < (from + 1) + n → stands at ≡ None)
     → (x : Option PlacedFrame) → stands at ≡ x → from ≤ at → at < from + suc n → stands at ≡ None
-is_nothing stands n from at (Some q) is found behind x here low high = absurd cc
-is_nothing stands n from at None is found behind None here low high = here
-is_nothing stands n from at None is found behind (Some p) here low high =
-    grind (arith, here, low, high)
+is_nothing stands n from at o is found behind x here low high = grind arith
 
 -- if there is no first, there is nothing at any offset
 pub first_of-nothing : (stands : ℕ → Option PlacedFrame) (count from : ℕ)
@@ -88,39 +76,13 @@ first_of-nothing stands zero from found at low high = absurd (omega (arith, low,
 first_of-nothing stands (suc n) from found at low high = is_nothing stands n from at (stands from)
     refl found (λ later. first_of-nothing stands n (from + 1) later at) (stands at) refl low high
 
--- what was found is at the first offset
-none_before : (stands : ℕ → Option PlacedFrame) (from at earlier : ℕ) (x : Option PlacedFrame)
-    → stands from ≡ None → ((k : ℕ) → from + 1 ≤ k → k < at → stands k ≡ None) → from ≤ earlier
-    → earlier < at → stands earlier ≡ x →
-    stands earlier ≡ None
-none_before stands from at earlier None isnt none low high is = is
-none_before stands from at earlier (Some p) isnt none low high is = grind (arith, none, low, high)
-
 is_found : (stands : ℕ → Option PlacedFrame) (n from : ℕ) (p : PlacedFrame) (o : Option PlacedFrame)
     → stands from ≡ o
     → slice_get (cons_option o (filter_map stands (range_with_len (from + 1) n))) 0 ≡ Some p →
     (first_of stands n (from + 1) ≡ Some p
     → (at : ℕ) × IsFirstAt stands (from + 1) ((from + 1) + n) at p)
     → (at : ℕ) × IsFirstAt stands from (from + suc n) at p
-is_found stands n from p (Some q) is found behind = (
-  from,
-  record {
-    low = omega arith;
-    high = omega arith;
-    here = is ∙ found;
-    none = λ earlier low high. absurd (omega (arith, low, high));
-  },
-)
-is_found stands n from p None is found behind =
-    let later = behind found in (
-      later.0,
-      record {
-        low = omega (arith, later.1.low);
-        high = omega (arith, later.1.high);
-        here = later.1.here;
-        none = grind (arith, none_before);
-      },
-    )
+is_found stands n from p o is found behind = grind arith
 
 -- the first is at its offset, with nothing before it
 pub first_of-is : (stands : ℕ → Option PlacedFrame) (count from : ℕ) (p : PlacedFrame)
@@ -216,9 +178,7 @@ item_fits-cases : (file : List ℕ) (at : ℕ) (h : HeaderFields) (b : Bool) (fa
     cond b (Ok (record { front_end = at; first = record { offset = at; header = h } })) (Err fault)
     ≡ Ok s → IsFirstFrame file s
 item_fits-cases file at h true fault s is fit e =
-    let same : record { front_end = at; first = record { offset = at; header = h } } ≡ s = cc in
-    subst (IsFirstFrame file) same
-    (record { frame = within_file Stream file at (Frame h) is refl fit; least = inl refl })
+    grind (arith, within_file Stream file at (Frame h) is refl fit)
 item_fits-cases file at h false fault s is fit e = absurd cc
 
 behind_cases : (file : List ℕ) (front_end : ℕ) (o : Option PlacedFrame) (s : Start)
@@ -246,22 +206,9 @@ start-first file s e = search (arith, start_cases)
 
 -- ---- where the front ends
 
-front_fits : (at : ℕ) (p : PlacedFrame) (b : Bool) (fault : SurveyFault) (s : Start)
-    → cond b (Ok (record { front_end = at; first = p })) (Err fault) ≡ Ok s → s.front_end ≡ at
-front_fits at p true fault s e = grind arith
-front_fits at p false fault s e = absurd cc
-
-front_behind : (at : ℕ) (o : Option PlacedFrame) (s : Start) → start_after_junk at o ≡ Ok s
-    → s.front_end ≡ at
-front_behind at None s e = absurd cc
-front_behind at (Some p) s e = grind arith
-
 front_cases : (file : List ℕ) (at : ℕ) (item : Item) (s : Start) → start_at file at item ≡ Ok s
     → s.front_end ≡ at
-front_cases file at (Frame h) s e = front_fits at (record { offset = at; header = h }) _ _ s e
-front_cases file at Free s e = absurd cc
-front_cases file at (Block b) s e = absurd cc
-front_cases file at _ s e = front_behind at _ s e
+front_cases file at item s e = grind arith
 
 -- the start says where the front of the file ends
 pub start-front : (file : List ℕ) (s : Start) → start_of file ≡ Ok s
@@ -277,9 +224,7 @@ module _ (file : List ℕ) (at : ℕ) (front : List ℕ) (left : ℕ)
       → ((h : HeaderFields) → item ≡ Frame h → has_anchor file at h ≡ false)
       → anchored_frame file at ≡ None
   unfolding anchored_frame
-  none_by (Frame h) is without = ap (anchored_item file at) is
-      ∙ ap (λ b. cond b (Some (record { offset = at; header = h })) None) (without h refl)
-  none_by _ is without = ap (anchored_item file at) is
+  none_by item is without = grind arith
 
   -- if no frame is here, none is anchored
   pub shown_none : (item : Item) → item ≡ item_front front
@@ -306,14 +251,7 @@ module _ (file : List ℕ) (at : ℕ) (front : List ℕ) (left : ℕ)
       (Some (record { offset = at; header = h })) None
   unfolding anchored_frame
   shown_before h behind is within few end =
-      let size = length_of (class_of h) h.slot in
-      let fit : item_fits file at (Frame h) ≡ true =
-      grind (arith, item_fits-left, le-leb) in
-      let anchor : has_anchor file at h ≡ is_anchor (class_of h) behind =
-      grind (arith, item_at-behind)
-      in
-      ap (anchored_item file at) (sym (item_at-shown file at front left shows) ∙ is)
-      ∙ ap (λ b. cond b (Some (record { offset = at; header = h })) None) anchor
+      grind (arith, item_fits-left, le-leb, item_at-behind, item_at-shown file at front left shows)
 
 -- ---- where the search ends
 
@@ -321,8 +259,7 @@ module _ (file : List ℕ) (at : ℕ) (front : List ℕ) (left : ℕ)
 pub anchored_frame-past : (file : List ℕ) (at : ℕ) → length file ≤ at
     → anchored_frame file at ≡ None
 unfolding anchored_frame
-anchored_frame-past file at past =
-    ap (anchored_item file at) (sym (stands-only_at file at End (drop_all at file past)))
+anchored_frame-past file at past = grind (arith, stands-only_at file at End (drop_all at file past))
 
 none_by_end : (file : List ℕ) (from to at : ℕ)
     → ((earlier : ℕ) → from ≤ earlier → earlier < to → anchored_frame file earlier ≡ None) → from

@@ -1,7 +1,7 @@
 -- One more item is judged and kept.
 use Rattle.std.proofs.Common.{ap, append-nil, ap₂, arith, drop, Err, false, inl, inr, length}
 use Rattle.std.proofs.Common.{length-append, List, min, None, Option, option_to_list, refl, Some}
-use Rattle.std.proofs.Common.{subst, sym, ℕ, [], ◌++◌, ◌+◌, ◌<◌, ◌==◌, ◌∙◌, ◌∷◌, ◌≡◌, ◌≤◌}
+use Rattle.std.proofs.Common.{sym, ℕ, [], ◌++◌, ◌+◌, ◌<◌, ◌==◌, ◌∙◌, ◌∷◌, ◌≡◌, ◌≤◌}
 use Rattle.std.proofs.lemmas.Bool.{cases_lt, eq-eqb, true≢false}
 use Rattle.frame_header.proofs.{ClassLemmas.some_of_class, HeaderLemmas.IsClass-class_of}
 use Rattle.frame_header.proofs.LengthLemmas.{length-most}
@@ -9,12 +9,11 @@ use Rattle.frame_header.specs.Fields.{ClassFields, HeaderFields, IsHeader}
 use Rattle.frame_header.specs.Reading.{header_of_class}
 use Rattle.frame_header.specs.Tables.{area_of, class_of, length_of, overhead_of}
 use Rattle.outside.specs.{Counts.Counts, Files.{Files, Holds}}
-use Rattle.side_info.proofs.FrameLemmas.{side_in-take, stored_crc-take}
-use Rattle.side_info.specs.{Frame.{side_in, stored_crc}, Side.SideFits}
+use Rattle.side_info.{proofs.FrameLemmas.{side_in-take, stored_crc-take}, specs.Frame.stored_crc}
+use Rattle.side_info.specs.Side.{SideFits}
 use Rattle.sync_survey.proofs.BytesFaultLemmas.{frame_rightly}
 use Rattle.sync_survey.proofs.FaultsLemmas.{length-marked_rows, marked_rows-push, none-of}
-use Rattle.sync_survey.proofs.FoldersLemmas.{bytes_refusal, memory_refusal}
-use Rattle.sync_survey.proofs.FrontLemmas.{blocks_more}
+use Rattle.sync_survey.proofs.{FoldersLemmas.bytes_refusal, FrontLemmas.blocks_more}
 use Rattle.sync_survey.proofs.ItemsLemmas.{frame_of_header, header_front-in_range, some_by, stands}
 use Rattle.sync_survey.proofs.PlacedRowLemmas.{ArePlacedTo, placed_next, placed_same}
 use Rattle.sync_survey.proofs.ProgressLemmas.{first_fault, IsBegun, IsMarkedTo, IsSurveyedTo}
@@ -31,10 +30,10 @@ use Rattle.sync_survey.specs.Runs.{block_of_item, frame_of_item}
 use Rattle.sync_survey.specs.Survey.{BlocksAreLaid, FramesAreLaid, HasLength, IsSurveyRefusal}
 use Rattle.sync_survey.specs.SurveyFaultKinds.{RefusesRightly}
 use Rattle.sync_survey.specs.declared.{found.SurveySoFar.SurveySoFar, items.Item.Item}
-use Rattle.sync_survey.specs.declared.items.Item.TheVariants.{Block, End, Frame, Free, Nothing}
-use Rattle.sync_survey.specs.declared.{items.Item.TheVariants.Zero, places.{Head.Head, Piece.Piece}}
-use Rattle.sync_survey.specs.declared.{places.Start.Start, runs.Region.TheVariants.Stream}
-use Rattle.sync_survey.specs.declared.{runs.Step.Step, survey_fault.SurveyFault.SurveyFault}
+use Rattle.sync_survey.specs.declared.items.Item.TheVariants.{Block, Frame, Free, Zero}
+use Rattle.sync_survey.specs.declared.places.{Head.Head, Piece.Piece, Start.Start}
+use Rattle.sync_survey.specs.declared.runs.{Region.TheVariants.Stream, Step.Step}
+use Rattle.sync_survey.specs.declared.survey_fault.SurveyFault.{SurveyFault}
 
 -- ---- a whole frame is shown up to its area
 
@@ -90,8 +89,7 @@ module _ (file : List ℕ) (at : ℕ) (front : List ℕ) (left : ℕ) (shows : S
     (h : HeaderFields) (few : overhead_of (class_of h) h.protected ≤ look_size) where
   -- the row of a frame that is read from a look is the row of the file
   pub row_shown : row_in at h front ≡ row_of file (record { offset = at; header = h })
-  row_shown = ap (λ s. record { offset = at; header = h; side = s; lost = false })
-      (ap (side_in h) shows.front_is ∙ side_in-take h look_size (drop at file) few)
+  row_shown = grind (arith, side_in-take h look_size (drop at file) few)
 
   word_shown : stored_crc front ≡ stored_crc (drop at file)
   word_shown = ap stored_crc shows.front_is ∙ stored_crc-take look_size (drop at file) (omega arith)
@@ -111,8 +109,7 @@ few_before _ = Unit {0}
 -- a frame of at most 1,441 bytes has few bytes before its area
 pub few_by : (front : List ℕ) (item : Item) → item ≡ item_front front
     → ((h : HeaderFields) → item ≡ Frame h → size_of item ≤ 1441) → few_before item
-few_by front (Frame h) is few = omega (arith, overhead_few front (Frame h) h is refl, few h refl)
-few_by front _ is few = tt
+few_by front item is few = grind (arith, overhead_few)
 
 module _ (file : List ℕ) (start : Start) (head : Option Head) (allowed : ℕ) (old : SurveySoFar)
     (at : ℕ)
@@ -132,8 +129,7 @@ module _ (file : List ℕ) (start : Start) (head : Option Head) (allowed : ℕ) 
       → new.rows.items ≡ marked_rows head rows → new.pieces.items ≡ pieces
       → new.before.place ≡ place → new.before.ended ≡ ended
       → IsSurveyedTo file start head allowed rows pieces place ended (at + size) → IsOn new size
-  same rows pieces place ended new size rows_are pieces_are place_is ended_is there =
-      grind (arith, rows)
+  same rows pieces place ended new size rows_are pieces_are place_is ended_is there = grind arith
 
   blocks_kept : (blocks : List Piece) (new : SurveySoFar) (size : ℕ) → KeepsBlocks blocks old new
       → IsSurveyedTo file start head allowed frames
@@ -182,15 +178,8 @@ module _ (file : List ℕ) (start : Start) (head : Option Head) (allowed : ℕ) 
   pub kept : (item : Item) (new : SurveySoFar) (size : ℕ) → few_before item
       → Passes Stream file at item size → KeepsItem (class_from start) allowed at item front old new
       → IsOn new size
-  kept (Frame h) new size few passes keeps = frame_kept h new size few passes keeps
-  kept Free new size few passes keeps = grind (arith, none_kept, as_zero)
-  kept (Block b) new size few passes keeps =
-      blocks_kept (record { offset = at; block = b } ∷ []) new size keeps
-      (passed_block file start head allowed frames old.pieces.items old.before.place
-      old.before.ended at so_far.surveyed (record { offset = at; block = b }) size refl passes)
-  kept Zero new size few passes keeps = none_kept Zero new size passes keeps
-  kept End new size few passes keeps = grind (arith, none_kept, as_zero)
-  kept Nothing new size few passes keeps = grind (arith, none_kept, as_zero)
+  kept item new size few passes keeps =
+      grind (arith, frame_kept, none_kept, as_zero, blocks_kept, passed_block)
 
   -- the first fault of a frame is the fault of the file
   pub refused : (begun : IsBegun file start head) (item : Item) (size : ℕ) (fault : SurveyFault)
@@ -213,9 +202,7 @@ module _ (file : List ℕ) (start : Start) (head : Option Head) (allowed : ℕ) 
 pub fault_rightly : (class : ClassFields) (allowed at : ℕ) (item : Item) (front : List ℕ)
     (old : SurveySoFar) (fault : SurveyFault) → IsFrameFault class allowed at item front old fault
     → RefusesRightly fault
-fault_rightly class allowed at (Frame h) front old fault is =
-    frame_rightly (stored_crc front) class allowed
-    old.before.place old.before.ended (length old.rows.items) (row_in at h front) fault is
+fault_rightly class allowed at (Frame h) front old fault is = search (arith, frame_rightly)
 fault_rightly class allowed at Free front old fault is = absurd is
 fault_rightly class allowed at _ front old fault is = absurd is
 
@@ -267,12 +254,7 @@ module _ (head : Option Head) (first : ℕ) (class : ClassFields) (allowed at : 
   laid_blocks : (item : Item) (blocks : List Piece)
       → option_to_list (block_of_item at item) ≡ blocks → size_of item ≤ size
       → KeepsBlocks blocks old new → IsLaidTo head class first new (at + size)
-  laid_blocks item blocks are least keeps = record {
-    rows = grind (arith, laid_later);
-    pieces = grind (arith, blocks_more);
-    low = omega (arith, ap (λ b. b.place) keeps.before, laid.low);
-    placed = grind (arith, placed_same);
-  }
+  laid_blocks item blocks are least keeps = grind (arith, laid_later, blocks_more, placed_same)
 
   -- what is kept follows what was there before
   pub laid_more : (item : Item) → ((h : HeaderFields) → item ≡ Frame h → IsHeader h) → size_of item
@@ -300,10 +282,8 @@ fewer n allowed differ few = grind (arith, cases_lt, true≢false, eq-eqb)
 pub few_more : (class : ClassFields) (allowed at : ℕ) (front : List ℕ) (old new : SurveySoFar)
     (item : Item) → KeepsItem class allowed at item front old new → length old.rows.items ≤ allowed
     → length new.rows.items ≤ allowed
-few_more class allowed at front old new (Frame h) keeps few =
+few_more class allowed at front old new item keeps few =
     grind (arith, faults-none_sound, none-of, fewer, length-append)
-few_more class allowed at front old new Free keeps few = omega (arith, ap length keeps.rows, few)
-few_more class allowed at front old new _ keeps few = omega (arith, ap length keeps.rows, few)
 
 -- ---- the refusal of one item
 
@@ -317,13 +297,9 @@ pub pass_refusal : (name : List ℕ) (files : Files) (allowed : ℕ) (before aft
     → IsNotPassed class allowed at bytes left old fault
     → IsSurveyRefusal name files allowed before after fault
 pass_refusal name files allowed before after size fault class at bytes left old known same faulty
-    stops (inl memory) =
-    subst (IsSurveyRefusal name files allowed before after) (sym memory)
-    (memory_refusal name files allowed before after size known same)
+    stops (inl memory) = grind arith
 pass_refusal name files allowed before after size fault class at bytes left old known same faulty
-    stops (inr (inl is)) =
-    bytes_refusal name files allowed before after size fault known same (fault_rightly class allowed
-    at (item_front bytes) bytes old fault is.faulty) (λ file holds. faulty file holds is)
+    stops (inr (inl is)) = search (arith, bytes_refusal, same, fault_rightly)
 pass_refusal name files allowed before after size fault class at bytes left old known same faulty
     stops (inr (inr is)) =
     bytes_refusal name files allowed before after size fault known same
@@ -333,9 +309,4 @@ pass_refusal name files allowed before after size fault class at bytes left old 
 pub laid_end : (from : ℕ) (rows : List Row) (to : ℕ) → FramesAreLaid from rows to → from ≤ to
 laid_end from [] to laid = laid
 laid_end from (r ∷ rows) to laid =
-    grind (
-      arith,
-      rows,
-      laid_end (r.offset + length_of (class_of r.header) r.header.slot) rows to
-          laid.2,
-    )
+    grind (arith, laid_end (r.offset + length_of (class_of r.header) r.header.slot) rows to laid.2)

@@ -5,7 +5,7 @@ use Rattle.frame_header.proofs.{HeaderLemmas.IsClass-class_of, LengthLemmas.area
 use Rattle.frame_header.specs.Fields.{HeaderFields, IsHeader}
 use Rattle.frame_header.specs.Tables.{class_of, length_of, overhead_of}
 use Rattle.side_info.proofs.FrameLemmas.{overhead-most}
-use Rattle.sync_survey.proofs.FaultsLemmas.{none-of, some-append}
+use Rattle.sync_survey.proofs.FaultsLemmas.{none-of}
 use Rattle.sync_survey.proofs.WalkLemmas.{IsFound, no_fault, nothing_left, walk-is}
 use Rattle.sync_survey.specs.Faults.{all_faults, class_from, fault_or_survey, faults_from}
 use Rattle.sync_survey.specs.Faults.{fields_from, first_of, survey_fields, survey_from_start}
@@ -60,21 +60,13 @@ module _ (file : List ℕ) (allowed : ℕ) (start : Start) (head : Option Head)
 
   fields-are : fields_from file start ≡ fields
   unfolding fields_from
-  fields-are = ap (λ w. told_by file start w.head (rows_of file w.frames) w.blocks)
-      (walk-is file start head frames blocks stop found)
+  fields-are = grind (arith, walk-is file start head frames blocks stop found)
 
   -- if a frame is at fault, its first fault is the file's
   pub survey-frame : (fault : SurveyFault) → first_of of_frames ≡ Some fault
       → survey_fields file allowed ≡ Err fault
   survey-frame fault is =
-      grind (
-        arith,
-        survey-by file allowed (Ok start) found.start_is,
-        start,
-        faults-are,
-        some-append
-            of_frames (option_to_list end) fault is,
-      )
+      grind (arith, survey-by file allowed (Ok start) found.start_is, faults-are)
 
   last-fault : first_of of_frames ≡ None → (o : Option SurveyFault) → end ≡ o
       → first_of (faults_from file allowed start) ≡ first_of (option_to_list o)
@@ -103,17 +95,9 @@ pub record IsSurveyed (file : List ℕ) (allowed : ℕ) (s : SurveyFields) : Typ
   pub fields_are : fields_from file start ≡ s
   pub none : first_of (faults_from file allowed start) ≡ None
 
-fields_cases : (file : List ℕ) (allowed : ℕ) (start : Start) (s : SurveyFields)
-    (o : Option SurveyFault) → start_of file ≡ Ok start → first_of (faults_from file allowed start)
-    ≡ o → fault_or_survey o (fields_from file start) ≡ Ok s → IsSurveyed file allowed s
-fields_cases file allowed start s (Some fault) begins is e = absurd cc
-fields_cases file allowed start s None begins is e =
-    record { start = start; begins = begins; fields_are = cc; none = is }
-
 start_cases : (file : List ℕ) (allowed : ℕ) (s : SurveyFields) (r : Result Start SurveyFault)
     → start_of file ≡ r → survey_from_start file allowed r ≡ Ok s → IsSurveyed file allowed s
-start_cases file allowed s (Err fault) begins e = absurd cc
-start_cases file allowed s (Ok start) begins e = grind (arith, fields_cases, start, begins)
+start_cases file allowed s r begins e = grind arith
 
 -- a survey without fault has a start, and no fault from there on
 pub survey_fields-is : (file : List ℕ) (allowed : ℕ) (s : SurveyFields)
@@ -145,13 +129,7 @@ walk_fault file start none = nothing_left file (stream_run file start).stop (no_
 walked_by : (file : List ℕ) (start : Start) → drop (stream_run file start).stop file ≡ []
     → IsWalked file (fields_from file start) start
 unfolding fields_from walk_from
-walked_by file start left = record {
-  head_is = refl;
-  frames_are = refl;
-  junk_is = refl;
-  first_is = refl;
-  nothing_behind = left;
-}
+walked_by file start left = grind arith
 
 end_none : (file : List ℕ) (allowed : ℕ) (start : Start)
     → first_of (faults_from file allowed start) ≡ None → (walk_from file start).fault ≡ None

@@ -2,7 +2,7 @@
 -- from there on.
 use Rattle.std.proofs.Common.{ap, ap₂, arith, Bool, cond, drop, false, flat_map, length, List, None}
 use Rattle.std.proofs.Common.{not, Ok, Option, option_to_list, refl, slice_get, Some, suc, sym}
-use Rattle.std.proofs.Common.{true, zero, zero-add, ℕ, [], ◌++◌, ◌+◌, ◌<◌, ◌==◌, ◌∙◌, ◌∷◌, ◌≡◌, ◌≤◌}
+use Rattle.std.proofs.Common.{zero, zero-add, ℕ, [], ◌++◌, ◌+◌, ◌<◌, ◌==◌, ◌∙◌, ◌∷◌, ◌≡◌, ◌≤◌}
 use Rattle.std.proofs.lemmas.{Bool.ne_eqb, List.{length-map, FromFn.length-enumerate_from}}
 use Rattle.std.{proofs.lemmas.Option.slice_get_within, specs.List.enumerate_from}
 use Rattle.frame_header.specs.{Fields.ClassFields, Tables.class_of}
@@ -11,10 +11,10 @@ use Rattle.sync_survey.proofs.{FaultsLemmas.none-of, ItemListLemmas.{ends-within
 use Rattle.sync_survey.proofs.{RunsLemmas.item_run-ends, StartLemmas.start-first}
 use Rattle.sync_survey.proofs.SurveyLemmas.{survey-whole, survey_fields-is, told_by}
 use Rattle.sync_survey.specs.Faults.{all_faults, class_from, data_faults, fault_if_true, faults_at}
-use Rattle.sync_survey.specs.Faults.{faults_from, fields_from, first_of, frame_faults}
-use Rattle.sync_survey.specs.Faults.{has_wrong_crc, HoldsStream, overlaps, overruns, own_faults}
-use Rattle.sync_survey.specs.Faults.{points_too_far, stream_of, stream_of_survey, survey_fields}
-use Rattle.sync_survey.specs.{Faults.SurveyFields, Items.{item_at, same_class}}
+use Rattle.sync_survey.specs.Faults.{faults_from, fields_from, frame_faults, has_wrong_crc}
+use Rattle.sync_survey.specs.Faults.{HoldsStream, overlaps, overruns, own_faults, points_too_far}
+use Rattle.sync_survey.specs.Faults.{stream_of, stream_of_survey, survey_fields, SurveyFields}
+use Rattle.sync_survey.specs.Items.{item_at, same_class}
 use Rattle.sync_survey.specs.MainData.{data_end_before, lacks_data, place, row_of, rows_of}
 use Rattle.sync_survey.specs.{MainData.stream_frames, Row.Row, Runs.frames_of, Start.start_of}
 use Rattle.sync_survey.specs.Walk.{all_blocks, end_fault, fault_at, head_of, numbered_frames}
@@ -46,24 +46,14 @@ pub record IsRead (file : List ℕ) (allowed : ℕ) (start : Start) : Type 0 whe
 -- a file without fault has the survey that its start gives
 pub survey_fields-told : (file : List ℕ) (allowed : ℕ) (start : Start) → IsRead file allowed start
     → survey_fields file allowed ≡ Ok (told_from file start)
-survey_fields-told file allowed start read =
-    survey-whole file allowed start (head_of file start.first) (frames_from file start)
-    (all_blocks file start) (stream_run file start).stop
-    (record {
-      start_is = read.start_is;
-      head_is = refl;
-      frames_are = refl;
-      blocks_are = refl;
-      stop_is = grind arith;
-    }) (ap first_of read.frames) read.end
+survey_fields-told file allowed start read = grind (arith, survey-whole)
 
 empty_parts : (xs ys : List SurveyFault) → xs ++ ys ≡ [] → (xs ≡ []) × (ys ≡ [])
 empty_parts [] ys e = (refl, e)
 empty_parts (x ∷ xs) ys e = absurd cc
 
 no_last : (o : Option SurveyFault) → option_to_list o ≡ [] → o ≡ None
-no_last (Some fault) e = absurd cc
-no_last None e = refl
+no_last o e = grind arith
 
 fields_from-told : (file : List ℕ) (start : Start) → fields_from file start ≡ told_from file start
 unfolding fields_from walk_from
@@ -72,9 +62,7 @@ fields_from-told file start = refl
 is_read : (file : List ℕ) (allowed : ℕ) (start : Start) → start_of file ≡ Ok start
     → faults_from file allowed start ≡ [] → IsRead file allowed start
 unfolding faults_from walk_from
-is_read file allowed start is none =
-    let parts = empty_parts _ _ none in
-    record { start_is = is; frames = parts.0; end = no_last _ parts.1 }
+is_read file allowed start is none = grind (arith, empty_parts, no_last)
 
 -- a survey without fault has a start and is the survey that this gives
 pub survey_fields-parts : (file : List ℕ) (allowed : ℕ) (s : SurveyFields)
@@ -88,10 +76,6 @@ survey_fields-parts file allowed s e =
     )
 
 -- ---- a frame without fault
-
-nothing_true : (b : Bool) (fault : SurveyFault) → fault_if_true b fault ≡ [] → b ≡ false
-nothing_true true fault e = absurd cc
-nothing_true false fault e = refl
 
 nothing_false : (b : Bool) (fault : SurveyFault) → b ≡ false → fault_if_true b fault ≡ []
 nothing_false b fault e = ap (λ x. fault_if_true x fault) e
@@ -116,41 +100,23 @@ pub record IsSound (said : ℕ) (class : ClassFields) (allowed place ended count
 
 own-none_well : (place ended : ℕ) (r : Row) → own_faults place ended r ≡ []
     → StandWell place ended r
-own-none_well place ended r none =
-    let main = empty_parts _ _ none in
-    let begin = empty_parts _ _ main.0 in
-    record {
-      begins = nothing_true _ _ begin.0;
-      apart = nothing_true _ _ begin.1;
-      within = grind (arith, nothing_true);
-    }
+own-none_well place ended r none = grind arith
 
 well-no_own : (place ended : ℕ) (r : Row) → StandWell place ended r → own_faults place ended r ≡ []
 well-no_own place ended r well = grind (arith, empty_both, nothing_false)
 
 unless-none : (b : Bool) (xs : List SurveyFault) → cond b [] xs ≡ [] → b ≡ false → xs ≡ []
-unless-none true xs none is = absurd cc
-unless-none false xs none is = none
+unless-none b xs none is = grind arith
 
 none-unless : (b : Bool) (xs : List SurveyFault) → (b ≡ false → xs ≡ []) → cond b [] xs ≡ []
-none-unless true xs none = refl
-none-unless false xs none = none refl
+none-unless b xs none = grind arith
 
 module _ (said : ℕ) (class : ClassFields) (allowed place ended count : ℕ) (r : Row) where
   -- a frame without fault is sound
   pub faults-none_sound : faults_at said class allowed place ended count r ≡ []
       → IsSound said class allowed place ended count r
   unfolding faults_at
-  faults-none_sound none =
-      let all = empty_parts _ _ none in
-      let front = empty_parts _ _ all.0 in
-      let word = empty_parts _ _ front.0 in
-      record {
-        same = nothing_true _ _ word.0;
-        word = nothing_true _ _ word.1;
-        main = grind (arith, own-none_well, unless-none);
-        few = nothing_true _ _ all.1;
-      }
+  faults-none_sound none = grind arith
 
   -- a sound frame has no fault
   pub sound-no_faults : IsSound said class allowed place ended count r
@@ -236,8 +202,7 @@ sound_allowed file head class allowed other rows few sound = λ i r is.
 
 numbered_frames-few : (head : Option Head) (frames : List PlacedFrame)
     → length (numbered_frames head frames) ≤ length frames
-numbered_frames-few (Some head) (p ∷ ps) = omega arith
-numbered_frames-few _ _ = omega arith
+numbered_frames-few head frames = grind arith
 
 -- there are no more frames than bytes
 pub numbered-few : (file : List ℕ) (start : Start) → start_of file ≡ Ok start
@@ -285,9 +250,7 @@ survey_fields-stream file allowed s e =
 -- a file whose end has no fault has a frame
 pub some_frames : (file : List ℕ) (frames : List PlacedFrame) (o : Option SurveyFault)
     → end_fault file frames o ≡ None → 0 < length frames
-some_frames file (p ∷ ps) o e = omega arith
-some_frames file [] None e = absurd cc
-some_frames file [] (Some fault) e = absurd cc
+some_frames file frames o e = grind arith
 
 -- the stream of a survey has as many frames as the survey
 pub stream-length : (file : List ℕ) (s : SurveyFields)

@@ -1,6 +1,6 @@
 -- What the survey of a file that isn't too long says.
-use Rattle.std.proofs.Common.{arith, Bool, cond, Err, false, length, List, ltb, Ok, Result, true, ℕ}
-use Rattle.std.proofs.{Common.{◌+◌, ◌≡◌, ◌≤◌}, lemmas.Bool.ltb-false}
+use Rattle.std.proofs.Common.{arith, Bool, cond, Err, length, List, ltb, Ok, Result, ℕ, ◌+◌, ◌≡◌}
+use Rattle.std.proofs.Common.{◌≤◌}
 use Rattle.sync_survey.proofs.SurveyPartsLemmas.{survey_fields-allowed}
 use Rattle.sync_survey.specs.Faults.{IsWellFormed, longest_file, survey_fields, SurveyFields}
 use Rattle.sync_survey.specs.{Survey.survey_of, declared.survey_fault.SurveyFault.SurveyFault}
@@ -8,8 +8,7 @@ use Rattle.sync_survey.specs.{Survey.survey_of, declared.survey_fault.SurveyFaul
 long_cases : (long : Bool) (file : List ℕ) (r : Result SurveyFields SurveyFault)
     (fault : SurveyFault) (s : SurveyFields) → ltb longest_file (length file) ≡ long
     → cond long (Err fault) r ≡ Ok s → (length file ≤ longest_file) × (r ≡ Ok s)
-long_cases true file r fault s is e = absurd cc
-long_cases false file r fault s is e = (ltb-false longest_file (length file) is, e)
+long_cases long file r fault s is e = grind arith
 
 -- a surveyed file isn't too long, and its bytes have this survey
 pub survey_of-parts : (file : List ℕ) (allowed : ℕ) (s : SurveyFields)

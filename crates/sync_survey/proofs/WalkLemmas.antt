@@ -1,6 +1,6 @@
 -- The walk over a whole file, from what the parts of the code find.
-use Rattle.std.proofs.Common.{ap, arith, drop, length, List, None, Ok, Option, option_map, refl}
-use Rattle.std.proofs.Common.{Some, sym, take, unwrap_or, ℕ, [], ◌++◌, ◌+◌, ◌<◌, ◌∙◌, ◌∷◌, ◌≡◌, ◌≤◌}
+use Rattle.std.proofs.Common.{ap, arith, drop, length, List, None, Ok, Option, option_map, Some}
+use Rattle.std.proofs.Common.{take, unwrap_or, ℕ, [], ◌++◌, ◌+◌, ◌<◌, ◌∙◌, ◌≡◌, ◌≤◌}
 use Rattle.std.proofs.{Math.Seq.drop-length, lemmas.List.take-take}
 use Rattle.frame_header.specs.Tables.{class_of, length_of}
 use Rattle.info_header.specs.HeadText.{head_text_of}
@@ -13,9 +13,9 @@ use Rattle.sync_survey.specs.Runs.{blocks_of, bytes_of_items, frames_of, item_ru
 use Rattle.sync_survey.specs.Start.{start_of}
 use Rattle.sync_survey.specs.Walk.{all_blocks, end_fault, fault_at, head_of, numbered_frames}
 use Rattle.sync_survey.specs.Walk.{numbered_offset, stream_run, walk_from}
-use Rattle.sync_survey.specs.declared.items.Item.{Item, TheVariants.{End, Frame}}
-use Rattle.sync_survey.specs.declared.places.{Head.Head, Piece.Piece, PlacedFrame.PlacedFrame}
-use Rattle.sync_survey.specs.declared.{places.Start.Start, runs.Region.TheVariants.Stream}
+use Rattle.sync_survey.specs.declared.{items.Item.{Item, TheVariants.Frame}, places.Head.Head}
+use Rattle.sync_survey.specs.declared.places.{Piece.Piece, PlacedFrame.PlacedFrame, Start.Start}
+use Rattle.sync_survey.specs.declared.runs.Region.TheVariants.{Stream}
 use Rattle.sync_survey.specs.declared.survey_fault.SurveyFault.{SurveyFault}
 
 -- ---- after the head
@@ -31,26 +31,23 @@ pub numbered_frames-run : (file : List ℕ) (start : Start) (head : Option Head)
     → whole_item_at Stream file start.first.offset ≡ Some (Frame start.first.header) →
     frames_of (item_run Stream file (numbered_offset start.first head)).items
     ≡ numbered_frames head (frames_of (stream_run file start).items)
-numbered_frames-run file start None first = refl
-numbered_frames-run file start (Some head) first =
-    sym (ap (drop 1) (frames-next Stream file start.first.offset (Frame start.first.header) first))
+numbered_frames-run file start head first =
+    grind (arith, frames-next Stream file start.first.offset (Frame start.first.header) first)
 
 -- the blocks from the first numbered frame on are the blocks of the stream
 pub numbered-blocks : (file : List ℕ) (start : Start) (head : Option Head)
     → whole_item_at Stream file start.first.offset ≡ Some (Frame start.first.header) →
     blocks_of (item_run Stream file (numbered_offset start.first head)).items
     ≡ blocks_of (stream_run file start).items
-numbered-blocks file start None first = refl
-numbered-blocks file start (Some head) first =
-    sym (blocks-next Stream file start.first.offset (Frame start.first.header) first)
+numbered-blocks file start head first =
+    grind (arith, blocks-next Stream file start.first.offset (Frame start.first.header) first)
 
 -- a run from there stops where the stream does
 pub numbered-stop : (file : List ℕ) (start : Start) (head : Option Head)
     → whole_item_at Stream file start.first.offset ≡ Some (Frame start.first.header) →
     (item_run Stream file (numbered_offset start.first head)).stop ≡ (stream_run file start).stop
-numbered-stop file start None first = refl
-numbered-stop file start (Some head) first = sym (ap (λ r. r.stop)
-    (item_run-next Stream file start.first.offset (Frame start.first.header) first))
+numbered-stop file start head first =
+    grind (arith, item_run-next Stream file start.first.offset (Frame start.first.header) first)
 
 -- ---- the whole walk
 
@@ -81,20 +78,16 @@ walk-is file start head frames blocks stop found = grind arith
 
 at_end : (rest : List ℕ) (at : ℕ) (item : Item) → IsItemFront rest item → fault_at at item ≡ None
     → rest ≡ []
-at_end rest at End here e = here
-at_end rest at _ here e = absurd cc
+at_end rest at item here e = grind arith
 
 -- a file without fault at its end has none where the walk stops
 pub no_fault : (file : List ℕ) (frames : List PlacedFrame) (o : Option SurveyFault)
     → end_fault file frames o ≡ None → o ≡ None
-no_fault file frames None e = refl
-no_fault file [] (Some fault) e = absurd cc
-no_fault file (p ∷ ps) (Some fault) e = absurd cc
+no_fault file frames o e = grind arith
 
 stop_by : (bytes : List ℕ) (at : ℕ) (item : Item) (r d : SurveyFault) → IsItemFront bytes item
     → 0 < length bytes → r ≡ unwrap_or (fault_at at item) d → fault_at at item ≡ Some r
-stop_by bytes at End r d here some is = absurd (omega (arith, ap length here, some))
-stop_by bytes at _ r d here some is = ap Some (sym is)
+stop_by bytes at item r d here some is = grind arith
 
 -- before the end of the file something stops the walk
 pub stop_is : (bytes : List ℕ) (at : ℕ) (r d : SurveyFault) → 0 < length bytes
@@ -124,8 +117,7 @@ reach-end file start frames stop is none =
       no_fault,
       drop-length file,
       bytes-ends,
-      item_run-ends Stream file
-          start.first.offset,
+      item_run-ends Stream file start.first.offset,
     )
 
 -- ---- a head that a look shows

@@ -1,7 +1,7 @@
 -- What a frame with all main data is in a stream
 -- determines the frame, but for its slot and its begin.
 use Rattle.std.proofs.Common.{ap, ap₂, arith, Bool, drop, false, length, List, map, refl, sum, sym}
-use Rattle.std.proofs.Common.{take, true, ℕ, [], ◌++◌, ◌+◌, ◌/◌, ◌∙◌, ◌∷◌, ◌≡◌}
+use Rattle.std.proofs.Common.{take, ℕ, [], ◌++◌, ◌+◌, ◌/◌, ◌∙◌, ◌∷◌, ◌≡◌}
 use Rattle.std.proofs.lemmas.List.{length-drop, length-take-le, take-append-drop, Sums.sum_by-cons}
 use Rattle.std.specs.List.{concat}
 use Rattle.bit_fields.{proofs.BitsLemmas.{bits-injective, length-bits}, specs.Bits.bits}
@@ -144,8 +144,7 @@ module _ (c : ClassFields) (known : IsClass c) where
 
 -- In the slots of a plan, bare frames are the same as the frames themselves.
 one-bare : (b : Bool) (p : Placed) (f : Frame) → one b p (bare f) ≡ one b p f
-one-bare true p f = refl
-one-bare false p f = refl
+one-bare b p f = grind arith
 
 relaid_frames-bare : (fs : List Frame) (placed : List Placed)
     → relaid_frames (map bare fs) placed ≡ relaid_frames fs placed

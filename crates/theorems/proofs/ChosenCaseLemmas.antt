@@ -15,10 +15,9 @@ use Rattle.frame_header.specs.{Fields.{ClassFields, HeaderFields, SlotFields}, T
 use Rattle.job_words.specs.Request.{Cut, Pack}
 use Rattle.laying.specs.{Laid.stream_laid, NeedsFit.IsPlacedSurvey}
 use Rattle.outside.specs.Files.{Contents}
-use Rattle.pack_edits.proofs.LimitLemmas.{limited-made}
 use Rattle.pack_edits.specs.Modes.{limited_result, mode_limit, mode_planning, mode_refuses}
-use Rattle.pack_edits.specs.Modes.{most_best, pack_mode_command, pack_task}
-use Rattle.requests.specs.declared.mode.PackMode.{PackMode, TheVariants.Best}
+use Rattle.pack_edits.specs.Modes.{pack_mode_command, pack_task}
+use Rattle.requests.specs.declared.mode.PackMode.{PackMode}
 use Rattle.salvage_edits.proofs.StreamLemmas.{whole-stream}
 use Rattle.slot_plan.specs.declared.needs.Placed.{Placed}
 use Rattle.sync_survey.proofs.PlacedRowLemmas.{survey_fields-placed}
@@ -159,8 +158,7 @@ cut-holds from to least input output files made e =
 -- a packing within its limit makes what it makes without it
 pub packed-made : (mode : PackMode) (o : Option (List ℕ)) (r : Result (List ℕ) EditFault)
     (new : List ℕ) → limited_result (mode_limit mode) o r ≡ Ok new → r ≡ Ok new
-packed-made Best o r new e = limited-made most_best o r new e
-packed-made _ o r new e = e
+packed-made mode o r new e = grind arith
 
 -- a packing holds the frames that its job chooses
 pub pack-holds : (mode : PackMode) (input output : List ℕ)

@@ -28,7 +28,7 @@ use Rattle.sync_survey.specs.declared.items.Item.TheVariants.{Block, End, Frame,
 use Rattle.sync_survey.specs.declared.{items.Item.TheVariants.Zero, places.Head.Head}
 use Rattle.sync_survey.specs.declared.places.{PlacedFrame.PlacedFrame, Start.Start}
 use Rattle.sync_survey.specs.declared.runs.Region.TheVariants.{Stream}
-use Rattle.sync_survey.specs.declared.survey_fault.SurveyFault.{SurveyFault, TheVariants.NoFrame}
+use Rattle.sync_survey.specs.declared.survey_fault.SurveyFault.{SurveyFault}
 use Rattle.theorems.proofs.CutItemLemmas.{cut, cut-none, drop-cut, item-kept, length-cut}
 use Rattle.theorems.proofs.CutRunLemmas.{cut-run, IsCutRun, IsStop, MayBeCut, stop-fault}
 
@@ -36,8 +36,7 @@ use Rattle.theorems.proofs.CutRunLemmas.{cut-run, IsCutRun, IsStop, MayBeCut, st
 
 numbered_frames-append : (head : Option Head) (p : PlacedFrame) (xs ys : List PlacedFrame)
     → numbered_frames head (p ∷ (xs ++ ys)) ≡ numbered_frames head (p ∷ xs) ++ ys
-numbered_frames-append None p xs ys = refl
-numbered_frames-append (Some head) p xs ys = refl
+numbered_frames-append head p xs ys = grind arith
 
 -- ---- frames within the first bytes
 
@@ -292,10 +291,7 @@ module _ (file : List ℕ) (n : ℕ) (within : n ≤ length file) (start : Start
 
   end_cases : (ps : List PlacedFrame) (o : Option SurveyFault) → MayBeCut file n within o
       → MayBeCut file n within (end_fault front ps o)
-  end_cases (p ∷ ps) o (inl none) = inl (ap (end_fault front (p ∷ ps)) none)
-  end_cases [] o (inl none) = inr (NoFrame (length front), ap (end_fault front []) none, tt)
-  end_cases (p ∷ ps) o (inr found) = inr (found.0, ap (end_fault front (p ∷ ps)) found.1, found.2)
-  end_cases [] o (inr found) = inr (found.0, ap (end_fault front []) found.1, found.2)
+  end_cases ps o h = grind arith
 
   -- the fault at the end is one of a file that was cut short
   pub end-now : MayBeCut file n within

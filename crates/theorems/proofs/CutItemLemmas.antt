@@ -1,8 +1,7 @@
 -- What bytes that were cut short begin with: the item that was there, or nothing that is known.
-use Rattle.std.proofs.Common.{ap, arith, Bool, codes, drop, Err, false, inl, inr, leb, length, List}
-use Rattle.std.proofs.Common.{None, Ok, Option, refl, Some, sym, take, true, ℕ, [], ◌++◌, ◌+◌, ◌-◌}
-use Rattle.std.proofs.Common.{◌<◌, ◌∙◌, ◌∷◌, ◌≡◌, ◌≢◌, ◌≤◌, ◌⊎◌}
-use Rattle.std.proofs.lemmas.Bool.{and_parts, false≢true, leb-true}
+use Rattle.std.proofs.Common.{ap, arith, Bool, drop, Err, inl, inr, leb, length, List, None, Ok}
+use Rattle.std.proofs.Common.{Option, refl, Some, sym, take, true, ℕ, [], ◌++◌, ◌+◌, ◌-◌, ◌<◌, ◌∙◌}
+use Rattle.std.proofs.Common.{◌∷◌, ◌≡◌, ◌≢◌, ◌≤◌, ◌⊎◌}
 use Rattle.std.proofs.lemmas.List.{drop-take, length-take, length-take-le, take-append-drop}
 use Rattle.std.proofs.lemmas.{List.take-take, Slice.Eq.bytes_eq-Decides}
 use Rattle.frame_header.specs.declared.header.NotHeader.TheVariants.{Free as FreeHeader, No}
@@ -18,15 +17,13 @@ use Rattle.sync_survey.specs.declared.{items.Item.TheVariants.Zero, runs.Region.
 use Rattle.tag_blocks.proofs.BlocksLemmas.{block_front-any, block_front-begins, block_front-own}
 use Rattle.tag_blocks.specs.Blocks.{begins, begins_with, block_front, is_ape, is_id3v1, is_id3v2}
 use Rattle.tag_blocks.specs.declared.block.{Block.Block as TagBlock, Kind.Kind}
-use Rattle.tag_blocks.specs.declared.block.Kind.TheVariants.{Ape, Id3v1, Id3v2}
 
 -- ---- how many bytes an item is known by
 
 header_long : (bytes : List ℕ) (b : Bool) → leb 4 (length bytes) ≡ b → header_front bytes ≢ Err No
     → 4 ≤ length bytes
 unfolding header_front
-header_long bytes true is other = leb-true 4 (length bytes) is
-header_long bytes false is other = grind (arith, is)
+header_long bytes b is other = grind arith
 
 header-long : (bytes : List ℕ) → header_front bytes ≢ Err No → 4 ≤ length bytes
 header-long bytes other = header_long bytes (leb 4 (length bytes)) refl other
@@ -40,9 +37,7 @@ text-long text bytes is = sym ((bytes_eq-Decides text (take (length text) bytes)
 pub begins-long : (kind : Kind) (bytes : List ℕ) → begins kind bytes ≡ true
     → known_by kind ≤ length bytes
 unfolding is_id3v2 is_id3v1 is_ape
-begins-long Id3v2 bytes is = grind (arith, leb-true, and_parts, is)
-begins-long Id3v1 bytes is = grind (arith, length-take, text-long, codes, is)
-begins-long Ape bytes is = grind (arith, leb-true, and_parts, is)
+begins-long kind bytes is = grind arith
 
 -- ---- the first item of bytes
 
@@ -128,14 +123,11 @@ module _ (file : List ℕ) (n : ℕ) (within : n ≤ length file) where
     pub over : n < at + size_of item
 
   none-unless : (o : Option Item) → ((item : Item) → o ≡ Some item → ⊥) → o ≡ None
-  none-unless None not = refl
-  none-unless (Some item) not = absurd (not item refl)
+  none-unless o not = grind arith
 
   not_whole : (part : Region) (at : ℕ) (item now : Item) → IsCutItem now item
       → n < at + size_of item → belongs part now ≡ true → at + size_of now ≤ n → ⊥
-  not_whole part at item now (inl same) over is fit = omega (arith, over, ap size_of same, fit)
-  not_whole part at item now (inr (inl same)) over is fit = grind (arith, false≢true, is)
-  not_whole part at item now (inr (inr same)) over is fit = grind (arith, false≢true, is)
+  not_whole part at item now h over is fit = grind arith
 
   -- an item that was cut through isn't whole
   pub cut-none : (part : Region) (at : ℕ) (item : Item) → IsCutThrough part at item

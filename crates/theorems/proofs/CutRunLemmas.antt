@@ -17,8 +17,7 @@ use Rattle.sync_survey.specs.declared.items.Item.TheVariants.{Block, End, Frame,
 use Rattle.sync_survey.specs.declared.{items.Item.TheVariants.Zero, places.Start.Start}
 use Rattle.sync_survey.specs.declared.runs.Region.{Region, TheVariants.{Front, Stream}}
 use Rattle.sync_survey.specs.declared.survey_fault.SurveyFault.{SurveyFault}
-use Rattle.sync_survey.specs.declared.survey_fault.SurveyFault.TheVariants.{LostSync, NoFrame}
-use Rattle.sync_survey.specs.declared.survey_fault.SurveyFault.TheVariants.{Truncated}
+use Rattle.sync_survey.specs.declared.survey_fault.SurveyFault.TheVariants.{NoFrame, Truncated}
 use Rattle.theorems.proofs.CutItemLemmas.{cut, cut-none, IsCutItem, IsCutThrough, item-cut}
 use Rattle.theorems.proofs.{CutItemLemmas.{item-kept, length-cut}, CutStartLemmas.no-start}
 use Rattle.theorems.specs.CutLaws.{IsCutFault}
@@ -92,19 +91,9 @@ module _ (file : List ℕ) (n : ℕ) (within : n ≤ length file) where
   abbrev pub MayBeCut : Option SurveyFault → Type 0
   MayBeCut o = (o ≡ None) ⊎ ((fault : SurveyFault) × (o ≡ Some fault) × IsCutFault fault)
 
-  fault_by : (at : ℕ) (item : Item) → belongs Stream item ≡ true → MayBeCut (fault_at at item)
-  fault_by at (Frame h) is = inr (Truncated at, refl, tt)
-  fault_by at Free is = absurd (false≢true is)
-  fault_by at (Block b) is = inr (Truncated at, refl, tt)
-  fault_by at Zero is = inr (LostSync at, refl, tt)
-  fault_by at End is = absurd (false≢true is)
-  fault_by at Nothing is = absurd (false≢true is)
-
   fault_cases : (at : ℕ) (x item : Item) → belongs Stream item ≡ true → IsCutItem x item
       → MayBeCut (fault_at at x)
-  fault_cases at x item is (inl same) = grind (arith, fault_by)
-  fault_cases at x item is (inr (inl same)) = inl (ap (fault_at at) same)
-  fault_cases at x item is (inr (inr same)) = inr (LostSync at, ap (fault_at at) same, tt)
+  fault_cases at x item is h = grind arith
 
   -- where the stream stops now
   pub stop-fault : (at : ℕ) (item : Item) → IsCutThrough file n within Stream at item
@@ -114,9 +103,7 @@ module _ (file : List ℕ) (n : ℕ) (within : n ≤ length file) where
   -- ---- the start
 
   front-item : (x : Item) (h : HeaderFields) → IsCutItem x (Frame h) → belongs Front x ≡ false
-  front-item x h (inl same) = ap (belongs Front) same
-  front-item x h (inr (inl same)) = ap (belongs Front) same
-  front-item x h (inr (inr same)) = ap (belongs Front) same
+  front-item x h h2 = grind arith
 
   not-in-front : (at : ℕ) (x : Item) → item_at now at ≡ x → belongs Front x ≡ false
       → whole_item_at Front now at ≡ None

@@ -1,7 +1,7 @@
 -- Where the stream of a file that was cut short starts.
-use Rattle.std.proofs.Common.{ap, arith, codes, drop, Err, get_or, inl, inr, length, List, lit<}
-use Rattle.std.proofs.Common.{None, Ok, Option, refl, Some, suc, sym, take, true, zero, ℕ, ◌+◌, ◌-◌}
-use Rattle.std.proofs.{Common.{◌<◌, ◌∙◌, ◌≡◌, ◌≤◌}, lemmas.Bool.{and_parts, cases_lt, false≢true}}
+use Rattle.std.proofs.Common.{ap, arith, codes, drop, Err, get_or, inl, inr, length, List, None, Ok}
+use Rattle.std.proofs.Common.{Option, Some, sym, take, true, ℕ, ◌+◌, ◌-◌, ◌<◌, ◌∙◌, ◌≡◌, ◌≤◌}
+use Rattle.std.proofs.lemmas.Bool.{and_parts, cases_lt, false≢true}
 use Rattle.std.proofs.lemmas.List.{get_or-drop, get_or-take, take-take}
 use Rattle.frame_header.proofs.HeaderLemmas.{IsClass-class_of}
 use Rattle.frame_header.proofs.LengthLemmas.{least_length, length-least}
@@ -21,8 +21,7 @@ use Rattle.sync_survey.specs.declared.runs.Region.TheVariants.{Stream}
 use Rattle.sync_survey.specs.declared.survey_fault.SurveyFault.TheVariants.{NoFrame}
 use Rattle.tag_blocks.proofs.BlocksLemmas.{block_front-any, block_front-begins, block_front-own}
 use Rattle.tag_blocks.specs.Blocks.{begins, block_front, is_ape}
-use Rattle.tag_blocks.specs.declared.block.{Block.Block as TagBlock, Kind.Kind}
-use Rattle.tag_blocks.specs.declared.block.Kind.TheVariants.{Ape, Id3v1, Id3v2}
+use Rattle.tag_blocks.specs.declared.block.{Block.Block as TagBlock, Kind.{Kind, TheVariants.Ape}}
 use Rattle.theorems.proofs.CutItemLemmas.{cut, drop-cut, IsCutThrough, length-cut, text-long}
 
 -- ---- no frame after an item that was cut through and isn't known
@@ -35,20 +34,10 @@ unfolding is_ape
 ape-text bytes is = grind (arith, text-long, codes, and_parts)
 
 text-low : (j : ℕ) → j < 8 → get_or (codes "APETAGEX") j 0 < 255
-text-low zero within = lit< tt
-text-low (suc zero) within = lit< tt
-text-low (suc (suc zero)) within = lit< tt
-text-low (suc (suc (suc zero))) within = lit< tt
-text-low (suc (suc (suc (suc zero)))) within = lit< tt
-text-low (suc (suc (suc (suc (suc zero))))) within = lit< tt
-text-low (suc (suc (suc (suc (suc (suc zero)))))) within = lit< tt
-text-low (suc (suc (suc (suc (suc (suc (suc zero))))))) within = lit< tt
-text-low (suc (suc (suc (suc (suc (suc (suc (suc j)))))))) within = absurd (omega (arith, within))
+text-low j within = grind arith
 
 few-known : (kind : Kind) (k : ℕ) → 25 ≤ k → k < known_by kind → (kind ≡ Ape) × (k < 32)
-few-known Id3v2 k many few = absurd (omega (arith, many, few))
-few-known Id3v1 k many few = absurd (omega (arith, many, few))
-few-known Ape k many few = (refl, few)
+few-known kind k many few = grind arith
 
 module _ (file : List ℕ) (n : ℕ) (within : n ≤ length file) where
   abbrev now : List ℕ
@@ -118,8 +107,7 @@ module _ (file : List ℕ) (n : ℕ) (within : n ≤ length file) where
   later-none at Nothing h offset here is over unknown later = false≢true is
 
   no-placed : (o : Option PlacedFrame) → ((p : PlacedFrame) → o ≡ Some p → ⊥) → o ≡ None
-  no-placed None not = refl
-  no-placed (Some p) not = absurd (not p refl)
+  no-placed o not = grind arith
 
   -- no frame is anchored after an item that was cut through
   pub no-anchor : (at : ℕ) (item : Item) → IsCutThrough file n within Stream at item

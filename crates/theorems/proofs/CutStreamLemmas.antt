@@ -1,13 +1,13 @@
 -- The stream of a file that was cut short: the first
 -- frames of the file's stream, with the same main data.
-use Rattle.std.proofs.Common.{ap, append_assoc, ap₂, arith, Bool, cond, drop, false, length}
-use Rattle.std.proofs.Common.{length-append, length-drop, List, map, None, Option, refl, Some}
-use Rattle.std.proofs.Common.{subst, suc, sym, take, true, zero, ℕ, [], ◌*◌, ◌++◌, ◌+◌, ◌-◌, ◌∙◌}
-use Rattle.std.proofs.{Common.{◌∷◌, ◌≡◌, ◌≤◌}, lemmas.{Bool.ltb-false, Grind.flat_map-append}}
+use Rattle.std.proofs.Common.{ap, append_assoc, ap₂, arith, Bool, cond, drop, length, length-append}
+use Rattle.std.proofs.Common.{length-drop, List, map, Option, refl, Some, subst, suc, sym, take}
+use Rattle.std.proofs.Common.{zero, ℕ, [], ◌++◌, ◌+◌, ◌-◌, ◌∙◌, ◌∷◌, ◌≡◌, ◌≤◌}
+use Rattle.std.proofs.lemmas.{Bool.ltb-false, Grind.flat_map-append}
 use Rattle.std.proofs.lemmas.List.{drop-take, length-take-le, map-append, take-take}
 use Rattle.std.proofs.lemmas.{List.Sums.sum_by-cons, Option.slice_get_within}
 use Rattle.std.specs.{List.enumerate_from, Prelude.{flat_map, option_map, slice_get, sum_by}}
-use Rattle.bit_fields.{proofs.BitsLemmas.bits-front, specs.Bits.bits}
+use Rattle.bit_fields.proofs.BitsLemmas.{bits-front}
 use Rattle.frame_header.proofs.{HeaderLemmas.IsClass-class_of, SlotLemmas.area-is}
 use Rattle.frame_header.specs.Fields.{ClassFields, HeaderFields, IsHeader}
 use Rattle.frame_header.specs.Tables.{class_of, length_of, overhead_of}
@@ -15,13 +15,12 @@ use Rattle.info_header.specs.HeadText.{head_text_of}
 use Rattle.side_info.{proofs.SideLemmas.bits_least, specs.Side.{no_side, payload_bits}}
 use Rattle.sync_survey.proofs.FaultsLemmas.{end-more, enumerate-append, map-numbers, place-more}
 use Rattle.sync_survey.proofs.SurveyPartsLemmas.{data-none_well}
-use Rattle.sync_survey.specs.MainData.{area_bytes, data_end_before, end_of_data, granule_lengths}
-use Rattle.sync_survey.specs.MainData.{head_area, head_bytes, lacks_data, main_bytes, marked_row}
-use Rattle.sync_survey.specs.MainData.{marked_rows, own_area, payload_at, place, row_side, rows_of}
-use Rattle.sync_survey.specs.MainData.{split_bits, start_of_data, stream_frame, stream_frames}
-use Rattle.sync_survey.specs.{MainData.StreamFrame, Row.Row, Survey.AreWellPlaced}
-use Rattle.sync_survey.specs.{Walk.{frame_bytes, head_of}, declared.places.Head.Head}
-use Rattle.sync_survey.specs.declared.places.PlacedFrame.{PlacedFrame}
+use Rattle.sync_survey.specs.MainData.{area_bytes, granule_lengths, head_area, head_bytes}
+use Rattle.sync_survey.specs.MainData.{lacks_data, main_bytes, marked_row, marked_rows, own_area}
+use Rattle.sync_survey.specs.MainData.{payload_at, place, row_side, rows_of, split_bits}
+use Rattle.sync_survey.specs.MainData.{start_of_data, stream_frame, stream_frames, StreamFrame}
+use Rattle.sync_survey.specs.{Row.Row, Survey.AreWellPlaced, Walk.{frame_bytes, head_of}}
+use Rattle.sync_survey.specs.declared.places.{Head.Head, PlacedFrame.PlacedFrame}
 use Rattle.theorems.proofs.{CutFrameLemmas.{AreIn, IsIn}, CutItemLemmas.{cut, drop-cut, length-cut}}
 
 -- ---- marks
@@ -147,8 +146,7 @@ module _ (file : List ℕ) (n : ℕ) (within : n ≤ length file) where
 
     head_by : (o : Option ℕ) → (head_bytes now (head_with o) ≡ head_bytes file (head_with o))
         × (length (head_bytes now (head_with o)) ≡ head_area (head_with o))
-    head_by None = (refl, refl)
-    head_by (Some text) = grind (arith, area-same, area-long)
+    head_by o = grind (arith, area-same, area-long)
 
     head-parts : (head_bytes now (head_of file p) ≡ head_bytes file (head_of file p))
         × (length (head_bytes now (head_of file p)) ≡ head_area (head_of file p))
@@ -197,21 +195,17 @@ module _ (file : List ℕ) (n : ℕ) (within : n ≤ length file) where
           → let start = start_of_data (place head rows i) r in
           payload_at (main ++ (main-front rows more are).0) start (cond lost no_side r.side)
           ≡ payload_at main start (cond lost no_side r.side)
-      payload_by i r true found is =
-          let start = start_of_data (place head rows i) r in
-          let rest = (main-front rows more are).0 in
-          ap (λ k. take k (drop (8 * start) (bits (main ++ rest)))) no-bits
-          ∙ sym (ap (λ k. take k (drop (8 * start) (bits main))) no-bits)
-      payload_by i r false found is =
-          let start = start_of_data (place head rows i) r in
-          let here = placed i r found in
-          let well = data-none_well (place head rows i)
-          (data_end_before head rows i) r here.sound (sym here.mark ∙ is) in
-          let ends : end_of_data (place head rows i) r ≤ place head rows i + own_area r.header =
-          ltb-false (place head rows i + own_area r.header)
-          (end_of_data (place head rows i) r) well.within in
-          bits-front main (main-front rows more are).0 start (payload_bits r.side)
-          (omega (arith, ends, bits_least r.side, place-within rows i r are found))
+      payload_by i r lost found is =
+          grind (
+            arith,
+            main-front,
+            no-bits,
+            data-none_well,
+            ltb-false,
+            bits-front,
+            bits_least,
+            place-within,
+          )
 
       frame-same : (i : ℕ) (r : Row) → slice_get rows i ≡ Some r
           → stream_frame (main_bytes file head (rows ++ more)) head (rows ++ more) i r

@@ -322,9 +322,7 @@ module _ (file : List ℕ) (s : SurveyFields) (has : CanBeRelaid file s) where
     led-more : (needs : List Need) (ps : List Placed) → AreLedInOwnSlots window needs ps
         → length ps ≡ length needs + 1
     unfolding AreLedInOwnSlots
-    led-more [] ps led = absurd led
-    led-more (need ∷ needs) [] led = absurd led
-    led-more (need ∷ needs) (p ∷ ps) led = omega (arith, own-many (need ∷ needs) ps led.2)
+    led-more needs ps led = grind (arith, own-many)
 
     -- laid the first way, it has no lead-in
     pub own-leads : IsLaidOwn → leads span ≡ 0

@@ -1,8 +1,8 @@
 -- The numbers in the Info frame of exact pieces that are joined in
 -- order: the numbers of the span from the first place to the last.
-use Rattle.std.proofs.Common.{ap, ap₂, arith, Bool, cond, drop, false, get_or, IsTrue, length, List}
-use Rattle.std.proofs.Common.{None, Ok, refl, replicate, Some, subst, sym, take, true, ℕ, [], ◌*◌}
-use Rattle.std.proofs.Common.{◌++◌, ◌+◌, ◌-◌, ◌<◌, ◌∙◌, ◌∷◌, ◌≡◌, ◌≤◌}
+use Rattle.std.proofs.Common.{ap, ap₂, arith, Bool, cond, drop, get_or, IsTrue, length, List, None}
+use Rattle.std.proofs.Common.{Ok, refl, replicate, Some, subst, sym, take, ℕ, [], ◌*◌, ◌++◌, ◌+◌}
+use Rattle.std.proofs.Common.{◌-◌, ◌<◌, ◌∙◌, ◌∷◌, ◌≡◌, ◌≤◌}
 use Rattle.std.proofs.lemmas.Bool.{and_from, le-leb, lt-ltb}
 use Rattle.std.proofs.lemmas.List.{get_or-append-add, get_or-drop, length-append, length-drop}
 use Rattle.std.proofs.lemmas.List.{length-map, length-replicate, length-take-le, take-append-le}
@@ -20,7 +20,7 @@ use Rattle.exact_span.specs.Spans.{AreLeads, delay_of, frames_before, padding_of
 use Rattle.exact_span.specs.{Spans.warm_up_frame, declared.exact_place.ExactPlace.ExactPlace}
 use Rattle.exact_span.specs.declared.{played.Played.Played, span.Span.Span}
 use Rattle.frame_header.specs.{Fields.{ClassFields, IsClass}, Tables.samples_of}
-use Rattle.frame_header.specs.declared.version.Version.{Version, TheVariants.One}
+use Rattle.frame_header.specs.declared.version.Version.{Version}
 use Rattle.info_header.specs.declared.fields.Info.{Info}
 use Rattle.join_edits.proofs.NumberLemmas.{rest-counted}
 use Rattle.join_edits.proofs.RunPartLemmas.{AreWholeFiles, IsWholeFile, run-laid}
@@ -73,14 +73,11 @@ cleared-says delay padding extension long says =
 either-says : (b : Bool) (delay padding : ℕ) (extension : List ℕ) → length extension ≡ 36
     → SaysNumbers delay padding extension
     → SaysNumbers delay padding (cond b extension (cleared extension))
-either-says true delay padding extension long says = says
-either-says false delay padding extension long says = cleared-says delay padding extension long says
+either-says b delay padding extension long says = grind (arith, cleared-says)
 
 either-long : (b : Bool) (extension : List ℕ) → length extension ≡ 36
     → length (cond b extension (cleared extension)) ≡ 36
-either-long true extension long = long
-either-long false extension long =
-    grind (arith, length-append, length-take-le, length-drop, length-replicate)
+either-long b extension long = grind arith
 
 -- an extension that is made from a head has its numbers, and has 36 bytes
 made-says : (fields : Info) (delay padding : ℕ) → length fields.extension ≡ 36 → delay < 4096
@@ -98,15 +95,13 @@ delay-same : (v : Version) (start first p given leads front many : ℕ)
     → many + front ≡ given + leads
     → start + leads * samples_of v - front * samples_of v - decoder_delay
     ≡ many * samples_of v + (p - first * samples_of v) - decoder_delay
-delay-same One start first p given leads front many starts before same = grind arith
-delay-same _ start first p given leads front many starts before same = grind arith
+delay-same v start first p given h front many starts before same = grind arith
 
 -- what is left after the last position of a piece
 rest-same : (v : Version) (frames leads from to end q : ℕ) → frames ≡ leads + (to - from)
     → end + from * samples_of v ≡ q + leads * samples_of v → from < to → q ≤ to * samples_of v
     → frames * samples_of v - end ≡ to * samples_of v - q
-rest-same One frames leads from to end q same ends some most = omega (arith, same, ends, some, most)
-rest-same _ frames leads from to end q same ends some most = omega (arith, same, ends, some, most)
+rest-same v frames h from to end q same ends some most = grind arith
 
 from-is : (class : ClassFields) (p q : ℕ)
     → (span_of class p q).from ≡ p - warm_up_frame (samples_in class) p * samples_in class

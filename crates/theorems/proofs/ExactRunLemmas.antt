@@ -15,7 +15,7 @@ use Rattle.exact_span.specs.Spans.{frames_before, warm_up_frame}
 use Rattle.exact_span.specs.declared.{exact_place.ExactPlace.ExactPlace, played.Played.Played}
 use Rattle.exact_span.specs.declared.span.Span.{Span}
 use Rattle.frame_header.specs.{Fields.{ClassFields, IsClass}, Tables.{samples_of, window_of}}
-use Rattle.frame_header.specs.declared.version.Version.{Version, TheVariants.One}
+use Rattle.frame_header.specs.declared.version.Version.{Version}
 use Rattle.join_edits.specs.Seamless.{join_of_parts, later_parts, part_brought, part_from}
 use Rattle.join_edits.specs.Seamless.{run_lead_ins, seamless_stream}
 use Rattle.laying.specs.{Relaid.{FilePart, part_stream, silent_lead_in}, Surveys.CanBeRelaid}
@@ -25,7 +25,7 @@ use Rattle.seam_plan.specs.{Frames.{Brought, needs_of, RunFrame}, Joins.{fits_be
 use Rattle.seam_plan.specs.Laws.{AreSpansOf, is_following_seam, IsSpanOf, spans_end}
 use Rattle.seam_plan.specs.Seams.{front_left_out_count, joint_of, JointFrames, joints_from}
 use Rattle.seam_plan.specs.{Seams.{joints_of, left_out_count, run_with}, declared.seam.Seam.Seam}
-use Rattle.seam_plan.specs.declared.seam.Seam.TheVariants.{Follows, LeadIn, Whole}
+use Rattle.seam_plan.specs.declared.seam.Seam.TheVariants.{Follows}
 use Rattle.slot_plan.{proofs.FreeByteLemmas.{cons-fits, more-behind}, specs.FreeBytes.FitsBehind}
 use Rattle.slot_plan.specs.declared.needs.Need.{Need}
 use Rattle.sync_survey.specs.{Faults.SurveyFields, MainData.StreamFrame}
@@ -62,9 +62,7 @@ range-drop xs from to k few =
 -- ---- how many frames of a piece that follows are left out
 
 follows-by : (seam : Seam) → is_following_seam seam ≡ true → (out : ℕ) × (seam ≡ Follows out)
-follows-by (Follows out) is = (out, refl)
-follows-by LeadIn is = absurd cc
-follows-by Whole is = absurd cc
+follows-by seam is = grind arith
 
 -- how many frames are left out: those before the last frame of the piece before it
 out-is : (v : Version) (start end leads leads_before from from_before last mid out : ℕ)
@@ -73,15 +71,12 @@ out-is : (v : Version) (start end leads leads_before from from_before last mid o
     → mid ≤ last * samples_of v → from < last → from_before ≤ last
     → start + ((leads_before + (last - from_before)) * samples_of v - end) ≡ out * samples_of v
     → out ≡ leads + (last - from)
-out-is One start end leads leads_before from from_before last mid out starts ends most some before
-    meets = omega (arith, starts, ends, most, some, before, meets)
-out-is _ start end leads leads_before from from_before last mid out starts ends most some before
-    meets = omega (arith, starts, ends, most, some, before, meets)
+out-is v start end h leads_before from from_before last mid out starts ends most some before meets =
+    grind arith
 
 below-last : (v : Version) (from last mid : ℕ) → from * samples_of v < mid
     → mid ≤ last * samples_of v → from < last
-below-last One from last mid early most = omega (arith, early, most)
-below-last _ from last mid early most = omega (arith, early, most)
+below-last v from last mid early most = grind arith
 
 -- ---- pieces of one recording
 
@@ -301,13 +296,10 @@ module _ (file : List ℕ) (s : SurveyFields) (has : CanBeRelaid file s)
 -- ---- the join of all pieces
 
 no-front : (b : Bool) (n : ℕ) → cond b 1 0 ≡ n → n ≡ 0 → b ≡ false
-no-front true n is none = absurd (omega (arith, is, none))
-no-front false n is none = refl
+no-front b n is none = grind arith
 
 not-both : (x y : Bool) → (x && not y) ≡ false → x ≡ true → y ≡ true
-not-both true true is first = refl
-not-both true false is first = absurd cc
-not-both false y is first = absurd cc
+not-both x y is first = grind arith
 
 -- a frame without main data, followed by frames that
 -- fit with no free bytes before them, fits so too

@@ -16,7 +16,7 @@ use Rattle.exact_span.specs.Spans.{AreLeads, delay_of, frames_before, padding_of
 use Rattle.exact_span.specs.{Spans.warm_up_frame, declared.exact_place.ExactPlace.ExactPlace}
 use Rattle.exact_span.specs.declared.span.Span.{Span}
 use Rattle.frame_header.specs.{Fields.ClassFields, Tables.samples_of}
-use Rattle.frame_header.specs.declared.version.Version.{Version, TheVariants.One}
+use Rattle.frame_header.specs.declared.version.Version.{Version}
 use Rattle.frame_writer.specs.Frames.{Frame}
 use Rattle.info_header.specs.{Info.number_or_zero, declared.fields.Info.Info}
 use Rattle.join_edits.specs.Seamless.{part_brought, part_head}
@@ -53,30 +53,25 @@ last-is class p q span is = sym (ap (λ (t : Span). t.last) is)
 
 -- a span begins no later than its first position
 pub first-before : (v : Version) (p : ℕ) → warm_up_frame (samples_of v) p * samples_of v ≤ p
-first-before One p = omega arith
-first-before _ p = omega arith
+first-before v p = grind arith
 
 -- it begins earlier, if that isn't the first position of all
 pub first-early : (v : Version) (p : ℕ) → 0 < p → warm_up_frame (samples_of v) p * samples_of v < p
-first-early One p some = omega (arith, some)
-first-early _ p some = omega (arith, some)
+first-early v p some = grind arith
 
 -- a span ends no earlier than its last position
 pub last-behind : (v : Version) (q : ℕ) → q ≤ frames_before (samples_of v) q * samples_of v
-last-behind One q = omega arith
-last-behind _ q = omega arith
+last-behind v q = grind arith
 
 -- a later span begins no earlier
 pub first-rises : (v : Version) (p q : ℕ) → p ≤ q
     → warm_up_frame (samples_of v) p ≤ warm_up_frame (samples_of v) q
-first-rises One p q later = omega (arith, later)
-first-rises _ p q later = omega (arith, later)
+first-rises v p q later = grind arith
 
 -- a later span ends no earlier
 pub last-rises : (v : Version) (p q : ℕ) → p ≤ q
     → frames_before (samples_of v) p ≤ frames_before (samples_of v) q
-last-rises One p q later = omega (arith, later)
-last-rises _ p q later = omega (arith, later)
+last-rises v p q later = grind arith
 
 -- ---- one piece
 

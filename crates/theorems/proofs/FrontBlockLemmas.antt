@@ -1,10 +1,10 @@
 -- A file of chosen frames has the same blocks before its frames as the file that they are from.
 use Rattle.std.proofs.Common.{ap, append-nil, append_assoc, ap₂, arith, cond, drop, filter, length}
-use Rattle.std.proofs.Common.{List, map, None, Ok, Option, option_map, option_to_list, refl, Some}
-use Rattle.std.proofs.Common.{sym, take, true, ℕ, [], ◌++◌, ◌+◌, ◌∙◌, ◌∷◌, ◌≡◌, ◌≤◌}
-use Rattle.std.proofs.lemmas.Bool.{and_from, and_parts, and_right, le-ltb, lt-ltb}
+use Rattle.std.proofs.Common.{List, map, Ok, Option, option_map, option_to_list, refl, Some, sym}
+use Rattle.std.proofs.Common.{take, true, ℕ, [], ◌++◌, ◌+◌, ◌∙◌, ◌∷◌, ◌≡◌, ◌≤◌}
+use Rattle.std.proofs.lemmas.Bool.{and_from, and_parts, lt-ltb}
 use Rattle.std.proofs.lemmas.List.{drop_at, length-append, length-drop, length-take-le, take_at}
-use Rattle.std.specs.{List.{concat, cons_option}, Prelude.nat_lt}
+use Rattle.std.specs.List.{concat, cons_option}
 use Rattle.frame_header.specs.Fields.{HeaderFields}
 use Rattle.frame_writer.specs.Frames.{bytes_of_frames, Frame}
 use Rattle.info_header.specs.{InfoFrame.info_frame, declared.fields.Info.Info}
@@ -133,11 +133,7 @@ one-behind : (t : SurveyFields) (at : ℕ) (o : Option TagBlock) (ps : List Piec
     → filter (goes_in_front t)
     (option_to_list (option_map (λ (b : TagBlock). record { offset = at; block = b }) o) ++ ps)
     ≡ filter (goes_in_front t) ps
-one-behind t at None ps late = refl
-one-behind t at (Some b) ps late =
-    ap (λ test. cond test (record { offset = at; block = b } ∷ filter (goes_in_front t) ps)
-    (filter (goes_in_front t) ps))
-    (and_right (is_id3v2_kind b.kind) (nat_lt at t.first) (le-ltb at t.first late))
+one-behind t at o ps late = grind arith
 
 none-behind : (t : SurveyFields) (at : ℕ) (back : List (List ℕ)) → t.first ≤ at
     → filter (goes_in_front t) (blocks_from at back) ≡ []

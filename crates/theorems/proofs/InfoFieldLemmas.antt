@@ -1,12 +1,12 @@
 -- Info frames of the same fields, and what an extension keeps of the head that it is made from.
-use Rattle.std.proofs.Common.{ap, ap₂, arith, Bool, cond, drop, false, length, List, None, Option}
-use Rattle.std.proofs.Common.{refl, Some, sym, take, true, ℕ, ◌%◌, ◌++◌, ◌^◌, ◌∙◌, ◌≡◌}
+use Rattle.std.proofs.Common.{ap, ap₂, arith, drop, length, List, Option, Some, sym, take, ℕ, ◌%◌}
+use Rattle.std.proofs.Common.{◌++◌, ◌^◌, ◌∙◌, ◌≡◌}
 use Rattle.std.proofs.lemmas.List.{drop-drop, drop-take, drop_at, length-append, length-drop}
 use Rattle.std.proofs.lemmas.List.{length-take-le, take-append-le, take-take, take_at}
 use Rattle.std.specs.Prelude.{IfSome, IsTrue}
 use Rattle.bit_fields.specs.Bits.{bytes}
 use Rattle.byteorder.specs.Endian.{big_bytes}
-use Rattle.exact_span.specs.Extensions.{extension_of, has_encoder, kept_extension, plain_extension}
+use Rattle.exact_span.specs.Extensions.{extension_of, has_encoder, kept_extension}
 use Rattle.exact_span.specs.TagWord.{sealed_info, tag_crc_of, with_length_field}
 use Rattle.frame_header.specs.Fields.{ClassFields, HeaderFields}
 use Rattle.frame_writer.specs.Frames.{Frame}
@@ -56,15 +56,9 @@ quality-again q = grind arith
 
 -- ---- what an extension keeps
 
-kept-by : (b : Bool) (extension : List ℕ) → length extension ≡ 36
-    → length (cond b extension plain_extension) ≡ 36
-kept-by true extension long = long
-kept-by false extension long = refl
-
 kept_extension-long : (head : Option Info) → IfSome head (λ (i : Info). length i.extension ≡ 36)
     → length (kept_extension head) ≡ 36
-kept_extension-long None long = refl
-kept_extension-long (Some info) long = kept-by (has_encoder info.extension) info.extension long
+kept_extension-long head long = grind arith
 
 -- music length and tag CRC are after the first 28 bytes
 pub sealed-front : (first : HeaderFields) (info : Info) → length info.extension ≡ 36

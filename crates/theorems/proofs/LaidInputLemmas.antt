@@ -153,9 +153,7 @@ led-needs class window at (need ∷ needs) (f ∷ fs) (p ∷ placed) known entri
 placed-some : (window reach : ℕ) (needs : List Need) (placed : List Placed)
     → FitsFromReach window reach needs placed → 0 < length needs → 0 < length placed
 unfolding FitsFromReach
-placed-some window reach [] placed fits some = absurd (omega (arith, some))
-placed-some window reach (need ∷ needs) [] fits some = absurd fits
-placed-some window reach (need ∷ needs) (p ∷ placed) fits some = omega arith
+placed-some window reach needs placed fits some = grind arith
 
 -- the stream of frames after their lead-in
 led-frames : (window : ℕ) (needs : List Need) (placed : List Placed) (stream : List StreamFrame)

@@ -1,7 +1,7 @@
 -- The plan of a part after an unconditional lead-in, and the plan of a part that needs none: the
 -- lead-in has the least slot whose area the frames fit after.
-use Rattle.std.proofs.Common.{ap, ap₂, arith, Contains, false, List, map, None, Option, refl, Some}
-use Rattle.std.proofs.{Common.{subst, sym, ℕ, [], ◌∙◌, ◌∷◌, ◌≡◌, ◌≤◌}, lemmas.List.append-nil}
+use Rattle.std.proofs.Common.{ap, ap₂, arith, Contains, false, List, map, Option, refl, subst, sym}
+use Rattle.std.proofs.{Common.{ℕ, [], ◌∙◌, ◌∷◌, ◌≡◌, ◌≤◌}, lemmas.List.append-nil}
 use Rattle.frame_header.specs.{Fields.{ClassFields, HeaderFields, SlotFields}, Slots.all_slots}
 use Rattle.frame_header.specs.Tables.{area_of, class_of}
 use Rattle.laying.specs.NeedsFit.{own_choice}
@@ -48,19 +48,14 @@ alone-begins : (window : ℕ) (needs : List Need) (lead_in : Option SlotFields)
     → IsPlanFor window (part_items own_choice needs lead_in) placed → FitsBehind window 0 needs
     → OwnBegins window needs placed
 unfolding IsLeadIn part_items
-alone-begins window needs None placed alone plan fits = own-begins window needs placed plan
-alone-begins window [] (Some slot) placed alone plan fits = absurd alone
-alone-begins window (first ∷ needs) (Some slot) placed alone plan fits =
-    absurd (alone.0 (none-own window (first ∷ needs) fits))
+alone-begins window needs lead_in placed alone plan fits = grind (arith, own-begins, none-own)
 
 leads-begins : (window : ℕ) (needs : List Need) (lead_ins : List (Option SlotFields))
     (placed : List Placed) → AreLeadIns window own_choice (needs ∷ []) lead_ins
     → IsPlanFor window (all_items own_choice (needs ∷ []) lead_ins) placed
     → FitsBehind window 0 needs → OwnBegins window needs placed
 unfolding AreLeadIns all_items
-leads-begins window needs [] placed alone plan fits = absurd alone
-leads-begins window needs (lead_in ∷ lead_ins) placed alone plan fits =
-    grind (arith, alone-begins, append-nil)
+leads-begins window needs lead_ins placed alone plan fits = grind (arith, alone-begins, append-nil)
 
 -- in the plan of frames that fit with no free bytes
 -- before them, main data begin as early as they may
@@ -196,5 +191,4 @@ module _ (window : ℕ) (first : Need) (needs : List Need) where
   -- lead-in has the least slot whose area the frames fit after
   pub led-as : (placed : List Placed) → IsLedPlan window own_choice all placed → IsLedAs placed
   unfolding AreItemSlots led_items
-  led-as [] plan = absurd plan.slots
-  led-as (p ∷ placed) plan = led-cons p placed plan
+  led-as placed plan = grind (arith, led-cons)

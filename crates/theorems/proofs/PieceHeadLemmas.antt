@@ -1,8 +1,8 @@
 -- The head of a written file has the extension of its
 -- Info frame. An extension of zeros counts nothing.
 use Rattle.std.proofs.Common.{ap, append_assoc, arith, Bool, cond, drop, false, length, List, None}
-use Rattle.std.proofs.Common.{Option, refl, replicate, Some, sym, take, true, ℕ, [], ◌%◌, ◌++◌, ◌-◌}
-use Rattle.std.proofs.{Common.{◌<◌, ◌^◌, ◌∙◌, ◌≡◌, ◌≤◌}, lemmas.Bool.{and_right, le-leb}}
+use Rattle.std.proofs.Common.{Option, refl, replicate, Some, sym, take, ℕ, [], ◌%◌, ◌++◌, ◌-◌, ◌<◌}
+use Rattle.std.proofs.{Common.{◌^◌, ◌∙◌, ◌≡◌, ◌≤◌}, lemmas.Bool.le-leb}
 use Rattle.std.proofs.lemmas.List.{drop-drop, drop_at, length-append, length-replicate, length-take}
 use Rattle.std.{proofs.lemmas.List.{take-append-le, take_at}, specs.{List.concat, Prelude.IfSome}}
 use Rattle.bit_fields.specs.Bits.{bytes}
@@ -28,8 +28,7 @@ use Rattle.sync_survey.specs.declared.places.Head.{Head}
 
 flags-by : (vbr : Bool) (rest : List ℕ)
     → take 4 (drop 4 (vbr_text vbr ++ (big_bytes 4 15 ++ rest))) ≡ big_bytes 4 15
-flags-by true rest = refl
-flags-by false rest = refl
+flags-by vbr rest = grind arith
 
 module _ (first : HeaderFields) (info : Info) (known : IsHeader first)
     (whole : AreInfoFields info) where
@@ -92,8 +91,7 @@ module _ (first : HeaderFields) (info : Info) (known : IsHeader first)
   frames-by : (vbr : Bool) (n : ℕ) (rest : List ℕ)
       → take 4 (drop 8 (vbr_text vbr ++ (big_bytes 4 15 ++ (big_bytes 4 n ++ rest))))
       ≡ big_bytes 4 n
-  frames-by true n rest = refl
-  frames-by false n rest = refl
+  frames-by vbr n rest = grind arith
 
   frames-long : 12 ≤ length fields
   frames-long = omega (arith, length-append (info_bytes info) zeros, length-info info sizes)
@@ -111,13 +109,11 @@ module _ (first : HeaderFields) (info : Info) (known : IsHeader first)
   behind-by : (vbr : Bool) (m n : ℕ) (rest : List ℕ)
       → drop 16
       (vbr_text vbr ++ (big_bytes 4 15 ++ (big_bytes 4 m ++ (big_bytes 4 n ++ rest)))) ≡ rest
-  behind-by true m n rest = refl
-  behind-by false m n rest = refl
+  behind-by vbr m n rest = grind arith
 
   table-long : (table : Option (List ℕ)) → IfSome table (λ (t : List ℕ). length t ≡ 100)
       → length (table_or_zeros table) ≡ 100
-  table-long None long = length-replicate {A = ℕ} 100 0
-  table-long (Some table) long = long
+  table-long table long = grind arith
 
   quality-at : take 4 (drop 116 fields) ≡ big_bytes 4 (number_or_zero info.quality)
   unfolding info_bytes
@@ -189,8 +185,7 @@ module _ (first : HeaderFields) (info : Info) (known : IsHeader first)
 
 none-counted : (info : Info) (frames : Option ℕ) → has_encoder info.extension ≡ false
     → counts_with_frames info frames ≡ None
-none-counted info None none = refl
-none-counted info (Some frames) none = grind (arith, and_right)
+none-counted info frames none = grind arith
 
 -- a head whose extension is all zeros counts nothing
 pub zero-counts : (file : List ℕ) (head : Head) (class : ClassFields) (frames : ℕ)

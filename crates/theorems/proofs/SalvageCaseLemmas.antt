@@ -1,7 +1,7 @@
 -- What is left of a damaged file.
-use Rattle.std.proofs.Common.{ap, arith, Bool, false, inl, length, List, map, Ok, Option, refl}
-use Rattle.std.proofs.Common.{Some, subst, suc, true, zero, ℕ, [], ◌+◌, ◌∙◌, ◌∷◌, ◌≡◌}
-use Rattle.std.proofs.lemmas.{Bool.false≢true, List.{length-map, FromFn.length-enumerate_from}}
+use Rattle.std.proofs.Common.{ap, arith, Bool, inl, length, List, map, Ok, Option, refl, Some}
+use Rattle.std.proofs.{Common.{subst, suc, zero, ℕ, [], ◌+◌, ◌∙◌, ◌∷◌, ◌≡◌}, lemmas.Bool.false≢true}
+use Rattle.std.proofs.lemmas.List.{length-map, FromFn.length-enumerate_from}
 use Rattle.std.specs.{List.enumerate_from, Prelude.{slice_get, ◌<◌}}
 use Rattle.commands.proofs.{MadeLemmas.makes-parts, TellingLemmas.text-parts}
 use Rattle.cut_edits.specs.Chosen.{own_slots_plan}
@@ -70,8 +70,7 @@ salvaged-first = left-plan
 
 left-by : (main : List ℕ) (head : Option Head) (rows : List Row) (i : ℕ) (r : Row) (lost : Bool)
     → r.lost ≡ lost → IsLeftOf r (stream_frame main head rows i r)
-left-by main head rows i r false is = grind (arith, false≢true)
-left-by main head rows i r true is = grind (arith, false≢true, payload_none)
+left-by main head rows i r lost is = grind (arith, false≢true, payload_none)
 
 numbered-at : {A B : Type 0} (f : ℕ × A → B) (n : ℕ) (xs : List A) (i : ℕ) (x : A)
     → slice_get xs i ≡ Some x → slice_get (map f (enumerate_from n xs)) i ≡ Some (f (n + i, x))

@@ -76,8 +76,7 @@ zero-side c s known is fits zeros =
 -- rows begin blank exactly where the first of them is blank
 pub begins-first : (rows : List Row) (r : Row) → slice_get rows 0 ≡ Some r
     → begins_blank rows ≡ is_side_blank r
-begins-first [] r is = absurd cc
-begins-first (q ∷ rows) r is = let same : q ≡ r = cc in ap is_side_blank same
+begins-first rows r is = grind arith
 
 -- the first of rows that are whole is whole
 pub whole-first : (file : List ℕ) (rows : List Row) (r : Row) → AreWholeRows file rows
@@ -87,8 +86,7 @@ whole-first file (q ∷ rows) r are is = let same : q ≡ r = cc in subst (IsWho
 
 emptied-side : (r : Row) (lost : Bool) → r.lost ≡ lost → r.side ≡ no_side
     → row_side (emptied_row r) ≡ no_side
-emptied-side r true is none = grind arith
-emptied-side r false is none = grind arith
+emptied-side r lost is none = grind arith
 
 apart-side : (head : Option Head) (rows : List Row) (q r : Row) → slice_get rows 0 ≡ Some q
     → q.side ≡ no_side

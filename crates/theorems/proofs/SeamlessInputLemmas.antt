@@ -1,7 +1,7 @@
 -- What the inputs of a seamless join bring.
-use Rattle.std.proofs.Common.{ap, arith, drop, Err, length, List, map, None, Ok, Option, refl}
-use Rattle.std.proofs.Common.{Result, Some, subst, sym, zip, ℕ, [], ◌*◌, ◌+◌, ◌-◌, ◌<◌, ◌∙◌, ◌∷◌}
-use Rattle.std.proofs.{Common.{◌≡◌, ◌≤◌}, lemmas.List.{length-drop, length-map, take_all}}
+use Rattle.std.proofs.Common.{ap, arith, drop, length, List, map, Ok, Option, refl, Result, Some}
+use Rattle.std.proofs.Common.{subst, sym, zip, ℕ, [], ◌*◌, ◌+◌, ◌-◌, ◌<◌, ◌∙◌, ◌∷◌, ◌≡◌, ◌≤◌}
+use Rattle.std.proofs.lemmas.List.{length-drop, length-map, take_all}
 use Rattle.std.specs.Prelude.{option_map, slice_range}
 use Rattle.commands.proofs.{MadeLemmas.some-frames, RefusingLemmas.then_ok}
 use Rattle.commands.specs.{Refusing.then_made, declared.fault.EditFault.EditFault}
@@ -79,8 +79,7 @@ input-is class place first allowed o p e same =
 pub more-inputs : (part : FilePart) (r : Result (List FilePart) EditFault) (parts : List FilePart)
     → then_made r (λ later. Ok (part ∷ later)) ≡ Ok parts
     → (later : List FilePart) × (r ≡ Ok later) × (part ∷ later ≡ parts)
-more-inputs part (Ok later) parts e = (later, refl, cc)
-more-inputs part (Err fault) parts e = absurd cc
+more-inputs part r parts e = grind arith
 
 inputs-behind : (files : Contents) (class : ClassFields) (place allowed : ℕ) (names : List (List ℕ))
     (parts : List FilePart)
@@ -135,8 +134,7 @@ run-sounds class (r ∷ rows) (f ∷ stream) same =
 counted-end : (samples frames : ℕ) (o : Option HeadCounts) (played : Played)
     → option_map (counted_played samples frames) o ≡ Some played
     → played.end ≤ frames * samples
-counted-end samples frames None played e = absurd cc
-counted-end samples frames (Some counts) played e = grind arith
+counted-end samples frames o played e = grind arith
 
 module _ (class : ClassFields) (p : FilePart) (is : IsInput class p) where
   abbrev survey : SurveyFields

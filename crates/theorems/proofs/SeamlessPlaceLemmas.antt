@@ -95,17 +95,14 @@ meets-at : (v : Version) (place start end n m front leads old new out : ℕ)
     → start + (m * samples_of v - end) ≡ out * samples_of v → end ≤ m * samples_of v
     → new + out ≡ old + n
     → place + (m + front) * samples_of v ≡ end + (leads + old) * samples_of v
-meets-at One place start end n m front leads old new out at meets within longer = grind arith
-meets-at _ place start end n m front leads old new out at meets within longer = grind arith
+meets-at v place start end n m front leads old new out at meets within longer = grind arith
 
 later-frame : (v : Version) (x y : ℕ) → x ≤ y → x / samples_of v ≤ y / samples_of v
-later-frame One x y less = omega (arith, less)
-later-frame _ x y less = omega (arith, less)
+later-frame v x y less = grind arith
 
 within-frames : (v : Version) (x end n : ℕ) → x < end → end ≤ n * samples_of v
     → x / samples_of v < n
-within-frames One x end n before most = omega (arith, before, most)
-within-frames _ x end n before most = omega (arith, before, most)
+within-frames v x end n before most = grind arith
 
 -- ---- the frames of the run in the joined file
 

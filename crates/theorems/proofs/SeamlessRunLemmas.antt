@@ -26,8 +26,7 @@ use Rattle.theorems.proofs.SeamlessInputLemmas.{inputs-whole, stream-from, whole
 
 -- a value whose negation is true is false
 pub not-true : (b : Bool) → not b ≡ true → b ≡ false
-not-true true is = absurd cc
-not-true false is = refl
+not-true b is = grind arith
 
 -- ---- its lead-ins
 
@@ -120,12 +119,10 @@ left-sounds class (j ∷ joints) (p ∷ parts) are =
     (left-sounds class joints parts are.1)
 
 cond-few : (b : Bool) → cond b 1 0 ≤ 1
-cond-few true = omega arith
-cond-few false = omega arith
+cond-few b = grind arith
 
 cond-some : (b : Bool) → 0 < cond b 1 0 → b ≡ true
-cond-some true some = refl
-cond-some false some = absurd (omega (arith, some))
+cond-some b some = grind arith
 
 module _ (first : FilePart) (parts : List FilePart)
     (are : AreInputs first.survey.class (first ∷ parts))

@@ -1,6 +1,6 @@
 -- Exact pieces: the frames of their spans, by the survey whose head is set apart.
-use Rattle.std.proofs.Common.{arith, Bool, false, inl, length, List, None, Ok, Option, refl, Some}
-use Rattle.std.{proofs.Common.{subst, sym, true, ℕ, [], ◌+◌, ◌∷◌, ◌≡◌}, specs.Prelude.slice_range}
+use Rattle.std.proofs.Common.{arith, Bool, false, inl, length, List, None, Ok, Option, refl, subst}
+use Rattle.std.{proofs.Common.{sym, true, ℕ, [], ◌+◌, ◌∷◌, ◌≡◌}, specs.Prelude.slice_range}
 use Rattle.commands.proofs.{MadeLemmas.{made-of, makes-parts}, RefusingLemmas.refusal_or-ok}
 use Rattle.commands.specs.SingleOutput.{most_frames}
 use Rattle.cut_edits.proofs.PieceLemmas.{piece-parts, span-survey_without_head, span-there}
@@ -65,8 +65,7 @@ module _ (span : Span) (file : List ℕ) (s : SurveyFields) (had : CanBeRelaid f
   -- music length and tag CRC leave the stream as it is
   sealed-stream : (o : Option Row) (laid : LaidPart)
       → stream_laid (row_sealed_part o laid file s) file s ≡ stream_laid laid file s
-  sealed-stream None laid = refl
-  sealed-stream (Some first) laid = refl
+  sealed-stream o laid = grind arith
 
   -- the stream of a piece is exactly the frames of its span
   pub piece-exact : (head : Option Info)

@@ -89,8 +89,7 @@ module _ (c : ClassFields) (known : IsClass c) where
 
     drop-full : (stream : List StreamFrame) → whole_stream c p is ≡ stream
         → begins_blank p.survey.frames ≡ true → full (drop 1 stream) ≡ full stream
-    drop-full [] begins blank = refl
-    drop-full (f ∷ fs) begins blank = sym (full-empty f fs (first-empty f fs blank begins))
+    drop-full h begins blank = grind (arith, full-empty, first-empty)
 
     without-full : has_lead_in (window_of c.version) (part_brought p) ≡ true
         → full (part_stream (part_from 1 p)) ≡ full (whole_stream c p is)

@@ -276,8 +276,7 @@ module _ (file : List ℕ) (s : SurveyFields) where
     -- ---- the stream of the run
 
     seam-left : (b : Bool) → left_out_count (if b then Whole else LeadIn) ≡ (if b then 0 else 1)
-    seam-left true = refl
-    seam-left false = refl
+    seam-left b = grind arith
 
     pieces-left : (c : ClassFields) (a : ℕ) (bs : List ℕ) (parts : List FilePart)
         (joints : List JointFrames) → Rise a bs → AreInputs c parts → AreFiles a bs parts

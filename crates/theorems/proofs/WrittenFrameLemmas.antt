@@ -49,12 +49,7 @@ use Rattle.theorems.specs.Laws.{AllLoseNoFrame, WritesAllFrames, WrittenFramesSt
 one-stays : (output : List ℕ) (clash : Option ℕ) (r : Result (List ℕ) EditFault)
     → ((bytes : List ℕ) → r ≡ Ok bytes → LosesNoFrame bytes) → (made : Made)
     → command_result output (clash_or clash r) ≡ Ok made → AllLoseNoFrame made.outputs
-one-stays output (Some place) r stays made e = absurd cc
-one-stays output None (Err fault) stays made e = absurd cc
-one-stays output None (Ok bytes) stays made e =
-    let same : record { outputs = record { name = output; bytes = bytes } ∷ []; text = [] } ≡ made =
-    cc in
-    subst (λ (m : Made). AllLoseNoFrame m.outputs) same (stays bytes refl, tt)
+one-stays output clash r stays made e = grind arith
 
 one_writes : (task : Task) (output : List ℕ)
     → ((files : Contents) (bytes : List ℕ) → task.makes files ≡ Ok bytes → LosesNoFrame bytes)
@@ -156,8 +151,7 @@ module _ {P : Type 0} (cut : Cutting P) (prefix : List ℕ)
 
     pieces-stay : (places : List P) (all : List LaidPart) → piece_parts cut file s places ≡ Ok all
         → AllStay 1 all
-    pieces-stay [] all e = let none : [] ≡ all = cc in subst (AllStay 1) none tt
-    pieces-stay (place ∷ places) all e = from-stay 1 place places all e
+    pieces-stay places all e = grind (arith, from-stay)
 
   split-stays : (input : List ℕ) → WritesAllFrames (split_command cut input prefix)
   split-stays input files made e = grind (arith, split-parts, pieces-stay)
@@ -224,8 +218,7 @@ read-stays (Some file) bytes e = at (damaged_of file) refl e
 text-stays : (text : List ℕ) (r : Result Made EditFault)
     → ((made : Made) → r ≡ Ok made → AllLoseNoFrame made.outputs) → (made : Made)
     → with_text text r ≡ Ok made → AllLoseNoFrame made.outputs
-text-stays text (Err fault) stays made e = absurd cc
-text-stays text (Ok m) stays made e = grind arith
+text-stays text r stays made e = grind arith
 
 salvage-stay : (input output : List ℕ) → WritesAllFrames (salvage_command input output)
 salvage-stay input output files made e = grind (arith, text-stays, one_writes, read-stays)

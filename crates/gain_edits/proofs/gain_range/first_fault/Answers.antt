@@ -1,5 +1,5 @@
 -- The first stuck gain is found.
-use Rattle.std.proofs.{Common.{arith, sym, ◌∙◌, ◌≡◌}, lemmas.Option.slice_get_read}
+use Rattle.std.proofs.Common.{arith, sym, ◌∙◌, ◌≡◌}
 use Rattle.commands.proofs.RefusingLemmas.{first-behind, first-from}
 use Rattle.gain_edits.proofs.gain_range.first_fault.Goals.{After-fault_at}
 use Rattle.gain_edits.specs.GainRange.{row_range_fault}
@@ -11,9 +11,6 @@ judged : (c : After-fault_at)
     → row_range_fault (steps_at_offset c.args.course.now c.args.rows.now) c.index-rows-frame.result
     ≡ c.fault_at.result
 judged c = grind (arith, frame_steps)
-
-pub out_of_range_in_row-requires : goal.out_of_range_in_row-requires
-out_of_range_in_row-requires c = grind (arith, slice_get_read)
 
 pub returns-in-Some : goal.returns-in-Some
 returns-in-Some c =

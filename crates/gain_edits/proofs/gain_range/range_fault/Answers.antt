@@ -18,6 +18,3 @@ first_fault-requires-clause-numbered c =
 pub first_fault-requires-clause-few : goal.first_fault-requires-clause-few
 first_fault-requires-clause-few c =
     grind (arith, out_few (survey_view c.args.survey.now) c.requires)
-
-pub returns : goal.returns
-returns c = grind arith

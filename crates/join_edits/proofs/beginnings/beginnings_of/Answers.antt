@@ -10,9 +10,6 @@ use Rattle.sync_survey.specs.Faults.{survey_view}
 use Rattle.join_edits.proofs.beginnings.beginnings_of.Given as given
 use Rattle.join_edits.proofs.beginnings.beginnings_of.Goals as goal
 
-pub loop-place-init : goal.loop-place-init
-loop-place-init g c = grind arith
-
 pub known_at-survey-requires : goal.known_at-survey-requires
 known_at-survey-requires g c = grind (arith, AllZip-long, length-map)
 

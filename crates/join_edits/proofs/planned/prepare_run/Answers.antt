@@ -20,8 +20,7 @@ run-length : (window : ℕ) (needs : List Need)
 run-length window needs = grind (arith, plan-length, append-nil)
 
 ends-same : (ss : List SurveyFields) (a b : Ends) → AreEnds ss a → AreEnds ss b → a ≡ b
-ends-same [] a b x y = absurd x
-ends-same (s ∷ ss) a b x y = x ∙ sym y
+ends-same ss a b x y = grind arith
 
 first-class : (ss : List SurveyFields) {s : SurveyFields} {rest : List SurveyFields}
     → drop 0 ss ≡ s ∷ rest → class_of_first ss ≡ Some s.class

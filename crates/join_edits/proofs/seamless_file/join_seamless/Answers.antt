@@ -3,7 +3,7 @@ use Rattle.std.proofs.{Common.{map, string_bytes, subst, sym, ◌∙◌}, lemmas
 use Rattle.commands.proofs.{MakeLemmas.run-before, RefusingLemmas.err_with}
 use Rattle.commands.specs.SentText.{answer_fault, SaysText}
 use Rattle.join_edits.proofs.SeamlessCommandLemmas.{left-clash, left-early, seamless-numbers}
-use Rattle.join_edits.specs.{Seamless.seamless_command, SeamlessReady.IsSeamlessReady}
+use Rattle.join_edits.specs.Seamless.{seamless_command}
 use Rattle.join_edits.proofs.seamless_file.join_seamless.Given as given
 use Rattle.join_edits.proofs.seamless_file.join_seamless.Goals as goal
 
@@ -23,14 +23,6 @@ returns-in_err-ready-clause-numbers g c =
     err_with _ _ c.from_residual.ensures.1
     (seamless-numbers c.args.output.now (map string_bytes c.args.inputs.now) _ _
     (sym (length-map c.args.inputs.now string_bytes)) c.in_err-ready.ensures.numbers)
-
-pub write_and_tell-requires-clause-free : goal.write_and_tell-requires-clause-free
-write_and_tell-requires-clause-free g c = sym c.clash.ensures ∙ c.in_default.is
-
-pub write_and_tell-requires-clause-ready : goal.write_and_tell-requires-clause-ready
-write_and_tell-requires-clause-ready g c =
-    subst (λ f. IsSeamlessReady (map string_bytes c.args.inputs.now) f c.in_ok-ready.ready)
-    (sym c.prepare_all.ensures.reads.files) c.in_ok-ready.ensures.ready
 
 -- the whole call runs from the moment before the survey
 pub returns : goal.returns

@@ -24,9 +24,6 @@ use Rattle.join_edits.proofs.written.append_joined.Goals as goal
 pub append_front-requires-clause-ready : goal.append_front-requires-clause-ready
 append_front-requires-clause-ready g c = grind (arith, source-ready, first-source)
 
-pub append_front-requires-clause-none : goal.append_front-requires-clause-none
-append_front-requires-clause-none g c = c.requires.fits.fresh.none
-
 -- the blocks, the Info frame and all frames are the file
 module _ (g : given.Over) (c : After-append_front g) where
   abbrev old : Files
@@ -123,15 +120,6 @@ lay_all-requires-clause-join g c =
       sources = sources-beside _ _ _ _ _ _ (rw files (appended_touches _ _ _)) join.sources;
       target = rw files (appended_there _ _ _);
     }
-
-pub lay_all-requires-clause-within : goal.lay_all-requires-clause-within
-lay_all-requires-clause-within g c = c.requires.fits.within
-
-pub lay_all-requires-clause-new : goal.lay_all-requires-clause-new
-lay_all-requires-clause-new g c = rw c.append_front.ensures.writer c.requires.fits.fresh.new
-
-pub lay_all-requires-clause-fits : goal.lay_all-requires-clause-fits
-lay_all-requires-clause-fits g c = grind arith
 
 pub returns-in_err-lay_all : goal.returns-in_err-lay_all
 returns-in_err-lay_all g c =

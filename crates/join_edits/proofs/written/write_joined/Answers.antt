@@ -1,6 +1,6 @@
 -- The output is created, and then written by a pass over the inputs, which stay.
 use Rattle.std.proofs.Common.{ap, arith, flat_map, List, map, refl, string_bytes, subst, ℕ, [], ◌∙◌}
-use Rattle.std.proofs.{Common.{◌∷◌, ◌≡◌, ◌≢◌}, lemmas.{List.length-map, Slice.Zip.AllZip-long}}
+use Rattle.std.proofs.Common.{◌∷◌, ◌≡◌, ◌≢◌}
 use Rattle.commands.proofs.OutputLemmas.{not_begun, output_whole, pass_fault, touches_prefix}
 use Rattle.commands.proofs.OutputLemmas.{touches_whole}
 use Rattle.commands.specs.SingleOutput.{files_holding, first_input}
@@ -14,9 +14,6 @@ use Rattle.outside.specs.Files.{Files, OnlyTouches}
 use Rattle.sync_survey.specs.Faults.{survey_view, SurveyFields}
 use Rattle.join_edits.proofs.written.write_joined.Given as given
 use Rattle.join_edits.proofs.written.write_joined.Goals as goal
-
-pub known_at-survey-requires : goal.known_at-survey-requires
-known_at-survey-requires g c = grind (arith, AllZip-long, length-map)
 
 module _ (g : given.Over) (c : In-Ok g) where
   abbrev old : Files

@@ -3,11 +3,5 @@ use Rattle.std.proofs.{Common.arith, lemmas.List.{length-replicate, length-take-
 use Rattle.laying.proofs.KeptLemmas.{fields-some}
 use Rattle.laying.proofs.info.head_fields.Goals as goal
 
-pub returns-in_default : goal.returns-in_default
-returns-in_default g c = grind arith
-
-pub read_exact-requires-clause-found : goal.read_exact-requires-clause-found
-read_exact-requires-clause-found g c = grind arith
-
 pub returns : goal.returns
 returns g c = grind (arith, length-take-le, length-replicate, fields-some)

@@ -1,9 +1,9 @@
 -- The main data of a frame that isn't lost are within the window and its own area.
-use Rattle.std.proofs.Common.{ap, append_assoc, arith, cond, length, length-append, List, refl}
-use Rattle.std.proofs.Common.{subst, sym, ℕ, [], ◌++◌, ◌+◌, ◌-◌, ◌/◌, ◌∙◌, ◌≡◌}
+use Rattle.std.proofs.Common.{ap, append_assoc, arith, length, length-append, List, refl, subst}
+use Rattle.std.proofs.Common.{sym, ℕ, ◌++◌, ◌+◌, ◌-◌, ◌/◌, ◌∙◌, ◌≡◌}
 use Rattle.laying.proofs.ReachLemmas.{area-held}
-use Rattle.laying.proofs.ReadLemmas.{bits-least, bytes-are, cut-is, data-within, IsWithin, lost-is}
-use Rattle.laying.proofs.{ReadLemmas.place-next, relay.cut_payload.Goals.After-from-begin}
+use Rattle.laying.proofs.ReadLemmas.{bits-least, bytes-are, cut-is, IsWithin, lost-is, place-next}
+use Rattle.laying.proofs.relay.cut_payload.Goals.{After-from-begin}
 use Rattle.reservoir.specs.Window.{AreBitsPacked, main_bits}
 use Rattle.side_info.specs.Side.{payload_bytes}
 use Rattle.sync_survey.specs.Faults.{survey_view}
@@ -13,9 +13,7 @@ use Rattle.laying.proofs.relay.cut_payload.Goals as goal
 within : (c : After-from-begin) → IsWithin (survey_view c.args.survey.now).head
     (survey_view c.args.survey.now).frames c.args.i c.args.row.now
 within c =
-    let s = survey_view c.args.survey.now in
-    data-within s.head s.class s.frames c.args.i c.args.row.now (c.requires.placed c.args.i
-    c.args.row.now c.requires.found) (sym c.lost.ensures ∙ c.if-lost.false)
+    grind (arith, c.requires.placed c.args.i c.args.row.now c.requires.found, c.if-lost.false)
 
 begin_is : (c : After-from-begin) → c.from-begin.result ≡ c.args.row.now.side.main_data_begin
 begin_is c = c.from-begin.ensures ∙ c.requires.begin
@@ -59,15 +57,8 @@ pub returns-then-lost-clause-told : goal.returns-then-lost-clause-told
 returns-then-lost-clause-told c = λ file passed long is. c.empty.ensures ∙ lost-is file
     (survey_view c.args.survey.now) c.args.i c.args.row.now (sym c.lost.ensures ∙ c.if-lost.true)
 
-pub returns-then-lost-clause-size : goal.returns-then-lost-clause-size
-returns-then-lost-clause-size c = grind arith
-
 pub returns-else-lost-clause-size : goal.returns-else-lost-clause-size
-returns-else-lost-clause-size c =
-    (c.main_data_with.ensures.payload c.args.held.now.window.now ([], refl)).few
-    ∙ size_is (goal.at.returns-else-lost-clause-size c).After-from-begin
-    ∙ ap (λ lost. cond lost 0 (payload_bytes c.args.row.now.side))
-    (sym c.if-lost.false ∙ c.lost.ensures)
+returns-else-lost-clause-size c = grind (arith, size_is)
 
 pub returns-else-lost-clause-told : goal.returns-else-lost-clause-told
 returns-else-lost-clause-told c = λ file passed long is.

@@ -3,8 +3,5 @@ use Rattle.std.proofs.Common.{arith}
 use Rattle.side_info.proofs.FrameLemmas.{overhead-most}
 use Rattle.moved_gains.proofs.front.frame_length.Goals as goal
 
-pub returns-clause-length : goal.returns-clause-length
-returns-clause-length c = grind arith
-
 pub returns-clause-room : goal.returns-clause-room
 returns-clause-room c = grind (arith, overhead-most)

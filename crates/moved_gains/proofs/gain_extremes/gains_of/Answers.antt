@@ -1,5 +1,5 @@
 -- The frames are passed in order, and what is found is the least and the greatest of the list.
-use Rattle.std.proofs.{Common.arith, lemmas.Option.slice_get_read}
+use Rattle.std.proofs.Common.{arith}
 use Rattle.moved_gains.proofs.ExtremesLemmas.{extremes-all, extremes-empty, extremes-from}
 use Rattle.moved_gains.proofs.ExtremesLemmas.{joined_extremes-assoc, moving-nil, no_extremes}
 use Rattle.moved_gains.proofs.ExtremesLemmas.{no_first, some_extremes}
@@ -10,9 +10,6 @@ returns-in_default-clause-value c = grind (arith, extremes-empty)
 
 pub returns-in_default-clause-none : goal.returns-in_default-clause-none
 returns-in_default-clause-none c = grind (arith, no_first, moving-nil)
-
-pub gains_at-requires-clause-class : goal.gains_at-requires-clause-class
-gains_at-requires-clause-class c = grind (arith, slice_get_read)
 
 pub loop-row-preserved : goal.loop-row-preserved
 loop-row-preserved c = grind (arith, extremes-from, joined_extremes-assoc)

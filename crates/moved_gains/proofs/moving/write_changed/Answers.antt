@@ -9,7 +9,7 @@ use Rattle.moved_gains.proofs.moving.write_changed.Goals.{In_ok-move_frames}
 use Rattle.moved_gains.specs.Change.{change_in, file_with_change}
 use Rattle.moved_gains.specs.Course.{AreRowsNumbered, steps_at_offset}
 use Rattle.moved_gains.specs.Moving.{AreFramesOfClass, AreRowsOf, bytes_written_from, copied_bytes}
-use Rattle.moved_gains.specs.{Moving.IsNewTag, declared.change.Change.Change as CodeChange}
+use Rattle.moved_gains.specs.{Moving.IsNewTag, declared.change.Change.Change}
 use Rattle.moved_gains.specs.declared.moving.NewTag.{NewTag}
 use Rattle.outside.proofs.BufferOutputLemmas.{err_at, err_by}
 use Rattle.outside.proofs.PassLemmas.{cause_behind, causes_behind, part_behind_none, prefix_as}
@@ -28,7 +28,7 @@ abbrev both : (ℕ → Steps) → Option NewTag → ℕ → ℕ → List Row →
 both steps tag junk first rows file =
     copied_bytes tag file 0 junk ++ bytes_written_from steps tag file first rows
 
-are_changed : (change : CodeChange) (tag : Option NewTag) (file : List ℕ) (s : SurveyFields)
+are_changed : (change : Change) (tag : Option NewTag) (file : List ℕ) (s : SurveyFields)
     (junk first : ℕ) (rows : List Row) → IsNewTag s (change_in change s) tag → junk ≡ s.junk
     → first ≡ s.first → rows ≡ s.frames → survey_of file most_frames ≡ Ok s
     → both (steps_at_offset change.course rows) tag junk first rows file

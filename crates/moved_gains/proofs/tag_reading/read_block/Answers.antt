@@ -20,8 +20,5 @@ read_exact-requires-clause-within g c =
           c.requires.found.known.laid c.requires.found.tag,
     )
 
-pub read_exact-requires-clause-few : goal.read_exact-requires-clause-few
-read_exact-requires-clause-few g c = grind arith
-
 pub returns-in_err-read_exact-clause-cause : goal.returns-in_err-read_exact-clause-cause
 returns-in_err-read_exact-clause-cause g c = grind (arith, err_at)

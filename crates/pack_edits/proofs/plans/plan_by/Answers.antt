@@ -1,6 +1,6 @@
 -- What each planner requires, and that it returns the plan of the mode.
-use Rattle.std.proofs.Common.{ap, arith, inl, inr, length, List, map, None, Ok, refl, subst, sym, ℕ}
-use Rattle.std.proofs.{Common.{◌∙◌, ◌≡◌, ◌≤◌, ◌⊎◌}, lemmas.List.length-map}
+use Rattle.std.proofs.Common.{ap, arith, inr, length, List, map, None, Ok, refl, subst, sym, ℕ, ◌∙◌}
+use Rattle.std.proofs.{Common.{◌≡◌, ◌≤◌, ◌⊎◌}, lemmas.List.length-map}
 use Rattle.best_plan.specs.Best.{IsBestPlan}
 use Rattle.cut_edits.proofs.ChosenLemmas.{plan_is, rows-fit}
 use Rattle.cut_edits.specs.Chosen.{Chosen, chosen_in, chosen_needs, chosen_rows}
@@ -131,8 +131,7 @@ returns-in-Best c =
 
 named-in : (mode : PackMode)
     → ((rate : ℕ) × (mode ≡ Constant rate)) ⊎ ((rate : ℕ) × (mode ≡ Floor rate)) → IsNamed mode
-named-in mode (inl one) = subst IsNamed (sym one.1) tt
-named-in mode (inr floor) = subst IsNamed (sym floor.1) tt
+named-in mode h = grind arith
 
 pub returns-in-Ok : goal.returns-in-Ok
 returns-in-Ok c =

@@ -2,7 +2,7 @@
 use Rattle.std.proofs.Common.{arith, refl, subst, sym, ◌∙◌}
 use Rattle.outside.{proofs.BufferOutputLemmas.err_at, specs.Files.Holds}
 use Rattle.salvage.proofs.{ProgressLemmas.no_first, ReadFaultLemmas.{bytes_refusal, look_refusal}}
-use Rattle.sync_survey.{proofs.FoldersLemmas.{none_read, read_more}, specs.Survey.IsWholeFrom}
+use Rattle.sync_survey.proofs.FoldersLemmas.{none_read, read_more}
 use Rattle.sync_survey.specs.declared.survey_fault.SurveyFault.TheVariants.{NoFrame}
 use Rattle.salvage.proofs.reading.begin.Goals as goal
 
@@ -29,24 +29,3 @@ returns-in_err-head-clause-refused g c =
     err_at _ _ c.from_residual-in_err-head.ensures.1
     (look_refusal (read_more (read_more (none_read c.requires.fed) c.in_ok-front_end.ensures.reads)
     c.in_ok-first.ensures.reads) (c.in_err-head.ensures.refused 0) c.in_err-head.ensures.outside)
-
-pub returns-clause-begun : goal.returns-clause-begun
-returns-clause-begun g c =
-    let placed : IsWholeFrom c.in_ok-front_end.front_end c.args.size c.in-Some.first =
-    grind arith in
-    record {
-      known = c.requires.known;
-      whole = placed.within;
-      junk = placed.behind;
-      same = c.in_ok-head.ensures.same;
-      told =
-          grind (
-            arith,
-            c.in_ok-front_end.ensures.reads.files,
-            c.in_ok-first.ensures.reads.files,
-            c.in_ok-front_end.ensures.front_end,
-            c.in_ok-first.ensures.first,
-            c.in-Some.is,
-            c.in_ok-head.ensures.head,
-          );
-    }

@@ -1,10 +1,8 @@
 -- The file isn't found, or is too long; or what is read after that is read from unchanged files and
 -- counts.
-use Rattle.std.proofs.Common.{rules, subst, sym, ◌∙◌}
+use Rattle.std.proofs.Common.{rules, subst, ◌∙◌}
 use Rattle.outside.proofs.BufferOutputLemmas.{err_at}
 use Rattle.salvage.{proofs.ReadFaultLemmas.{find_refusal, seen_same}, specs.Answers.DamagedAnswer}
-use Rattle.salvage.specs.Progress.{IsBegunFile}
-use Rattle.sync_survey.specs.Survey.{HoldsOctets}
 use Rattle.salvage.proofs.reading.read_damaged.Goals as goal
 
 pub returns-in_err-size : goal.returns-in_err-size
@@ -22,16 +20,6 @@ returns-in_err-size g c =
       files = search rules;
       counts = search rules;
     }
-
-pub read_on-requires-clause-begun : goal.read_on-requires-clause-begun
-read_on-requires-clause-begun g c =
-    subst (λ files. IsBegunFile files c.args.name.now c.in_ok-begun.begun)
-    (sym c.in_ok-begun.ensures.reads.files) c.in_ok-begun.ensures.begun
-
-pub read_on-requires-clause-octets : goal.read_on-requires-clause-octets
-read_on-requires-clause-octets g c =
-    subst (HoldsOctets c.args.name.now) (sym (c.in_ok-begun.ensures.reads.files
-    ∙ c.in_ok-size.ensures.files)) c.in_ok-size.ensures.octets
 
 pub returns : goal.returns
 returns g c =

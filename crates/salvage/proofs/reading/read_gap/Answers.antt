@@ -5,13 +5,6 @@ use Rattle.salvage.specs.{JudgedFrames.AddsGap, Progress.begun_class}
 use Rattle.salvage.specs.{UsableFrames.next_usable_frame, Walk.{gap_end, offset_or_end}}
 use Rattle.salvage.proofs.reading.read_gap.Goals as goal
 
-pub skip-requires : goal.skip-requires
-skip-requires g c = omega (
-  arith,
-  (c.end_of-end.ensures.within (c.args.found.now.at + 1)
-      (omega (arith, c.requires.before)) c.in_ok-next.ensures.placed).0,
-)
-
 pub returns : goal.returns
 returns g c = record {
   reading = let end_is = c.end_of-end.ensures.within (c.args.found.now.at + 1)

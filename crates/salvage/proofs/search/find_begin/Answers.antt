@@ -5,6 +5,3 @@ use Rattle.salvage.proofs.search.find_begin.Goals as goal
 
 pub loop-at-preserved : goal.loop-at-preserved
 loop-at-preserved c = grind (arith, bare_more, bare_at)
-
-pub returns-clause-none : goal.returns-clause-none
-returns-clause-none c = grind arith

@@ -1,6 +1,5 @@
 -- The frame where the front ends, or the next one.
-use Rattle.std.proofs.Common.{arith, IfSome, None, Option, Some, sym, ℕ, ◌+◌}
-use Rattle.std.proofs.lemmas.Result.{IfOk-weaker}
+use Rattle.std.proofs.{Common.{arith, IfSome, Option, sym, ℕ, ◌+◌}, lemmas.Result.IfOk-weaker}
 use Rattle.outside.proofs.BufferOutputLemmas.{err_at}
 use Rattle.salvage.proofs.{ReadFaultLemmas.look_refusal, SearchLemmas.{first_behind, first_here}}
 use Rattle.sync_survey.proofs.FoldersLemmas.{none_read, shown_in, whole_from}
@@ -10,9 +9,7 @@ use Rattle.salvage.proofs.search.first_frame.Goals as goal
 -- a frame that is whole from the next offset on is whole from this one on
 whole_before : (from size : ℕ) (o : Option PlacedFrame) → IfSome o (IsWholeFrom (from + 1) size)
     → IfSome o (IsWholeFrom from size)
-whole_before from size None is = tt
-whole_before from size (Some p) is =
-    record { behind = omega (arith, is.behind); within = is.within }
+whole_before from size o is = grind arith
 
 pub returns-in_err-left-clause-refused : goal.returns-in_err-left-clause-refused
 returns-in_err-left-clause-refused g c =

@@ -4,17 +4,13 @@ use Rattle.frame_header.specs.{Fields.ClassFields, Tables.window_of}
 use Rattle.seam_plan.proofs.LeadInLemmas.{front-is, front-none}
 use Rattle.seam_plan.proofs.lead_ins.front_left_out.Goals.{After-needs_after}
 use Rattle.seam_plan.specs.Joins.{fits_behind}
-use Rattle.slot_plan.{proofs.PartLemmas.class-drop, specs.FreeBytes.FitBehindWindow}
-use Rattle.slot_plan.specs.Parts.{AreNeedsOfClass}
+use Rattle.slot_plan.{proofs.PartLemmas.class-drop, specs.Parts.AreNeedsOfClass}
 use Rattle.seam_plan.proofs.lead_ins.front_left_out.Goals as goal
 
 pub returns-then-not-has_lead_in : goal.returns-then-not-has_lead_in
 returns-then-not-has_lead_in c = λ class brought frames same all is run.
     front-none class brought frames
     c.has_lead_in.result c.if-not-has_lead_in.true (c.has_lead_in.ensures class brought same is)
-
-pub fit_alone-requires : goal.fit_alone-requires
-fit_alone-requires c = subst FitBehindWindow (sym c.needs_after.ensures) c.requires.run
 
 -- the frames of the run after its first are of the class
 others : (c : After-needs_after) (class : ClassFields) → AreNeedsOfClass class c.args.run.now

@@ -5,10 +5,7 @@ use Rattle.side_info.proofs.GainsLemmas.{both_put, one_put}
 use Rattle.side_info.proofs.gains.put_pair.Goals as goal
 
 pub returns-then-channels-eq1-clause-put : goal.returns-then-channels-eq1-clause-put
-returns-then-channels-eq1-clause-put c gs before after =
-    one_put c.args.version c.args.channels c.args.at gs c.args.pair.now before after
-    (bits c.args.bytes.now)
-    (bits c.put_gain.new.bytes) c.if-channels-eq1.true (omega arith) c.put_gain.ensures
+returns-then-channels-eq1-clause-put c gs before after = search (arith, one_put)
 
 pub returns-clause-put : goal.returns-clause-put
 returns-clause-put c gs before after =

@@ -1,6 +1,6 @@
 -- The parts take up all the bits in order.
-use Rattle.std.proofs.Common.{ap, ap₂, arith, drop, length, lit≤, sym, take, ◌*◌, ◌+◌, ◌-◌, ◌∙◌}
-use Rattle.std.proofs.{Common.{◌≡◌, ◌≤◌}, lemmas.List.take_all}
+use Rattle.std.proofs.Common.{ap, ap₂, arith, drop, length, lit≤, take, ◌*◌, ◌+◌, ◌-◌, ◌∙◌, ◌≡◌}
+use Rattle.std.proofs.{Common.◌≤◌, lemmas.List.take_all}
 use Rattle.bit_fields.specs.Bits.{bits}
 use Rattle.frame_header.specs.{Fields.IsClass, Tables.granules_of}
 use Rattle.side_info.proofs.ReadLemmas.{parts_size, second_room, set_both, side_is, side_size-small}
@@ -18,8 +18,7 @@ whole c = grind (arith, take_all)
 size : (c : After-from) → 8 * length (take c.side_size.result c.args.bytes.now)
     ≡ front_size c.args.version c.args.channels + (c.args.channels * granule_size c.args.version
     + (granules_of c.args.version - 1) * (c.args.channels * granule_size c.args.version))
-size c = ap (λ xs. 8 * length xs) (whole c) ∙ ap (λ n. 8 * n) c.requires.size
-    ∙ sym (parts_size (class_with c.args.version 0 c.args.channels) (class c))
+size c = grind (arith, whole c, parts_size (class_with c.args.version 0 c.args.channels) (class c))
 
 short : (c : After-from) → length (take c.side_size.result c.args.bytes.now) ≤ 32
 short c = grind (arith, whole, side_size-small)

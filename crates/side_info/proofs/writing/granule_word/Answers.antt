@@ -27,9 +27,7 @@ fits : (c : After-preflag_width)
     + (c.from-4.result * 8388608 + c.from-5.result * 4194304 + c.from-6.result))
     * (1 * 2 ^ (c.preflag_width.result + 2) % 18446744073709551616)
     + (c.from-7.result * 4 + c.from-8.result * 2 + c.from-9.result) < 2 ^ 64
-fits c = word_fits c.args.version c.args.granule.now c.requires.fits c.compress_width.result
-    c.preflag_width.result _ _ _
-    c.compress_width.ensures.width c.preflag_width.ensures.width (first c) (middle c) (last c)
+fits c = search (arith, word_fits, first, middle, last)
 
 upper : (c : After-compress_width)
     → (c.from.result * 131072 + c.from-2.result * 256 + c.from-3.result)
@@ -53,8 +51,4 @@ pub returns-clause-word : goal.returns-clause-word
 returns-clause-word c = grind (arith, word_bits, first, middle)
 
 pub returns-clause-below : goal.returns-clause-below
-returns-clause-below c =
-    let at = (goal.at.returns-clause-below c).After-preflag_width in
-    word_below c.args.version c.args.granule.now c.requires.fits c.compress_width.result
-    c.preflag_width.result _ _ _
-    c.compress_width.ensures.width c.preflag_width.ensures.width (first at) (middle at) (last at)
+returns-clause-below c = search (arith, word_below, first, middle, last)

@@ -19,12 +19,7 @@ place_frame-frame-requires-clause-enough g c =
     omega (arith, all, here, c.loop-need.invariant.enough)
 
 pub place_frame-frame-requires-clause-table : goal.place_frame-frame-requires-clause-table
-place_frame-frame-requires-clause-table g c =
-    grind (
-      arith,
-      same-class c.args.table.now.lengths c.args.part.now c.loop-need.need-index
-          c.need-item.result c.requires.table.class c.loop-need-test.true c.need-item.is,
-    )
+place_frame-frame-requires-clause-table g c = grind (arith, same-class)
 
 pub free_behind-free-requires-clause-fits : goal.free_behind-free-requires-clause-fits
 free_behind-free-requires-clause-fits g c =

@@ -1,12 +1,11 @@
 -- One more item is judged and kept, until the file ends.
-use Rattle.std.proofs.Common.{ap, arith, Err, IfSome, length, List, None, Option, refl, rules, Some}
-use Rattle.std.proofs.Common.{subst, sym, vec_len, ℕ, [], ◌+◌, ◌<◌, ◌∙◌, ◌∷◌, ◌≡◌, ◌≤◌}
+use Rattle.std.proofs.Common.{ap, arith, Err, IfSome, length, List, Option, refl, rules, subst, sym}
+use Rattle.std.proofs.Common.{vec_len, ℕ, [], ◌+◌, ◌<◌, ◌∙◌, ◌∷◌, ◌≡◌, ◌≤◌}
 use Rattle.std.proofs.lemmas.Bool.{eq-eqb, eqb-true, true≢false}
-use Rattle.frame_header.specs.Tables.{class_of}
 use Rattle.outside.{proofs.BufferOutputLemmas.err_at, specs.Files.Holds}
 use Rattle.sync_survey.proofs.FaultsLemmas.{length-marked_rows, marked_rows-none}
 use Rattle.sync_survey.proofs.FoldersLemmas.{bytes_refusal, none_read, only_reads_equal, read_more}
-use Rattle.sync_survey.proofs.FoldersLemmas.{still_shown, survey_ends, survey_of-short}
+use Rattle.sync_survey.proofs.FoldersLemmas.{survey_ends, survey_of-short}
 use Rattle.sync_survey.proofs.{FrontLemmas.pieces_later, LooksLemmas.item_at-shown}
 use Rattle.sync_survey.proofs.PlacedRowLemmas.{placed_none}
 use Rattle.sync_survey.proofs.ProgressLemmas.{IsBegun, IsSurveyedTo, no_frame, stopped_fault}
@@ -15,7 +14,7 @@ use Rattle.sync_survey.proofs.StepLemmas.{few_by, few_more, item_header, kept, l
 use Rattle.sync_survey.proofs.{StepLemmas.{laid_more, pass_refusal, refused}, SurveyLemmas.told_by}
 use Rattle.sync_survey.{proofs.folders.judge_frames.Goals.After-bytes, specs.Faults.class_from}
 use Rattle.sync_survey.specs.{Items.{item_front, size_of}, Looks.{IsNotPassed, PassesItem, Shows}}
-use Rattle.sync_survey.specs.{MainData.marked_rows, Row.Row, Survey.{HasLength, IsWholeHead}}
+use Rattle.sync_survey.specs.{MainData.marked_rows, Row.Row, Survey.IsWholeHead}
 use Rattle.sync_survey.specs.{Walk.{fault_at, IsFrameOf}, WalkBeginning.BeginsAsWalked}
 use Rattle.sync_survey.specs.declared.{folders.Walk.Walk, items.Item.TheVariants.Frame}
 use Rattle.sync_survey.specs.declared.places.{Head.Head, Start.Start}
@@ -28,8 +27,7 @@ nothing_in [] none = refl
 nothing_in (r ∷ rows) none = absurd (omega (arith, none))
 
 some_of : (rows : List Row) → (length rows ≡ 0 → ⊥) → 0 < length rows
-some_of [] none = absurd (none refl)
-some_of (r ∷ rows) none = omega arith
+some_of rows none = grind arith
 
 frames_count : (head : Option Head) (rows frames : List Row) → rows ≡ marked_rows head frames
     → length rows ≡ length frames
@@ -69,10 +67,6 @@ loop-at-init g c = record {
   read = none_read c.requires.fed;
 }
 
-pub look-requires-clause-known : goal.look-requires-clause-known
-look-requires-clause-known g c = subst (λ f. HasLength f c.args.name.now c.args.walk.size)
-    (sym c.loop-at.invariant.read.files) c.requires.walk.known
-
 pub returns-in_err-left : goal.returns-in_err-left
 returns-in_err-left g c =
     survey_ends c.from_residual.result c.from_residual.ensures.1 c.loop-at.invariant.read
@@ -83,11 +77,7 @@ returns-in_err-left g c =
 shown : (g : given.Over) (c : After-bytes g) (file : List ℕ)
     → Holds (g.D.Folder.seen c.args.folder.now).files c.args.name.now file
     → Shows file c.loop-at.at c.bytes.result.now c.in_ok-left.left
-shown g c file holds =
-    still_shown c.loop-at.invariant.read c.bytes.ensures c.in_ok-left.ensures.shows file holds
-
-pub pass-requires-clause-many : goal.pass-requires-clause-many
-pass-requires-clause-many g c = ap length c.bytes.ensures ∙ c.in_ok-left.ensures.many
+shown g c file holds = grind arith
 
 pub returns-in_err-at : goal.returns-in_err-at
 returns-in_err-at g c = record {
@@ -179,12 +169,7 @@ returns-then-is_empty g c = record {
 head_within : (start : Start) (size : ℕ) → start.first.offset + size_of (Frame start.first.header)
     ≤ size → (head : Option Head) → IfSome head (IsFrameOf start.first)
     → IfSome head (IsWholeHead start.first.offset (class_from start) size)
-head_within start size whole None same = tt
-head_within start size whole (Some head) same = record {
-  place = same.0;
-  class_is = ap class_of same.1;
-  within = omega (arith, same.0, ap (λ h. size_of (Frame h)) same.1, whole);
-}
+head_within start size h head same = grind arith
 
 pub returns : goal.returns
 returns g c = record {

@@ -1,17 +1,10 @@
 -- What is asked for is within the file.
-use Rattle.std.proofs.Common.{arith, refl, sym, ◌-◌}
-use Rattle.outside.proofs.BufferOutputLemmas.{err_at}
-use Rattle.sync_survey.proofs.FoldersLemmas.{read_refusal, shown}
+use Rattle.std.proofs.Common.{arith, refl, ◌-◌}
+use Rattle.sync_survey.proofs.FoldersLemmas.{shown}
 use Rattle.sync_survey.proofs.looks.look.Goals as goal
 
-pub fill_exact-requires-clause-found : goal.fill_exact-requires-clause-found
-fill_exact-requires-clause-found g c = λ bytes holds. sym (c.requires.known.long bytes holds)
-
 pub returns-in_err-fill_exact-clause-refused : goal.returns-in_err-fill_exact-clause-refused
-returns-in_err-fill_exact-clause-refused g c =
-    err_at _ _ c.from_residual.ensures.1 (λ allowed. read_refusal c.args.name.now
-    (g.D.Folder.seen c.args.folder.now).files allowed (g.D.Folder.seen c.args.folder.now).counts _
-    c.args.size c.in_err-fill_exact.field-0.0 c.in_err-fill_exact.ensures.cause)
+returns-in_err-fill_exact-clause-refused g c = grind arith
 
 pub returns-clause-shows : goal.returns-clause-shows
 returns-clause-shows g c = λ bytes holds.

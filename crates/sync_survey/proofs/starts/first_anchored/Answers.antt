@@ -1,9 +1,8 @@
 -- The first offset at which there is an anchored frame.
 use Rattle.std.proofs.Common.{arith, sym}
 use Rattle.outside.proofs.BufferOutputLemmas.{err_at}
-use Rattle.sync_survey.proofs.FoldersLemmas.{refusal_after, still_shown, whole_from}
+use Rattle.sync_survey.proofs.FoldersLemmas.{refusal_after, still_shown}
 use Rattle.sync_survey.proofs.StartLemmas.{first_anchored-some, none_anchored}
-use Rattle.sync_survey.specs.Start.{longest_junk}
 use Rattle.sync_survey.proofs.starts.first_anchored.Goals as goal
 
 pub returns-in_err-left-clause-refused : goal.returns-in_err-left-clause-refused
@@ -12,17 +11,10 @@ returns-in_err-left-clause-refused g c =
     (λ allowed. refusal_after c.loop-at.invariant.read (c.in_err-left.ensures.refused allowed))
 
 pub returns-in-Some-clause-first : goal.returns-in-Some-clause-first
-returns-in-Some-clause-first g c = λ bytes holds.
-    sym (first_anchored-some longest_junk bytes c.args.from c.loop-at.at c.in-Some.first
-    c.loop-at.auto.at (omega (arith, c.loop-at-test.true, c.min-at-end.ensures))
-    (sym (c.in-Some.ensures.frame bytes (still_shown
-    c.loop-at.invariant.read c.bytes.ensures c.in_ok-left.ensures.shows bytes holds)))
-    (c.loop-at.invariant.none bytes holds))
+returns-in-Some-clause-first g c = grind (arith, first_anchored-some, still_shown)
 
 pub returns-in-Some-clause-placed : goal.returns-in-Some-clause-placed
-returns-in-Some-clause-placed g c =
-    whole_from c.in-Some.ensures.offset c.in-Some.ensures.within c.in_ok-left.ensures.left
-    (omega (arith, c.loop-at-test.true, c.min-at-end.ensures)) c.loop-at.auto.at
+returns-in-Some-clause-placed g c = grind arith
 
 pub returns-clause-first : goal.returns-clause-first
 returns-clause-first g c = λ bytes holds.

@@ -8,7 +8,7 @@ use Rattle.join_edits.proofs.AlikeLemmas.{ends-here, none-alike, tested-alike}
 use Rattle.join_edits.proofs.{DecideLemmas.sounds_from, sounds.Sources.alike.Goals.In-loop-place}
 use Rattle.join_edits.specs.Sounds.{all_run_frames, AreFramePlaces, IsFramePlace, same_sounds}
 use Rattle.laying.specs.Needs.{need_of}
-use Rattle.outside.specs.Files.{Contents, Files, IfTold, Told, Untold}
+use Rattle.outside.specs.Files.{Contents, Files, IfTold}
 use Rattle.seam_plan.specs.Decisions.{frame_place, last_places}
 use Rattle.seam_plan.specs.declared.run.FramePlace.{FramePlace}
 use Rattle.sync_survey.specs.Faults.{survey_view, SurveyFields}
@@ -36,8 +36,7 @@ all-compared : (files : Files) (names : List (List ℕ)) (ss : List SurveyFields
     (places : List FramePlace) (all : Contents → Bool) → length places ≤ n → IfTold files
     (λ f. sounds_from (all_run_frames f names ss) number frame (drop n places) ≡ all f)
     → IfTold files (λ f. all f ≡ true)
-all-compared (Untold touched) names ss number frame n places all past is = tt
-all-compared (Told f) names ss number frame n places all past is = grind (arith, drop_all)
+all-compared files names ss number frame n places all past is = search (rules, drop_all)
 
 pub returns-in_default-last-clause-alike : goal.returns-in_default-last-clause-alike
 returns-in_default-last-clause-alike g c =

@@ -1,6 +1,6 @@
 -- One more block is copied, if it is chosen.
-use Rattle.std.proofs.Common.{ap, arith, drop, length, List, rules, slice_index_or, ℕ, [], ◌++◌}
-use Rattle.std.proofs.{Common.{◌+◌, ◌∷◌, ◌≡◌}, lemmas.{List.drop_all, Result.err_from_is_err_and}}
+use Rattle.std.proofs.Common.{arith, drop, length, List, rules, slice_index_or, ℕ, [], ◌++◌, ◌+◌}
+use Rattle.std.proofs.{Common.{◌∷◌, ◌≡◌}, lemmas.{List.drop_all, Result.err_from_is_err_and}}
 use Rattle.laying.proofs.CopyLemmas.{block-at, block-within, chosen-next}
 use Rattle.laying.proofs.relay.Relay.copy_blocks.Goals.{After-copy_chosen}
 use Rattle.laying.specs.Copying.{chosen_bytes}
@@ -64,17 +64,4 @@ pub loop-block-preserved : goal.loop-block-preserved
 loop-block-preserved g c = grind (arith, up_to_more, next g)
 
 pub returns : goal.returns
-returns g c = record {
-  written = let self = c.args.self.now in
-      let s = survey_view self.survey.now in
-      let chosen = chosen_bytes c.args.in_front s in
-      let k = c.loop-block.block-index in
-      let none : drop k s.blocks ≡ [] = drop_all k
-      s.blocks (omega (arith, c.loop-block-test.false, ap length c.blocks-block-items.ensures)) in
-      up_to_end self.pass c.requires.ready.pass.apart c.loop-block.invariant.up_to
-      (λ file holds. ap (λ (l : List Piece). chosen l file) none);
-  prefix = search rules;
-  done = search rules;
-  cause = search rules;
-  ready = search rules;
-}
+returns g c = search (rules, drop_all, up_to_end)

@@ -4,9 +4,6 @@ use Rattle.frame_writer.proofs.WritingLemmas.{ok-both}
 use Rattle.laying.proofs.PassLemmas.{ready-filled}
 use Rattle.laying.proofs.relay.Relay.fill.Goals as goal
 
-pub fill-requires-clause-within : goal.fill-requires-clause-within
-fill-requires-clause-within g c = omega (arith, c.requires.within, c.requires.ready.length_is)
-
 pub returns-clause-given : goal.returns-clause-given
 returns-clause-given g c = grind (arith, ok-both)
 

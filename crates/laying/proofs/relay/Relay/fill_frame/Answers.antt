@@ -19,8 +19,7 @@ area-within : (g : given.Over) (c : After-area_place-own g)
 area-within g c = grind (arith, laid-within)
 
 pub first_byte-requires-clause-within : goal.first_byte-requires-clause-within
-first_byte-requires-clause-within g c =
-    area-within g (goal.at.first_byte-requires-clause-within g c).After-area_place-own
+first_byte-requires-clause-within g c = search (rules, area-within)
 
 pub fill-requires-clause-within : goal.fill-requires-clause-within
 fill-requires-clause-within g c = omega (

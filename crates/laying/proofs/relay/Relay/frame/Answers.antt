@@ -2,14 +2,14 @@
 use Rattle.std.proofs.Common.{ap, arith, drop, length, List, min, rules, subst, sym, take, ℕ, []}
 use Rattle.std.proofs.{Common.{◌++◌, ◌+◌, ◌-◌, ◌<◌, ◌^◌, ◌∙◌, ◌∷◌, ◌≡◌, ◌≤◌}, lemmas.List.take_rest}
 use Rattle.frame_header.specs.Tables.{class_of}
-use Rattle.frame_writer.specs.{Frames.{Frame, reach_after_frame, reach_of}, Writing.writing_of}
+use Rattle.frame_writer.specs.Frames.{Frame, reach_after_frame, reach_of}
 use Rattle.laying.proofs.PassLemmas.{holds-later, lays_one, part_none, part_one, ready-later}
 use Rattle.laying.proofs.{PlannedFrameLemmas.begun_fits, ReachLemmas.{holds-next, IsTaken}}
 use Rattle.laying.proofs.{ReadLemmas.main-next, SurveyFrameLemmas.side_fits}
 use Rattle.laying.proofs.relay.Relay.frame.Goals.{After-with_area-frame, Start}
 use Rattle.laying.specs.Needs.{need_of}
-use Rattle.laying.specs.Passing.{GivesPart, HoldsLastWithBytes, IsAreaOf, LaysFrames, own_reach}
-use Rattle.laying.specs.Passing.{relay_frame, writing_in}
+use Rattle.laying.specs.Passing.{GivesPart, HoldsLastWithBytes, IsAreaOf, own_reach, relay_frame}
+use Rattle.laying.specs.Passing.{writing_in}
 use Rattle.outside.{proofs.BufferOutputLemmas.err_at, specs.Files.{Files, Holds}}
 use Rattle.side_info.specs.{FrameFields.FrameFields, Side.{front_width, SideFits}}
 use Rattle.slot_plan.specs.declared.needs.Placed.{Placed as PlacedFields}
@@ -103,13 +103,7 @@ pub with_area-frame-requires : goal.with_area-frame-requires
 with_area-frame-requires g c = grind (arith, class g)
 
 pub returns-in_err-span-clause-gives : goal.returns-in_err-span-clause-gives
-returns-in_err-span-clause-gives g c = record {
-  lays = search rules;
-  part = search (arith, err_at, part_none);
-  reach = search rules;
-  done = search rules;
-  cause = search rules;
-}
+returns-in_err-span-clause-gives g c = search (rules, err_at, part_none)
 
 pub write_frame-requires-clause-next : goal.write_frame-requires-clause-next
 write_frame-requires-clause-next g c =
@@ -168,26 +162,7 @@ returns-in_err-write_frame-clause-gives g c = record {
 }
 
 pub returns-clause-gives : goal.returns-clause-gives
-returns-clause-gives g c = record {
-  lays = let at = goal.at.returns-clause-gives g c in
-      let pass = c.args.self.now.pass in
-      let seen = g.D.Folder.seen in
-      let old = writing_in c.args.buffers.now in
-      let new = writing_of c.write_frame.new.writer c.write_frame.new.unsent in
-      let made = relay_frame c.args.self.now c.args.reading.now.next c.args.known.now.row.now
-      c.args.place.now in
-      subst (λ f. LaysFrames pass.input.now pass.output.now made old new f
-      (seen c.write_frame.new.folder).files) c.fill_frame.ensures.reads.files
-      (lays_one pass.input.now pass.output.now made _ old new
-      (seen c.fill_frame.new.folder).files (seen c.write_frame.new.folder).files
-      (told g at.After-with_area-frame) c.in_ok-write_frame.ensures.written);
-  part = search rules;
-  reach = let at = goal.at.returns-clause-gives g c in
-      writer-reach g at.After-with_area-frame (reach_of c.write_frame.new.writer)
-      c.write_frame.ensures.reach;
-  done = search rules;
-  cause = search rules;
-}
+returns-clause-gives g c = grind (arith, lays_one, told, writer-reach)
 
 pub returns-clause-stands : goal.returns-clause-stands
 returns-clause-stands g c = record {

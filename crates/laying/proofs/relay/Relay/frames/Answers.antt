@@ -112,10 +112,7 @@ module _ (g : given.Over) (c : After-index-rows-reading g) where
         ∙ sym (c.loop-place.invariant.lays.left file holds)
 
 pub place-requires-clause-next : goal.place-requires-clause-next
-place-requires-clause-next g c = record {
-  known = search rules;
-  found = found g (goal.at.place-requires-clause-next g c).After-index-rows-reading;
-}
+place-requires-clause-next g c = search (rules, found)
 
 pub place-requires-clause-begin : goal.place-requires-clause-begin
 place-requires-clause-begin g c =
@@ -208,31 +205,7 @@ loop-place-preserved g c =
     }
 
 pub returns-clause-gives : goal.returns-clause-gives
-returns-clause-gives g c = record {
-  lays = let self = c.args.self.now in
-      let s = survey_view self.survey.now in
-      let placed = c.args.placed.now in
-      let k = c.loop-place.place-index in
-      let none : drop k placed ≡ [] = drop_all k placed (omega (arith, c.loop-place-test.false)) in
-      lays-all self.pass.input.now self.pass.output.now _ _ (writing_in c.args.buffers.now)
-      (writing_in c.loop-place.buffers) _ _ c.loop-place.invariant.lays (λ file holds.
-      let frames = slice_range (all_frames file s) c.loop-place.reading.next c.args.to in
-      ap (relaid_frames frames) none ∙ relaid_frames-end frames);
-  part = search rules;
-  reach = let self = c.args.self.now in
-      let s = survey_view self.survey.now in
-      let window = window_of s.class.version in
-      let placed = c.args.placed.now in
-      let i = c.loop-place.reading.next in
-      let k = c.loop-place.place-index in
-      let inv = c.loop-place.invariant in
-      let reach = reach_of c.loop-place.buffers.writer in
-      let none : drop k placed ≡ [] = drop_all k placed (omega (arith, c.loop-place-test.false)) in
-      let needs = map need_of (slice_range s.frames i c.args.to) in
-      sym (ap (last_reach window reach needs) none ∙ fits-none window reach needs) ∙ inv.reach;
-  done = search rules;
-  cause = search rules;
-}
+returns-clause-gives g c = search (rules, drop_all, lays-all, relaid_frames-end, fits-none)
 
 -- if there is a place, there is a frame
 bounded : (g : given.Over) (c : After-place-item g)
@@ -254,5 +227,4 @@ pub offset_bounds-rows-reading : goal.offset_bounds-rows-reading
 offset_bounds-rows-reading g c = grind (arith, bounded)
 
 pub bounds-rows-reading : goal.bounds-rows-reading
-bounds-rows-reading g c = let lt = bounded g (goal.at.bounds-rows-reading g c).After-place-item in
-    omega (arith, lt)
+bounds-rows-reading g c = search (rules, bounded)

@@ -1,5 +1,5 @@
 -- What was passed on and what waits are the bytes of the frames.
-use Rattle.std.proofs.{Common.{ap, arith, rules, subst, ◌∙◌}, lemmas.Result.on_ok_weaker}
+use Rattle.std.proofs.{Common.{ap, rules, subst, ◌∙◌}, lemmas.Result.on_ok_weaker}
 use Rattle.frame_writer.specs.Frames.{bytes_of_frames}
 use Rattle.laying.proofs.EndLemmas.{lays-prefix, lays-written, new-behind, part-prefix}
 use Rattle.laying.{proofs.PassLemmas.ready-passed, specs.{Laid.selected_frames, Passing.writing_in}}
@@ -9,23 +9,8 @@ use Rattle.outside.specs.{Files.with_appended_bytes, Pass.{WritesMadeBytes, Writ
 use Rattle.sync_survey.specs.Faults.{survey_view}
 use Rattle.laying.proofs.relay.Relay.lay.Goals as goal
 
-pub frames-requires-clause-fits : goal.frames-requires-clause-fits
-frames-requires-clause-fits g c = grind arith
-
 pub returns-in_err-read_before : goal.returns-in_err-read_before
-returns-in_err-read_before g c = record {
-  written = search rules;
-  prefix = let self = c.args.self.now in
-      err_at c.from_residual.result _ c.from_residual.ensures.1
-      (prefix_nothing self.pass
-      (λ file.
-      bytes_of_frames (selected_frames (survey_view self.survey.now) c.args.selected.now file))
-      c.args.buffers.now.waiting _ _ c.in_err-read_before.ensures.reads.read
-      c.read_before.ensures.reads.files c.requires.ready.pass.target);
-  ready = search rules;
-  done = search rules;
-  cause = search rules;
-}
+returns-in_err-read_before g c = search (rules, err_at, prefix_nothing)
 
 pub returns-in_err-frames : goal.returns-in_err-frames
 returns-in_err-frames g c = record {

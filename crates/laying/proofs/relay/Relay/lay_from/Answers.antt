@@ -65,6 +65,3 @@ returns-clause-gives g c = record {
   done = search rules;
   cause = search rules;
 }
-
-pub returns-clause-count : goal.returns-clause-count
-returns-clause-count g c = grind arith

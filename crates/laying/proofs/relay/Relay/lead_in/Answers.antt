@@ -22,9 +22,7 @@ class : (g : given.Over) (c : After-with_begin-side g)
 class g c = grind arith
 
 pub new-front-requires : goal.new-front-requires
-new-front-requires g c =
-    let at = (goal.at.new-front-requires g c).After-with_begin-side in
-    subst (λ d. SideFits d c.with_begin-side.result) (sym (class g at)) (fits g at)
+new-front-requires g c = search (rules, class, fits)
 
 pub write_frame-requires-clause-next : goal.write_frame-requires-clause-next
 write_frame-requires-clause-next g c =

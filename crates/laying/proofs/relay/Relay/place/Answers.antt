@@ -29,13 +29,7 @@ reach_by relay row p lead = min (survey_window (survey_view relay.survey.now))
     - cond lead 0 (need_of row).bytes)
 
 pub returns-in_err-lead_in-clause-gives : goal.returns-in_err-lead_in-clause-gives
-returns-in_err-lead_in-clause-gives g c = record {
-  lays = search rules;
-  part = search (arith, reach-lead, err_at, part_one);
-  reach = search rules;
-  done = search rules;
-  cause = search rules;
-}
+returns-in_err-lead_in-clause-gives g c = search (rules, reach-lead, err_at, part_one)
 
 pub returns-else-place-clause-gives : goal.returns-else-place-clause-gives
 returns-else-place-clause-gives g c = record {

@@ -8,9 +8,6 @@ use Rattle.laying.proofs.relay.Relay.read_before.Goals as goal
 pub fill_area-requires-clause-found : goal.fill_area-requires-clause-found
 fill_area-requires-clause-found g c = grind (arith, read-at)
 
-pub overflow_add-at : goal.overflow_add-at
-overflow_add-at g c = omega (arith, c.loop-at-test.true, c.ranges.i.fits)
-
 pub loop-at-preserved : goal.loop-at-preserved
 loop-at-preserved g c = grind (arith, read-at, last-next)
 

@@ -1,12 +1,9 @@
 -- The Info frame counts the slots of the plan, which are those of the frames.
-use Rattle.std.proofs.Common.{ap, arith, length, map, sym, ◌∙◌}
+use Rattle.std.proofs.Common.{ap, map, sym, ◌∙◌}
 use Rattle.laying.{proofs.LaidLemmas.laid-slots, specs.Laid.{frames_laid, laid_part}}
 use Rattle.slot_plan.specs.{Plans.entries, declared.needs.Placed.Placed}
 use Rattle.sync_survey.specs.Faults.{survey_view}
 use Rattle.laying.proofs.selected.Selected.new.Goals as goal
-
-pub info_bytes-info-requires-clause-few : goal.info_bytes-info-requires-clause-few
-info_bytes-info-requires-clause-few c = omega (arith, c.requires.few, ap length c.placed.ensures)
 
 pub returns-clause-writable : goal.returns-clause-writable
 returns-clause-writable c = record {

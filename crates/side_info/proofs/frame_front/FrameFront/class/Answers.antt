@@ -1,11 +1,11 @@
 -- Version, frequency and mode are in bits of the header's four bytes.
 use Rattle.std.proofs.Common.{ap, cond, subst, sym, ℕ, ◌==◌, ◌∙◌, ◌≡◌}
-use Rattle.frame_header.proofs.HeaderLemmas.{IsClass-class_of}
-use Rattle.frame_header.specs.{Fields.{ClassFields, IsClass, IsHeader}, Tables.class_of}
-use Rattle.frame_header.specs.declared.version.Version.{Version, TheVariants.{One, Two, TwoFive}}
+use Rattle.frame_header.{proofs.HeaderLemmas.IsClass-class_of, specs.Fields.{ClassFields, IsClass}}
+use Rattle.frame_header.specs.{Tables.class_of, declared.version.Version.Version}
+use Rattle.frame_header.specs.declared.version.Version.TheVariants.{One, Two, TwoFive}
 use Rattle.side_info.proofs.FrontLemmas.{class_read}
 use Rattle.side_info.proofs.frame_front.FrameFront.class.Goals.{After-channels_of}
-use Rattle.side_info.specs.{FrameFields.FrameFields, FrontBytes.header_of}
+use Rattle.side_info.specs.FrontBytes.{header_of}
 use Rattle.side_info.proofs.frame_front.FrameFront.class.Goals as goal
 
 class_with : Version → ℕ → ℕ → ClassFields
@@ -29,10 +29,6 @@ invariant_of-result c =
     let at = (goal.at.invariant_of-result c).After-channels_of in
     subst IsClass (sym (same at))
     (IsClass-class_of (header_of c.self.inside) c.self.invariant.known)
-
-pub returns-clause-known : goal.returns-clause-known
-returns-clause-known c =
-    subst (λ (f : FrameFields). IsHeader f.header) c.self.view_is c.self.invariant.known
 
 pub returns-clause-class : goal.returns-clause-class
 unfolding class_with

@@ -1,5 +1,5 @@
 -- The first four bytes are the header, and the part is the side information.
-use Rattle.std.proofs.Common.{arith, length, length-drop, List, subst, sym, take, ℕ, ◌≡◌, ◌≤◌}
+use Rattle.std.proofs.Common.{arith, length, length-drop, List, take, ℕ, ◌≡◌, ◌≤◌}
 use Rattle.std.proofs.lemmas.List.{length-take-le}
 use Rattle.bit_fields.{proofs.BitsLemmas.AreBits-bits, specs.Bits.bits}
 use Rattle.frame_header.proofs.HeaderLemmas.{header_bits-header_at, IsClass-class_of}
@@ -9,8 +9,7 @@ use Rattle.frame_header.specs.Tables.{class_of, overhead_of, side_size_of}
 use Rattle.side_info.proofs.FrameLemmas.{overhead-is, overhead-least}
 use Rattle.side_info.proofs.{FrontLemmas.{are_written, written_fields}, SideLemmas.SideFits-side_at}
 use Rattle.side_info.proofs.frame_front.FrameFront.read_in.Goals.{After-room_of_frame}
-use Rattle.side_info.specs.{Frame.{side_in, side_part}, FrameFields.FrameFields}
-use Rattle.side_info.specs.{FrontBytes.front_view, Side.SideFits}
+use Rattle.side_info.specs.{Frame.{side_in, side_part}, FrontBytes.front_view}
 use Rattle.side_info.proofs.frame_front.FrameFront.read_in.Goals as goal
 
 least : (h : HeaderFields) (frame : List ℕ) → overhead_of (class_of h) h.protected ≤ length frame
@@ -35,26 +34,11 @@ fields : (c : After-room_of_frame)
     → front_view (record { header = c.first_four.result; side = c.room_of_frame.result })
     ≡ record { header = c.args.header.now; side = side_in c.args.header.now c.args.frame.now }
 unfolding side_in
-fields c = written_fields c.args.header.now (known c) c.first_four.result
-    (side_part c.args.header.now c.args.frame.now) c.room_of_frame.result (head c)
-    c.first_four.ensures.octets (size c.args.header.now c.args.frame.now c.requires.room)
-    c.room_of_frame.ensures.octets c.room_of_frame.ensures.room
+fields c = search (arith, written_fields, known, head, size)
 
 pub invariant_of-result : goal.invariant_of-result
-invariant_of-result c =
-    let at = (goal.at.invariant_of-result c).After-room_of_frame in
-    are_written c.args.header.now (known at) c.first_four.result
-    (side_part c.args.header.now c.args.frame.now) c.room_of_frame.result (head at)
-    c.first_four.ensures.octets (size c.args.header.now c.args.frame.now c.requires.room)
-    c.room_of_frame.ensures.octets c.room_of_frame.ensures.room
+invariant_of-result c = search (arith, are_written, known, head, size)
 
 pub returns : goal.returns
 unfolding side_in
-returns c = record {
-  front = fields (goal.at.returns c).After-room_of_frame;
-  fits = let at = (goal.at.returns c).After-room_of_frame in
-      let h = c.args.header.now in
-      subst (λ (f : FrameFields). SideFits (class_of h) f.side) (sym (fields at))
-      (SideFits-side_at (class_of h) (IsClass-class_of h (known at))
-      (bits (side_part h c.args.frame.now)) (AreBits-bits (side_part h c.args.frame.now)));
-}
+returns c = search (arith, fields, SideFits-side_at, IsClass-class_of, known, AreBits-bits)

@@ -1,8 +1,7 @@
 -- A whole frame of the class is the item that is passed.
 use Rattle.std.proofs.Common.{ap, arith, inl, inr, List, refl, subst, sym, ℕ, ◌∙◌, ◌≡◌, ◌⊎◌}
 use Rattle.std.proofs.lemmas.Result.{err_from_is_err_and}
-use Rattle.frame_header.{proofs.ClassLemmas.some_of_class, specs.Fields.HeaderFields}
-use Rattle.frame_header.specs.Tables.{length_of}
+use Rattle.frame_header.specs.{Fields.HeaderFields, Tables.length_of}
 use Rattle.sync_survey.proofs.{LooksLemmas.step_passes, StepLemmas.{frame_passes, room_passed}}
 use Rattle.sync_survey.{proofs.found.SurveySoFar.pass.Goals.Then-size-left, specs.Items.item_front}
 use Rattle.sync_survey.specs.Looks.{IsFrameFault, IsNotPassed, KeepsItem, Passes, PassesFront}
@@ -32,13 +31,10 @@ passes c file shows =
 
 front : (c : Then-size-left) → PassesFront c.args.bytes.now c.args.left
     (record { item = item_front c.args.bytes.now; size = c.from-size.result })
-front c =
-    subst (λ (i : Item). PassesFront c.args.bytes.now c.args.left
-    (record { item = i; size = c.from-size.result })) (own c).item (own c)
+front c = grind (arith, own)
 
 pub judge-requires-clause-heads : goal.judge-requires-clause-heads
-judge-requires-clause-heads c = (some_of_class c.args.class _ c.in-Some.header
-    (sym c.header_of_class.ensures ∙ c.in-Some.is)).0
+judge-requires-clause-heads c = grind arith
 
 pub judge-requires-clause-room : goal.judge-requires-clause-room
 judge-requires-clause-room c =
