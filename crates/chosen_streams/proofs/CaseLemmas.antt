@@ -1,6 +1,8 @@
 -- The commands that choose frames of one file.
 use Rattle.std.proofs.Common.{ap, append-nil, length, List, Ok, refl, subst, sym, ℕ, [], ◌∷◌, ◌≡◌}
 use Rattle.std.specs.Prelude.{slice_range, ◌<◌, ◌≤◌}
+use Rattle.chosen_streams.{proofs.ExactLemmas.planned-exact, specs.Exact.IsExactly}
+use Rattle.chosen_streams.specs.Laws.{ChosenPlansAreFirst, ChosenStreamsAreExact}
 use Rattle.commands.specs.SingleOutput.{most_frames}
 use Rattle.cut_edits.proofs.ChosenLemmas.{the-plan}
 use Rattle.cut_edits.specs.Chosen.{AreUsualChoices, Chosen, chosen_file_part, chosen_needs}
@@ -14,8 +16,6 @@ use Rattle.sync_survey.proofs.SurveyPartsLemmas.{survey_fields-stream}
 use Rattle.sync_survey.proofs.SurveyedFileLemmas.{survey_of-parts}
 use Rattle.sync_survey.specs.Faults.{stream_of, stream_of_survey, SurveyFields}
 use Rattle.sync_survey.specs.{MainData.StreamFrame, Survey.survey_of}
-use Rattle.theorems.{proofs.ExactLemmas.planned-exact, specs.Exact.IsExactly}
-use Rattle.theorems.specs.Laws.{ChosenPlansAreFirst, ChosenStreamsAreExact}
 
 -- ---- frames of a file with a survey, whether or not it is without fault
 

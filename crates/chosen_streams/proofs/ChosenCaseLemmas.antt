@@ -2,6 +2,10 @@
 use Rattle.std.proofs.Common.{ap, arith, Bool, length, List, map, Ok, Option, Result, Some, subst}
 use Rattle.std.{proofs.Common.{sym, ℕ, [], ◌∙◌, ◌∷◌, ◌≡◌}, specs.List.enumerate_from}
 use Rattle.std.specs.Prelude.{slice_get, slice_range, unwrap_or, ◌<◌, ◌≤◌}
+use Rattle.chosen_streams.proofs.CaseLemmas.{chosen-exact_is, stream-is}
+use Rattle.chosen_streams.proofs.MenuCaseLemmas.{packed-exact}
+use Rattle.chosen_streams.specs.Chosen.{frames_between, named_frames, position_number}
+use Rattle.chosen_streams.specs.{Exact.IsExactly, Laws.HoldsChosen}
 use Rattle.commands.proofs.{MadeLemmas.{made-of, makes-parts}, RefusingLemmas.refusal_or-ok}
 use Rattle.commands.specs.SingleOutput.{input_result, most_frames}
 use Rattle.commands.specs.declared.fault.{EditFault.EditFault, Refusal.Refusal}
@@ -25,9 +29,6 @@ use Rattle.sync_survey.proofs.{SurveyPartsLemmas.stream-length, SurveyedFileLemm
 use Rattle.sync_survey.specs.Faults.{stream_of, stream_of_survey, SurveyFields}
 use Rattle.sync_survey.specs.MainData.{main_bytes, stream_frame, stream_frames, StreamFrame}
 use Rattle.sync_survey.specs.{Row.Row, Survey.survey_of, declared.places.Head.Head}
-use Rattle.theorems.proofs.{CaseLemmas.{chosen-exact_is, stream-is}, MenuCaseLemmas.packed-exact}
-use Rattle.theorems.specs.{Chosen.{frames_between, named_frames, position_number}, Exact.IsExactly}
-use Rattle.theorems.specs.Laws.{HoldsChosen}
 
 -- ---- positions
 

@@ -2,6 +2,7 @@
 use Rattle.std.proofs.Common.{ap, append-nil, arith, Bool, false, length, List, map, None, Option}
 use Rattle.std.proofs.Common.{refl, Some, subst, sym, true, ℕ, [], ◌++◌, ◌∙◌, ◌∷◌, ◌≡◌}
 use Rattle.std.{proofs.lemmas.List.length-map, specs.Prelude.{flat_map, ◌<◌}}
+use Rattle.chosen_streams.specs.{Exact.{IsAtMostALeadIn, IsExactly}, Laws.PlannedStreamsAreExact}
 use Rattle.frame_header.specs.Fields.{ClassFields, HeaderFields, SlotFields}
 use Rattle.frame_writer.specs.Frames.{Frame}
 use Rattle.laying.proofs.HoldLemmas.{part-needs, part-some, part-stream}
@@ -12,7 +13,6 @@ use Rattle.laying.specs.Relaid.{rest_behind, silent_lead_in, stream_with_lead_in
 use Rattle.slot_plan.specs.Parts.{all_items, AreLeadIns, need_item, part_items, PlanItem}
 use Rattle.slot_plan.specs.{Plans.AreItemSlots, declared.needs.{Need.Need, Placed.Placed}}
 use Rattle.sync_survey.specs.MainData.{StreamFrame}
-use Rattle.theorems.specs.{Exact.{IsAtMostALeadIn, IsExactly}, Laws.PlannedStreamsAreExact}
 
 -- ---- as many frames as are planned
 

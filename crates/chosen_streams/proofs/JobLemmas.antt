@@ -1,10 +1,10 @@
 -- What each command writes holds the frames that its job chooses.
 use Rattle.std.proofs.Common.{refl}
-use Rattle.theorems.proofs.{ChosenCaseLemmas.{cut-holds, pack-holds}, JoinCaseLemmas.join-holds}
-use Rattle.theorems.proofs.{SalvageCaseLemmas.salvage-holds, SeamlessCaseLemmas.seamless-chosen}
-use Rattle.theorems.proofs.SpanCaseLemmas.{exact-holds}
-use Rattle.theorems.proofs.SplitCaseLemmas.{split_at-holds, split_by-holds, split_exact-holds}
-use Rattle.theorems.{proofs.SplitCaseLemmas.split_exact_by-holds, specs.Laws.StreamsAreChosen}
+use Rattle.chosen_streams.proofs.ChosenCaseLemmas.{cut-holds, pack-holds}
+use Rattle.chosen_streams.proofs.{JoinCaseLemmas.join-holds, SalvageCaseLemmas.salvage-holds}
+use Rattle.chosen_streams.proofs.{SeamlessCaseLemmas.seamless-chosen, SpanCaseLemmas.exact-holds}
+use Rattle.chosen_streams.proofs.SplitCaseLemmas.{split_at-holds, split_by-holds, split_exact-holds}
+use Rattle.chosen_streams.{proofs.SplitCaseLemmas.split_exact_by-holds, specs.Laws.StreamsAreChosen}
 
 -- what each command writes holds the frames that its job chooses
 pub streams-chosen : StreamsAreChosen

@@ -1,9 +1,13 @@
 -- All frames of several files, in one file.
 use Rattle.std.proofs.Common.{All, ap, arith, false, length, List, map, None, Ok, Option, refl}
 use Rattle.std.proofs.Common.{Some, subst, sym, ℕ, [], ◌+◌, ◌-◌, ◌∙◌, ◌∷◌, ◌≡◌}
-use Rattle.std.proofs.lemmas.List.{length-map, Elements.All-cons}
+use Rattle.std.{proofs.lemmas.List.{length-map, Elements.All-cons}, specs.Prelude.Result}
+use Rattle.chosen_streams.proofs.{CaseLemmas.stream-is, ExactLemmas.planned-exact}
+use Rattle.chosen_streams.specs.{Chosen.named_frames, Exact.IsExactly}
+use Rattle.chosen_streams.specs.Laws.{HoldsChosen, JoinedPlansAreFirst, JoinedStreamsAreExact}
 use Rattle.commands.proofs.{MadeLemmas.{makes-parts, some-frames}, RefusingLemmas.then_ok}
-use Rattle.commands.specs.SingleOutput.{most_frames}
+use Rattle.commands.specs.{Refusing.then_made, SingleOutput.most_frames}
+use Rattle.commands.specs.declared.fault.EditFault.{EditFault}
 use Rattle.frame_header.specs.{Fields.ClassFields, Tables.window_of}
 use Rattle.job_words.specs.Request.{Join}
 use Rattle.join_edits.proofs.PartLemmas.{part-is}
@@ -17,10 +21,6 @@ use Rattle.outside.specs.Files.{Contents}
 use Rattle.salvage_edits.proofs.StreamLemmas.{whole-stream}
 use Rattle.slot_plan.specs.{LeastPlan.least_plan, Plans.IsPlan, declared.needs.Need.Need}
 use Rattle.sync_survey.specs.{Faults.SurveyFields, Survey.survey_of}
-use Rattle.theorems.proofs.{CaseLemmas.stream-is, ExactLemmas.planned-exact}
-use Rattle.theorems.{proofs.SeamlessInputLemmas.more-inputs, specs.Chosen.named_frames}
-use Rattle.theorems.specs.Exact.{IsExactly}
-use Rattle.theorems.specs.Laws.{HoldsChosen, JoinedPlansAreFirst, JoinedStreamsAreExact}
 
 rows-each : (class : ClassFields) (parts : List FilePart) → AreParts class parts
     → All (IsPartOf class) (map part_rows parts)
@@ -67,6 +67,12 @@ pub joined-first : JoinedPlansAreFirst
 joined-first = join-plan
 
 -- ---- the command
+
+-- a list made with this part first is this part and the parts after it
+pub more-inputs : (part : FilePart) (r : Result (List FilePart) EditFault) (parts : List FilePart)
+    → then_made r (λ later. Ok (part ∷ later)) ≡ Ok parts
+    → (later : List FilePart) × (r ≡ Ok later) × (part ∷ later ≡ parts)
+more-inputs part r parts e = grind arith
 
 -- a part of all frames of an input
 part-of : (c : ClassFields) (file : List ℕ) (allowed : ℕ) (s : SurveyFields)

@@ -2,6 +2,9 @@
 use Rattle.std.proofs.Common.{arith, Bool, false, length, List, Ok, refl, subst, sym, true, ℕ, []}
 use Rattle.std.{proofs.Common.{◌∷◌, ◌≡◌}, specs.Prelude.{◌<◌, ◌≤◌}}
 use Rattle.best_plan.specs.Best.{items_with_lead_in}
+use Rattle.chosen_streams.proofs.CaseLemmas.{chosen-part, had-exact, own-stream}
+use Rattle.chosen_streams.proofs.ExactLemmas.{IsSized, led-exact, own-exact, part-sized}
+use Rattle.chosen_streams.specs.{Exact.IsExactly, Laws.PackedStreamsAreExact}
 use Rattle.commands.{proofs.RefusingLemmas.{refusal_or-ok, then_ok}, specs.Refusing.refusal_or}
 use Rattle.commands.specs.SingleOutput.{most_frames}
 use Rattle.cut_edits.specs.Chosen.{Chosen, chosen_file_part, chosen_needs}
@@ -22,9 +25,6 @@ use Rattle.slot_plan.specs.declared.needs.{Need.Need, Placed.Placed}
 use Rattle.sync_survey.proofs.PlacedRowLemmas.{survey_fields-placed}
 use Rattle.sync_survey.{proofs.SurveyedFileLemmas.survey_of-parts, specs.Faults.SurveyFields}
 use Rattle.sync_survey.specs.{MainData.StreamFrame, Survey.survey_of}
-use Rattle.theorems.proofs.CaseLemmas.{chosen-part, had-exact, own-stream}
-use Rattle.theorems.proofs.ExactLemmas.{IsSized, led-exact, own-exact, part-sized}
-use Rattle.theorems.specs.{Exact.IsExactly, Laws.PackedStreamsAreExact}
 
 -- ---- the plan from a menu
 

@@ -3,6 +3,9 @@ use Rattle.std.proofs.Common.{ap, arith, Bool, inl, length, List, map, Ok, Optio
 use Rattle.std.proofs.{Common.{subst, suc, zero, ℕ, [], ◌+◌, ◌∙◌, ◌∷◌, ◌≡◌}, lemmas.Bool.false≢true}
 use Rattle.std.proofs.lemmas.List.{length-map, FromFn.length-enumerate_from}
 use Rattle.std.specs.{List.enumerate_from, Prelude.{slice_get, ◌<◌}}
+use Rattle.chosen_streams.{proofs.CaseLemmas.{had-exact, had-plan}, specs.Exact.IsExactly}
+use Rattle.chosen_streams.specs.Laws.{AreLeftOf, HoldsChosen, IsLeftOf, SalvagedFramesAreLeft}
+use Rattle.chosen_streams.specs.Laws.{SalvagedPlansAreFirst, SalvagedStreamsAreExact}
 use Rattle.commands.proofs.{MadeLemmas.makes-parts, TellingLemmas.text-parts}
 use Rattle.cut_edits.specs.Chosen.{own_slots_plan}
 use Rattle.frame_header.specs.Tables.{window_of}
@@ -20,9 +23,6 @@ use Rattle.slot_plan.specs.Plans.{IsPlan}
 use Rattle.sync_survey.specs.{Faults.{stream_of_survey, SurveyFields}, HeadApart.emptied_survey}
 use Rattle.sync_survey.specs.MainData.{main_bytes, stream_frame, stream_frames, StreamFrame}
 use Rattle.sync_survey.specs.{Row.Row, declared.places.Head.Head}
-use Rattle.theorems.{proofs.CaseLemmas.{had-exact, had-plan}, specs.Exact.IsExactly}
-use Rattle.theorems.specs.Laws.{AreLeftOf, HoldsChosen, IsLeftOf, SalvagedFramesAreLeft}
-use Rattle.theorems.specs.Laws.{SalvagedPlansAreFirst, SalvagedStreamsAreExact}
 
 module _ (file : List ℕ) (d : DamagedFields) (read : damaged_of file ≡ Ok d) where
   abbrev own : SurveyFields

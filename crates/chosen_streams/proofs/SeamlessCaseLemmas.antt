@@ -1,6 +1,9 @@
 -- The frames of several files without seams, in one file.
 use Rattle.std.proofs.Common.{ap, append-nil, arith, flat_map, List, Ok, Option, sym, true, ℕ, []}
 use Rattle.std.proofs.Common.{◌∙◌, ◌∷◌, ◌≡◌}
+use Rattle.chosen_streams.proofs.ExactLemmas.{IsSized, no-frames, part-on}
+use Rattle.chosen_streams.specs.{Chosen.joined_run_frames, Exact.IsExactly}
+use Rattle.chosen_streams.specs.Laws.{HoldsChosen, SeamlessPlansAreFirst}
 use Rattle.commands.proofs.{MadeLemmas.makes-parts, RefusingLemmas.then_ok}
 use Rattle.commands.proofs.TellingLemmas.{text-parts}
 use Rattle.frame_header.specs.{Fields.{HeaderFields, SlotFields}, Tables.window_of}
@@ -16,9 +19,6 @@ use Rattle.seam_plan.specs.{Frames.needs_of, Seams.run_of}
 use Rattle.slot_plan.specs.{Parts.{all_items, AreLeadIns}, Plans.{AreItemSlots, IsPlan}}
 use Rattle.slot_plan.specs.declared.needs.{Need.Need, Placed.Placed}
 use Rattle.sync_survey.specs.MainData.{StreamFrame}
-use Rattle.theorems.proofs.ExactLemmas.{IsSized, no-frames, part-on}
-use Rattle.theorems.specs.{Chosen.joined_run_frames, Exact.IsExactly}
-use Rattle.theorems.specs.Laws.{HoldsChosen, SeamlessPlansAreFirst}
 
 -- ---- one part, in other slots than its frames have
 

@@ -1,6 +1,10 @@
 -- Exact pieces: the frames of their spans, by the survey whose head is set apart.
 use Rattle.std.proofs.Common.{arith, Bool, false, inl, length, List, None, Ok, Option, refl, subst}
 use Rattle.std.{proofs.Common.{sym, true, ℕ, [], ◌+◌, ◌∷◌, ◌≡◌}, specs.Prelude.slice_range}
+use Rattle.chosen_streams.proofs.CaseLemmas.{had-exact, had-part}
+use Rattle.chosen_streams.proofs.ExactLemmas.{IsSized, led-exact, part-sized}
+use Rattle.chosen_streams.specs.Chosen.{file_bytes_of, frames_needed, span_frames}
+use Rattle.chosen_streams.specs.{Exact.IsExactly, Laws.HoldsChosen}
 use Rattle.commands.proofs.{MadeLemmas.{made-of, makes-parts}, RefusingLemmas.refusal_or-ok}
 use Rattle.commands.specs.SingleOutput.{most_frames}
 use Rattle.cut_edits.proofs.PieceLemmas.{piece-parts, span-survey_without_head, span-there}
@@ -24,10 +28,6 @@ use Rattle.sync_survey.proofs.SurveyPartsLemmas.{survey_fields-allowed}
 use Rattle.sync_survey.proofs.SurveyedFileLemmas.{survey_of-parts}
 use Rattle.sync_survey.specs.{Faults.{stream_of_survey, SurveyFields}, MainData.StreamFrame}
 use Rattle.sync_survey.specs.{Row.Row, Survey.survey_of}
-use Rattle.theorems.proofs.CaseLemmas.{had-exact, had-part}
-use Rattle.theorems.proofs.ExactLemmas.{IsSized, led-exact, part-sized}
-use Rattle.theorems.specs.{Chosen.{file_bytes_of, frames_needed, span_frames}, Exact.IsExactly}
-use Rattle.theorems.specs.Laws.{HoldsChosen}
 
 -- ---- in the slots of their plan
 

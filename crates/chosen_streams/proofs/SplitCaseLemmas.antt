@@ -1,6 +1,12 @@
 -- The pieces of a split, at positions or at places among the samples.
 use Rattle.std.proofs.Common.{ap, ap₂, false, List, map, Ok, Option, refl, Result, Some, subst, sym}
 use Rattle.std.{proofs.Common.{true, ℕ, [], ◌∙◌, ◌∷◌, ◌≡◌}, specs.Prelude.unwrap_or}
+use Rattle.chosen_streams.proofs.ChosenCaseLemmas.{cut-exact, frames-are}
+use Rattle.chosen_streams.proofs.SpanCaseLemmas.{frames-are as span-frames, needed-is, piece-exact}
+use Rattle.chosen_streams.specs.Chosen.{AllConsistOf, cue_positions, file_bytes_of, frames_between}
+use Rattle.chosen_streams.specs.Chosen.{frames_needed, frames_needed_between, named_frames}
+use Rattle.chosen_streams.specs.Chosen.{piece_frames, piece_frames_from, positions_in}
+use Rattle.chosen_streams.specs.{Exact.IsExactly, Laws.HoldsChosen}
 use Rattle.commands.{proofs.RefusingLemmas.then_ok, specs.SingleOutput.most_frames}
 use Rattle.commands.specs.declared.fault.EditFault.{EditFault}
 use Rattle.cue_sheet.specs.declared.place.Place.{Place}
@@ -22,12 +28,6 @@ use Rattle.split_edits.specs.Cutting.{piece_parts_from, split_command, surveyed_
 use Rattle.split_edits.specs.Split.{cue_sheet_places, cut_part, given_cutting, given_exact_cutting}
 use Rattle.split_edits.specs.Split.{sheet_cutting, sheet_exact_cutting}
 use Rattle.sync_survey.specs.{Faults.SurveyFields, MainData.StreamFrame, Survey.survey_of}
-use Rattle.theorems.proofs.ChosenCaseLemmas.{cut-exact, frames-are}
-use Rattle.theorems.proofs.SpanCaseLemmas.{frames-are as span-frames, needed-is, piece-exact}
-use Rattle.theorems.specs.Chosen.{AllConsistOf, cue_positions, file_bytes_of, frames_between}
-use Rattle.theorems.specs.Chosen.{frames_needed, frames_needed_between, named_frames, piece_frames}
-use Rattle.theorems.specs.{Chosen.{piece_frames_from, positions_in}, Exact.IsExactly}
-use Rattle.theorems.specs.Laws.{HoldsChosen}
 
 -- ---- whatever is cut
 

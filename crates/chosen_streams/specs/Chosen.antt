@@ -2,6 +2,7 @@
 -- the headline's words, without plans, slots or bytes.
 use Rattle.std.specs.Prelude.{Err, false, flat_map, length, List, map, Ok, Result, slice_range}
 use Rattle.std.specs.Prelude.{true, unwrap_or, ℕ, [], ◌++◌, ◌+◌, ◌∷◌, ◌≡◌}
+use Rattle.chosen_streams.specs.Exact.{IsExactly}
 use Rattle.commands.specs.declared.fault.EditFault.{EditFault}
 use Rattle.cue_sheet.specs.{Cues.cue_of, Places.frame_at, declared.cue_fault.CueFault.CueFault}
 use Rattle.cue_sheet.specs.declared.place.Place.{Place, TheVariants.End}
@@ -22,7 +23,6 @@ use Rattle.requests.specs.Shifts.{steps_of}
 use Rattle.salvage.specs.Stream.{salvaged_stream}
 use Rattle.sync_survey.specs.Faults.{stream_of, stream_of_survey, SurveyFields, unbounded_survey}
 use Rattle.sync_survey.specs.{MainData.StreamFrame, declared.survey_fault.SurveyFault.SurveyFault}
-use Rattle.theorems.specs.Exact.{IsExactly}
 
 -- ---- the frames of one output
 

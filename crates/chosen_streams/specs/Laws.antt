@@ -1,7 +1,8 @@
 -- What holds of the streams and plans of the commands that repack main data.
 use Rattle.std.specs.Prelude.{Bool, false, flat_map, length, List, map, Ok, slice_get, slice_range}
 use Rattle.std.specs.Prelude.{Some, true, ℕ, [], ◌<◌, ◌∷◌, ◌≡◌, ◌≤◌}
-use Rattle.commands.specs.{Command.{Command, Made, Output}, SingleOutput.most_frames}
+use Rattle.chosen_streams.specs.{Chosen.{AllConsistOf, chosen_of}, Exact.IsExactly}
+use Rattle.commands.specs.{Command.{Command, Made}, SingleOutput.most_frames}
 use Rattle.cue_sheet.specs.declared.place.Place.{Place}
 use Rattle.cut_edits.specs.Chosen.{AreUsualChoices, Chosen, chosen_needs, cut_command, first_plan}
 use Rattle.cut_edits.specs.{Chosen.{own_slots_plan, placed_part}, Exact.exact_command}
@@ -12,8 +13,7 @@ use Rattle.job_words.specs.Request.{Cut, CutExact, Fade, Gain, Join, Pack, Reque
 use Rattle.job_words.specs.Request.{SplitAt, SplitBy, SplitExact, Undo}
 use Rattle.join_edits.specs.Join.{join_command, join_parts, joined_plan, joined_stream}
 use Rattle.join_edits.specs.Seamless.{join_of_parts, part_brought, run_plan, seamless_command}
-use Rattle.laying.specs.{Laid.stream_laid, LaidLaws.LosesNoFrame, Needs.need_of}
-use Rattle.laying.specs.NeedsFit.{own_choice}
+use Rattle.laying.specs.{Laid.stream_laid, Needs.need_of, NeedsFit.own_choice}
 use Rattle.laying.specs.Relaid.{AreParts, FilePart, part_needs, part_stream, stream_with_lead_ins}
 use Rattle.outside.specs.Files.{Contents}
 use Rattle.pack_edits.specs.Modes.{mode_planning, pack_mode_command}
@@ -28,7 +28,6 @@ use Rattle.split_edits.specs.Split.{split_exact_by_command}
 use Rattle.sync_survey.specs.{Faults.{stream_of, SurveyFields}, HeadApart.emptied_survey}
 use Rattle.sync_survey.specs.{MainData.{granule_lengths, no_slot, split_bits, StreamFrame}, Row.Row}
 use Rattle.sync_survey.specs.Survey.{survey_of}
-use Rattle.theorems.specs.{Chosen.{AllConsistOf, chosen_of}, Exact.IsExactly}
 
 -- Parts of well-formed files in the slots of their plan: the stream is exactly the frames of each
 -- part, in the order of the parts, each part after at most one lead-in.
@@ -156,36 +155,3 @@ pub record StreamsAreChosen : Type 0 where
       → HoldsChosen (Fade back input output sheet) (fade_command sheet back input output)
   pub salvage : (input output : List ℕ)
       → HoldsChosen (Salvage input output) (salvage_command input output)
-
--- each of these files is well-formed, and no frame of
--- it is lost, whether its head is set apart or not
-abbrev pub AllLoseNoFrame : List Output → Type 0
-AllLoseNoFrame [] = Unit {0}
-AllLoseNoFrame (output ∷ outputs) = LosesNoFrame output.bytes × AllLoseNoFrame outputs
-
--- a command writes only such files, where it isn't refused
-abbrev pub WritesAllFrames : Command → Type 0
-WritesAllFrames command =
-    (files : Contents) (made : Made) → command.makes files ≡ Ok made → AllLoseNoFrame made.outputs
-
--- each command that repacks main data writes only such files
-pub record WrittenFramesStay : Type 0 where
-  pub cut : (from to : Place) (least : Bool) (input output : List ℕ)
-      → WritesAllFrames (cut_command from to least input output)
-  pub cut_exact : (input : List ℕ) (from to : ExactPlace) (output : List ℕ)
-      → WritesAllFrames (exact_command from to input output)
-  pub pack : (mode : PackMode) (input output : List ℕ)
-      → WritesAllFrames (pack_mode_command mode input output)
-  pub split_at : (input prefix : List ℕ) (places : List Place)
-      → WritesAllFrames (split_at_command places input prefix)
-  pub split_by : (input prefix sheet : List ℕ)
-      → WritesAllFrames (split_by_command input sheet prefix)
-  pub split_exact : (input prefix : List ℕ) (places : List ExactPlace)
-      → WritesAllFrames (split_exact_at_command places input prefix)
-  pub split_exact_by : (input prefix sheet : List ℕ)
-      → WritesAllFrames (split_exact_by_command input sheet prefix)
-  pub join : (output : List ℕ) (inputs : List (List ℕ)) → 1 ≤ length inputs
-      → WritesAllFrames (join_command output inputs)
-  pub join_seamless : (output : List ℕ) (inputs : List (List ℕ)) → 1 ≤ length inputs
-      → WritesAllFrames (seamless_command output inputs)
-  pub salvage : (input output : List ℕ) → WritesAllFrames (salvage_command input output)

@@ -2,5 +2,3 @@
 pub mod Exact
 pub mod Chosen
 pub mod Laws
-pub mod CutLaws
-pub mod SeamlessLaws

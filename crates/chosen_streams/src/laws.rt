@@ -1,5 +1,5 @@
 //! Laws of the definitions. Each function does nothing: a proof that needs its law calls it.
-ghost use Rattle.theorems.specs.Laws.{PlannedStreamsAreExact, ChosenStreamsAreExact, ChosenPlansAreFirst, PackedStreamsAreExact, JoinedStreamsAreExact, JoinedPlansAreFirst, SeamlessPlansAreFirst, SalvagedStreamsAreExact, SalvagedPlansAreFirst, SalvagedFramesAreLeft, StreamsAreChosen, WrittenFramesStay};
+ghost use Rattle.chosen_streams.specs.Laws.{PlannedStreamsAreExact, ChosenStreamsAreExact, ChosenPlansAreFirst, PackedStreamsAreExact, JoinedStreamsAreExact, JoinedPlansAreFirst, SeamlessPlansAreFirst, SalvagedStreamsAreExact, SalvagedPlansAreFirst, SalvagedFramesAreLeft, StreamsAreChosen};
 
 /// The stream of parts of well-formed files, laid in the slots of their plan, is exactly the frames of each part, in order,
 /// each part after at most one lead-in: a frame without main data, with the header of the part's first frame, but without a
@@ -67,11 +67,4 @@ pub fn salvaged_frames_are_left()
 /// frames of each part, in order, each part after at most one lead-in.
 pub fn streams_are_chosen()
     ensures { StreamsAreChosen }
-{}
-
-/// No frame is lost in a file written by a command that repacks main data, nor is
-/// any when the head of the file is set apart: no main data begin in the Info frame.
-/// If such a file is cut to a sample, all its frames therefore have their main data.
-pub fn written_frames_stay()
-    ensures { WrittenFramesStay }
 {}

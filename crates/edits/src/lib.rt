@@ -20,9 +20,10 @@
 
 pub use commands::{EditFault, MOST_FRAMES, Refusal};
 pub use cut_edits::{cut, cut_exact, pack};
-pub use gain_edits::{
-    fade, fade_gives_back, fade_keeps_all, gain, gains_keep_all, opposite_gives_back,
-    steps_are_exact, undo, undo_gives_back,
+pub use gain_edits::{fade, gain, undo};
+pub use gain_laws::{
+    fade_gives_back, fade_keeps_all, gains_keep_all, opposite_gives_back, steps_are_exact,
+    undo_gives_back,
 };
 pub use join_edits::{join, join_seamless};
 pub use list_edits::{info, list};

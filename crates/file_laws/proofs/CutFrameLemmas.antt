@@ -3,6 +3,8 @@ use Rattle.std.proofs.Common.{ap, arith, drop, false, inl, inr, length, List, No
 use Rattle.std.proofs.Common.{refl, Some, suc, sym, zero, ℕ, [], ◌++◌, ◌+◌, ◌-◌, ◌∙◌, ◌∷◌, ◌≡◌, ◌≤◌}
 use Rattle.std.proofs.lemmas.{Bool.ne_eqb, List.{drop_all, length-drop, map-append, take-take}}
 use Rattle.std.{proofs.lemmas.Option.slice_get_within, specs.{List.cons_option, Prelude.slice_get}}
+use Rattle.file_laws.proofs.CutItemLemmas.{cut, cut-none, drop-cut, item-kept, length-cut}
+use Rattle.file_laws.proofs.CutRunLemmas.{cut-run, IsCutRun, IsStop, MayBeCut, stop-fault}
 use Rattle.frame_header.proofs.{HeaderLemmas.IsClass-class_of, LengthLemmas.area_some}
 use Rattle.frame_header.specs.Fields.{ClassFields, HeaderFields, IsHeader}
 use Rattle.frame_header.specs.Tables.{class_of, length_of, overhead_of}
@@ -29,8 +31,6 @@ use Rattle.sync_survey.specs.declared.{items.Item.TheVariants.Zero, places.Head.
 use Rattle.sync_survey.specs.declared.places.{PlacedFrame.PlacedFrame, Start.Start}
 use Rattle.sync_survey.specs.declared.runs.Region.TheVariants.{Stream}
 use Rattle.sync_survey.specs.declared.survey_fault.SurveyFault.{SurveyFault}
-use Rattle.theorems.proofs.CutItemLemmas.{cut, cut-none, drop-cut, item-kept, length-cut}
-use Rattle.theorems.proofs.CutRunLemmas.{cut-run, IsCutRun, IsStop, MayBeCut, stop-fault}
 
 -- ---- lists
 

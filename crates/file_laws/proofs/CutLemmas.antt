@@ -1,6 +1,11 @@
 -- The first bytes of a file without fault and without junk.
 use Rattle.std.proofs.Common.{ap, arith, Err, inl, inr, length, length-append, List, None, Ok}
 use Rattle.std.proofs.Common.{Result, subst, sym, ℕ, ◌++◌, ◌+◌, ◌∙◌, ◌≡◌, ◌≤◌}
+use Rattle.file_laws.proofs.CutFrameLemmas.{are-in, end-now, first_in, found-now, frames, head}
+use Rattle.file_laws.proofs.CutFrameLemmas.{more, no-faults, r, rows, rows-now, rows-were}
+use Rattle.file_laws.proofs.{CutItemLemmas.cut, CutRunLemmas.{cut-start, IsCutStart, MayBeCut}}
+use Rattle.file_laws.proofs.CutStreamLemmas.{marked_rows-front}
+use Rattle.file_laws.specs.CutLaws.{IsCutAnswer, IsCutFault, IsStreamPrefix, PrefixFault}
 use Rattle.sync_survey.proofs.{FaultsLemmas.length-marked_rows, FoldersLemmas.survey_fields-by}
 use Rattle.sync_survey.proofs.PlacedRowLemmas.{survey_fields-placed}
 use Rattle.sync_survey.proofs.SurveyLemmas.{survey-stopped, survey-whole, told_by}
@@ -13,11 +18,6 @@ use Rattle.sync_survey.specs.{Row.Row, Start.start_of, Survey.AreWellPlaced}
 use Rattle.sync_survey.specs.Walk.{all_blocks, end_fault, fault_at}
 use Rattle.sync_survey.specs.declared.{items.Item.TheVariants.Frame, places.Start.Start}
 use Rattle.sync_survey.specs.declared.survey_fault.SurveyFault.{SurveyFault}
-use Rattle.theorems.proofs.CutFrameLemmas.{are-in, end-now, first_in, found-now, frames, head, more}
-use Rattle.theorems.proofs.CutFrameLemmas.{no-faults, r, rows, rows-now, rows-were}
-use Rattle.theorems.proofs.{CutItemLemmas.cut, CutRunLemmas.{cut-start, IsCutStart, MayBeCut}}
-use Rattle.theorems.proofs.CutStreamLemmas.{marked_rows-front}
-use Rattle.theorems.specs.CutLaws.{IsCutAnswer, IsCutFault, IsStreamPrefix, PrefixFault}
 
 -- what a survey returns, by what it is equal to
 fault_answer : (file front : List ℕ) (answer : Result SurveyFields SurveyFault)

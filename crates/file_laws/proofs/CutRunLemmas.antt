@@ -3,6 +3,9 @@ use Rattle.std.proofs.Common.{ap, arith, Err, false, inl, inr, length, List, Non
 use Rattle.std.proofs.Common.{Some, subst, sym, true, ℕ, [], ◌++◌, ◌+◌, ◌<◌, ◌∙◌, ◌∷◌, ◌≡◌, ◌≤◌}
 use Rattle.std.proofs.{Common.◌⊎◌, lemmas.Bool.{cases_lt, false≢true, le-leb, lt-leb}}
 use Rattle.std.proofs.lemmas.List.{drop_all}
+use Rattle.file_laws.proofs.CutItemLemmas.{cut, cut-none, IsCutItem, IsCutThrough, item-cut}
+use Rattle.file_laws.proofs.{CutItemLemmas.{item-kept, length-cut}, CutStartLemmas.no-start}
+use Rattle.file_laws.specs.CutLaws.{IsCutFault}
 use Rattle.frame_header.specs.Fields.{HeaderFields}
 use Rattle.laying.proofs.LaidRunLemmas.{front_end-is}
 use Rattle.sync_survey.proofs.{ItemListLemmas.stream_belongs, OneItemLemmas.stands-only_at}
@@ -18,9 +21,6 @@ use Rattle.sync_survey.specs.declared.{items.Item.TheVariants.Zero, places.Start
 use Rattle.sync_survey.specs.declared.runs.Region.{Region, TheVariants.{Front, Stream}}
 use Rattle.sync_survey.specs.declared.survey_fault.SurveyFault.{SurveyFault}
 use Rattle.sync_survey.specs.declared.survey_fault.SurveyFault.TheVariants.{NoFrame, Truncated}
-use Rattle.theorems.proofs.CutItemLemmas.{cut, cut-none, IsCutItem, IsCutThrough, item-cut}
-use Rattle.theorems.proofs.{CutItemLemmas.{item-kept, length-cut}, CutStartLemmas.no-start}
-use Rattle.theorems.specs.CutLaws.{IsCutFault}
 
 module _ (file : List ℕ) (n : ℕ) (within : n ≤ length file) where
   abbrev now : List ℕ

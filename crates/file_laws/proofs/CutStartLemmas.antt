@@ -3,6 +3,7 @@ use Rattle.std.proofs.Common.{ap, arith, codes, drop, Err, get_or, inl, inr, len
 use Rattle.std.proofs.Common.{Option, Some, sym, take, true, ℕ, ◌+◌, ◌-◌, ◌<◌, ◌∙◌, ◌≡◌, ◌≤◌}
 use Rattle.std.proofs.lemmas.Bool.{and_parts, cases_lt, false≢true}
 use Rattle.std.proofs.lemmas.List.{get_or-drop, get_or-take, take-take}
+use Rattle.file_laws.proofs.CutItemLemmas.{cut, drop-cut, IsCutThrough, length-cut, text-long}
 use Rattle.frame_header.proofs.HeaderLemmas.{IsClass-class_of}
 use Rattle.frame_header.proofs.LengthLemmas.{least_length, length-least}
 use Rattle.frame_header.specs.{Fields.{HeaderFields, IsHeader}, Tables.{class_of, length_of}}
@@ -22,7 +23,6 @@ use Rattle.sync_survey.specs.declared.survey_fault.SurveyFault.TheVariants.{NoFr
 use Rattle.tag_blocks.proofs.BlocksLemmas.{block_front-any, block_front-begins, block_front-own}
 use Rattle.tag_blocks.specs.Blocks.{begins, block_front, is_ape}
 use Rattle.tag_blocks.specs.declared.block.{Block.Block as TagBlock, Kind.{Kind, TheVariants.Ape}}
-use Rattle.theorems.proofs.CutItemLemmas.{cut, drop-cut, IsCutThrough, length-cut, text-long}
 
 -- ---- no frame after an item that was cut through and isn't known
 

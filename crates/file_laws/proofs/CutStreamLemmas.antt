@@ -8,6 +8,8 @@ use Rattle.std.proofs.lemmas.List.{drop-take, length-take-le, map-append, take-t
 use Rattle.std.proofs.lemmas.{List.Sums.sum_by-cons, Option.slice_get_within}
 use Rattle.std.specs.{List.enumerate_from, Prelude.{flat_map, option_map, slice_get, sum_by}}
 use Rattle.bit_fields.proofs.BitsLemmas.{bits-front}
+use Rattle.file_laws.proofs.CutFrameLemmas.{AreIn, IsIn}
+use Rattle.file_laws.proofs.CutItemLemmas.{cut, drop-cut, length-cut}
 use Rattle.frame_header.proofs.{HeaderLemmas.IsClass-class_of, SlotLemmas.area-is}
 use Rattle.frame_header.specs.Fields.{ClassFields, HeaderFields, IsHeader}
 use Rattle.frame_header.specs.Tables.{class_of, length_of, overhead_of}
@@ -21,7 +23,6 @@ use Rattle.sync_survey.specs.MainData.{payload_at, place, row_side, rows_of, spl
 use Rattle.sync_survey.specs.MainData.{start_of_data, stream_frame, stream_frames, StreamFrame}
 use Rattle.sync_survey.specs.{Row.Row, Survey.AreWellPlaced, Walk.{frame_bytes, head_of}}
 use Rattle.sync_survey.specs.declared.places.{Head.Head, PlacedFrame.PlacedFrame}
-use Rattle.theorems.proofs.{CutFrameLemmas.{AreIn, IsIn}, CutItemLemmas.{cut, drop-cut, length-cut}}
 
 -- ---- marks
 

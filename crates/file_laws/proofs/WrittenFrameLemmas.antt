@@ -2,6 +2,9 @@
 use Rattle.std.proofs.Common.{ap, arith, Bool, Err, inl, length, List, None, Ok, Option, refl}
 use Rattle.std.proofs.Common.{Result, Some, subst, sym, ℕ, [], ◌+◌, ◌∷◌, ◌≡◌}
 use Rattle.std.{proofs.lemmas.List.{length-map, FromFn.length-range_with_len}, specs.Prelude.◌≤◌}
+use Rattle.chosen_streams.proofs.ChosenCaseLemmas.{packed-made}
+use Rattle.chosen_streams.proofs.JoinCaseLemmas.{join-plan, parts-join}
+use Rattle.chosen_streams.proofs.SalvageCaseLemmas.{left-had, left-some}
 use Rattle.commands.{proofs.{InputLemmas.made_parts, RefusingLemmas.then_ok}, specs.Command.Made}
 use Rattle.commands.specs.Refusing.{then_made}
 use Rattle.commands.specs.SingleOutput.{clash_or, command_result, input_result, most_frames}
@@ -19,6 +22,7 @@ use Rattle.cut_edits.specs.Chosen.{laying_making, own_slots_part, placed_part, P
 use Rattle.cut_edits.specs.Exact.{exact_command, exact_making, exact_part, file_span, span_piece}
 use Rattle.cut_edits.specs.Exact.{survey_without_head}
 use Rattle.exact_span.specs.declared.{exact_place.ExactPlace.ExactPlace, span.Span.Span}
+use Rattle.file_laws.specs.WrittenLaws.{AllLoseNoFrame, WritesAllFrames, WrittenFramesStay}
 use Rattle.frame_header.specs.Fields.{ClassFields}
 use Rattle.frame_writer.specs.Frames.{Frame}
 use Rattle.join_edits.proofs.RunFileLemmas.{files-lose-none}
@@ -40,9 +44,6 @@ use Rattle.split_edits.specs.Cutting.{Cutting, piece_parts, piece_parts_from, pi
 use Rattle.split_edits.specs.{Cutting.{split_command, with_first}, Split.cut_part}
 use Rattle.sync_survey.specs.{Faults.SurveyFields, HeadApart.emptied_survey, Row.Row}
 use Rattle.sync_survey.specs.{Survey.survey_of, declared.survey_fault.SurveyFault.SurveyFault}
-use Rattle.theorems.proofs.{ChosenCaseLemmas.packed-made, JoinCaseLemmas.{join-plan, parts-join}}
-use Rattle.theorems.proofs.SalvageCaseLemmas.{left-had, left-some}
-use Rattle.theorems.specs.Laws.{AllLoseNoFrame, WritesAllFrames, WrittenFramesStay}
 
 -- ---- one output
 

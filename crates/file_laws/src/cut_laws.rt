@@ -1,5 +1,5 @@
 //! Laws of files that were cut short. Each function does nothing: a proof that needs its law calls it.
-ghost use Rattle.theorems.specs.CutLaws.{PrefixFault};
+ghost use Rattle.file_laws.specs.CutLaws.{PrefixFault};
 
 /// For every well-formed file without junk, and every count of bytes up to its length: the prefix of
 /// `count` bytes has no fault, or its first fault is `NoFrame`, `Truncated` or `LostSync`. If it has none,

@@ -7,10 +7,5 @@ pub mod Gain
 pub mod Undo
 pub mod Movable
 pub mod Changes
-pub mod GivenBack
-pub mod Kept
 pub mod Fade
 pub mod Steps
-pub mod TakenBack
-pub mod FadeKept
-pub mod ExactSteps

@@ -2,7 +2,6 @@
 pub mod CourseLemmas
 pub mod MovedGainLemmas
 pub mod ExtremesLemmas
-pub mod TakenStepLemmas
 pub mod MovingLemmas
 pub mod WrittenLemmas
 pub mod GainsLemmas
@@ -16,10 +15,7 @@ pub mod MovedStreamLemmas
 pub mod TagPlaceLemmas
 pub mod WrittenTagLemmas
 pub mod WholeFrameLemmas
-pub mod KeptFrameLemmas
-pub mod KeptFileLemmas
 pub mod MovedAgainLemmas
-pub mod TaggedAgainLemmas
 pub mod RowLemmas
 pub mod TagEndLemmas
 pub mod BufferLemmas

@@ -1,13 +1,11 @@
 -- What the contracts of this crate cite.
 pub mod Gains
 pub mod GainExtremes
-pub mod StepLaws
 pub mod Course
 pub mod Edited
 pub mod Streams
 pub mod Change
 pub mod Moving
-pub mod Kept
 pub mod Buffers
 pub mod Passing
 pub mod TagPlace

@@ -3,6 +3,8 @@ use Rattle.std.proofs.Common.{ap, arith, codes, Err, false, length, length-appen
 use Rattle.std.proofs.Common.{Option, refl, Result, Some, subst, suc, sym, true, zero, ℕ, [], ◌%◌}
 use Rattle.std.proofs.{Common.{◌+◌, ◌/◌, ◌<◌, ◌∙◌, ◌∷◌, ◌≡◌, ◌≢◌, ◌≤◌}, Math.Seq.drop-append_seam}
 use Rattle.std.{proofs.lemmas.List.length-map, specs.{List.range_with_len, Prelude.IfOk}}
+use Rattle.chosen_streams.proofs.JobLemmas.{streams-chosen}
+use Rattle.chosen_streams.specs.Chosen.{AllConsistOf, chosen_of, ConsistsOf, Frames}
 use Rattle.commands.proofs.RefusingLemmas.{then_ok}
 use Rattle.commands.specs.Command.{AreStreams, HoldsStreams, Made, MakesStreams, Output}
 use Rattle.commands.specs.{Command.written_files, SingleOutput.{one_command, Task}}
@@ -33,8 +35,6 @@ use Rattle.split_edits.specs.Cutting.{split_command, with_first}
 use Rattle.split_edits.specs.Split.{cue_sheet_places, exact_places_result, given_cutting}
 use Rattle.split_edits.specs.Split.{given_exact_cutting, sheet_cutting, sheet_exact_cutting}
 use Rattle.sync_survey.specs.{Faults.SurveyFields, MainData.StreamFrame}
-use Rattle.theorems.proofs.JobLemmas.{streams-chosen}
-use Rattle.theorems.specs.Chosen.{AllConsistOf, chosen_of, ConsistsOf, Frames}
 
 -- ---- several outputs
 

@@ -1,6 +1,7 @@
 -- What the program does, from its words and the files that are there.
 use Rattle.std.specs.Prelude.{Err, false, IfOk, IfSome, IsErr, List, None, Ok, Option, Result, Some}
 use Rattle.std.specs.Prelude.{true, ℕ, [], ◌↔◌, ◌∷◌, ◌≡◌, ◌≢◌, ◌≤◌}
+use Rattle.chosen_streams.specs.Chosen.{chosen_of, ConsistsOf, Frames}
 use Rattle.commands.specs.AfterCall.{HasNumbers, IsCommandDone, IsCommandFault}
 use Rattle.commands.specs.Command.{AreSoundFiles, clash_of, Command, Made, written_files}
 use Rattle.commands.specs.{SentText.SaysText, declared.fault.EditFault.EditFault}
@@ -24,7 +25,6 @@ use Rattle.salvage_edits.specs.Salvaged.{salvage_command}
 use Rattle.split_edits.specs.Split.{split_at_command, split_by_command, split_exact_at_command}
 use Rattle.split_edits.specs.Split.{split_exact_by_command}
 use Rattle.sync_survey.specs.Faults.{IsWellFormed, stream_of}
-use Rattle.theorems.specs.Chosen.{chosen_of, ConsistsOf, Frames}
 
 -- what is asked for, as a command
 abbrev pub command_of : Request → Command

@@ -6,6 +6,7 @@ use Rattle.std.proofs.{Common.{◌∷◌, ◌≡◌, ◌≤◌}, lemmas.Bool.and
 use Rattle.std.proofs.lemmas.List.{length-drop, length-map, length-take-le}
 use Rattle.std.proofs.lemmas.{List.FromFn.length-range_with_len, Slice.Eq.bytes_eq-Decides}
 use Rattle.std.specs.{List.concat, Prelude.{slice_get, slice_range}}
+use Rattle.chosen_streams.proofs.{CaseLemmas.stream-is, ExactLemmas.{one-on, part-sized}}
 use Rattle.cut_edits.specs.Exact.{survey_without_head}
 use Rattle.frame_header.proofs.HeaderLemmas.{IsClass-class_of}
 use Rattle.frame_header.specs.Fields.{ClassFields, HeaderFields, IsClass, SlotFields}
@@ -27,6 +28,10 @@ use Rattle.laying.specs.{Needs.need_of, NeedsFit.own_choice}
 use Rattle.laying.specs.Relaid.{FilePart, frame_with_place, IsPart, part_frames, part_stream}
 use Rattle.laying.specs.Relaid.{relaid_frames, rest_behind, silent_lead_in, stream_with_lead_ins}
 use Rattle.laying.specs.{Surveys.CanBeRelaid, Written.{front_blocks, slot_in}}
+use Rattle.seam_laws.proofs.{FrontBlockLemmas.front-stays, SeamlessFrontLemmas.none-zero}
+use Rattle.seam_laws.proofs.SeamlessInputLemmas.{brought-needs, brought-sounds, IsInput, run-needs}
+use Rattle.seam_laws.proofs.SeamlessInputLemmas.{run-sounds, whole_stream}
+use Rattle.seam_laws.proofs.SeamlessRunLemmas.{own-frames, own-many}
 use Rattle.seam_plan.proofs.{FollowLemmas.sounds, LeadInLemmas.lead-in-is}
 use Rattle.seam_plan.specs.Frames.{needs_of, RunFrame}
 use Rattle.seam_plan.specs.Joins.{has_lead_in, lead_in_header, leads_others, matches_header}
@@ -39,11 +44,6 @@ use Rattle.sync_survey.proofs.SurveyedFileLemmas.{survey_of-parts}
 use Rattle.sync_survey.specs.Faults.{stream_of, stream_of_survey, survey_fields, SurveyFields}
 use Rattle.sync_survey.specs.{HeadApart.{emptied_row, emptied_survey}, MainData.StreamFrame}
 use Rattle.sync_survey.specs.Row.{Row}
-use Rattle.theorems.proofs.{CaseLemmas.stream-is, ExactLemmas.{one-on, part-sized}}
-use Rattle.theorems.proofs.{FrontBlockLemmas.front-stays, SeamlessFrontLemmas.none-zero}
-use Rattle.theorems.proofs.SeamlessInputLemmas.{brought-needs, brought-sounds, IsInput, run-needs}
-use Rattle.theorems.proofs.SeamlessInputLemmas.{run-sounds, whole_stream}
-use Rattle.theorems.proofs.SeamlessRunLemmas.{own-frames, own-many}
 
 -- ---- lists of frames
 

@@ -5,6 +5,7 @@ use Rattle.std.proofs.Common.{replicate, Some, subst, sym, true, zip, ℕ, [], �
 use Rattle.std.proofs.{Common.{◌≡◌, ◌≤◌}, lemmas.Bool.both_ways}
 use Rattle.std.proofs.lemmas.{List.{length-map, length-replicate}, Option.slice_get-map}
 use Rattle.std.specs.{List.concat, Prelude.{if◌then◌else◌, option_map, slice_get, slice_range}}
+use Rattle.chosen_streams.proofs.ExactLemmas.{part-sized}
 use Rattle.cut_edits.proofs.{ChosenLemmas.{plan-fitting, the-plan}, SealedLemmas.for-whole}
 use Rattle.cut_edits.specs.Chosen.{Chosen, chosen_needs, own_slots_part, own_slots_plan}
 use Rattle.exact_span.specs.PlayedPositions.{counted_positions}
@@ -18,6 +19,11 @@ use Rattle.laying.specs.Laid.{file_laid, file_with_first, frames_laid, info_laid
 use Rattle.laying.specs.{Laid.source_part, LaidFiles.{AreBlocks, head_at, laid_file}, Needs.need_of}
 use Rattle.laying.specs.{NeedsFit.own_choice, Relaid.{FilePart, IsPart, part_stream}}
 use Rattle.laying.specs.{Surveys.CanBeRelaid, Written.{back_blocks, front_blocks, head_info}}
+use Rattle.seam_laws.proofs.LaidInputLemmas.{brings-led, brings-own, BringsLed, BringsOwn}
+use Rattle.seam_laws.proofs.LaidInputLemmas.{class-same, front-same, head-is, input-stream}
+use Rattle.seam_laws.proofs.PieceHeadLemmas.{laid-extension, zero-counts}
+use Rattle.seam_laws.proofs.SeamlessInputLemmas.{IsInput, run-needs, stream-from, whole_stream}
+use Rattle.seam_laws.proofs.SeamlessRunLemmas.{has-leads, HasLeads}
 use Rattle.seam_plan.{proofs.FitLemmas.fits-tested, specs.Frames.{needs_of, RunFrame}}
 use Rattle.seam_plan.specs.Joins.{fits_behind, has_lead_in}
 use Rattle.seam_plan.specs.Laws.{IsLedPiece, IsPieceOf, IsUnledPiece}
@@ -25,12 +31,6 @@ use Rattle.slot_plan.proofs.OwnLeadInLemmas.{lead-where-wanted}
 use Rattle.slot_plan.specs.{Laws.{AreInOwnSlots, AreLedInOwnSlots}, Plans.IsPlan}
 use Rattle.slot_plan.specs.declared.needs.{Need.Need, Placed.Placed}
 use Rattle.sync_survey.specs.{Faults.{survey_fields, SurveyFields}, MainData.StreamFrame, Row.Row}
-use Rattle.theorems.proofs.ExactLemmas.{part-sized}
-use Rattle.theorems.proofs.LaidInputLemmas.{brings-led, brings-own, BringsLed, BringsOwn}
-use Rattle.theorems.proofs.LaidInputLemmas.{class-same, front-same, head-is, input-stream}
-use Rattle.theorems.proofs.PieceHeadLemmas.{laid-extension, zero-counts}
-use Rattle.theorems.proofs.SeamlessInputLemmas.{IsInput, run-needs, stream-from, whole_stream}
-use Rattle.theorems.proofs.SeamlessRunLemmas.{has-leads, HasLeads}
 
 -- a row of an input, and the row of the first frame that was chosen: their headers are the same
 pub record FrontRow (s : SurveyFields) (p : FilePart) (from front : ℕ) : Type 0 where

@@ -14,6 +14,11 @@ use Rattle.join_edits.specs.Seamless.{begins_blank, is_side_blank, sound_of, wit
 use Rattle.laying.proofs.{EntryByteLemmas.shaped, LaidLemmas.first-there}
 use Rattle.laying.{proofs.PlannedFrameLemmas.slot_among, specs.Needs.need_of}
 use Rattle.laying.specs.{Relaid.{FilePart, silent_lead_in}, Surveys.{AreWholeRows, IsWholeRow}}
+use Rattle.seam_laws.proofs.SeamlessInputLemmas.{AreInputs, brought-fit, brought-needs}
+use Rattle.seam_laws.proofs.SeamlessInputLemmas.{brought-sounds, has-apart, inputs-fit, IsInput}
+use Rattle.seam_laws.proofs.SeamlessInputLemmas.{stream-from, whole_stream}
+use Rattle.seam_laws.proofs.SeamlessRunLemmas.{all, brought, front-few, front-parts, joined, others}
+use Rattle.seam_laws.proofs.SeamlessRunLemmas.{stream, window}
 use Rattle.seam_plan.proofs.{FollowLemmas.sounds, RunSoundLemmas.{run-sounds, sounds_left}}
 use Rattle.seam_plan.specs.Frames.{needs_of, RunFrame}
 use Rattle.seam_plan.specs.Joins.{fits_behind, has_lead_in, lead_in_header, lead_in_slot}
@@ -29,11 +34,6 @@ use Rattle.sync_survey.specs.HeadApart.{apart_rows, emptied_row, rows_set_apart}
 use Rattle.sync_survey.specs.MainData.{granule_lengths, main_bytes, no_slot, row_side, split_bits}
 use Rattle.sync_survey.specs.{MainData.{stream_frame, stream_frames, StreamFrame}, Row.Row}
 use Rattle.sync_survey.specs.declared.places.Head.{Head}
-use Rattle.theorems.proofs.SeamlessInputLemmas.{AreInputs, brought-fit, brought-needs}
-use Rattle.theorems.proofs.SeamlessInputLemmas.{brought-sounds, has-apart, inputs-fit, IsInput}
-use Rattle.theorems.proofs.SeamlessInputLemmas.{stream-from, whole_stream}
-use Rattle.theorems.proofs.SeamlessRunLemmas.{all, brought, front-few, front-parts, joined, others}
-use Rattle.theorems.proofs.SeamlessRunLemmas.{stream, window}
 
 -- ---- side information that is all 0
 

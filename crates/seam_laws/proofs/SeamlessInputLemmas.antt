@@ -1,10 +1,10 @@
 -- What the inputs of a seamless join bring.
-use Rattle.std.proofs.Common.{ap, arith, drop, length, List, map, Ok, Option, refl, Result, Some}
-use Rattle.std.proofs.Common.{subst, sym, zip, ℕ, [], ◌*◌, ◌+◌, ◌-◌, ◌<◌, ◌∙◌, ◌∷◌, ◌≡◌, ◌≤◌}
+use Rattle.std.proofs.Common.{ap, arith, drop, length, List, map, Ok, Option, refl, Some, subst}
+use Rattle.std.proofs.Common.{sym, zip, ℕ, [], ◌*◌, ◌+◌, ◌-◌, ◌<◌, ◌∙◌, ◌∷◌, ◌≡◌, ◌≤◌}
 use Rattle.std.proofs.lemmas.List.{length-drop, length-map, take_all}
 use Rattle.std.specs.Prelude.{option_map, slice_range}
+use Rattle.chosen_streams.proofs.JoinCaseLemmas.{more-inputs}
 use Rattle.commands.proofs.{MadeLemmas.some-frames, RefusingLemmas.then_ok}
-use Rattle.commands.specs.{Refusing.then_made, declared.fault.EditFault.EditFault}
 use Rattle.cut_edits.proofs.HeadLemmas.{survey_without_head-had, survey_without_head-length}
 use Rattle.cut_edits.{proofs.HeadLemmas.survey_without_head-placed, specs.Exact.survey_without_head}
 use Rattle.exact_span.specs.PlayedPositions.{counted_played, counted_positions, samples_in}
@@ -74,12 +74,6 @@ input-is class place first allowed o p e same =
       to = refl;
       some = some-frames is.file allowed is.survey is.surveyed;
     })
-
--- a list made with this part first is this part and the parts after it
-pub more-inputs : (part : FilePart) (r : Result (List FilePart) EditFault) (parts : List FilePart)
-    → then_made r (λ later. Ok (part ∷ later)) ≡ Ok parts
-    → (later : List FilePart) × (r ≡ Ok later) × (part ∷ later ≡ parts)
-more-inputs part r parts e = grind arith
 
 inputs-behind : (files : Contents) (class : ClassFields) (place allowed : ℕ) (names : List (List ℕ))
     (parts : List FilePart)

@@ -3,6 +3,7 @@ use Rattle.std.proofs.Common.{ap, append-nil, ap₂, arith, Bool, cond, drop, fa
 use Rattle.std.proofs.Common.{List, map, not, refl, subst, sym, true, ℕ, [], ◌++◌, ◌-◌, ◌<◌, ◌∙◌}
 use Rattle.std.proofs.{Common.{◌∷◌, ◌≡◌, ◌≤◌}, lemmas.Bool.{and_parts, both_ways}}
 use Rattle.std.proofs.lemmas.List.{drop-append-le, drop-map, length-map, map-append}
+use Rattle.chosen_streams.proofs.ExactLemmas.{frames-on, no-frames, one-on}
 use Rattle.cut_edits.proofs.SpanLemmas.{for_length}
 use Rattle.frame_header.specs.{Fields.ClassFields, Tables.window_of}
 use Rattle.join_edits.proofs.RunPartLemmas.{run-planned as files-planned}
@@ -10,6 +11,9 @@ use Rattle.join_edits.specs.Seamless.{join_of_parts, later_parts, part_brought, 
 use Rattle.join_edits.specs.Seamless.{run_lead_ins, run_parts, run_plan, seamless_stream, sound_of}
 use Rattle.laying.specs.NeedsFit.{own_choice}
 use Rattle.laying.specs.Relaid.{FilePart, part_stream, silent_lead_in, stream_with_lead_ins}
+use Rattle.seam_laws.proofs.SeamlessInputLemmas.{AreInputs, brought-fit, brought-many}
+use Rattle.seam_laws.proofs.SeamlessInputLemmas.{brought-sounds, input-whole, inputs-fit}
+use Rattle.seam_laws.proofs.SeamlessInputLemmas.{inputs-whole, stream-from, whole_stream}
 use Rattle.seam_plan.proofs.{FitLemmas.fits-tested, FollowLemmas.sounds}
 use Rattle.seam_plan.proofs.RunSoundLemmas.{run-sounds, sounds_left}
 use Rattle.seam_plan.specs.{Frames.{Brought, needs_of, RunFrame}, Joins.{fits_behind, has_lead_in}}
@@ -19,10 +23,6 @@ use Rattle.slot_plan.proofs.OwnLeadInLemmas.{lead-where-wanted}
 use Rattle.slot_plan.specs.{Laws.{AreInOwnSlots, AreLedInOwnSlots}, Parts.need_item}
 use Rattle.slot_plan.specs.{Plans.{AreItemSlots, IsPlan}, declared.needs.{Need.Need, Placed.Placed}}
 use Rattle.sync_survey.specs.MainData.{StreamFrame}
-use Rattle.theorems.proofs.ExactLemmas.{frames-on, no-frames, one-on}
-use Rattle.theorems.proofs.SeamlessInputLemmas.{AreInputs, brought-fit, brought-many}
-use Rattle.theorems.proofs.SeamlessInputLemmas.{brought-sounds, input-whole, inputs-fit}
-use Rattle.theorems.proofs.SeamlessInputLemmas.{inputs-whole, stream-from, whole_stream}
 
 -- a value whose negation is true is false
 pub not-true : (b : Bool) → not b ≡ true → b ≡ false

@@ -17,16 +17,16 @@ use Rattle.laying.specs.Laid.{frames_laid, info_laid, LaidPart, source_part}
 use Rattle.laying.specs.LaidFiles.{AreStreamEntries, laid_file, stream_entry}
 use Rattle.laying.specs.Relaid.{all_frames, FilePart, IsPart, part_frames, part_stream}
 use Rattle.laying.specs.{Relaid.relaid_frames, Surveys.CanBeRelaid, Written.front_blocks}
+use Rattle.seam_laws.proofs.BareFrameLemmas.{bare-same, relaid_frames-same}
+use Rattle.seam_laws.proofs.PiecePartLemmas.{front-blocks-same, front-row, FrontRow, IsPieceFile}
+use Rattle.seam_laws.proofs.PiecePartLemmas.{uncounted}
+use Rattle.seam_laws.proofs.SeamlessInputLemmas.{AreInputs, has-apart, IsInput}
+use Rattle.seam_laws.proofs.SplitJoinLemmas.{AreFiles, chosen_between, class-is, cut-last}
+use Rattle.seam_laws.proofs.SplitJoinLemmas.{cut-within, NoneAlike, one-run, plan-is, Rise}
+use Rattle.seam_laws.proofs.SplitJoinLemmas.{run-stream}
+use Rattle.seam_laws.specs.SeamlessLaws.{bare_file, bare_row_file}
 use Rattle.seam_plan.specs.Seams.{JointFrames, left_out_count}
 use Rattle.sync_survey.specs.{Faults.{survey_fields, SurveyFields}, MainData.StreamFrame, Row.Row}
-use Rattle.theorems.proofs.BareFrameLemmas.{bare-same, relaid_frames-same}
-use Rattle.theorems.proofs.PiecePartLemmas.{front-blocks-same, front-row, FrontRow, IsPieceFile}
-use Rattle.theorems.proofs.PiecePartLemmas.{uncounted}
-use Rattle.theorems.proofs.SeamlessInputLemmas.{AreInputs, has-apart, IsInput}
-use Rattle.theorems.proofs.SplitJoinLemmas.{AreFiles, chosen_between, class-is, cut-last}
-use Rattle.theorems.proofs.SplitJoinLemmas.{cut-within, NoneAlike, one-run, plan-is, Rise}
-use Rattle.theorems.proofs.SplitJoinLemmas.{run-stream}
-use Rattle.theorems.specs.SeamlessLaws.{bare_file, bare_row_file}
 
 -- ---- the frames of an input as they are read
 

@@ -9,6 +9,14 @@ use Rattle.frame_header.specs.{Fields.{ClassFields, IsClass}, Tables.window_of}
 use Rattle.join_edits.specs.Seamless.{begins_blank, join_of_parts, later_parts, part_brought}
 use Rattle.join_edits.specs.Seamless.{part_from, seamless_stream}
 use Rattle.laying.specs.{Relaid.{FilePart, part_stream}, Surveys.CanBeRelaid}
+use Rattle.seam_laws.proofs.PiecePartLemmas.{IsPieceFile, own_leads, piece-stream, uncounted}
+use Rattle.seam_laws.proofs.SeamlessFrontLemmas.{blank-side, none-zero}
+use Rattle.seam_laws.proofs.SeamlessInputLemmas.{AreInputs, IsInput, stream-from, whole_stream}
+use Rattle.seam_laws.proofs.SeamlessRunLemmas.{front-few, front-parts, HasLeads, joints-are}
+use Rattle.seam_laws.proofs.SeamlessRunLemmas.{run-leads, seamless-is, stream}
+use Rattle.seam_laws.proofs.SplitJoinLemmas.{all_stream, AreFiles, chosen_between, cut-last}
+use Rattle.seam_laws.proofs.SplitJoinLemmas.{range-append, range-none, Rise}
+use Rattle.seam_laws.specs.SeamlessLaws.{full_frames, is_empty_frame}
 use Rattle.seam_plan.proofs.PieceRunLemmas.{uncounted-joint}
 use Rattle.seam_plan.specs.{Frames.{Brought, needs_of, RunFrame}, Joins.{has_lead_in, leads_others}}
 use Rattle.seam_plan.specs.Seams.{joint_of, JointFrames, joints_from, left_out_count}
@@ -17,14 +25,6 @@ use Rattle.slot_plan.specs.declared.needs.{Need.Need, Placed.Placed}
 use Rattle.sync_survey.specs.Faults.{stream_of_survey, SurveyFields}
 use Rattle.sync_survey.specs.MainData.{main_bytes, stream_frame, stream_frames, StreamFrame}
 use Rattle.sync_survey.specs.Row.{Row}
-use Rattle.theorems.proofs.PiecePartLemmas.{IsPieceFile, own_leads, piece-stream, uncounted}
-use Rattle.theorems.proofs.SeamlessFrontLemmas.{blank-side, none-zero}
-use Rattle.theorems.proofs.SeamlessInputLemmas.{AreInputs, IsInput, stream-from, whole_stream}
-use Rattle.theorems.proofs.SeamlessRunLemmas.{front-few, front-parts, HasLeads, joints-are}
-use Rattle.theorems.proofs.SeamlessRunLemmas.{run-leads, seamless-is, stream}
-use Rattle.theorems.proofs.SplitJoinLemmas.{all_stream, AreFiles, chosen_between, cut-last}
-use Rattle.theorems.proofs.SplitJoinLemmas.{range-append, range-none, Rise}
-use Rattle.theorems.specs.SeamlessLaws.{full_frames, is_empty_frame}
 
 -- ---- lists
 

@@ -6,6 +6,7 @@ use Rattle.std.proofs.lemmas.Bool.{and_from, le-leb, lt-ltb}
 use Rattle.std.proofs.lemmas.List.{drop-drop, length-drop, length-map, length-take, length-take-le}
 use Rattle.std.proofs.lemmas.List.{map-append}
 use Rattle.std.specs.Prelude.{if◌then◌else◌, slice_range, unwrap_or}
+use Rattle.chosen_streams.proofs.JoinCaseLemmas.{more-inputs}
 use Rattle.commands.proofs.RefusingLemmas.{refusal_or-ok, then_ok}
 use Rattle.cue_sheet.specs.{Places.frame_at, declared.place.Place.Place}
 use Rattle.cut_edits.proofs.ChosenLemmas.{chosen-within}
@@ -21,6 +22,10 @@ use Rattle.laying.specs.{LaidFiles.stream_entry, Needs.need_of, NeedsFit.own_cho
 use Rattle.laying.specs.Relaid.{all_frames, FilePart, part_stream, stream_with_lead_ins}
 use Rattle.laying.specs.Surveys.{CanBeRelaid}
 use Rattle.outside.specs.Files.{Contents}
+use Rattle.seam_laws.proofs.LaidInputLemmas.{frames-same}
+use Rattle.seam_laws.proofs.PiecePartLemmas.{IsPieceFile, left-own, own_leads, piece-is, same-class}
+use Rattle.seam_laws.proofs.SeamlessInputLemmas.{AreInputs, IsInput, run-needs, run-sounds}
+use Rattle.seam_laws.specs.SeamlessLaws.{is_look_alike, last_place}
 use Rattle.seam_plan.proofs.{FitLemmas.fits-tested, FollowLemmas.sounds}
 use Rattle.seam_plan.{proofs.PieceRunLemmas.pieces-one-run, specs.Frames.{needs_of, RunFrame}}
 use Rattle.seam_plan.specs.Joins.{fits_behind, has_lead_in}
@@ -34,11 +39,6 @@ use Rattle.split_edits.specs.{Cutting.{piece_parts_from, with_first}, Recording.
 use Rattle.split_edits.specs.{Split.{cut_part, cutting_of}, declared.points.Points.Points}
 use Rattle.sync_survey.specs.{Faults.{stream_of_survey, SurveyFields}, MainData.StreamFrame}
 use Rattle.sync_survey.specs.Row.{Row}
-use Rattle.theorems.proofs.LaidInputLemmas.{frames-same}
-use Rattle.theorems.proofs.PiecePartLemmas.{IsPieceFile, left-own, own_leads, piece-is, same-class}
-use Rattle.theorems.proofs.SeamlessInputLemmas.{AreInputs, IsInput, more-inputs, run-needs}
-use Rattle.theorems.proofs.SeamlessInputLemmas.{run-sounds}
-use Rattle.theorems.specs.SeamlessLaws.{is_look_alike, last_place}
 
 -- ---- lists
 

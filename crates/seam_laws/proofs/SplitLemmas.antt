@@ -1,6 +1,7 @@
 -- The law of pieces of a split that are joined in order.
 use Rattle.std.proofs.Common.{ap, arith, length, List, map, None, not, Ok, Some, subst, sym, true}
 use Rattle.std.proofs.{Common.{ℕ, [], ◌<◌, ◌∙◌, ◌∷◌, ◌≡◌, ◌≤◌}, lemmas.Bool.and_parts}
+use Rattle.chosen_streams.proofs.CaseLemmas.{stream-is}
 use Rattle.commands.{proofs.MadeLemmas.some-frames, specs.SingleOutput.most_frames}
 use Rattle.cue_sheet.specs.declared.place.Place.{Place}
 use Rattle.cut_edits.specs.Chosen.{own_slots_part}
@@ -9,17 +10,19 @@ use Rattle.frame_header.{proofs.HeaderLemmas.IsClass-class_of, specs.Fields.IsCl
 use Rattle.laying.proofs.{LaidLemmas.first-there, SurveyFrameLemmas.survey-had}
 use Rattle.laying.specs.{Laid.{file_laid, LaidPart, stream_laid}, Relaid.FilePart}
 use Rattle.laying.specs.Surveys.{CanBeRelaid}
+use Rattle.seam_laws.proofs.PiecePartLemmas.{IsPieceFile, laid-piece}
+use Rattle.seam_laws.proofs.SeamlessInputLemmas.{AreInputs, inputs-are}
+use Rattle.seam_laws.proofs.{SeamlessRunLemmas.not-true, SplitFileLemmas.seamless-file}
+use Rattle.seam_laws.proofs.SplitFullLemmas.{all-full}
+use Rattle.seam_laws.proofs.SplitJoinLemmas.{AreFiles, AreLaid, chosen_between, class-is, cut-last}
+use Rattle.seam_laws.proofs.SplitJoinLemmas.{cut-within, last-number, NoneAlike, number}
+use Rattle.seam_laws.proofs.SplitJoinLemmas.{parts-files, pieces-cut, Rise, seamless-stream}
+use Rattle.seam_laws.proofs.SplitJoinLemmas.{whole-cut}
+use Rattle.seam_laws.specs.SeamlessLaws.{bare_file, has_no_look_alike, is_look_alike}
+use Rattle.seam_laws.specs.SeamlessLaws.{JoinsTheFrames, last_place, SplitThenSeamlessJoin}
 use Rattle.sync_survey.proofs.SurveyedFileLemmas.{survey_of-parts}
 use Rattle.sync_survey.specs.Faults.{stream_of, stream_of_survey, survey_fields, SurveyFields}
 use Rattle.sync_survey.specs.Survey.{survey_of}
-use Rattle.theorems.proofs.{CaseLemmas.stream-is, PiecePartLemmas.{IsPieceFile, laid-piece}}
-use Rattle.theorems.proofs.{SeamlessInputLemmas.{AreInputs, inputs-are}, SeamlessRunLemmas.not-true}
-use Rattle.theorems.proofs.{SplitFileLemmas.seamless-file, SplitFullLemmas.all-full}
-use Rattle.theorems.proofs.SplitJoinLemmas.{AreFiles, AreLaid, chosen_between, class-is, cut-last}
-use Rattle.theorems.proofs.SplitJoinLemmas.{cut-within, last-number, NoneAlike, number, parts-files}
-use Rattle.theorems.proofs.SplitJoinLemmas.{pieces-cut, Rise, seamless-stream, whole-cut}
-use Rattle.theorems.specs.SeamlessLaws.{bare_file, has_no_look_alike, is_look_alike, JoinsTheFrames}
-use Rattle.theorems.specs.SeamlessLaws.{last_place, SplitThenSeamlessJoin}
 
 -- pieces that were laid, as inputs
 module _ (file : List ℕ) (s : SurveyFields) (has : CanBeRelaid file s) where

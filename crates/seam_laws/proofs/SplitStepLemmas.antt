@@ -5,26 +5,26 @@ use Rattle.std.proofs.Common.{◌+◌, ◌-◌, ◌<◌, ◌==◌, ◌∙◌, �
 use Rattle.std.proofs.lemmas.Bool.{and_parts, eqb-true}
 use Rattle.std.proofs.lemmas.List.{length-drop, length-map, length-take-le}
 use Rattle.std.specs.Prelude.{slice_get, slice_range}
+use Rattle.chosen_streams.proofs.CaseLemmas.{stream-is}
 use Rattle.commands.specs.SingleOutput.{most_frames}
 use Rattle.exact_span.specs.Laws.{last_point}
 use Rattle.frame_header.specs.{Fields.{ClassFields, IsClass}, Tables.window_of}
 use Rattle.join_edits.specs.Seamless.{begins_blank, part_brought, seamless_file}
 use Rattle.laying.proofs.{LaidLemmas.first-there, SurveyFrameLemmas.survey-had}
 use Rattle.laying.specs.{Laid.LaidPart, Needs.need_of, Relaid.FilePart, Surveys.CanBeRelaid}
+use Rattle.seam_laws.proofs.PiecePartLemmas.{IsPieceFile, own_leads, piece-stream}
+use Rattle.seam_laws.proofs.SeamlessInputLemmas.{AreInputs, inputs-are, IsInput, whole_stream}
+use Rattle.seam_laws.proofs.{SplitFileLemmas.seamless-file, SplitFullLemmas.first-empty}
+use Rattle.seam_laws.proofs.SplitJoinLemmas.{all_stream, AreFiles, chosen_between, class-is}
+use Rattle.seam_laws.proofs.SplitJoinLemmas.{cut-last, cut-within, laid_between, NoneAlike, number}
+use Rattle.seam_laws.proofs.SplitJoinLemmas.{parts-files, pieces-cut, Rise, same-many}
+use Rattle.seam_laws.proofs.SplitLemmas.{class-of, laid-files}
+use Rattle.seam_laws.specs.SeamlessLaws.{bare_file, full_frames, is_empty_frame, is_look_alike}
+use Rattle.seam_laws.specs.SeamlessLaws.{IsJoinedInSteps, StepsJoinTheSame}
 use Rattle.seam_plan.{proofs.FollowLemmas.get-drop, specs.Joins.has_lead_in}
 use Rattle.split_edits.specs.Recording.{piece_lead_ins}
 use Rattle.sync_survey.proofs.SurveyedFileLemmas.{survey_of-parts}
 use Rattle.sync_survey.specs.{Faults.{survey_fields, SurveyFields}, MainData.StreamFrame}
-use Rattle.theorems.proofs.CaseLemmas.{stream-is}
-use Rattle.theorems.proofs.PiecePartLemmas.{IsPieceFile, own_leads, piece-stream}
-use Rattle.theorems.proofs.SeamlessInputLemmas.{AreInputs, inputs-are, IsInput, whole_stream}
-use Rattle.theorems.proofs.{SplitFileLemmas.seamless-file, SplitFullLemmas.first-empty}
-use Rattle.theorems.proofs.SplitJoinLemmas.{all_stream, AreFiles, chosen_between, class-is}
-use Rattle.theorems.proofs.SplitJoinLemmas.{cut-last, cut-within, laid_between, NoneAlike, number}
-use Rattle.theorems.proofs.SplitJoinLemmas.{parts-files, pieces-cut, Rise, same-many}
-use Rattle.theorems.proofs.SplitLemmas.{class-of, laid-files}
-use Rattle.theorems.specs.SeamlessLaws.{bare_file, full_frames, is_empty_frame, is_look_alike}
-use Rattle.theorems.specs.SeamlessLaws.{IsJoinedInSteps, StepsJoinTheSame}
 
 -- ---- streams without an empty frame
 

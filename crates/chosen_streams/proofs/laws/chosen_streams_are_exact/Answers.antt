@@ -1,6 +1,6 @@
 -- One part, whose plan is its first.
-use Rattle.theorems.proofs.CaseLemmas.{chosen-exact}
-use Rattle.theorems.proofs.laws.chosen_streams_are_exact.Goals as goal
+use Rattle.chosen_streams.proofs.CaseLemmas.{chosen-exact}
+use Rattle.chosen_streams.proofs.laws.chosen_streams_are_exact.Goals as goal
 
 pub returns : goal.returns
 returns c = chosen-exact

@@ -1,6 +1,6 @@
 -- The run has one plan.
-use Rattle.theorems.proofs.SeamlessCaseLemmas.{seamless-first}
-use Rattle.theorems.proofs.laws.seamless_plans_are_first.Goals as goal
+use Rattle.chosen_streams.proofs.SeamlessCaseLemmas.{seamless-first}
+use Rattle.chosen_streams.proofs.laws.seamless_plans_are_first.Goals as goal
 
 pub returns : goal.returns
 returns c = seamless-first

@@ -1,6 +1,6 @@
 -- Command by command.
-use Rattle.theorems.proofs.WrittenFrameLemmas.{frames-stay}
-use Rattle.theorems.proofs.laws.written_frames_stay.Goals as goal
+use Rattle.file_laws.proofs.WrittenFrameLemmas.{frames-stay}
+use Rattle.file_laws.proofs.written_laws.written_frames_stay.Goals as goal
 
 pub returns : goal.returns
 returns c = frames-stay

@@ -1,0 +1,11 @@
+-- The lemmas of this crate.
+pub mod LedPlanLemmas
+pub mod ExactFileLemmas
+pub mod ExactSpanLemmas
+pub mod ExactRunLemmas
+pub mod ExactNumberLemmas
+pub mod ExactReadLemmas
+pub mod ExactCutLemmas
+pub mod ExactJoinLemmas
+pub mod InfoFieldLemmas
+pub mod ExactStepLemmas

@@ -1,0 +1,6 @@
+//! Laws of exact pieces, and of exact pieces that are joined again. Nothing here runs, and no crate of the program waits for these proofs.
+#![tactic(auto)]
+
+mod laws;
+
+pub use laws::{exact_in_steps, exact_split_then_seamless_join};

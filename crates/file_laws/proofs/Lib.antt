@@ -1,0 +1,8 @@
+-- The lemmas of this crate.
+pub mod CutItemLemmas
+pub mod CutStartLemmas
+pub mod CutRunLemmas
+pub mod CutFrameLemmas
+pub mod CutStreamLemmas
+pub mod CutLemmas
+pub mod WrittenFrameLemmas

@@ -1,0 +1,3 @@
+-- What the laws of this crate cite.
+pub mod CutLaws
+pub mod WrittenLaws

@@ -1,0 +1,11 @@
+-- The lemmas of this crate.
+pub mod TakenStepLemmas
+pub mod KeptFrameLemmas
+pub mod KeptFileLemmas
+pub mod TaggedAgainLemmas
+pub mod OppositeStepLemmas
+pub mod UndoneGainLemmas
+pub mod KeptGainLemmas
+pub mod ExactLemmas
+pub mod TakenBackLemmas
+pub mod KeptFadeLemmas

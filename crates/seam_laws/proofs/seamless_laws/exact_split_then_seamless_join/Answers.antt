@@ -1,6 +1,0 @@
--- The run is the frames of the span from the first place to the last.
-use Rattle.theorems.proofs.ExactJoinLemmas.{exact-joins}
-use Rattle.theorems.proofs.seamless_laws.exact_split_then_seamless_join.Goals as goal
-
-pub returns : goal.returns
-returns c = exact-joins
