@@ -13,3 +13,7 @@ pub mod SplitFileLemmas
 pub mod SplitLemmas
 pub mod SplitStepLemmas
 pub mod LaidInputLemmas
+pub mod LeftOutLemmas
+pub mod JoinNumberLemmas
+pub mod JoinReadLemmas
+pub mod JoinEndLemmas

@@ -157,7 +157,8 @@ rows-led window (r ∷ q ∷ rows) known leads =
 
 -- ---- sounds
 
-no-parts : (lengths : List ℕ) → concat (split_bits lengths []) ≡ []
+-- parts of no main data are empty
+pub no-parts : (lengths : List ℕ) → concat (split_bits lengths []) ≡ []
 unfolding split_bits
 no-parts [] = refl
 no-parts (zero ∷ lengths) = no-parts lengths
@@ -174,12 +175,12 @@ empty-sound : (c : ClassFields) (main : List ℕ) (head : Option Head) (rows : L
 empty-sound c main head rows i r none = grind (arith, no_bits, no-parts)
 
 -- a frame without main data, with this header
-abbrev silent_frame : HeaderFields → StreamFrame
+abbrev pub silent_frame : HeaderFields → StreamFrame
 silent_frame h =
     record { header = h; side = no_side; payload = split_bits (granule_lengths h no_side) [] }
 
 -- a frame whose side information is all 0, as it is in the stream
-empty-frame : (main : List ℕ) (head : Option Head) (rows : List Row) (i : ℕ)
+pub empty-frame : (main : List ℕ) (head : Option Head) (rows : List Row) (i : ℕ)
     (r : Row) → row_side r ≡ no_side
     → stream_frame main head rows i r ≡ silent_frame (record r.header { slot = no_slot })
 empty-frame main head rows i r none = grind (arith, no_bits)

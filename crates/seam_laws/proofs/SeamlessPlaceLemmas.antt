@@ -106,7 +106,8 @@ within-frames v x end n before most = grind arith
 
 -- ---- the frames of the run in the joined file
 
-input-at : (class : ClassFields) (parts : List FilePart) (i : ℕ) (p : FilePart)
+-- each of the parts of inputs is an input
+pub input-at : (class : ClassFields) (parts : List FilePart) (i : ℕ) (p : FilePart)
     → AreInputs class parts → slice_get parts i ≡ Some p → IsInput class p
 input-at class [] i p are is = absurd cc
 input-at class (q ∷ parts) zero p are is = let same : q ≡ p = cc in subst (IsInput class) same are.0
@@ -156,7 +157,8 @@ module _ (first : FilePart) (parts : List FilePart)
           ap (λ (l : List StreamFrame). length l) led.3,
         )
 
-    leads-enough : front ≤ length leads
+    -- where a frame leaves the run, the run gets a lead-in
+    pub leads-enough : front ≤ length leads
     leads-enough = grind (arith, cases_lt, run-leads, front-parts, front-few)
 
     run-stays : (j place : ℕ) (g : RunFrame) → slice_get whole j ≡ Some g

@@ -1,6 +1,8 @@
 //! Laws of pieces that are joined again, and of joins without seams. Nothing here runs, and no crate of the program waits for these proofs.
 #![tactic(auto)]
 
+mod join_laws;
 mod laws;
 
+pub use join_laws::{joins_keep_their_ends, left_out_is_empty};
 pub use laws::{following_samples, in_steps, split_then_seamless_join};

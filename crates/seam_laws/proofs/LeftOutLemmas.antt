@@ -1,0 +1,393 @@
+-- What is left out of an input that doesn't follow the one before it is empty.
+use Rattle.std.proofs.Common.{ap, arith, Bool, drop, inl, inr, length, List, map, None, Option}
+use Rattle.std.proofs.Common.{refl, Some, subst, suc, sym, take, true, zero, ℕ, [], ◌++◌, ◌+◌, ◌<◌}
+use Rattle.std.proofs.{Common.{◌∙◌, ◌∷◌, ◌≡◌}, lemmas.Bool.{and_parts, cases_lt}}
+use Rattle.std.proofs.lemmas.List.{length-map, length-take-le, take-append-drop}
+use Rattle.std.{proofs.lemmas.Option.slice_get-map, specs.{List.enumerate_from, Option.option_or}}
+use Rattle.std.specs.Prelude.{option_and_then, option_map, slice_get, unwrap_or}
+use Rattle.chosen_streams.proofs.CaseLemmas.{stream-is}
+use Rattle.cut_edits.specs.Exact.{survey_without_head}
+use Rattle.exact_span.specs.declared.overlap.Overlap.{Overlap}
+use Rattle.frame_header.proofs.HeaderLemmas.{IsClass-class_of}
+use Rattle.frame_header.specs.Fields.{ClassFields, HeaderFields, IsClass}
+use Rattle.frame_header.specs.Tables.{class_of, window_of}
+use Rattle.join_edits.proofs.FramePlaceLemmas.{get-some, get-within}
+use Rattle.join_edits.specs.Seamless.{begins_blank, join_of_parts, later_parts, part_brought}
+use Rattle.join_edits.specs.Seamless.{part_from}
+use Rattle.laying.{proofs.EntryByteLemmas.shaped, specs.Relaid.{FilePart, part_stream}}
+use Rattle.seam_laws.proofs.SeamlessFrontLemmas.{begins-first, empty-frame, no-parts, none-zero}
+use Rattle.seam_laws.proofs.SeamlessFrontLemmas.{silent_frame, whole-first, zero-side}
+use Rattle.seam_laws.proofs.SeamlessInputLemmas.{AreInputs, brought-many, inputs-are, IsInput}
+use Rattle.seam_laws.proofs.SeamlessInputLemmas.{stream-from, stream-many, whole_stream}
+use Rattle.seam_laws.proofs.SeamlessPlaceLemmas.{input-at}
+use Rattle.seam_laws.proofs.SeamlessRunLemmas.{front-few, front-parts, joints-are}
+use Rattle.seam_laws.specs.JoinLaws.{IsEmptyFront, IsInputWritten, LeftOutIsEmpty, MayBeLeftOut}
+use Rattle.seam_laws.specs.JoinLaws.{seam_at}
+use Rattle.seam_plan.proofs.FollowLemmas.{followers-on}
+use Rattle.seam_plan.proofs.SeamLemmas.{follow-is, follows_with, IfWithout, without-led}
+use Rattle.seam_plan.specs.{Decisions.alike_overlap, Frames.{Brought, needs_of, RunFrame}}
+use Rattle.seam_plan.specs.Joins.{has_lead_in, joining_frames, leads_others}
+use Rattle.seam_plan.specs.Laws.{InputGoesOn, run_after}
+use Rattle.seam_plan.specs.Seams.{following_joint, joint_of, joint_with, joint_without_lead_in}
+use Rattle.seam_plan.specs.Seams.{JointFrames, joints_from, joints_of, left_out_count, SeamlessJoin}
+use Rattle.seam_plan.specs.{Seams.whole_joint, declared.seam.Seam.Seam}
+use Rattle.seam_plan.specs.declared.seam.Seam.TheVariants.{Follows, LeadIn, Whole}
+use Rattle.side_info.specs.Side.{no_side, SideFits}
+use Rattle.sync_survey.specs.Faults.{stream_of, stream_of_survey, SurveyFields}
+use Rattle.sync_survey.specs.HeadApart.{apart_row, apart_rows, emptied_row, rows_set_apart}
+use Rattle.sync_survey.specs.MainData.{granule_lengths, main_bytes, no_slot, row_side, stream_frame}
+use Rattle.sync_survey.specs.{MainData.{stream_frames, StreamFrame}, Row.Row}
+use Rattle.sync_survey.specs.declared.places.Head.{Head}
+
+-- ---- an input that begins blank
+
+-- the stream of a survey begins with the frame of its first row
+stream-first : (file : List ℕ) (s : SurveyFields) (r : Row) (rows : List Row)
+    → s.frames ≡ r ∷ rows
+    → (more : List StreamFrame) × (stream_of_survey file s
+    ≡ stream_frame (main_bytes file s.head s.frames) s.head s.frames 0 r ∷ more)
+unfolding stream_of_survey stream_frames
+stream-first file s r rows are =
+    let frame : ℕ × Row → StreamFrame =
+    λ p. stream_frame (main_bytes file s.head s.frames) s.head s.frames p.0 p.1 in (
+      map frame (enumerate_from (0 + 1) rows),
+      ap (λ (l : List Row). map frame (enumerate_from 0 l)) are,
+    )
+
+own-none : (r : Row) (lost : Bool) → r.lost ≡ lost → r.side ≡ no_side → row_side r ≡ no_side
+own-none r lost is none = grind arith
+
+emptied-none : (r : Row) (lost : Bool) → r.lost ≡ lost → r.side ≡ no_side
+    → (row_side (emptied_row r) ≡ no_side) × ((emptied_row r).header ≡ r.header)
+emptied-none r lost is none = grind arith
+
+-- a first frame with nothing in its side information has nothing in it when the head is set apart
+apart-first : (head : Option Head) (q : Row) (rows : List Row) → q.side ≡ no_side
+    → (r : Row) × (more : List Row) × (map emptied_row (rows_set_apart head (q ∷ rows)) ≡ r ∷ more)
+    × (row_side r ≡ no_side) × (r.header ≡ q.header)
+unfolding apart_rows
+apart-first None q rows none =
+    let is = emptied-none q q.lost refl none in
+    (emptied_row q, map emptied_row rows, refl, is.0, is.1)
+apart-first (Some head) q rows none =
+    let r : Row = apart_row (q ∷ rows) 0 q in
+    let is = emptied-none r r.lost refl none in
+    (emptied_row r, map emptied_row (drop 1 (apart_rows (q ∷ rows))), refl, is.0, is.1)
+
+-- of a survey whose first frame has nothing in its side information the stream begins with a
+-- silent frame
+silent-first : (file : List ℕ) (s : SurveyFields) (r : Row) (rows : List Row) (h : HeaderFields)
+    → s.frames ≡ r ∷ rows → row_side r ≡ no_side → r.header ≡ h
+    → (more : List StreamFrame)
+    × (stream_of_survey file s ≡ silent_frame (record h { slot = no_slot }) ∷ more)
+silent-first file s r rows h are none same =
+    let begins = stream-first file s r rows are in (
+      begins.0,
+      begins.1
+          ∙ ap (λ (f : StreamFrame). f ∷ begins.0)
+          (empty-frame (main_bytes file s.head s.frames) s.head s.frames 0 r none
+          ∙ ap (λ (g : HeaderFields). silent_frame (record g { slot = no_slot })) same),
+    )
+
+module _ (c : ClassFields) (p : FilePart) (is : IsInput c p)
+    (blank : begins_blank p.survey.frames ≡ true) where
+  begin : (q : Row) × (rows : List Row) × (p.survey.frames ≡ q ∷ rows)
+  begin = at p.survey.frames is.some
+    where
+      at : (rows : List Row) → 0 < length rows → (q : Row) × (more : List Row) × (rows ≡ q ∷ more)
+      at [] some = absurd (omega (arith, some))
+      at (q ∷ rows) some = (q, rows, refl)
+
+  abbrev q : Row
+  q = begin.0
+
+  found : slice_get p.survey.frames 0 ≡ Some q
+  found = ap (λ (l : List Row). slice_get l 0) begin.2
+
+  known : IsClass c
+  known =
+      let placed = is.has.placed 0 q found in
+      subst IsClass (placed.class_is ∙ is.of_class) (IsClass-class_of q.header placed.known)
+
+  none : q.side ≡ no_side
+  none =
+      let placed = is.has.placed 0 q found in
+      let pairs = (whole-first p.file p.survey.frames q is.has.rows found).pairs in
+      zero-side (class_of q.header) q.side (IsClass-class_of q.header placed.known)
+      (shaped q.side pairs) (subst (λ d. SideFits d q.side) (sym placed.class_is) placed.fits)
+      (sym (begins-first p.survey.frames q found) ∙ blank)
+
+  abbrev front : StreamFrame
+  front = silent_frame (record q.header { slot = no_slot })
+
+  own-first : (more : List StreamFrame) × (stream_of p.file ≡ front ∷ more)
+  own-first =
+      let own =
+      silent-first p.file p.survey q begin.1 q.header begin.2 (own-none q q.lost refl none) refl in
+      (own.0, stream-is p.file is.allowed p.survey is.surveyed ∙ own.1)
+
+  apart-front : (more : List StreamFrame) × (whole_stream c p is ≡ front ∷ more)
+  apart-front =
+      let apart = apart-first p.survey.head q begin.1 none in
+      silent-first p.file (survey_without_head p.survey) apart.0 apart.1 q.header
+      (ap (λ (l : List Row). map emptied_row (rows_set_apart p.survey.head l)) begin.2 ∙ apart.2)
+      apart.3 apart.4
+
+  -- its first frame is empty
+  pub empty-front : IsEmptyFront c p.file (take 1 (whole_stream c p is))
+  empty-front = record {
+    frame = front;
+    one = ap (take 1) apart-front.1;
+    first = ap (λ (l : List StreamFrame). slice_get l 0) own-first.1;
+    side = none-zero c known;
+    main = no-parts (granule_lengths (record q.header { slot = no_slot }) no_side);
+  }
+
+-- ---- what becomes of an input
+
+-- the joint, if there is one, is of an input that follows
+abbrev IfFollows : Option JointFrames → Type 0
+IfFollows None = Unit {0}
+IfFollows (Some joint) = (out : ℕ) × (joint.seam ≡ Follows out)
+
+map-follows : (out : ℕ) (o : Option (List RunFrame))
+    → IfFollows (option_map (joint_with (Follows out)) o)
+map-follows out None = tt
+map-follows out (Some frames) = (out, refl)
+
+then-follows : (class : ClassFields) (run : List RunFrame) (input : Brought) (o : Option Overlap)
+    → IfFollows (option_and_then (follows_with class run input) o)
+then-follows class run input None = tt
+then-follows class run input (Some overlap) =
+    map-follows overlap.frames
+    (joining_frames (window_of class.version) run (drop overlap.frames input.frames))
+
+-- an input that joins without its lead-in has one
+joint-led : (class : ClassFields) (run : List RunFrame) (before input : Brought)
+    → (joint_of class run before input).seam ≡ LeadIn
+    → has_lead_in (window_of class.version) input ≡ true
+joint-led class run before input is =
+    at (following_joint class run before input)
+    (subst IfFollows (sym (follow-is class run before input))
+    (then-follows class run input (alike_overlap class run before input)))
+    (joint_without_lead_in class run input) (without-led class run input) is
+  where
+    at : (x : Option JointFrames) → IfFollows x
+        → (y : Option JointFrames) → IfWithout (window_of class.version) input y
+        → (unwrap_or (option_or x y) (whole_joint input)).seam ≡ LeadIn
+        → has_lead_in (window_of class.version) input ≡ true
+    at (Some joint) follows y without seam =
+        let never : Follows follows.0 ≡ LeadIn = sym follows.1 ∙ seam in absurd cc
+    at None follows (Some joint) without seam = without.1
+    at None follows None without seam = absurd cc
+
+joints-led : (class : ClassFields) (run : List RunFrame) (before : Brought) (inputs : List Brought)
+    (n : ℕ) (input : Brought) (joint : JointFrames) → slice_get inputs n ≡ Some input
+    → slice_get (joints_from class run before inputs) n ≡ Some joint → joint.seam ≡ LeadIn
+    → has_lead_in (window_of class.version) input ≡ true
+unfolding joints_from
+joints-led class run before [] n input joint there found is = absurd cc
+joints-led class run before (i ∷ inputs) zero input joint there found is =
+    let same : i ≡ input = cc in
+    let here : joint_of class run before i ≡ joint = cc in
+    subst (λ (b : Brought). has_lead_in (window_of class.version) b ≡ true) same
+    (joint-led class run before i (ap (λ (j : JointFrames). j.seam) here ∙ is))
+joints-led class run before (i ∷ inputs) (suc n) input joint there found is =
+    let here : JointFrames = joint_of class run before i in
+    joints-led class (run ++ here.frames) i inputs n input joint there found is
+
+-- something becomes of each input
+joints-many : (class : ClassFields) (run : List RunFrame) (before : Brought)
+    (inputs : List Brought) → length (joints_from class run before inputs) ≡ length inputs
+unfolding joints_from
+joints-many class run before [] = refl
+joints-many class run before (i ∷ inputs) =
+    grind (arith, joints-many class (run ++ (joint_of class run before i).frames) i inputs)
+
+-- what becomes of the input at a place, and what is written of it
+record IsLater (joints : List JointFrames) (parts : List FilePart) (n : ℕ) (p : FilePart) : Type 0
+  where
+    joint : JointFrames
+    found : slice_get joints n ≡ Some joint
+    written : slice_get (later_parts joints parts) n
+        ≡ Some (part_from (left_out_count joint.seam) p)
+
+later-at : (joints : List JointFrames) (parts : List FilePart) (n : ℕ) (p : FilePart)
+    → length joints ≡ length parts → slice_get parts n ≡ Some p → IsLater joints parts n p
+later-at joints [] n p same is = absurd cc
+later-at [] (q ∷ parts) n p same is = absurd (omega (arith, same))
+later-at (j ∷ joints) (q ∷ parts) zero p same is =
+    let own : q ≡ p = cc in
+    record {
+      joint = j;
+      found = refl;
+      written = ap (λ (r : FilePart). Some (part_from (left_out_count j.seam) r)) own;
+    }
+later-at (j ∷ joints) (q ∷ parts) (suc n) p same is =
+    let more = later-at joints parts n p (omega (arith, same)) is in
+    record { joint = more.joint; found = more.found; written = more.written }
+
+later-many : (joints : List JointFrames) (parts : List FilePart) → length joints ≡ length parts
+    → length (later_parts joints parts) ≡ length parts
+later-many [] [] same = refl
+later-many [] (p ∷ parts) same = absurd (omega (arith, same))
+later-many (j ∷ joints) [] same = absurd (omega (arith, same))
+later-many (j ∷ joints) (p ∷ parts) same =
+    grind (arith, later-many joints parts (omega (arith, same)))
+
+-- ---- the inputs of a join
+
+module _ (first : FilePart) (parts : List FilePart)
+    (are : AreInputs first.survey.class (first ∷ parts)) where
+  abbrev c : ClassFields
+  c = first.survey.class
+
+  abbrev joined : SeamlessJoin
+  joined = join_of_parts first parts
+
+  abbrev begins : Brought
+  begins = part_brought first
+
+  abbrev others : List Brought
+  others = map part_brought parts
+
+  -- something becomes of each input after the first
+  pub joints-count : length joined.joints ≡ length parts
+  joints-count =
+      ap (λ (js : List JointFrames). length js) (joints-are first parts are)
+      ∙ joints-many c begins.frames begins others ∙ length-map parts part_brought
+
+  -- an input without its first k frames, and these
+  module _ (p : FilePart) (is : IsInput c p) (k : ℕ) where
+    abbrev left : List StreamFrame
+    left = take k (whole_stream c p is)
+
+    both : stream_of_survey p.file (survey_without_head p.survey)
+        ≡ left ++ part_stream (part_from k p)
+    both =
+        sym (take-append-drop k (whole_stream c p is))
+        ∙ ap (λ (l : List StreamFrame). left ++ l) (sym (stream-from c p is k))
+
+  led-front : (p : FilePart) (is : IsInput c p)
+      → has_lead_in (window_of c.version) (part_brought p) ≡ true
+      → IsEmptyFront p.survey.class p.file (take 1 (whole_stream c p is))
+  unfolding has_lead_in
+  led-front p is has =
+      let blank =
+      (and_parts (part_brought p).blank
+      (leads_others (window_of c.version) (needs_of (part_brought p).frames)) has).0 in
+      subst (λ (d : ClassFields). IsEmptyFront d p.file (take 1 (whole_stream c p is)))
+      (sym is.of_class) (empty-front c p is blank)
+
+  first-written : IsInputWritten first parts 0 first
+  first-written =
+      elim (cases_lt 0 joined.front) as (λ _. IsInputWritten first parts 0 first) [
+        | inl out ↦
+            let one : joined.front ≡ 1 = omega (arith, out, front-few first parts are) in
+            record {
+              part = part_from joined.front first;
+              is = refl;
+              left_out = left first are.0 joined.front;
+              all = both first are.0 joined.front;
+              may = inr
+                  (subst (λ n. IsEmptyFront c first.file (take n (whole_stream c first are.0)))
+                  (sym one) (led-front first are.0 (front-parts first parts are out).0));
+            }
+        | inr none ↦
+            let zero_is : joined.front ≡ 0 = omega (arith, none) in
+            record {
+              part = part_from joined.front first;
+              is = refl;
+              left_out = left first are.0 joined.front;
+              all = both first are.0 joined.front;
+              may = inl (ap (λ n. take n (whole_stream c first are.0)) zero_is);
+            }
+      ]
+
+  module _ (n : ℕ) (p : FilePart) (found : slice_get parts n ≡ Some p) where
+    is : IsInput c p
+    is = input-at c parts n p are.1 found
+
+    later : IsLater joined.joints parts n p
+    later = later-at joined.joints parts n p joints-count found
+
+    joint_is : slice_get (joints_of c begins others) n ≡ Some later.joint
+    joint_is =
+        ap (λ (js : List JointFrames). slice_get js n) (sym (joints-are first parts are))
+        ∙ later.found
+
+    brought_is : slice_get others n ≡ Some (part_brought p)
+    brought_is = slice_get-map part_brought parts n ∙ ap (option_map part_brought) found
+
+    before : (q : FilePart) × (slice_get (first ∷ parts) n ≡ Some q)
+    before = get-some (first ∷ parts) n (omega (arith, get-within parts n p found))
+
+    -- an input that follows continues where the one before it ends
+    follower : (out : ℕ) → later.joint.seam ≡ Follows out
+        → InputGoesOn c (part_brought before.0) (part_brought p)
+        (run_after begins (joints_of c begins others) n)
+        (run_after begins (joints_of c begins others) (n + 1)) out
+    follower out seam =
+        followers-on c begins others n (part_brought before.0) (part_brought p) later.joint out
+        (slice_get-map part_brought (first ∷ parts) n ∙ ap (option_map part_brought) before.1)
+        brought_is joint_is seam
+
+    -- as many frames are left out as the seam says
+    follows-out : (out : ℕ) → later.joint.seam ≡ Follows out
+        → length (take out (whole_stream c p is)) ≡ out
+    follows-out out seam =
+        length-take-le out (whole_stream c p is)
+        (omega (arith, (follower out seam).has, brought-many c p is, stream-many c p is))
+
+    -- the input with this number, if its seam says that it follows
+    pub follower-at : (out : ℕ) → seam_at joined.joints (suc n) ≡ Some (Follows out)
+        → (q : Brought) × InputGoesOn c q (part_brought p)
+        (run_after begins (joints_of c begins others) n)
+        (run_after begins (joints_of c begins others) (n + 1)) out
+    follower-at out seam =
+        let own : Some later.joint.seam ≡ Some (Follows out) =
+        sym (ap (option_map (λ (j : JointFrames). j.seam)) later.found) ∙ seam in
+        (part_brought before.0, follower out cc)
+
+    may : (seam : Seam) → later.joint.seam ≡ seam
+        → MayBeLeftOut (Some seam) p.survey.class p.file
+        (take (left_out_count seam) (whole_stream c p is))
+    may Whole seam = refl
+    may LeadIn seam =
+        led-front p is
+        (joints-led c begins.frames begins others n (part_brought p) later.joint brought_is joint_is
+        seam)
+    may (Follows out) seam = follows-out out seam
+
+    later-written : IsInputWritten first parts (suc n) p
+    later-written = record {
+      part = part_from (left_out_count later.joint.seam) p;
+      is = later.written;
+      left_out = left p is (left_out_count later.joint.seam);
+      all = both p is (left_out_count later.joint.seam);
+      may = subst (λ o. MayBeLeftOut o p.survey.class p.file
+          (left p is (left_out_count later.joint.seam)))
+          (sym (ap (option_map (λ (j : JointFrames). j.seam)) later.found))
+          (may later.joint.seam refl);
+    }
+
+  -- each input is written, but for what may be left out of it
+  pub written-at : (number : ℕ) (input : FilePart) → slice_get (first ∷ parts) number ≡ Some input
+      → IsInputWritten first parts number input
+  written-at zero input found =
+      let same : first ≡ input = cc in
+      subst (IsInputWritten first parts 0) same first-written
+  written-at (suc n) input found = later-written n input found
+
+-- what is left out of an input that doesn't follow is empty
+pub left-out-empty : LeftOutIsEmpty
+left-out-empty files inputs first parts taken =
+    let are = inputs-are files inputs first parts taken in
+    record {
+      inputs = written-at first parts are;
+      many = grind (
+        arith,
+        later-many (join_of_parts first parts).joints parts
+            (joints-count first parts are),
+      );
+    }
