@@ -32,7 +32,6 @@ use Rattle.laying.specs.Laid.{file_laid, file_with_first, frames_laid, info_laid
 use Rattle.laying.specs.{LaidFiles.{AreBlocks, head_at, laid_file}, Needs.need_of}
 use Rattle.laying.specs.{NeedsFit.own_choice, Relaid.FilePart, Surveys.CanBeRelaid}
 use Rattle.laying.specs.Written.{back_blocks, front_blocks, head_info}
-use Rattle.pack_edits.proofs.LimitLemmas.{few-rows}
 use Rattle.seam_laws.proofs.LaidInputLemmas.{brings-led, brings-own, BringsLed, BringsOwn}
 use Rattle.seam_laws.proofs.LaidInputLemmas.{class-same, frames-same, head-is}
 use Rattle.seam_laws.proofs.{SeamlessInputLemmas.IsInput, SeamlessRunLemmas.own-many}
@@ -44,28 +43,7 @@ use Rattle.slot_plan.proofs.OwnLeadInLemmas.{lead-where-wanted}
 use Rattle.slot_plan.specs.{Laws.{AreInOwnSlots, AreLedInOwnSlots}, Plans.IsLedPlan}
 use Rattle.slot_plan.specs.declared.needs.{Need.Need, Placed.Placed}
 use Rattle.split_edits.specs.Recording.{input_played, sample_named}
-use Rattle.sync_survey.proofs.FaultsLemmas.{length-marked_rows}
-use Rattle.sync_survey.proofs.SurveyPartsLemmas.{all_faults-none_sound, frames_from}
-use Rattle.sync_survey.proofs.SurveyPartsLemmas.{survey_fields-parts}
-use Rattle.sync_survey.specs.Faults.{class_from, survey_fields, SurveyFields}
-use Rattle.sync_survey.specs.{MainData.{rows_of, StreamFrame}, Row.Row, Walk.head_of}
-
--- ---- how many frames there are
-
--- a survey has no more frames than are allowed
-pub frames-few : (file : List ℕ) (allowed : ℕ) (s : SurveyFields)
-    → survey_fields file allowed ≡ Ok s → length s.frames ≤ allowed
-frames-few file allowed s e =
-    let parts = survey_fields-parts file allowed s e in
-    let head = head_of file parts.0.first in
-    let rows = rows_of file (frames_from file parts.0) in
-    omega (
-      arith,
-      few-rows file head (class_from parts.0) allowed rows
-          (all_faults-none_sound file head (class_from parts.0) allowed rows parts.1.frames),
-      length-marked_rows head rows,
-      ap (λ (t : SurveyFields). length t.frames) parts.2,
-    )
+use Rattle.sync_survey.specs.{Faults.SurveyFields, MainData.StreamFrame, Row.Row}
 
 -- ---- heads that count
 

@@ -5,8 +5,8 @@ use Rattle.std.{proofs.lemmas.Bool.and_parts, specs.{List.list_all, Prelude.slic
 use Rattle.commands.specs.{Refusing.then_made, SingleOutput.most_frames}
 use Rattle.cut_edits.specs.Exact.{exact_part, span_piece, survey_without_head}
 use Rattle.exact_laws.proofs.ExactCutLemmas.{cut-file, is-same}
-use Rattle.exact_laws.proofs.ExactFileLemmas.{frames-few, head, IsExactFile, laid-exact, laid_by}
-use Rattle.exact_laws.proofs.ExactFileLemmas.{leads, piece-by, span-found}
+use Rattle.exact_laws.proofs.ExactFileLemmas.{head, IsExactFile, laid-exact, laid_by, leads}
+use Rattle.exact_laws.proofs.ExactFileLemmas.{piece-by, span-found}
 use Rattle.exact_laws.proofs.ExactNumberLemmas.{delay, delay-is, delay-most, info-head, join-plays}
 use Rattle.exact_laws.proofs.ExactNumberLemmas.{padding-is, padding-least, padding-most, whole-file}
 use Rattle.exact_laws.proofs.ExactNumberLemmas.{whole-files, whole-first, whole-is, whole-last}
@@ -20,7 +20,7 @@ use Rattle.join_edits.proofs.RunPartLemmas.{front-within}
 use Rattle.join_edits.specs.Seamless.{join_of_parts, part_brought}
 use Rattle.laying.proofs.{LaidLemmas.first-there, SurveyFrameLemmas.survey-had}
 use Rattle.laying.specs.{Laid.{file_laid, LaidPart}, Relaid.FilePart, Surveys.CanBeRelaid}
-use Rattle.seam_laws.proofs.SeamlessInputLemmas.{AreInputs, inputs-are}
+use Rattle.seam_laws.proofs.{JoinEndLemmas.frames-few, SeamlessInputLemmas.{AreInputs, inputs-are}}
 use Rattle.seam_laws.proofs.{SeamlessRunLemmas.not-true, SplitJoinLemmas.parts-files}
 use Rattle.seam_laws.proofs.SplitLemmas.{class-of}
 use Rattle.seam_laws.specs.SeamlessLaws.{has_no_look_alike, is_look_alike, last_place}

@@ -1,25 +1,20 @@
 -- The numbers in the Info frame of exact pieces that are joined in
 -- order: the numbers of the span from the first place to the last.
-use Rattle.std.proofs.Common.{ap, ap₂, arith, Bool, cond, drop, get_or, IsTrue, length, List, None}
-use Rattle.std.proofs.Common.{Ok, refl, replicate, Some, subst, sym, take, ℕ, [], ◌*◌, ◌++◌, ◌+◌}
-use Rattle.std.proofs.Common.{◌-◌, ◌<◌, ◌∙◌, ◌∷◌, ◌≡◌, ◌≤◌}
+use Rattle.std.proofs.Common.{ap, ap₂, arith, drop, IsTrue, length, List, Ok, refl, Some, subst}
+use Rattle.std.proofs.Common.{sym, ℕ, [], ◌*◌, ◌+◌, ◌-◌, ◌<◌, ◌∙◌, ◌∷◌, ◌≡◌, ◌≤◌}
 use Rattle.std.proofs.lemmas.Bool.{and_from, le-leb, lt-ltb}
-use Rattle.std.proofs.lemmas.List.{get_or-append-add, get_or-drop, length-append, length-drop}
-use Rattle.std.proofs.lemmas.List.{length-map, length-replicate, length-take-le, take-append-le}
-use Rattle.std.{proofs.lemmas.List.take-take, specs.{List.list_all, Prelude.{nat_lt, slice_range}}}
+use Rattle.std.proofs.lemmas.List.{length-append, length-drop, length-map, length-take-le}
+use Rattle.std.specs.Prelude.{nat_lt, slice_range}
 use Rattle.commands.specs.SingleOutput.{most_frames}
 use Rattle.cut_edits.proofs.{PieceLemmas.span-survey_without_head, SealedLemmas.for-whole}
 use Rattle.cut_edits.specs.Exact.{file_span, quality_of}
 use Rattle.exact_laws.proofs.ExactFileLemmas.{all_run, has-own, head, IsFound, leads, own, sample}
-use Rattle.exact_laws.proofs.ExactFileLemmas.{span-found, span-long}
+use Rattle.exact_laws.proofs.ExactFileLemmas.{span-found}
 use Rattle.exact_laws.proofs.ExactRunLemmas.{AreExactFiles, class-is, ended_at, first_leads}
 use Rattle.exact_laws.proofs.ExactRunLemmas.{IsJoined, IsPiece, joined-is, position, st}
 use Rattle.exact_laws.proofs.ExactSpanLemmas.{first-before, first-is, has-span, HasSpan}
-use Rattle.exact_laws.proofs.ExactSpanLemmas.{input-class, last-is, leads-are, places-of, read}
-use Rattle.exact_laws.proofs.ExactSpanLemmas.{read-extension, read-is}
-use Rattle.exact_span.proofs.ExtensionLemmas.{extension-length, extension-says}
+use Rattle.exact_laws.proofs.ExactSpanLemmas.{input-class, last-is, leads-are, places-of}
 use Rattle.exact_span.proofs.{SealLemmas.frames-sealed, SpanLemmas.span-in_range}
-use Rattle.exact_span.specs.Extensions.{extension_of, has_encoder}
 use Rattle.exact_span.specs.Laws.{IsPieceHead, KeepsPlaces, SaysNumbers}
 use Rattle.exact_span.specs.PlayedPositions.{decoder_delay, length_of_played, played_of, rest_of}
 use Rattle.exact_span.specs.PlayedPositions.{samples_in}
@@ -32,60 +27,16 @@ use Rattle.info_header.specs.declared.fields.Info.{Info}
 use Rattle.join_edits.proofs.NumberLemmas.{rest-counted}
 use Rattle.join_edits.proofs.RunPartLemmas.{AreWholeFiles, IsWholeFile, run-laid}
 use Rattle.join_edits.specs.Seamless.{delay_of_run, join_of_parts, last_part, part_head, part_rest}
-use Rattle.join_edits.specs.Seamless.{part_says_gain, replay_gain, run_extension, run_lead_ins}
-use Rattle.join_edits.specs.Seamless.{seamless_delay, seamless_frames, seamless_info}
-use Rattle.join_edits.specs.Seamless.{seamless_padding, seamless_stream}
+use Rattle.join_edits.specs.Seamless.{run_extension, run_lead_ins, seamless_delay, seamless_frames}
+use Rattle.join_edits.specs.Seamless.{seamless_info, seamless_padding, seamless_stream}
 use Rattle.laying.specs.{LaidFiles.stream_entry, Relaid.FilePart, Surveys.CanBeRelaid}
 use Rattle.laying.specs.Written.{info_for}
+use Rattle.seam_laws.proofs.JoinNumberLemmas.{run-long, run-says}
 use Rattle.seam_laws.proofs.SeamlessInputLemmas.{AreInputs, brought-many, IsInput}
 use Rattle.seam_laws.{proofs.SplitJoinLemmas.stream-many, specs.SeamlessLaws.last_place}
 use Rattle.seam_plan.specs.Frames.{RunFrame}
 use Rattle.split_edits.specs.Recording.{input_played}
 use Rattle.sync_survey.specs.{Faults.SurveyFields, MainData.StreamFrame, Row.Row}
-
--- ---- an extension without peak and gains
-
-same-encoder : (xs ys : List ℕ) → take 4 xs ≡ take 4 ys → has_encoder xs ≡ has_encoder ys
-unfolding has_encoder
-same-encoder xs ys same = grind arith
-
--- without the bytes 11 to 18
-abbrev cleared : List ℕ → List ℕ
-cleared extension = take 11 extension ++ (replicate 8 0 ++ drop 19 extension)
-
-cleared-byte : (extension : List ℕ) (i : ℕ) → length extension ≡ 36
-    → get_or (cleared extension) (11 + (8 + i)) 0 ≡ get_or extension (19 + i) 0
-cleared-byte extension i long =
-    let eleven : length (take 11 extension) ≡ 11 =
-    length-take-le 11 extension (omega (arith, long)) in
-    ap (λ n. get_or (cleared extension) (n + (8 + i)) 0) (sym eleven)
-    ∙ get_or-append-add (take 11 extension) (replicate 8 0 ++ drop 19 extension) (8 + i) 0
-    ∙ ap (λ n. get_or (replicate 8 0 ++ drop 19 extension) (n + i) 0)
-    (sym (length-replicate {A = ℕ} 8 0))
-    ∙ get_or-append-add (replicate 8 0) (drop 19 extension) i 0
-    ∙ get_or-drop 19 extension i 0
-
-cleared-says : (delay padding : ℕ) (extension : List ℕ) → length extension ≡ 36
-    → SaysNumbers delay padding extension → SaysNumbers delay padding (cleared extension)
-cleared-says delay padding extension long says =
-    grind (arith, length-take-le, take-append-le, take-take, cleared-byte, same-encoder)
-
-either-says : (b : Bool) (delay padding : ℕ) (extension : List ℕ) → length extension ≡ 36
-    → SaysNumbers delay padding extension
-    → SaysNumbers delay padding (cond b extension (cleared extension))
-either-says b delay padding extension long says = grind (arith, cleared-says)
-
-either-long : (b : Bool) (extension : List ℕ) → length extension ≡ 36
-    → length (cond b extension (cleared extension)) ≡ 36
-either-long b extension long = grind arith
-
--- an extension that is made from a head has its numbers, and has 36 bytes
-made-says : (fields : Info) (delay padding : ℕ) → length fields.extension ≡ 36 → delay < 4096
-    → padding < 4096 → SaysNumbers delay padding (extension_of (Some fields) delay padding)
-unfolding extension_of
-made-says fields delay padding long short small =
-    extension-says (Some (record fields { table = None })) delay padding
-    (record { table = tt; extension = long }) short small
 
 -- ---- positions
 
@@ -331,43 +282,11 @@ module _ (file : List ℕ) (s : SurveyFields) (has : CanBeRelaid file s)
         there.within,
       )))
 
-  abbrev first_head : Info
-  first_head =
-      read file s has few place next files.0.0 files.0.1 first.survey.class first inputs.0 files.0.2
-
-  first-head : part_head first ≡ Some first_head
-  first-head =
-      read-is file s has few place next files.0.0 files.0.1 first.survey.class first inputs.0
-      files.0.2
-
-  head-long : length first_head.extension ≡ 36
-  head-long =
-      ap (λ (l : List ℕ). length l)
-      (read-extension file s has few place next files.0.0 files.0.1 first.survey.class first
-      inputs.0 files.0.2)
-      ∙ span-long file s has files.0.0 files.0.1.there files.0.2.row files.0.2.row_is
-
-  abbrev made : List ℕ
-  made = extension_of (part_head first) delay (seamless_padding first parts)
-
-  made-said : SaysNumbers delay (padding_of whole_span) made
-  made-said =
-      subst (λ o. SaysNumbers delay (padding_of whole_span)
-      (extension_of o delay (seamless_padding first parts))) (sym first-head)
-      (subst (λ n. SaysNumbers delay (padding_of whole_span)
-      (extension_of (Some first_head) delay n)) (sym padding-is)
-      (made-says first_head delay (padding_of whole_span) head-long
-      (omega (arith, delay-most)) (omega (arith, padding-most))))
-
-  made-long : length made ≡ 36
-  made-long = grind (arith, first-head, extension-length, head-long)
-
-  run-says : SaysNumbers delay (padding_of whole_span) (run_extension delay first parts)
-  run-says = grind (arith, either-says, made-long, made-said)
-
-  -- its extension has 36 bytes
-  pub run-long : length (run_extension delay first parts) ≡ 36
-  run-long = either-long (list_all (part_says_gain (replay_gain made)) parts) made made-long
+  run-numbers : SaysNumbers delay (padding_of whole_span) (run_extension delay first parts)
+  run-numbers =
+      subst (λ n. SaysNumbers delay n (run_extension delay first parts)) padding-is
+      (run-says first parts delay (omega (arith, delay-most))
+      (omega (arith, padding-is, padding-most)))
 
   -- the Info frame describes the span
   pub info-head : (row : Row)
@@ -377,10 +296,10 @@ module _ (file : List ℕ) (s : SurveyFields) (has : CanBeRelaid file s)
       (quality_of (part_head first)) (run_extension delay first parts) in
       let sealed = frames-sealed row.header info
       (for-whole first.survey.class (seamless_frames first parts) (quality_of (part_head first))
-      (run_extension delay first parts) run-long) in
+      (run_extension delay first parts) (run-long first parts delay)) in
       record {
         frames = ap Some frames-many;
-        numbers = sealed.says delay (padding_of whole_span) run-says;
+        numbers = sealed.says delay (padding_of whole_span) run-numbers;
       }
 
   -- the join plays the samples from the first place to the last

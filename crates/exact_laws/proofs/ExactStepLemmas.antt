@@ -5,9 +5,8 @@ use Rattle.std.{proofs.lemmas.Bool.and_parts, specs.Prelude.slice_range}
 use Rattle.commands.specs.SingleOutput.{most_frames}
 use Rattle.cut_edits.{proofs.PieceLemmas.span-survey_without_head, specs.Exact.span_piece}
 use Rattle.exact_laws.proofs.ExactCutLemmas.{cut-file, is-same}
-use Rattle.exact_laws.proofs.ExactFileLemmas.{frames-few, head, IsExactFile, laid_by, leads}
-use Rattle.exact_laws.proofs.ExactFileLemmas.{led-leads, own, piece-by, span-ways}
-use Rattle.exact_laws.proofs.ExactJoinLemmas.{exact-files}
+use Rattle.exact_laws.proofs.ExactFileLemmas.{head, IsExactFile, laid_by, leads, led-leads, own}
+use Rattle.exact_laws.proofs.{ExactFileLemmas.{piece-by, span-ways}, ExactJoinLemmas.exact-files}
 use Rattle.exact_laws.proofs.ExactNumberLemmas.{whole-found, whole_span}
 use Rattle.exact_laws.proofs.ExactRunLemmas.{AreExactFiles, class-is, first-some, IsPiece, position}
 use Rattle.exact_laws.proofs.{ExactRunLemmas.st, ExactSpanLemmas.brought-own}
@@ -18,6 +17,7 @@ use Rattle.frame_header.specs.{Fields.IsClass, Tables.window_of}
 use Rattle.join_edits.specs.Seamless.{begins_blank, part_brought, seamless_file}
 use Rattle.laying.proofs.{LaidLemmas.first-there, SurveyFrameLemmas.survey-had}
 use Rattle.laying.specs.{Laid.LaidPart, Relaid.FilePart, Surveys.CanBeRelaid}
+use Rattle.seam_laws.proofs.JoinEndLemmas.{frames-few}
 use Rattle.seam_laws.proofs.SeamlessInputLemmas.{AreInputs, inputs-are, whole_stream}
 use Rattle.seam_laws.proofs.{SplitFullLemmas.first-empty, SplitJoinLemmas.parts-files}
 use Rattle.seam_laws.proofs.SplitLemmas.{class-of}

@@ -4,7 +4,6 @@ use Rattle.std.proofs.Common.{◌++◌, ◌^◌, ◌∙◌, ◌≡◌}
 use Rattle.std.proofs.lemmas.List.{drop-drop, drop-take, drop_at, length-append, length-drop}
 use Rattle.std.proofs.lemmas.List.{length-take-le, take-append-le, take-take, take_at}
 use Rattle.std.specs.Prelude.{IfSome, IsTrue}
-use Rattle.bit_fields.specs.Bits.{bytes}
 use Rattle.byteorder.specs.Endian.{big_bytes}
 use Rattle.exact_span.specs.Extensions.{extension_of, has_encoder, kept_extension}
 use Rattle.exact_span.specs.TagWord.{sealed_info, tag_crc_of, with_length_field}
