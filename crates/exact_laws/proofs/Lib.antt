@@ -9,3 +9,4 @@ pub mod ExactCutLemmas
 pub mod ExactJoinLemmas
 pub mod InfoFieldLemmas
 pub mod ExactStepLemmas
+pub mod PieceReadLemmas

@@ -1,2 +1,3 @@
 -- What the laws of this crate cite.
 pub mod ExactSeamLaws
+pub mod PieceLaws

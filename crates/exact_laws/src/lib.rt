@@ -2,5 +2,7 @@
 #![tactic(auto)]
 
 mod laws;
+mod piece_laws;
 
 pub use laws::{exact_in_steps, exact_split_then_seamless_join};
+pub use piece_laws::{exact_pieces_play_as_read, exact_plans_are_first};
