@@ -385,11 +385,13 @@ fade-one file s is law sheet back point few read =
 
 -- ---- the law
 
-fitting : (rows : List Row)
+-- frames each of which has side fields within their bits
+pub sides-fitting : (rows : List Row)
     → ((i : ℕ) (row : Row) → slice_get rows i ≡ Some row → SideFits (class_of row.header) row.side)
     → AreSidesFitting rows
-fitting [] fits = tt
-fitting (row ∷ rows) fits = (fits 0 row refl, fitting rows (λ i r there. fits (suc i) r there))
+sides-fitting [] fits = tt
+sides-fitting (row ∷ rows) fits =
+    (fits 0 row refl, sides-fitting rows (λ i r there. fits (suc i) r there))
 
 -- which steps every well-formed file accepts
 pub exact-steps : StepsAreExact
@@ -422,5 +424,5 @@ exact-steps file s is = record {
     placed = survey_fields-placed file most_frames s (survey_of-parts file most_frames s is).1
 
     law : TakeSteps s.frames
-    law = take_steps s.frames (fitting s.frames (λ i row there. subst (λ (c : ClassFields).
+    law = take_steps s.frames (sides-fitting s.frames (λ i row there. subst (λ (c : ClassFields).
         SideFits c row.side) (sym (placed i row there).class_is) (placed i row there).fits))
