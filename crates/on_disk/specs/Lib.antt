@@ -1,3 +1,4 @@
 pub mod RealFiles
 pub mod NotedFiles
 pub mod Names
+pub mod System

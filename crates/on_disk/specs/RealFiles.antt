@@ -6,8 +6,10 @@ use Rattle.std.specs.Prelude.{Option, option_and_then, option_map, pos, Result, 
 use Rattle.std.specs.Prelude.{take, ℕ, ◌-◌, ◌≡◌, ◌≢◌, ◌≤◌}
 use Rattle.std.specs.declared.io.traits.SeekFrom.TheVariants.{End}
 use Rattle.on_disk.specs.{Names.touched_in, NotedFiles.is_noted}
-use Rattle.on_disk.specs.declared.{disk.{DiskFolder.DiskFolder, Opened.Opened}, noted.FileId.FileId}
-use Rattle.on_disk.specs.declared.stream.StdSink.{StdSink}
+use Rattle.on_disk.specs.declared.{disk.DiskFolder.DiskFolder, stream.StdSink.StdSink}
+use Rattle.on_disk.specs.declared.system.{FileFacts.FileFacts, FileId.FileId}
+use Rattle.on_disk.specs.declared.system.Purpose.TheVariants.{Creating, Reading}
+use Rattle.on_disk.specs.declared.system.opened.Opened.{Opened}
 use Rattle.outside.specs.{Counts.Counts, Files.{Files, Untold, untold_bytes}}
 use Rattle.outside.specs.Seen.{Heard, heard_sink, Seen, seen_folder}
 
@@ -37,11 +39,34 @@ found_file folder = option_map (λ opened. opened.file) folder.found
 
 -- the device and the inode number of the file that is open for reading are noted
 abbrev pub FoundIsNoted : {R File Dir : Type 0} → DiskFolder R File Dir → Type 0
-FoundIsNoted folder = IfSome folder.found (λ opened. IsTrue (is_noted folder.noted opened.id))
+FoundIsNoted folder = IfSome folder.found (λ opened. IsTrue (is_noted folder.noted opened.facts.id))
+
+-- a file is open to be read, and was a regular one when it was opened
+pub record IsOpenToRead {File : Type 0} (opened : Opened File) : Type 0 where
+  pub purpose : opened.purpose ≡ Reading
+  pub regular : IsTrue opened.facts.is_regular
+
+-- the file that is open for reading is a regular one
+abbrev pub FoundIsRegular : {R File Dir : Type 0} → DiskFolder R File Dir → Type 0
+FoundIsRegular folder = IfSome folder.found (λ opened. IsOpenToRead opened)
+
+-- a file has no bytes if it is a regular one
+abbrev pub HasNoBytes : FileFacts → Type 0
+HasNoBytes file = IsTrue file.is_regular → file.length ≡ 0
+
+-- a file is open to be appended to, was made if it wasn't there, and had no bytes then
+pub record IsOpenToWrite {File : Type 0} (opened : Opened File) : Type 0 where
+  pub purpose : opened.purpose ≡ Creating
+  pub empty : HasNoBytes opened.facts
+
+-- the file that is open for appending had no bytes when it was created
+abbrev pub CreatedIsEmpty : {R File Dir : Type 0} → DiskFolder R File Dir → Type 0
+CreatedIsEmpty folder = IfSome folder.created (λ opened. IsOpenToWrite opened)
 
 -- the device and the inode number of the file that is open for appending aren't noted
 abbrev pub CreatedIsNotNoted : {R File Dir : Type 0} → DiskFolder R File Dir → Type 0
-CreatedIsNotNoted folder = IfSome folder.created (λ opened. is_noted folder.noted opened.id ≡ false)
+CreatedIsNotNoted folder =
+    IfSome folder.created (λ opened. is_noted folder.noted opened.facts.id ≡ false)
 
 -- what was noted stays noted
 abbrev pub StayNoted : {R File Dir : Type 0} → DiskFolder R File Dir → DiskFolder R File Dir

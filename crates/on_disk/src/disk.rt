@@ -1,72 +1,25 @@
 //! Real files.
-ghost use Rattle.std.specs.Prelude.{◌≡◌, ℕ, ◌<◌, ◌≤◌, List, length, take, drop, IfOk, OnOk, OnErr, IsErrOf, if◌then◌else◌, ◌==◌, ◌&&◌, nat_lt, ◌⊎◌, ◌-◌, Some, IfSome, IsTrue, true, false, ◌↔◌, min};
-ghost use Rattle.std.specs.Fs.{new_options};
+ghost use Rattle.std.specs.Prelude.{◌≡◌, ℕ, ◌<◌, ◌≤◌, List, length, take, drop, IfOk, OnOk, OnErr, IsErrOf, if◌then◌else◌, ◌==◌, ◌&&◌, nat_lt, ◌⊎◌, ◌-◌, Some, IfSome, IsTrue, true, false, ◌↔◌, min, IsOk, IsOkAnd, IsErrAnd};
+ghost use Rattle.std.specs.IoError.{error_kind};
+ghost use Rattle.on_disk.specs.declared.system.Purpose.{Purpose};
+ghost use Rattle.std.specs.declared.io.ErrorKind.{ErrorKind};
 ghost use Rattle.std.specs.Io.KnownBytes.{Keeps, WriteAppends};
 ghost use Rattle.on_disk.specs.Names.{touched_in};
 ghost use Rattle.on_disk.specs.NotedFiles.{is_noted};
-ghost use Rattle.on_disk.specs.RealFiles.{open_name, TellsBytes, ReadsFromOffset, OnlyFound, OnlyWrote};
+ghost use Rattle.on_disk.specs.RealFiles.{OnlyFound, OnlyWrote, HasNoBytes};
 ghost use Rattle.outside.specs.Files.{Untold, with_empty_file, with_appended_bytes, FailsToCreate, Holds, IsFileThere, IsFileMissing, AreOctets};
 ghost use Rattle.outside.specs.Counts.{no_counts, with_miss, with_end, with_read_fault, with_write_fault, OnlyReads, OnlyWrites, NothingFailed, HappenedTo, EndedAt};
 ghost use Rattle.outside.specs.Answers.{FindAnswer, ReadAnswer, CreateAnswer, WriteAnswer};
 
-use crate::noted::{CreateAction, FileId, NotedFiles, create_action_of};
-use crate::reading::{length_of, read_part};
+use crate::noted::{CreateAction, NotedFiles, create_action_of};
+use crate::system::{
+    Described, FileFacts, Looked, Opened, is_open, look, open_to_append, open_to_create,
+};
 use crate::touched::TouchedNames;
-use crate::writing::write_some;
 use outside::{Failed, FindFault, Folder, Tally};
 use std::alloc::Global;
-use std::fs::{File, OpenFile, OpenOptions};
-use std::io::{Read, Seek, Write};
+use std::io;
 use std::rt::Files;
-use std::{fs, io};
-
-// A file that is kept open, with the name that it was opened by and its device and inode numbers.
-#[derive(Drop)]
-struct Opened<F> {
-    name: String,
-    file: F,
-    id: FileId,
-}
-
-impl<F: Write> Opened<F> {
-    fn append(&mut self, bytes: &[u8]) -> Result<usize, Failed>
-        ensures name { self.new.name ≡ self.old.name }
-        ensures id { self.new.id ≡ self.old.id }
-        ensures bound { IfOk result (λ k. k ≤ length bytes.now) }
-        ensures some { IfOk result (λ k. 0 < length bytes.now → 0 < k) }
-        ensures appended { WriteAppends (F.contents self.old.file)
-            (F.contents self.new.file) result bytes.now }
-    {
-        write_some(&mut self.file, bytes)
-    }
-}
-
-impl<F: Read + Seek> Opened<F> {
-    // Reads from the offset `at` on, as much as there is and fits.
-    fn read_part(&mut self, at: u64, into: &mut [u8]) -> io::Result<usize>
-        ensures name { self.new.name ≡ self.old.name }
-        ensures id { self.new.id ≡ self.old.id }
-        ensures bound { IfOk result (λ k. k ≤ length into.old) }
-        ensures rest { IfOk result (λ k. drop k into.new ≡ drop k into.old) }
-        ensures whole { (xs : List ℕ) → TellsBytes F.stream_position F.stream_bytes self.old.file xs
-            → IfOk result (λ k. k ≡ min (length into.old) (length xs - at)) }
-        ensures bytes { ReadsFromOffset F.remaining F.stream_position F.stream_bytes → (xs : List ℕ)
-            → TellsBytes F.stream_position F.stream_bytes self.old.file xs
-            → IfOk result (λ k. take k into.new ≡ take k (drop at xs)) }
-    {
-        read_part(&mut self.file, at, into)
-    }
-}
-
-// Whether a file is open that was opened by this name.
-fn is_open<F>(opened: &Option<Opened<F>>, name: &str) -> bool
-    ensures { IsTrue result ↔ (open_name opened.now ≡ Some name.now) }
-{
-    match opened {
-        Some(opened) => opened.name.as_str() == name,
-        None => false,
-    }
-}
 
 /// A folder of real files, over a runtime that reaches them. The content of its files isn't known.
 ///
@@ -91,7 +44,7 @@ pub struct DiskFolder<'a, R: Files> {
 }
 
 impl<'a, R: Files> DiskFolder<'a, R> {
-    ghost use Rattle.on_disk.specs.RealFiles.{disk_counts, disk_files, found_name, found_file, created_name, created_bytes, EndsAt, ReadsWhole, ReadsOpen, AppendsOpen, LeavesOthers, FoundIsNoted, CreatedIsNotNoted, StayNoted};
+    ghost use Rattle.on_disk.specs.RealFiles.{disk_counts, disk_files, found_name, found_file, created_name, created_bytes, EndsAt, ReadsWhole, ReadsOpen, AppendsOpen, LeavesOthers, FoundIsNoted, FoundIsRegular, CreatedIsNotNoted, CreatedIsEmpty, StayNoted};
 
     /// A folder with all counts 0 that has touched no name. It takes no memory.
     pub fn new(rt: &'a R, alloc: Global) -> Self
@@ -115,15 +68,16 @@ impl<'a, R: Files> DiskFolder<'a, R> {
         ensures touched { self.new.touched ≡ self.old.touched }
         ensures opened { OnOk result (found_name self.new ≡ Some name.now) }
         ensures noted { OnOk result (FoundIsNoted self.new) }
+        ensures regular { OnOk result (FoundIsRegular self.new) }
         ensures stay_noted { StayNoted self.old self.new }
         ensures length { IfOk result (λ n. IfSome (found_file self.new)
             (λ file. EndsAt R.File.stream_position R.File.stream_bytes file n)) }
         ensures created { self.new.created ≡ self.old.created }
     {
-        let (mut file, id) = open_regular(self.rt, name)?;
-        let length = length_of(&mut file)?;
+        let mut file = open_regular(self.rt, name)?;
+        let length = file.length()?;
         let name = String::from_str(self.alloc, name)?;
-        self.keep(Opened { name, file, id })?;
+        self.keep(Opened::of(name, file))?;
         Ok(length)
     }
 
@@ -137,7 +91,7 @@ impl<'a, R: Files> DiskFolder<'a, R> {
         ensures stay_noted { StayNoted self.old self.new }
         ensures created { self.new.created ≡ self.old.created }
     {
-        if !self.noted.note(opened.id) {
+        if !self.noted.note(opened.id()) {
             return Err(FindFault::Failed);
         }
         self.found = Some(opened);
@@ -156,9 +110,9 @@ impl<'a, R: Files> DiskFolder<'a, R> {
         if is_open(&self.found, name) {
             return Ok(());
         }
-        let (file, id) = open_regular(self.rt, name)?;
+        let file = open_regular(self.rt, name)?;
         let name = String::from_str(self.alloc, name)?;
-        self.found = Some(Opened { name, file, id });
+        self.found = Some(Opened::of(name, file));
         Ok(())
     }
 
@@ -189,16 +143,13 @@ impl<'a, R: Files> DiskFolder<'a, R> {
         ensures touched { self.new.touched ≡ self.old.touched }
         ensures opened { OnOk result (created_name self.new ≡ Some name.now) }
         ensures unfound { OnOk result (CreatedIsNotNoted self.new) }
+        ensures empty { OnOk result (CreatedIsEmpty self.new) }
         ensures found { self.new.found ≡ self.old.found }
         ensures noted { self.new.noted ≡ self.old.noted }
     {
         let kept = String::from_str(self.alloc, name)?;
-        let (file, id) = open_emptied(self.rt, &self.noted, name)?;
-        self.created = Some(Opened {
-            name: kept,
-            file,
-            id,
-        });
+        let file = open_emptied(self.rt, &self.noted, name)?;
+        self.created = Some(Opened::of(kept, file));
         Ok(())
     }
 
@@ -211,6 +162,7 @@ impl<'a, R: Files> DiskFolder<'a, R> {
             (disk_files self.new)) }
         ensures opened { OnOk result (created_name self.new ≡ Some name.now) }
         ensures unfound { OnOk result (CreatedIsNotNoted self.new) }
+        ensures empty { OnOk result (CreatedIsEmpty self.new) }
         ensures found { self.new.found ≡ self.old.found }
         ensures noted { self.new.noted ≡ self.old.noted }
     {
@@ -243,56 +195,64 @@ fn append_anew<R: Files>(rt: &R, name: &str, bytes: &[u8]) -> Result<usize, Fail
     ensures bound { IfOk result (λ k. k ≤ length bytes.now) }
     ensures some { IfOk result (λ k. 0 < length bytes.now → 0 < k) }
 {
-    let mut file = appending(false).open(rt, name)?;
-    write_some(&mut file, bytes)
-}
-
-// How a file is opened for writing: each write goes to its end, and opening it empties nothing.
-fn appending(creates: bool) -> OpenOptions
-    ensures { result ≡ record new_options { append = true; create = creates } }
-{
-    let mut options = OpenOptions::new();
-    options.append(true).create(creates);
-    options
+    open_to_append(rt, name)?.append(bytes)
 }
 
 // Opens the file of this name for writing, and empties it if it is a regular one; fails if it was
 // found before. A file that is empty is left as it is: some file systems write a truncated file to
 // the disk when it is closed.
-fn open_emptied<R: Files>(
+fn open_emptied<'n, R: Files>(
     rt: &R,
     noted: &NotedFiles,
-    name: &str,
-) -> Result<(R::File, FileId), Failed>
-    ensures unfound { IfOk result (λ opened. is_noted noted.now opened.1 ≡ false) }
+    name: &'n str,
+) -> Result<Described<'n, R::File>, Failed>
+    ensures named { IfOk result (λ file. file.name.now ≡ name.now) }
+    ensures purpose { IfOk result (λ file. file.purpose ≡ Purpose.Creating) }
+    ensures unfound { IfOk result (λ file. is_noted noted.now file.facts.id ≡ false) }
+    ensures empty { IfOk result (λ file. HasNoBytes file.facts) }
 {
-    let file = appending(true).open(rt, name)?;
-    let metadata = file.metadata()?;
-    let id = FileId::of(&metadata);
-    match create_action_of(noted, &id, metadata.is_file()) {
-        CreateAction::Refused => return Err(Failed),
-        CreateAction::Emptied if metadata.len() > 0 => file.set_len(0)?,
-        CreateAction::Emptied | CreateAction::Kept => {}
+    let file = open_to_create(rt, name)?.describe()?;
+    match create_action_of(noted, file.facts()) {
+        CreateAction::Refused => Err(Failed),
+        CreateAction::Emptied => Ok(file.empty(noted)?),
+        CreateAction::Kept => Ok(file),
     }
-    Ok((file, id))
 }
 
 // Opens a regular file for reading. The kind of the file is looked at first, since opening a pipe
 // may block.
-fn open_regular<R: Files>(rt: &R, name: &str) -> Result<(R::File, FileId), FindFault> {
-    if !fs::metadata(rt, name)?.is_file() {
+fn open_regular<'n, R: Files>(rt: &R, name: &'n str) -> Result<Described<'n, R::File>, FindFault>
+    ensures named { IfOk result (λ file. file.name.now ≡ name.now) }
+    ensures purpose { IfOk result (λ file. file.purpose ≡ Purpose.Reading) }
+    ensures regular { IfOk result (λ file. IsTrue file.facts.is_regular) }
+{
+    let looked = only_regular(look(rt, name))?;
+    let file = looked.open_to_read(rt)?.describe()?;
+    if !file.facts().is_regular() {
         return Err(FindFault::Failed);
     }
-    let file = File::open(rt, name)?;
-    let metadata = file.metadata()?;
-    if !metadata.is_file() {
-        return Err(FindFault::Failed);
+    Ok(file)
+}
+
+// How it ends if the system says this of a file that is to be found: it is absent if the name isn't
+// found, and a fault if it is anything but a regular file.
+fn only_regular(answer: io::Result<Looked<'_>>) -> Result<Looked<'_>, FindFault>
+    ensures same { IfOk result (λ looked. answer.entry ≡ Ok looked) }
+    ensures regular { IsOk result
+        ↔ IsOkAnd answer.entry (λ looked. IsTrue looked.facts.is_regular) }
+    ensures absent { IsErrOf result FindFault.Absent
+        ↔ IsErrAnd answer.entry (λ error. error_kind error ≡ ErrorKind.NotFound) }
+{
+    let looked = answer?;
+    if looked.facts().is_regular() {
+        Ok(looked)
+    } else {
+        Err(FindFault::Failed)
     }
-    Ok((file, FileId::of(&metadata)))
 }
 
 impl<'a, R: Files> Folder for DiskFolder<'a, R> {
-    ghost use Rattle.on_disk.specs.RealFiles.{disk_seen, disk_counts, disk_files, found_name, found_file, created_name, created_bytes, EndsAt, ReadsWhole, ReadsOpen, AppendsOpen, LeavesOthers, FoundIsNoted, CreatedIsNotNoted, StayNoted};
+    ghost use Rattle.on_disk.specs.RealFiles.{disk_seen, disk_counts, disk_files, found_name, found_file, created_name, created_bytes, EndsAt, ReadsWhole, ReadsOpen, AppendsOpen, LeavesOthers, FoundIsNoted, FoundIsRegular, CreatedIsNotNoted, CreatedIsEmpty, StayNoted};
 
     ghost seen = { λ folder. disk_seen folder };
 
@@ -308,7 +268,9 @@ impl<'a, R: Files> Folder for DiskFolder<'a, R> {
         ensures opened { OnOk result (found_name self.new ≡ Some name.now) }
         ensures length { IfOk result (λ n. IfSome (found_file self.new)
             (λ file. EndsAt R.File.stream_position R.File.stream_bytes file n)) }
-        // Its device and inode are noted, and stay noted.
+        // It is a regular file that was opened to be read. Its device and inode are noted, and stay
+        // noted.
+        ensures regular { OnOk result (FoundIsRegular self.new) }
         ensures noted { OnOk result (FoundIsNoted self.new) }
         ensures stay_noted { StayNoted self.old self.new }
         ensures created_stays { self.new.created ≡ self.old.created }
@@ -369,8 +331,10 @@ impl<'a, R: Files> Folder for DiskFolder<'a, R> {
     fn create(&mut self, name: &str) -> Result<(), Failed>
         ensures answer { CreateAnswer name.now (disk_seen self.old) (disk_seen self.new) result }
         ensures opened { OnOk result (created_name self.new ≡ Some name.now) }
-        // No file that was found has its device and inode.
+        // No file that was found has its device and inode, and if it is a regular one, it has no
+        // bytes.
         ensures unfound { OnOk result (CreatedIsNotNoted self.new) }
+        ensures empty { OnOk result (CreatedIsEmpty self.new) }
         ensures found_stays { self.new.found ≡ self.old.found }
         ensures noted_stay { self.new.noted ≡ self.old.noted }
         ensures failed_counts { OnErr result

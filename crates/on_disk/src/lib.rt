@@ -5,6 +5,7 @@ mod disk;
 mod noted;
 mod reading;
 mod stream;
+mod system;
 mod touched;
 mod writing;
 

@@ -1,5 +1,6 @@
 //! One write to a real file or stream.
-ghost use Rattle.std.specs.Prelude.{◌<◌, ◌≤◌, length, IfOk};
+ghost use Rattle.std.specs.Prelude.{◌<◌, ◌≤◌, ◌≡◌, ◌↔◌, length, IfOk, Some, None, IsErrAnd, IfSome};
+ghost use Rattle.std.specs.IoError.{error_kind};
 ghost use Rattle.std.specs.Io.KnownBytes.{WriteAppends};
 
 use outside::Failed;
@@ -30,10 +31,21 @@ fn write_once<W: Write>(writer: &mut W, bytes: &[u8]) -> io::Result<usize>
     ensures passed { WriteAppends (W.contents writer.old) (W.contents writer.new) result bytes.now }
 {
     for _ in 0..u64::MAX {
-        match writer.write(bytes) {
-            Err(error) if error.kind() == ErrorKind::Interrupted => {}
-            answer => return answer,
+        if let Some(answer) = final_answer(writer.write(bytes)) {
+            return answer;
         }
     }
     Err(io::Error::from(ErrorKind::Interrupted))
+}
+
+// The answer of a call that is done. A call that a signal interrupted has none, and is tried again.
+fn final_answer(answer: io::Result<usize>) -> Option<io::Result<usize>>
+    ensures again { result ≡ None
+        ↔ IsErrAnd answer (λ error. error_kind error ≡ ErrorKind.Interrupted) }
+    ensures same { IfSome result (λ final. final ≡ answer) }
+{
+    match answer {
+        Err(error) if error.kind() == ErrorKind::Interrupted => None,
+        answer => Some(answer),
+    }
 }
