@@ -9,8 +9,8 @@ use std::io;
 use std::io::{ErrorKind, Read, Seek, SeekFrom, Write};
 use std::rt::Files;
 
-/// What the calls of a file do: the first is interrupted, the second moves two bytes, the third fails,
-/// and all others succeed.
+/// What the calls of a file do: the first two are interrupted, the third moves two bytes, the fourth
+/// fails, and all others succeed.
 #[derive(Drop)]
 pub struct Moves {
     /// How many calls there were.
@@ -29,9 +29,9 @@ impl Moves {
     {
         self.calls = self.calls.saturating_add(1);
         match self.calls {
-            1 => Err(io::Error::from(ErrorKind::Interrupted)),
-            2 => Ok(length.min(2)),
-            3 => Err(io::Error::from(ErrorKind::Other)),
+            1 | 2 => Err(io::Error::from(ErrorKind::Interrupted)),
+            3 => Ok(length.min(2)),
+            4 => Err(io::Error::from(ErrorKind::Other)),
             _ => Ok(length),
         }
     }

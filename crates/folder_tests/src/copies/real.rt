@@ -5,6 +5,7 @@ use outside::{Failed, FindFault, Folder, Sink};
 use std::alloc::Global;
 use std::cell::Cell;
 use std::fs;
+use std::fs::{File, OpenFile};
 use std::io::Write;
 use std::os::unix::fs::symlink;
 use std::process::Abort;
@@ -72,6 +73,9 @@ fn expect_files<R: Files + AllocGlobal + Abort>(
     expect_copied(rt, folder, "outside_files/from", "outside_files/link")?;
     fs::write(rt, "outside_files/short", "-")?;
     expect_copied(rt, folder, "outside_files/from", "outside_files/short")?;
+    // Another file isn't taken for the one that was found, though it is as long.
+    fs::write(rt, "outside_files/alike", "0123456789")?;
+    expect_copied(rt, folder, "outside_files/from", "outside_files/alike")?;
     assert!(rt; is_read(folder, "outside_files/from", 7, 3, b"789-"));
     assert!(rt; is_read(folder, "outside_files/from", 10, 0, b"----"));
     // A file that is opened again.
@@ -178,13 +182,30 @@ fn a_file_of_two_names(rt: HostRuntime) -> Result<(), Fail> {
     Ok(())
 }
 
+// Whether a file of this many bytes is found, none of which takes room on the disk.
+fn expect_long<R: Files + AllocGlobal + Abort>(rt: &R, length: u64) -> Result<(), Fail> {
+    File::create(rt, "outside_long/from")?.set_len(length)?;
+    let mut folder = DiskFolder::new(rt, rt.alloc());
+    assert!(rt; folder.find("outside_long/from") == Ok(length));
+    Ok(())
+}
+
+// Its length doesn't fit into 32 bits.
+#[test]
+fn a_long_file(rt: HostRuntime) -> Result<(), Fail> {
+    prepare(&rt, "outside_long", "outside_long/from")?;
+    expect_long(&rt, 5_000_000_000)?;
+    fs::remove_dir_all(&rt, "outside_long")?;
+    Ok(())
+}
+
 fn is_read_as<R: Files>(folder: &mut DiskFolder<R>, answer: Result<usize, Failed>) -> bool {
     let mut into = [b'-'; 4];
     folder.read("outside_shaky/from", 3, &mut into) == answer
         && (answer.is_err() || into == *b"3456")
 }
 
-// The second read moves fewer bytes, so the third is asked for the rest, and fails.
+// Two reads are interrupted, the third moves fewer bytes, so the fourth is asked for the rest, and fails.
 fn are_reads_shaky<R: Files>(folder: &mut DiskFolder<R>) -> bool {
     is_found(folder, "outside_shaky/from")
         && is_read_as(folder, Err(Failed))
@@ -199,7 +220,7 @@ fn is_written_as<R: Files>(
     folder.write("outside_shaky/to", bytes) == answer
 }
 
-// The second write moves fewer bytes, and the third fails.
+// Two writes are interrupted, the third moves fewer bytes, and the fourth fails.
 fn are_writes_shaky<R: Files>(folder: &mut DiskFolder<R>) -> bool {
     folder.create("outside_shaky/to").is_ok()
         && is_written_as(folder, b"abcdef", Ok(2))
@@ -250,7 +271,7 @@ fn is_sent_as<W: Write + Drop>(
     sink.write(bytes) == answer
 }
 
-// The second write, the third write, the second flush, and what succeeds.
+// The first two writes are interrupted; then come the third write, the fourth write, the second flush, and what succeeds.
 fn are_sends_shaky<W: Write + Drop>(sink: &mut StdSink<W>) -> bool {
     is_sent_as(sink, b"abc", Ok(2))
         && is_sent_as(sink, b"c", Err(Failed))
@@ -265,7 +286,7 @@ fn expect_over_stream(rt: &impl Abort, notes: &mut Notes) {
 
 // Each of the writes that move bytes, and the write whose flush fails, is followed by one flush.
 fn are_noted(notes: &Notes) -> bool {
-    notes.bytes.as_slice() == b"abcde".as_slice() && notes.moves.calls == 5 && notes.flushes == 3
+    notes.bytes.as_slice() == b"abcde".as_slice() && notes.moves.calls == 6 && notes.flushes == 3
 }
 
 #[test]
