@@ -15,6 +15,16 @@ pub fn side_of(begin: u16, bits: u16) -> Side {
     side
 }
 
+/// Side information with so many bits in each granule and channel, and all gains 100.
+pub fn side_of_four(begin: u16, bits: u16) -> Side {
+    let mut side = Side::empty().with_begin(begin);
+    for granule in side.granules.as_flattened_mut() {
+        granule.part2_3_length = bits;
+        granule.global_gain = 100;
+    }
+    side
+}
+
 /// What appends frames: the frames that wait, and the buffer before the file.
 #[derive(Drop)]
 pub struct Appending {

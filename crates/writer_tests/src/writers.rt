@@ -1,6 +1,6 @@
 //! Frames worked out by hand. Rates and lengths are from ISO/IEC 11172-3 and 13818-3, 2.4.2.3 and 2.4.3.1.
 
-use crate::appended::{Appending, side_of};
+use crate::appended::{Appending, side_of, side_of_four};
 use crate::outputs::{are_at, put_empty};
 use frame_header::Header;
 use frame_writer::{Areas, FrameQueue, State, Writer};
@@ -145,6 +145,39 @@ fn two_frames(rt: HostRuntime) -> Result<(), Fail> {
     Ok(())
 }
 
+/// Two such frames of four granules' channels with the gain 100: 600 bits each, 300 bytes, and 800 bits each, 400 bytes.
+static OF_700: [Main; 2] = [
+    Main {
+        begin: 0,
+        bits: 600,
+        bytes: &[0x55; 300],
+        after: None,
+    },
+    Main {
+        begin: 81,
+        bits: 800,
+        bytes: &[0x55; 400],
+        after: None,
+    },
+];
+
+/// The header and the side information of each.
+static FRONTS: [[u8; 36]; 2] = [
+    *b"\xff\xfb\x90\0\0\0\x02\x58\0\x32\0\0\0\0\x4b\0\x06\x40\0\0\0\x09\x60\0\xc8\0\0\0\x01\x2c\0\x19\0\0\0\0",
+    *b"\xff\xfb\x90\0\x28\x80\x03\x20\0\x32\0\0\0\0\x64\0\x06\x40\0\0\0\x0c\x80\0\xc8\0\0\0\x01\x90\0\x19\0\0\0\0",
+];
+
+/// Their bytes: the first area has 81 bytes of the second frame's main data, and 62 of the second area are left.
+fn bytes_of_700(alloc: Global) -> Result<Vec<u8>, AllocError> {
+    let mut bytes = Vec::new(alloc);
+    bytes.extend_from_slice(&FRONTS[0])?;
+    bytes.extend_from_slice(&[0x55; 381])?;
+    bytes.extend_from_slice(&FRONTS[1])?;
+    bytes.extend_from_slice(&[0x55; 319])?;
+    bytes.resize(834, 0)?;
+    Ok(bytes)
+}
+
 /// Writes a frame to the file `o`.
 fn write_frame<D: Folder>(
     rt: &impl Abort,
@@ -153,7 +186,7 @@ fn write_frame<D: Folder>(
     main: &Main,
     folder: &mut D,
 ) -> Result<(), Failed> {
-    let side = side_of(main.begin, main.bits);
+    let side = side_of_four(main.begin, main.bits);
     assert!(rt; writer.class().is_same(header.class()) && side.fits(header.class()));
     assert!(rt; writer.state() == State::Open);
     assert!(rt; u32::from(side.main_data_begin) <= writer.reach());
@@ -182,7 +215,7 @@ fn write_two<R: Abort + AllocGlobal>(
     put_empty(folder, "o", 834)?;
     folder.fail(Call::Write, failing)?;
     let mut writer = Writer::new(rt.alloc(), header.class())?;
-    for main in &TWO {
+    for main in &OF_700 {
         let _ = write_frame(rt, &mut writer, &header, main, folder);
     }
     let _ = write_end(&mut writer, folder);
@@ -194,7 +227,8 @@ fn write_two<R: Abort + AllocGlobal>(
 fn frames_straight_to_a_file(rt: HostRuntime) -> Result<(), Fail> {
     let mut folder = MemFolder::new(rt.alloc());
     let state = write_two(&rt, &mut folder, 9)?;
-    assert!(rt; state == State::Finished && are_two(folder.get("o").unwrap_or(&[])));
+    let wanted = bytes_of_700(rt.alloc())?;
+    assert!(rt; state == State::Finished && folder.get("o") == Some(wanted.as_slice()));
     Ok(())
 }
 
