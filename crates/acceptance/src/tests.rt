@@ -2,6 +2,7 @@
 //! commands; and tests that no row can express. The texts of `drill` and `salvage`
 //! are called `drill_rows` and `salvage_rows`, since crates have the plain names.
 
+mod classes;
 mod cut;
 mod drill_rows;
 mod exact;
@@ -148,7 +149,47 @@ fn a_whole_song(rt: HostRuntime) -> Result<(), Fail> {
     expect_rows(&rt, &[song::ROWS])
 }
 
+/// Asserts the same of a text that has the frames of `many_frames`.
+fn expect_long_rows<R: Abort + AllocGlobal>(rt: &R, text: &'static str) -> Result<(), Fail> {
+    let shared = [names::DEFINED, many_frames::DEFINED];
+    assert_eq!(rt;
+        first_unlike::<Mp3edit>(rt.alloc(), &shared, &[text])?,
+        None
+    );
+    Ok(())
+}
+
 #[test]
 fn each_command_over_many_frames(rt: HostRuntime) -> Result<(), Fail> {
-    expect_rows(&rt, &[many_frames::ROWS])
+    expect_long_rows(&rt, many_frames::ONE_CHANNEL)
+}
+
+#[test]
+fn each_command_over_many_frames_of_two_channels(rt: HostRuntime) -> Result<(), Fail> {
+    expect_long_rows(&rt, many_frames::TWO_CHANNELS)
+}
+
+#[test]
+fn splits_into_as_many_pieces_as_there_may_be(rt: HostRuntime) -> Result<(), Fail> {
+    expect_long_rows(&rt, many_frames::PIECES)
+}
+
+/// Asserts the same of a text over more than a million frames. Each has a test of its own, since a test has little time.
+fn expect_longest_rows<R: Abort + AllocGlobal>(rt: &R, text: &'static str) -> Result<(), Fail> {
+    let shared = [names::DEFINED, many_frames::DEFINED, many_frames::MILLION];
+    assert_eq!(rt;
+        first_unlike::<Mp3edit>(rt.alloc(), &shared, &[text])?,
+        None
+    );
+    Ok(())
+}
+
+#[test]
+fn cuts_a_million_frames(rt: HostRuntime) -> Result<(), Fail> {
+    expect_longest_rows(&rt, many_frames::MILLION_CUT)
+}
+
+#[test]
+fn joins_a_million_frames_without_a_seam(rt: HostRuntime) -> Result<(), Fail> {
+    expect_longest_rows(&rt, many_frames::MILLION_SEAMLESS)
 }

@@ -26,4 +26,8 @@ each Send 1 standard output: write fault
 $ drill 5 20000
 | 20000 frames, 8340000 bytes in, 8132897 bytes out, 0 lead-ins
 each Send 1 standard output: write fault
+
+# The greatest seed.
+$ drill 2147483647 20000
+| 20000 frames, 8340000 bytes in, 8151116 bytes out, 0 lead-ins
 ";

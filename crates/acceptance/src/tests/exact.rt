@@ -257,12 +257,12 @@ $ cut --exact b 0 1 o
 
 # The area of the head isn't main data here: by the standard it is, and so it is for other commands.
 # main data begin in the head
-< b HEAD NEARER
+< b B
 to o p
 $ cut --exact b 0 EOF o
 $ cut b 0 EOF p
 > o ONE_EMPTY
-> p INFO_FRONT TWO_OF_729 INFO_REST fffb1000 00*72 55*28 fffb9000 22000320003200000000640006400000000c8000c800000001900019 00*4 55*332 ~729
+> p INFO_FRONT TWO_OF_729 INFO_REST FULL_LEAD_IN SECOND_FROM_68
 
 # Frames of 400 bytes of main data, which are 0 here as all of their areas. Their main_data_begin is
 # 382, 363, 381, 362 and 400, each with seven more bits.
@@ -275,7 +275,7 @@ BACK_400 = fffb9000 c8000320003200000000640006400000000c8000c800000001900019 ~41
 FROM_511 = fffb9000 ff800320003200000000640006400000000c8000c800000001900019 ~417
 FROM_449 = fffb9000 e0800320003200000000640006400000000c8000c800000001900019 ~417
 FROM_430 = fffb9000 d7000320003200000000640006400000000c8000c800000001900019 ~417
-# FAINT whose 4 bytes of main data begin in the head.
+# 4 times 8 bits of main data, which begin in the head.
 FAINT_IN_HEAD = fffb9000 be80000800320000000001000640000000002000c800000000040019 ~417
 # The front of three frames behind a lead-in: 208 + 104 + 3 * 417 bytes.
 FOUR_OF_1563 = INFO_FRONT 'Xing' 0000000f000000040000061b 22*25 33*25 77*25 bb*25 00*4 LAME 26f211 00*4 0000061b 0000 03b3 00*16 SILENT_LEAD_IN EMPTY_FROM_68
@@ -299,7 +299,7 @@ $ cut --exact w 0 EOF o
 
 # Its gains are 100, and it has no main data.
 # a silent frame that points into the head is lost, and loses its gains
-< w HEAD fffb9000 14000000003200000000000640000000000000c800000000000019 ~834
+< w HEAD fffb9000 1400000000320000000000000640000000000000c8000000000000190000 ~834
 $ cut --exact w 0 EOF o
 > o ONE_EMPTY
 
@@ -369,13 +369,17 @@ each Create 1 o: write fault
 each Write 2 o: write fault
 
 # A long file, of which neither what is read nor what is written is held whole: 208 + 104 + 1,000 *
-# 417 are 417,312 bytes. Behind the lead-in 68 + 377 bytes are free before the second frame, 445,
-# which is de80 with seven more bits, and before the others more than 511.
+# 417 are 417,312 bytes. The lead-in has the 8 bytes of the first two frames, so that 68 + 377 are
+# free before the second, 445, which is de80 with seven more bits. Those of the others are 68 + 2 *
+# 381 - 511 bytes behind the lead-in's beginning, 251 bytes into the area of a frame.
+G_LEAD_IN = fffb1000 ~36 1122334411223344 ~104
+G_FROM_68 = fffb9000 2200000800320000000001000650000000002001fe0000000004001680 ~287 11223344 ~417
+G_FROM_445 = fffb9000 de80000800320000000001000650000000002001fe0000000004001680 ~287 11223344 ~417
 
-< h FAINT*1000
+< h G*1000
 room 417312
 $ cut --exact h 0 1000 o
-> o INFO_FRONT 'Xing' 0000000f000003e900065e20 000205070a0c0f111416191c1e212326282b2d303335383a3d3f4245474a4c4f515456595c5e616366686b6d707375787a7d7f8284878a8c8f919496999b9ea1a3a6a8abadb0b3b5b8babdbfc2c4c7cacccfd1d4d6d9dbdee1e3e6e8ebedf0f2f5f8fafd 00*4 LAME 26f211 00*4 00065e20 0000 384a 00*16 SILENT_LEAD_IN FAINT@4=22 fffb9000 de80000800320000000001000640000000002000c800000000040019 00*385 FAINT_FROM_511*998
+> o INFO_FRONT 'Xing' 0000000f000003e900065e20 000205070a0c0f111416191c1e212326282b2d303335383a3d3f4245474a4c4f515456595c5e616366686b6d707375787a7d7f8284878a8c8f919496999b9ea1a3a6a8abadb0b3b5b8babdbfc2c4c7cacccfd1d4d6d9dbdee1e3e6e8ebedf0f2f5f8fafd 00*4 LAME 26f211 00*4 00065e20 0000 384a 00*16 G_LEAD_IN G_FROM_68 G_FROM_445 G_AMONG*996 G_LAST*2
 each Read 1 after 65536 h: read fault
 
 # Splits. A piece has the frames that it needs, so that neighbouring ones share some.
@@ -406,14 +410,14 @@ $ split --exact k p 0s EOF-0.0.010 3312s
 > p02.mp3 INFO_FRONT BOTH 00000039 LAME_3_100 4772d0 22*4 00000412 0000 b1a6 00*16 Z Z_FROM_381
 
 # a frame that points into the head
-< b HEAD NEARER
+< b B
 to p01.mp3
 $ split --exact b p 0 EOF
 > p01.mp3 ONE_EMPTY
 
 # Two seconds are 88,200 samples, in frame 76; 1,056 before is in frame 75. 77 * 1,152 - 88,200 + 529
 # is 1,033, 409, and 88,200 - 75 * 1,152 - 529 is 1,271, 4f7.
-TWO_TRACKS = 'FILE_\"x\"_MP3' 0a 'TRACK_01_AUDIO' 0a 'INDEX_01_00:00:00' 0a 'TRACK_02_AUDIO' 0a 'INDEX_01_00:02:00' 0a
+TWO_TRACKS = 'FILE_\"a.mp3\"_MP3' 0a 'TRACK_01_AUDIO' 0a 'INDEX_01_00:00:00' 0a 'TRACK_02_AUDIO' 0a 'INDEX_01_00:02:00' 0a
 # by a cue sheet
 < z Z*100
 < s TWO_TRACKS
@@ -429,13 +433,42 @@ to p01.mp3 p02.mp3
 $ split --exact z p -c s
 ! 1 range 0 to 88200 of 87552 samples
 
-# the first piece is whole before the second is touched
-< h FAINT*1000
+# The first piece is whole when the last read is made, and the second has 65,536 bytes at least:
+# 274,348 together.
+< h G*1000
 to p01.mp3 p02.mp3
 room 209125
 $ split --exact h p 0 500 EOF
-> p01.mp3 INFO_FRONT 'Xing' 0000000f000001f500032fac 000204070a0c0f111416191b1e212326282b2d303235383a3d3f4244474a4c4f515456595b5e616366686b6d707275787a7d7f828487898c8f919496999b9ea0a3a6a8abadb0b2b5b7babdbfc2c4c7c9ccced1d4d6d9dbdee0e3e5e8ebedf0f2f5f7fafc 00*4 LAME 26f211 00*4 00032fac 0000 bb54 00*16 SILENT_LEAD_IN FAINT@4=22 fffb9000 de80000800320000000001000640000000002000c800000000040019 00*385 FAINT_FROM_511*498
-> p02.mp3 INFO_FRONT 'Info' 0000000f000001f5000330e5 000205070a0d0f121417191c1e212326292b2e303335383a3d404245474a4c4f515457595c5e616366686b6e707375787a7d7f8284878a8c8f919496999b9ea1a3a6a8abadb0b2b5b8babdbfc2c4c7c9ccced1d4d6d9dbdee0e3e5e8ebedf0f2f5f7fafc 00*4 LAME 26f211 00*4 000330e5 0000 83a7 00*16 FAINT FAINT_FROM_377 FAINT_FROM_511*499
+> p01.mp3 INFO_FRONT 'Xing' 0000000f000001f500032fac 000204070a0c0f111416191b1e212326282b2d303235383a3d3f4244474a4c4f515456595b5e616366686b6d707275787a7d7f828487898c8f919496999b9ea0a3a6a8abadb0b2b5b7babdbfc2c4c7c9ccced1d4d6d9dbdee0e3e5e8ebedf0f2f5f7fafc 00*4 LAME 26f211 00*4 00032fac 0000 bb54 00*16 G_LEAD_IN G_FROM_68 G_FROM_445 G_AMONG*496 G_LAST*2
+> p02.mp3 INFO_FRONT 'Info' 0000000f000001f5000330e5 000205070a0d0f121417191c1e212326292b2e303335383a3d404245474a4c4f515457595c5e616366686b6e707375787a7d7f8284878a8c8f919496999b9ea1a3a6a8abadb0b2b5b8babdbfc2c4c7c9ccced1d4d6d9dbdee0e3e5e8ebedf0f2f5f7fafc 00*4 LAME 26f211 00*4 000330e5 0000 83a7 00*16 G_FIRST G_SECOND G_AMONG*497 G_LAST*2
+each Read 1 after 274348 h: read fault
+
+# Each call fails in turn, and each line names the file of the call that failed.
+
+< a A
+to p01.mp3 p02.mp3
+$ split --exact a p 0 1 EOF
+> p01.mp3 INFO_FRONT TWO_OF_729 00*4 LAME 26f211 00*4 000002d9 0000 cd81 00*16 FULL_LEAD_IN FIRST_FROM_68
+> p02.mp3 INFO_FRONT BOTH 00*4 LAME 26f211 00*4 00000412 0000 8a70 00*16 FIRST SECOND
+each Find 1 a: read fault
+each Read 3 a: read fault
+each Create 2 p01.mp3: write fault, p02.mp3: write fault
+each Write 4 p01.mp3: write fault, p01.mp3: write fault, p02.mp3: write fault
+
+# 2/75 s are 1,176 samples: 2,304 - 1,176 + 529 is 1,657, 679 (hex), and 1,176 - 529 is 647, 287. The
+# survey comes first, and then the sheet.
+< a A
+< s 'TRACK_01_AUDIO' 0a 'INDEX_01_00:00:00' 0a 'TRACK_02_AUDIO' 0a 'INDEX_01_00:00:02' 0a
+to p01.mp3 p02.mp3
+$ split --exact a p -c s
+> p01.mp3 INFO_FRONT THREE_OF_1146 00*4 LAME 26f679 00*4 0000047a 0000 6158 00*16 FULL_LEAD_IN FILLED_FROM_68 SECOND_FROM_149
+> p02.mp3 INFO_FRONT BOTH 00*4 LAME 287211 00*4 00000412 0000 7a64 00*16 FIRST SECOND
+each Find 2 a: read fault, s: read fault
+each Read 4 a: read fault, s: read fault, a: read fault
+each Create 2 p01.mp3: write fault, p02.mp3: write fault
+each Write 4 p01.mp3: write fault, p01.mp3: write fault, p02.mp3: write fault
+
+# Words that are refused.
 
 < a A
 to p01.mp3

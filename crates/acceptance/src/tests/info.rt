@@ -10,7 +10,7 @@ pub static ROWS: &str = "
 
 # MPEG-1, 44,100 Hz, 128 kbit/s, stereo: main_data_begin is 81, 2880 with seven more bits, where no
 # byte of main data stands before. Four times 800 bits, and the gains 0, 255, 0, 255.
-CUT_OFF = fffb9000 2880032000000000000064000ff00000000c8000000000000190003fc0 ~417
+CUT_OFF = fffb9000 2880032000000000000064000ff00000000c8000000000000190003fc0 ~36 55*319 ~417
 # Four times 8 bits of main data; the gains are 100, 120, 110, 130.
 OF_FOUR = fffb9000 0000000800320000000001000780000000002000dc0000000004002080 ~417
 
@@ -84,7 +84,7 @@ $ info t
 # Heads. The area of one counts, and its gains don't.
 
 # a head that says nothing
-< b HEAD NEARER
+< b B
 $ info b
 | MPEG-1, 44100 Hz, 2 channels
 | 1 frames, 0 lost, 0.00.02
@@ -304,7 +304,7 @@ $ info l
 
 # Four times 400 bits, 200 bytes.
 # a frame behind an empty one has its main data
-< l Z fffb9000 2880019000000000000032000ff00000000640000000000000c8003fc0 ~834 OF_FOUR
+< l Z fffb9000 2880019000000000000032000ff00000000640000000000000c8003fc0 ~453 55*319 ~834 OF_FOUR
 $ info l
 | MPEG-1, 44100 Hz, 2 channels
 | 3 frames, 0 lost, 0.00.07

@@ -5,9 +5,6 @@ pub static ROWS: &str = "
 
 # How lengths, areas, main_data_begin, Info frames and their tables come about is said in `names`.
 
-# The file B: a head, whose area ends with the first 40 bytes of the main data of the frame behind
-# it.
-B = fffb9000 00*32 'Info' 00*337 55*40 NEARER
 # SECOND with 62 bytes of NEARER behind its own main data, up to the end of its area.
 SECOND_FULL = fffb9000 28800320003200000000640006400000000c8000c800000001900019 ~36 55*381 ~417
 # The lead-in before NEARER, full of its main data. It has none itself, and they could begin 62
@@ -23,7 +20,7 @@ BOTH = INFO_FRONT 'Xing' 0000000f000000040000061b 22*25 66*25 aa*25 bb*25 INFO_R
 
 < a A
 < b B
-< m MPEG_2
+< m M
 $ join o a b
 > o BOTH
 
@@ -84,19 +81,19 @@ $ join p a a
 
 < a A
 < b B
-< m MPEG_2
+< m M
 $ join o a m
 ! 1 m: other class than the first input
 
 < a A
 < b B
-< m MPEG_2
+< m M
 $ join b a b
 ! 1 b: input is an output
 
 < a A
 < b B
-< m MPEG_2
+< m M
 $ join o a x m
 ! 3 x: absent
 - x
@@ -152,9 +149,9 @@ each Read 4 after 208 a: read fault, b: read fault, a: read fault, b: read fault
 # Long files, of which neither what is read nor what is written is held whole.
 
 # Two files of a thousand frames each.
-< h FAINT*1000
+< h G*1000
 room 834208
 $ join o h h
-> o INFO_FRONT 'Info' 0000000f000007d0000cbaa0 000205070a0c0f111417191c1e212326292b2e303335383a3d404245474a4c4f515457595c5e616366686b6e707375787a7d808285878a8c8f919497999c9ea1a3a6a8abaeb0b3b5b8babdc0c2c5c7cacccfd1d4d7d9dcdee1e3e6e8ebeef0f3f5f8fafd INFO_REST FAINT FAINT_FROM_377 FAINT_FROM_511*1998
+> o INFO_FRONT 'Info' 0000000f000007d0000cbaa0 000205070a0c0f111417191c1e212326292b2e303335383a3d404245474a4c4f515457595c5e616366686b6e707375787a7d808285878a8c8f919497999c9ea1a3a6a8abaeb0b3b5b8babdc0c2c5c7cacccfd1d4d7d9dcdee1e3e6e8ebeef0f3f5f8fafd INFO_REST G_FIRST G_SECOND G_AMONG*1996 G_LAST*2
 each Read 1 after 700000 h: read fault
 ";

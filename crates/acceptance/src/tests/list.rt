@@ -15,7 +15,7 @@ $ list a
 | 2 frames, MPEG-1, 44100 Hz, 2 channels, 0.00.05
 
 # a head, whose area counts
-< a HEAD NEARER
+< a B
 $ list a
 | head at 0: 417 bytes
 | frame 0 at 417: 128 kbit/s, begin 40, bits 3200

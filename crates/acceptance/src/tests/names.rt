@@ -55,6 +55,11 @@ SILENT_BACK_POINTER = fffb9000 29 ~417
 FIRST_ALONE = fffb9000 000002580032000000004b000640000000096000c8000000012c0019 ~36 55*300 ~417
 # Both frames.
 A = FIRST SECOND
+# The same with all gains 98.
+A_AT_98 = fffb9000 000002580031000000004b000620000000096000c4000000012c001880 ~36 55*381 fffb9000 28800320003100000000640006200000000c8000c40000000190001880 ~453 55*319 ~834
+# A head, whose area ends with the first 40 bytes of the main data of the frame after it.
+HEAD_OF_B = fffb9000 ~36 'Info' 00*337 55*40
+B = HEAD_OF_B NEARER
 # The header and the side information of a frame of MPEG-1, 44,100 Hz, 128 kbit/s, stereo, with 300
 # bytes of main data from its own area of 381 bytes on.
 OF_300 = fffb9000 00000960 00*28
@@ -76,12 +81,14 @@ JOINT = fffb9040 ~417
 Z_FROM_381 = fffb9000 be80 ~417
 # Z where main data could begin 511 bytes before its area, as far as 9 bits can say.
 Z_FROM_511 = fffb9000 ff80 ~417
-# 4 times 8 bits of main data, which are 0: 4 bytes, so that 377 of the area are left.
-FAINT = fffb9000 0000000800320000000001000640000000002000c800000000040019 ~417
-# Main data begin 377 bytes before the area: the frame before leaves these free.
-FAINT_FROM_377 = fffb9000 bc80000800320000000001000640000000002000c800000000040019 ~417
-# They begin as far before it as they may, 511 bytes.
-FAINT_FROM_511 = fffb9000 ff80000800320000000001000640000000002000c800000000040019 ~417
+# Many frames like G, one after another. Each has 4 bytes of main data. Those of the second begin 377
+# bytes before its area, 101111001, bc80, and those of the others 511, as far as they may: 251 bytes
+# into the area of the last frame but one, 2 * 381 - 511. The last two have no main data in their
+# areas.
+G_FIRST = fffb9000 0000000800320000000001000650000000002001fe0000000004001680 ~36 1122334411223344 ~287 11223344 ~417
+G_SECOND = fffb9000 bc80000800320000000001000650000000002001fe0000000004001680 ~287 11223344 ~417
+G_AMONG = fffb9000 ff80000800320000000001000650000000002001fe0000000004001680 ~287 11223344 ~417
+G_LAST = fffb9000 ff80000800320000000001000650000000002001fe0000000004001680 ~417
 # G with the gains 101, 102, 0, 91: one step up, and 255 wraps.
 G_WRAPPED_UP = fffb9000 00000008003280000000010006600000000020000000000000040016c0 ~36 11223344 ~417
 # G with the gains 255, 0, 154, 245: 101 steps down, and 100 and 90 wrap.

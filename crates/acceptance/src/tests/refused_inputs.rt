@@ -18,6 +18,8 @@ OVERLAPPING_AND_OVERFULL = fffb9000 290003e80032000000007d0006400000000fa000c800
 OVERFULL_BEHIND = fffb9000 1400034b003200000000696006400000000d2c00c800000001a58019 ~36 55*319 ~417
 # main_data_begin is 382, and all else is as in Z.
 SILENT_TOO_FAR = fffb9000 bf ~417
+# Three times 762 bits and once 763, one more than the area of 381 bytes has; all other bits are 0.
+SILENT_OVERFULL = fffb9000 000002fa0000000000005f4000000000000be80000000000017d80 ~417
 # PROTECTED_G with a wrong check word.
 WRONG_G = fffa9000 01a2 0000000800320000000001000650000000002001fe0000000004001680 ~38 11223344 ~417
 # The frame M with main_data_begin 1, and with the check word of M, which isn't right then.
@@ -117,7 +119,7 @@ $ gain -s s -g 0 a o
 # What is at fault in the input `a`: free format, or frames of two classes.
 
 # free format
-< a FREE SECOND
+< a A@2=00
 $ gain -s s -g 0 a o
 ! 1 a: free format at 0
 
@@ -170,7 +172,7 @@ $ gain -s s -g 0 a o
 ! 1 a: overlap at 417
 
 # main data past the area
-< a OVERFULL
+< a SILENT_OVERFULL
 $ gain -s s -g 0 a o
 ! 1 a: overrun at 0, bits 3049, room 3048
 

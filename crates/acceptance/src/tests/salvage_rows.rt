@@ -9,8 +9,11 @@ pub static ROWS: &str = "
 
 # What is left is written, and what is missing is said.
 
+# SECOND without its last byte.
+SHORT = fffb9000 28800320003200000000640006400000000c8000c800000001900019 ~36 55*319 ~416
+
 # a first frame whose third byte is 0, so that the second loses its main data
-< a fffb0000 55*413 SECOND
+< a A@2=00
 $ salvage a o
 | gap at 0: 417 bytes
 | empty frame 0 at 417
@@ -18,7 +21,7 @@ $ salvage a o
 > o INFO_FRONT ONE_OF_625 55*100 INFO_REST Z
 
 # a last frame that has one byte less
-< a FIRST fffb9000 00*412
+< a FIRST SHORT
 $ salvage a o
 | gap at 417: 416 bytes
 | 1 frames, 1 gaps, 0 empty
@@ -156,12 +159,12 @@ each Send 1 after 1042 standard output: write fault
 # 480 frames of 417 bytes and a gap of 50, 200,210 bytes, are read by 65,536: in 4 reads by the
 # survey, and in 4 more. The output has 208 + 480 * 417, 200,368 bytes, which are written by 65,536
 # too: three writes of them, and a fourth.
-< u Z*240 55*50 Z*240
+< u G*240 55*50 G*240
 room 200368
 $ salvage u o
 | gap at 100080: 50 bytes
 | 480 frames, 1 gaps, 0 empty
-> o INFO_FRONT 'Info' 0000000f000001e000030eb0 000205070a0d0f111417191b1e212326282b2e303335383a3d404244474a4c4f515457595b5e616366686b6e707375787a7d808284878a8c8f919497999b9ea1a3a6a8abadb0b3b5b8babdc0c2c4c7caccced1d4d6d9dbdee1e3e6e8ebedf0f3f5f8fafd 00*56 Z Z_FROM_381 Z_FROM_511*478
+> o INFO_FRONT 'Info' 0000000f000001e000030eb0 000205070a0d0f111417191b1e212326282b2e303335383a3d404244474a4c4f515457595b5e616366686b6e707375787a7d808284878a8c8f919497999b9ea1a3a6a8abadb0b3b5b8babdc0c2c4c7caccced1d4d6d9dbdee1e3e6e8ebedf0f3f5f8fafd 00*56 G_FIRST G_SECOND G_AMONG*476 G_LAST*2
 each Read 8 after 65536 u: read fault
 each Write 4 after 196608 o: write fault
 each Send 1 after 200368 standard output: write fault

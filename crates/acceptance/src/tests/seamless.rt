@@ -166,27 +166,37 @@ $ join --seamless o x p02.mp3
 
 # 381 bytes in its own slot would leave 11, and the frame behind it wants 19; of 486 they leave 116,
 # 001110100, 3a00. Of 2,398 bytes 22, 66, 111, 155 and 211 of 256 are before the frames.
+AREA_FROM_19 = fffb9000 0980 OF_762 ~417
 AREA_FROM_68 = fffb9000 2200 OF_762 ~417
 AREA_AT_160 = fffba000 0580 OF_762 ~522
 # room for the frames behind the first
 < x Z Z FULL_FROM_511
-< p02.mp3 INFO_FRONT THREE_OF_1146 INFO_REST LEAD_IN AREA_FROM_68 Y_68
+< w Z AREA_FROM_19 Y_19
+to p01.mp3 p02.mp3 o
+$ split w p 0 1 3
 $ join --seamless o x p02.mp3
 | p02.mp3: lead-in left out
+> p01.mp3 PIECE_OF_Z
+> p02.mp3 INFO_FRONT THREE_OF_1146 INFO_REST LEAD_IN AREA_FROM_68 Y_68
 > o INFO_FRONT 'Xing' 0000000f000000050000095e 16*20 42*20 6f*20 9b*20 d3*20 INFO_REST Z Z_FROM_381 FULL_FROM_511 AREA_AT_160 Y_116
 
 # 496 bytes want 485 of an area that has a check word: 160 kbit/s have 522 - 38, and one more
 # padded. Check words, here and below, are those that mp3check finds right. A lead-in of 117 bytes
 # or more is that of 48 kbit/s, 156 bytes, whose area has 120: 001111000, 3c00.
+WORD_FROM_200 = fffa9000 cebe 6400 OF_992 ~417
 WORD_FROM_120 = fffa9000 7ea3 3c00 OF_992 ~417
 WORD_AT_160 = fffaa200 8d90 0580 OF_992 ~523
 LEAD_IN_48 = fffb3000 ~156
 LED_48 = 'Xing' 0000000f000000020000030d 44*50 77*50
 # a padded slot
 < x Z Z FULL_FROM_511
-< p02.mp3 INFO_FRONT LED_48 INFO_REST LEAD_IN_48 WORD_FROM_120
+< w Z WORD_FROM_200
+to p01.mp3 p02.mp3 o
+$ split w p 0 1 2
 $ join --seamless o x p02.mp3
 | p02.mp3: lead-in left out
+> p01.mp3 PIECE_OF_Z
+> p02.mp3 INFO_FRONT LED_48 INFO_REST LEAD_IN_48 WORD_FROM_120
 > o INFO_FRONT 'Xing' 0000000f00000004000007be 1a*25 50*25 86*25 bc*25 INFO_REST Z Z_FROM_381 FULL_FROM_511 WORD_AT_160
 
 # At 320 kbit/s, 1,044 bytes, 1,510 bytes of main data leave 511 + 1,008 - 1,510, 9 bytes, 0480.
@@ -199,19 +209,30 @@ LEAD_IN_40_FROM_9 = fffb2000 0480 ~130
 OF_1100_FROM_94 = fffbe000 2f00 OF_2200 ~1044
 OF_1100_FROM_103 = fffbe000 3380 OF_2200 ~1044
 OF_1100_FROM_381 = fffbe000 be80 OF_2200 ~1044
+OF_1100_FROM_511 = fffbe000 ff80 OF_2200 ~1044
+# 208 + 1,044 bytes, and 256 * 208 / 1,252 gives 42, 2a (hex).
+PIECE_OF_Z_AT_320 = INFO_FRONT 'Info' 0000000f00000001000004e4 2a*100 INFO_REST Z_AT_320
 PIECE_OF_1100 = INFO_FRONT 'Xing' 0000000f0000000200000566 26*50 3e*50 INFO_REST LEAD_IN_40 OF_1100_FROM_94
 # no slot is great enough
 < q Z_AT_320 FULL_AT_320
-< p02.mp3 PIECE_OF_1100
+< w Z_AT_320 OF_1100_FROM_511
+to p01.mp3 p02.mp3 o
+$ split w p 0 1 2
 $ join --seamless o q p02.mp3
 | p02.mp3: whole
+> p01.mp3 PIECE_OF_Z_AT_320
+> p02.mp3 PIECE_OF_1100
 > o INFO_FRONT 'Xing' 0000000f0000000400000d8e 0f*25 5c*25 a9*25 b2*25 INFO_REST Z_AT_320 FULL_AT_320 LEAD_IN_40_FROM_9 OF_1100_FROM_103
 
 # the same piece behind a frame that leaves enough
 < z Z
-< p02.mp3 PIECE_OF_1100
+< w Z_AT_320 OF_1100_FROM_511
+to p01.mp3 p02.mp3 o
+$ split w p 0 1 2
 $ join --seamless o z p02.mp3
 | p02.mp3: lead-in left out
+> p01.mp3 PIECE_OF_Z_AT_320
+> p02.mp3 PIECE_OF_1100
 > o INFO_FRONT 'Xing' 0000000f0000000200000685 1f*50 5f*50 INFO_REST Z OF_1100_FROM_381
 
 # The first frame fills its area and leaves nothing. But 511 bytes might be free before it, so that
@@ -221,9 +242,13 @@ AREA = fffb9000 0000 OF_762 ~417
 AREA_BEFORE_55 = fffb9000 2200 OF_762 ~349 55*68
 # a lead-in comes in front of all
 < b AREA
-< p02.mp3 PIECE_OF_SECOND
+< a A
+to p01.mp3 p02.mp3 o
+$ split a p 0 1 2
 $ join --seamless o b p02.mp3
 | p02.mp3: lead-in left out
+> p01.mp3 PIECE_OF_FIRST
+> p02.mp3 PIECE_OF_SECOND
 > o INFO_FRONT THREE_OF_1146 INFO_REST LEAD_IN AREA_BEFORE_55 SECOND_FROM_68
 
 # The piece of the first frame alone has a lead-in that its main data don't want, and the other
@@ -232,13 +257,17 @@ $ join --seamless o b p02.mp3
 LAME_623_529 = 00*4 'LAME' 00*17 26f211 00*4
 AREA_FROM_120 = fffb9000 3c00 OF_762 ~417
 OF_481_FROM_120 = fffb9000 3c00 OF_962 ~417
+OF_481_FROM_381 = fffb9000 be80 OF_962 ~417
 # a lead-in that becomes a greater one
 < w AREA
-< p02.mp3 INFO_FRONT LED_48 INFO_REST LEAD_IN_48 OF_481_FROM_120
-to q o
+< v Z OF_481_FROM_381
+to q p01.mp3 p02.mp3 o
 $ cut --exact w 0 EOF q
+$ split v p 0 1 2
 $ join --seamless o q p02.mp3
 | p02.mp3: lead-in left out
+> p01.mp3 PIECE_OF_Z
+> p02.mp3 INFO_FRONT LED_48 INFO_REST LEAD_IN_48 OF_481_FROM_120
 > q INFO_FRONT TWO_OF_729 LAME_623_529 000002d9 0000 cd81 00*16 LEAD_IN AREA_FROM_68
 > o INFO_FRONT 'Xing' 0000000f00000003000004ae 2c*34 4d*33 a6*33 LAME_623_529 000004ae 0000 1cb3 00*16 LEAD_IN_48 AREA_FROM_120 OF_481_FROM_120
 
@@ -342,8 +371,7 @@ $ join --seamless o z b
 | b: whole
 > o INFO_FRONT AMONG_1146 INFO_REST Z LEAD_IN_FROM_381 Y_449
 
-# Of the 400 bytes of NEARER 40 are in the head of its file. So none of them are heard.
-B = fffb9000 ~36 'Info' 00*337 55*40 NEARER
+# Of the 400 bytes of NEARER 40 are in the head of B. So none of them are heard.
 # a lost frame behind others
 < a A
 < b B
@@ -380,7 +408,7 @@ $ join --seamless o a b
 
 # Only the block before the first file's frames is written.
 # tags, zeros and junk
-< t ID3V2_BLOCK 00*2 55*142 fffb9000 55*154 Z Z APE ID3V1_BLOCK
+< t ID3V2_BLOCK 00*2 55*100 fffb9000 55*196 Z Z APE ID3V1_BLOCK
 $ join --seamless o t t
 | t: whole
 > o ID3V2_BLOCK INFO_FRONT FOUR_OF_1876 INFO_REST Z Z_FROM_381 Z_FROM_511 Z_FROM_511
@@ -459,11 +487,15 @@ $ join --seamless o p01.mp3 p02.mp3
 Z_OF_SECOND = fffb9000 2200 ~36 55*332 ~417
 SECOND_FROM_449 = fffb9000 e0800320003200000000640006400000000c8000c800000001900019 ~417
 Z_430 = fffb9000 d700 ~417
-# without the piece between
-< p01.mp3 INFO_FRONT TWO_OF_729 00*4 'LAME' 00*17 26f4d8 00*4 000002d9 0000 5a5b 00*16 LEAD_IN Z_68
-< p03.mp3 OF_THE_END
+# without the piece between, whose delay is 1,152 + 441 - 529, 1,064, 428 (hex)
+< s Z*3 A Z
+to p01.mp3 p02.mp3 p03.mp3 o
+$ split --exact s p 0.0 0.00.01 0.00.13 EOF
 $ join --seamless o p01.mp3 p03.mp3
 | p03.mp3: lead-in left out
+> p01.mp3 INFO_FRONT TWO_OF_729 00*4 'LAME' 00*17 26f4d8 00*4 000002d9 0000 5a5b 00*16 LEAD_IN Z_68
+> p02.mp3 INFO_FRONT SIX_OF_2397 00*4 'LAME' 00*17 42822c 00*4 0000095d 0000 fa32 00*16 UP_TO_A
+> p03.mp3 OF_THE_END
 > o INFO_FRONT FOUR_OF_1563 LAME_623_529 0000061b 0000 03b3 00*16 FULL_LEAD_IN Z_OF_SECOND SECOND_FROM_449 Z_430
 
 # A head that counts: the delay 576 and the padding 720, 240 and 2d0 (hex). Positions 1,105 to 4,417
@@ -894,10 +926,10 @@ $ join --seamless o a z
 each Read 4 a: read fault, z: read fault, a: read fault, z: read fault
 
 # Long files, of which neither what is read nor what is written is held whole.
-< h FAINT*1000
+< h G*1000
 room 834208
 $ join --seamless o h h
 | h: whole
-> o INFO_FRONT 'Info' 0000000f000007d0000cbaa0 000205070a0c0f111417191c1e212326292b2e303335383a3d404245474a4c4f515457595c5e616366686b6e707375787a7d808285878a8c8f919497999c9ea1a3a6a8abaeb0b3b5b8babdc0c2c5c7cacccfd1d4d7d9dcdee1e3e6e8ebeef0f3f5f8fafd INFO_REST FAINT FAINT_FROM_377 FAINT_FROM_511*1998
+> o INFO_FRONT 'Info' 0000000f000007d0000cbaa0 000205070a0c0f111417191c1e212326292b2e303335383a3d404245474a4c4f515457595c5e616366686b6e707375787a7d808285878a8c8f919497999c9ea1a3a6a8abaeb0b3b5b8babdc0c2c5c7cacccfd1d4d7d9dcdee1e3e6e8ebeef0f3f5f8fafd INFO_REST G_FIRST G_SECOND G_AMONG*1996 G_LAST*2
 each Read 1 after 700000 h: read fault
 ";

@@ -301,7 +301,7 @@ fn a_file_that_becomes_shorter(rt: HostRuntime) -> Result<(), Fail> {
 
 // Each survey makes one read, and so do a sheet and the second pass over each input. The line names the file that became shorter, and
 // nothing but the output is created.
-static READ: [Case; 22] = table! {
+static READ: [Case; 32] = table! {
     Case { words, found, trouble, status, line, ends, created }
     ("list a", 513, Trouble::Short(0, 100), 3, "a: shrunk from 513 to 100\n", 1, 0)
     ("info a", 513, Trouble::Short(0, 100), 3, "a: shrunk from 513 to 100\n", 1, 0)
@@ -312,6 +312,8 @@ static READ: [Case; 22] = table! {
     ("fade --back a o fade", 513, Trouble::Short(2, 100), 3, "a: shrunk from 513 to 100\n", 1, 1)
     ("cut a 0 1 o", 513, Trouble::Short(1, 100), 3, "a: shrunk from 513 to 100\n", 1, 1)
     ("cut --least a 0 1 o", 513, Trouble::Short(1, 100), 3, "a: shrunk from 513 to 100\n", 1, 1)
+    ("cut --exact a 0 1 o", 513, Trouble::Short(0, 100), 3, "a: shrunk from 513 to 100\n", 1, 0)
+    ("cut --exact a 0 1 o", 513, Trouble::Short(1, 100), 3, "a: shrunk from 513 to 100\n", 1, 1)
     ("pack a o", 513, Trouble::Short(1, 100), 3, "a: shrunk from 513 to 100\n", 1, 1)
     ("pack --constant 128 a o", 513, Trouble::Short(1, 100), 3, "a: shrunk from 513 to 100\n", 1, 1)
     ("pack --floor 32 a o", 513, Trouble::Short(1, 100), 3, "a: shrunk from 513 to 100\n", 1, 1)
@@ -320,29 +322,42 @@ static READ: [Case; 22] = table! {
     ("split a p -c cue", 513, Trouble::Short(0, 100), 3, "a: shrunk from 513 to 100\n", 1, 0)
     ("split a p -c cue", 513, Trouble::Short(1, 20), 3, "cue: shrunk from 33 to 20\n", 1, 0)
     ("split a p -c cue", 513, Trouble::Short(2, 100), 3, "a: shrunk from 513 to 100\n", 1, 1)
+    ("split --exact a p 0 1", 513, Trouble::Short(1, 100), 3, "a: shrunk from 513 to 100\n", 1, 1)
+    ("split --exact a p -c cue", 513, Trouble::Short(0, 100), 3, "a: shrunk from 513 to 100\n", 1, 0)
+    ("split --exact a p -c cue", 513, Trouble::Short(1, 20), 3, "cue: shrunk from 33 to 20\n", 1, 0)
+    ("split --exact a p -c cue", 513, Trouble::Short(2, 100), 3, "a: shrunk from 513 to 100\n", 1, 1)
     ("join o a c", 513, Trouble::Short(0, 100), 3, "a: shrunk from 513 to 100\n", 1, 0)
     ("join o a c", 513, Trouble::Short(1, 100), 3, "c: shrunk from 513 to 100\n", 1, 0)
     ("join o a c", 513, Trouble::Short(2, 100), 3, "a: shrunk from 513 to 100\n", 1, 1)
     ("join o a c", 513, Trouble::Short(3, 100), 3, "c: shrunk from 513 to 100\n", 1, 1)
+    ("join --seamless o a c", 513, Trouble::Short(0, 100), 3, "a: shrunk from 513 to 100\n", 1, 0)
+    ("join --seamless o a c", 513, Trouble::Short(1, 100), 3, "c: shrunk from 513 to 100\n", 1, 0)
+    ("join --seamless o a c", 513, Trouble::Short(2, 100), 3, "a: shrunk from 513 to 100\n", 1, 1)
+    ("join --seamless o a c", 513, Trouble::Short(3, 100), 3, "c: shrunk from 513 to 100\n", 1, 1)
     ("salvage a o", 513, Trouble::Short(1, 100), 3, "a: shrunk from 513 to 100\n", 1, 1)
 };
 
 // 864 bytes: the head is the 417 bytes from byte 30 on. It is read after the survey; in the second pass its area, from byte 66 on, is the
 // first part that is missing.
-static HEADED: [Case; 4] = table! {
+static HEADED: [Case; 7] = table! {
     Case { words, found, trouble, status, line, ends, created }
     ("info a", 864, Trouble::Short(1, 35), 3, "a: shrunk from 864 to 35\n", 1, 0)
     ("pack a o", 864, Trouble::Short(1, 35), 3, "a: shrunk from 864 to 35\n", 1, 0)
     ("pack --best a o", 864, Trouble::Short(1, 35), 3, "a: shrunk from 864 to 35\n", 1, 0)
     ("pack a o", 864, Trouble::Short(2, 35), 3, "a: shrunk from 864 to 66\n", 1, 1)
+    ("cut --exact a 0 1 o", 864, Trouble::Short(1, 35), 3, "a: shrunk from 864 to 35\n", 1, 0)
+    ("split --exact a p 0 1", 864, Trouble::Short(1, 35), 3, "a: shrunk from 864 to 35\n", 1, 0)
+    ("join --seamless o a c", 864, Trouble::Short(1, 35), 3, "a: shrunk from 864 to 35\n", 1, 0)
 };
 
 // 200 frames, 83,400 bytes, the first 65,536 of which are read at once. The second piece of a split isn't created before the first is
 // whole.
-static PIECES: [Case; 2] = table! {
+static PIECES: [Case; 4] = table! {
     Case { words, found, trouble, status, line, ends, created }
     ("split a p 0 100 EOF", 83_400, Trouble::Shorter(40_000), 3, "a: shrunk from 83400 to 40000\n", 1, 1)
     ("split a p 0 100 EOF", 83_400, Trouble::Shorter(70_000), 3, "a: shrunk from 83400 to 70000\n", 1, 2)
+    ("split --exact a p 0 100 EOF", 83_400, Trouble::Shorter(40_000), 3, "a: shrunk from 83400 to 40000\n", 1, 1)
+    ("split --exact a p 0 100 EOF", 83_400, Trouble::Shorter(70_000), 3, "a: shrunk from 83400 to 70000\n", 1, 2)
 };
 
 #[test]

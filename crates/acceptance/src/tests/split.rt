@@ -260,11 +260,11 @@ each Write 4 p01.mp3: write fault, p01.mp3: write fault, p02.mp3: write fault
 # A long file, of which neither what is read nor what is written is held whole.
 
 # Half of a file of a thousand frames, 208 + 500 * 417, 208,708 bytes.
-HALF = INFO_FRONT 'Info' 0000000f000001f400032f44 000205070a0d0f121417191c1e212426292b2e303335383b3d404245474a4c4f525457595c5e616366696b6e707375787b7d808285878a8c8f929497999c9ea1a3a6a9abaeb0b3b5b8babdc0c2c5c7cacccfd1d4d7d9dcdee1e3e6e8ebeef0f3f5f8fafd INFO_REST FAINT FAINT_FROM_377 FAINT_FROM_511*498
+HALF = INFO_FRONT 'Info' 0000000f000001f400032f44 000205070a0d0f121417191c1e212426292b2e303335383b3d404245474a4c4f525457595c5e616366696b6e707375787b7d808285878a8c8f929497999c9ea1a3a6a9abaeb0b3b5b8babdc0c2c5c7cacccfd1d4d7d9dcdee1e3e6e8ebeef0f3f5f8fafd INFO_REST G_FIRST G_SECOND G_AMONG*496 G_LAST*2
 
 # The first piece is whole then, and of the second 65,536 bytes at least were written while the
 # input was still read: 274,244 together.
-< h FAINT*1000
+< h G*1000
 to p01.mp3 p02.mp3
 room 208708
 $ split h p 0 500 EOF

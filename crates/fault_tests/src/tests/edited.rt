@@ -1,50 +1,86 @@
-//! Two frames of 417 bytes, cut short at each length, or with each value of each byte of the second header. What is found follows by
-//! rules from the standard's table of bit rates and the bits of a header.
+//! Two frames of 417 bytes, or one and a tag, cut short at each length; and two frames with each value of each byte of the second
+//! header. What is found follows by rules from the standard's table of bit rates and the bits of a header.
 
 use super::{first_faults, walks};
 use std::alloc::{AllocError, Global};
 use std::process::Abort;
 use std::test::Fail;
 use sync_survey::SurveyFault;
+use test_files::files::Stretch::{Bytes, Filled};
 use test_files::files::{Stretch, bytes_of};
+use test_files::{end_to_end, table};
 
 /// The bit rates of MPEG-1 in units of 8 kbit/s, by their index.
 const RATES: [u8; 16] = [0, 4, 5, 6, 7, 8, 10, 12, 14, 16, 20, 24, 28, 32, 40, 0];
 
-/// The fault of the first `length` bytes of two frames.
-fn cut_answer(length: usize) -> Option<SurveyFault> {
+/// A frame of 417 bytes and an item after it: from how many bytes on it is seen that an item begins there, and how many there are.
+struct Two {
+    file: &'static [Stretch],
+    seen: usize,
+    whole: usize,
+}
+
+/// A frame with the gains 101, 102, 0 and 91, and a tag of 96 bytes with the item that gives back its gains. Its header has 32.
+const TAGGED: &[Stretch] = &end_to_end! {
+    Filled(
+        b"\xff\xfb\x90\0\0\0\0\x08\0\x32\x80\0\0\0\x01\0\x06\x60\0\0\0\0\x20\0\0\0\0\0\0\x04\0\x16\xc0",
+        0,
+        3,
+    ),
+    Filled(b"\x11\x22\x33\x44", 0, 377),
+    Bytes(b"APETAGEX\xd0\x07\0\0\x40\0\0\0\x01\0\0\0\0\0\0\xa0\0\0\0\0\0\0\0\0"),
+    Bytes(b"\x0b\0\0\0\0\0\0\0MP3GAIN_UNDO\0-001,-001,W"),
+    Bytes(b"APETAGEX\xd0\x07\0\0\x40\0\0\0\x01\0\0\0\0\0\0\x80\0\0\0\0\0\0\0\0")
+};
+
+static TWOS: [Two; 3] = table! {
+    Two { file, seen, whole }
+    (walks::TWO_FRAMES, 421, 834)
+    (first_faults::TWO_FRAMES, 421, 834)
+    (TAGGED, 449, 513)
+};
+
+/// The fault of the first `length` bytes.
+fn cut_answer(two: &Two, length: usize) -> Option<SurveyFault> {
     match length {
         0..=3 => Some(SurveyFault::NoFrame(0)),
         4..=416 => Some(SurveyFault::Truncated(0)),
-        418..=420 => Some(SurveyFault::LostSync(417)),
-        421..=833 => Some(SurveyFault::Truncated(417)),
+        417 => None,
+        _ if length < two.seen => Some(SurveyFault::LostSync(417)),
+        _ if length < two.whole => Some(SurveyFault::Truncated(417)),
         _ => None,
     }
 }
 
 /// The greatest length at which another fault is found in the cut file.
-fn wrong_cut(alloc: Global, two_frames: &[Stretch]) -> Result<Option<usize>, AllocError> {
-    let mut file = bytes_of(alloc, two_frames)?;
-    for length in (0..835).rev() {
+fn wrong_cut(alloc: Global, two: &Two) -> Result<Option<usize>, AllocError> {
+    let mut file = bytes_of(alloc, two.file)?;
+    if file.len() != two.whole {
+        return Ok(Some(file.len()));
+    }
+    for length in (0..two.whole + 1).rev() {
         file.truncate(length);
-        if !first_faults::both_find(alloc, &file, 2, cut_answer(length))? {
+        if !first_faults::both_find(alloc, &file, 2, cut_answer(two, length))? {
             return Ok(Some(length));
         }
     }
     Ok(None)
 }
 
-/// The same for both files of two frames.
-fn wrong_cut_of_both(alloc: Global) -> Result<Option<usize>, AllocError> {
-    match wrong_cut(alloc, walks::TWO_FRAMES)? {
-        None => wrong_cut(alloc, first_faults::TWO_FRAMES),
-        wrong => Ok(wrong),
+/// The same for all of these files.
+fn wrong_cut_of_all(alloc: Global) -> Result<Option<usize>, AllocError> {
+    for two in &TWOS {
+        let wrong = wrong_cut(alloc, two)?;
+        if wrong.is_some() {
+            return Ok(wrong);
+        }
     }
+    Ok(None)
 }
 
 #[test]
 fn files_cut_short(rt: HostRuntime) -> Result<(), Fail> {
-    let wrong = wrong_cut_of_both(rt.alloc())?.unwrap_or(1000);
+    let wrong = wrong_cut_of_all(rt.alloc())?.unwrap_or(1000);
     assert!(rt; wrong == 1000, "{wrong} bytes");
     Ok(())
 }

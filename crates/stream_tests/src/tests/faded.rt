@@ -8,6 +8,8 @@ use std::alloc::{AllocError, Global};
 use std::process::Abort;
 use std::test::Fail;
 use sync_survey::SurveyFault;
+use test_files::files::Stretch::Repeated;
+use test_files::files::bytes_of;
 use test_files::frames::{Frame, G, file_of};
 use test_files::{frame, table};
 
@@ -94,8 +96,8 @@ fn has(folder: &MemFolder, name: &str, wanted: &[u8]) -> bool {
 }
 
 /// Whether the file comes back from `out` as `back`.
-fn comes_back(alloc: Global, folder: &mut MemFolder, row: &Fade, file: &[u8]) -> bool {
-    fade(alloc, folder, "out", "back", row.sheet, true) == Ok(()) && has(folder, "back", file)
+fn comes_back(alloc: Global, folder: &mut MemFolder, sheet: &str, file: &[u8]) -> bool {
+    fade(alloc, folder, "out", "back", sheet, true) == Ok(()) && has(folder, "back", file)
 }
 
 /// Whether the fade is done and can be undone, or it is refused and its output isn't there.
@@ -111,7 +113,7 @@ fn is_answered(
     ) {
         (Ok(()), Ok(frames)) => {
             let faded = file_of(alloc, frames)?;
-            Ok(has(folder, "out", &faded) && comes_back(alloc, folder, row, file))
+            Ok(has(folder, "out", &faded) && comes_back(alloc, folder, row.sheet, file))
         }
         (Err(found), Err(fault)) => Ok(found == fault && folder.get("out").is_none()),
         _ => Ok(false),
@@ -135,5 +137,45 @@ fn fades_and_refusals(rt: HostRuntime) -> Result<(), Fail> {
     for (number, row) in FADES.iter().enumerate() {
         assert!(rt; fades(rt.alloc(), row)?, "row {number}");
     }
+    Ok(())
+}
+
+/// The last digit of a number.
+fn digit_of(number: u16) -> u8 {
+    b'0' + (number % 10) as u8
+}
+
+/// A sheet of as many points as there may be, one for each of a thousand frames: no step, and one step down, in turn.
+fn thousand_points(alloc: Global) -> Result<Vec<u8>, AllocError> {
+    let mut sheet = Vec::new(alloc);
+    for frame in 0..1000 {
+        sheet.extend_from_slice(&[digit_of(frame / 100), digit_of(frame / 10), digit_of(frame)])?;
+        sheet.extend_from_slice(if frame % 2 == 0 { b" +0\n" } else { b" -1\n" })?;
+    }
+    Ok(sheet)
+}
+
+static BY_TURNS: [Frame; 2] = [AT_100, AT_99];
+
+fn put_thousand(alloc: Global, folder: &mut MemFolder, file: &[u8]) -> Result<(), AllocError> {
+    folder.put("in", file)?;
+    folder.put("s", &thousand_points(alloc)?)?;
+    folder.reserve("out", 417_000)?;
+    folder.reserve("back", 417_000)
+}
+
+/// Whether a thousand frames fade by a thousand points, and come back.
+fn fades_by_thousand(alloc: Global, folder: &mut MemFolder) -> Result<bool, AllocError> {
+    let file = bytes_of(alloc, &[Repeated(&FLAT, 250)])?;
+    let faded = bytes_of(alloc, &[Repeated(&BY_TURNS, 500)])?;
+    put_thousand(alloc, folder, &file)?;
+    let is_faded = fade(alloc, folder, "in", "out", "s", false) == Ok(());
+    Ok(is_faded && has(folder, "out", &faded) && comes_back(alloc, folder, "s", &file))
+}
+
+#[test]
+fn as_many_points_as_there_may_be(rt: HostRuntime) -> Result<(), Fail> {
+    let mut folder = MemFolder::new(rt.alloc());
+    assert!(rt; fades_by_thousand(rt.alloc(), &mut folder)?);
     Ok(())
 }

@@ -25,9 +25,9 @@ $ gain -s s -g 1 a o
 > o FIRST_LOUDER Z FARTHER_LOUDER
 
 # main data in the area of a head, which stays
-< a HEAD NEARER
+< a B
 $ gain -s s -g 1 a o
-> o HEAD NEARER_LOUDER
+> o HEAD_OF_B NEARER_LOUDER
 
 # a head whose side information isn't zero
 < a MONO_HEAD MONO MONO_HEAD

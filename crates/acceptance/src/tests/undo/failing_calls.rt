@@ -39,6 +39,16 @@ each Read 1 u: read fault
 each Create 1 o: write fault
 each Write 1 o: write fault
 
+# main data that begin in the frame before
+< c A_AT_98 UNDO_FRONT '+002,+002,N' UNDO_END
+to d
+$ gain -u c d
+> d A
+each Find 1 c: read fault
+each Read 3 c: read fault
+each Create 1 d: write fault
+each Write 1 d: write fault
+
 # The output is written while the input is still read: neither is held whole. The tag has 96 bytes.
 < u Z*400 UNDO_FRONT '+000,+000,N' UNDO_END
 room 166800
