@@ -27,11 +27,10 @@ use Rattle.exact_span.specs.declared.span.Span.{Span}
 use Rattle.frame_header.specs.{Fields.ClassFields, Tables.{samples_of, window_of}}
 use Rattle.frame_header.specs.declared.version.Version.{Version}
 use Rattle.info_header.specs.declared.fields.Info.{Info}
-use Rattle.laying.proofs.LaidLemmas.{first-there, laid-holds, laid-loses-none}
-use Rattle.laying.{proofs.SurveyFrameLemmas.survey-had, specs.Fits.IsFittingPlan}
-use Rattle.laying.specs.KeptFields.{fields_of_head}
+use Rattle.laying.proofs.{LaidLemmas.{first-there, laid-holds}, SurveyFrameLemmas.survey-had}
+use Rattle.laying.specs.{Fits.IsFittingPlan, KeptFields.fields_of_head}
 use Rattle.laying.specs.Laid.{file_laid, frames_laid, info_laid, LaidPart, needs_laid, stream_laid}
-use Rattle.laying.specs.{LaidLaws.LosesNoFrame, Surveys.CanBeRelaid}
+use Rattle.laying.specs.Surveys.{CanBeRelaid}
 use Rattle.outside.specs.Files.{Files, Holds, IsFileThere}
 use Rattle.sync_survey.specs.{Faults.{HoldsStream, SurveyFields}, Row.Row, Survey.survey_of}
 use Rattle.sync_survey.specs.declared.{places.Head.Head, survey_fault.SurveyFault.SurveyFault}
@@ -140,12 +139,6 @@ module _ (head : Option Info) (long : IfSome head (λ (i : Info). length i.exten
       (stream_laid (span_piece head span file s) file s)
   piece-holds = piece_all (λ l. HoldsStream (file_laid l file s) (stream_laid l file s))
       (λ first. laid-holds (row_sealed_part (Some first) plain file s) file s is
-      there.some there.within piece_fits (sealed_long first))
-
-  -- the file of the piece loses no frame
-  pub piece-loses-none : LosesNoFrame (file_laid (span_piece head span file s) file s)
-  piece-loses-none = piece_all (λ l. LosesNoFrame (file_laid l file s))
-      (λ first. laid-loses-none (row_sealed_part (Some first) plain file s) file s is
       there.some there.within piece_fits (sealed_long first))
 
 -- ---- the command

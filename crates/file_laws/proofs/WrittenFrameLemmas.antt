@@ -1,12 +1,14 @@
--- No frame of a written file is lost, whether its head is set apart or not.
+-- Each written file is of laid frames behind an Info frame that gives their numbers, so no frame of
+-- it is lost, whether its head is set apart or not.
 use Rattle.std.proofs.Common.{ap, arith, Bool, Err, inl, length, List, None, Ok, Option, refl}
-use Rattle.std.proofs.Common.{Result, Some, subst, sym, ℕ, [], ◌+◌, ◌∷◌, ◌≡◌}
-use Rattle.std.{proofs.lemmas.List.{length-map, FromFn.length-range_with_len}, specs.Prelude.◌≤◌}
+use Rattle.std.proofs.Common.{Result, Some, subst, sym, ℕ, [], ◌+◌, ◌-◌, ◌<◌, ◌∷◌, ◌≡◌}
+use Rattle.std.proofs.lemmas.List.{length-drop, length-map, length-take-le}
+use Rattle.std.{proofs.lemmas.List.FromFn.length-range_with_len, specs.Prelude.◌≤◌}
 use Rattle.chosen_streams.proofs.ChosenCaseLemmas.{packed-made}
 use Rattle.chosen_streams.proofs.JoinCaseLemmas.{join-plan, parts-join}
 use Rattle.chosen_streams.proofs.SalvageCaseLemmas.{left-had, left-some}
-use Rattle.commands.{proofs.{InputLemmas.made_parts, RefusingLemmas.then_ok}, specs.Command.Made}
-use Rattle.commands.specs.Refusing.{then_made}
+use Rattle.commands.proofs.{InputLemmas.made_parts, RefusingLemmas.then_ok}
+use Rattle.commands.specs.{Command.{Command, Made, Output}, Refusing.then_made}
 use Rattle.commands.specs.SingleOutput.{clash_or, command_result, input_result, most_frames}
 use Rattle.commands.specs.{SingleOutput.{one_command, Task, task_result}, WithText.with_text}
 use Rattle.commands.specs.declared.fault.EditFault.{EditFault}
@@ -14,111 +16,205 @@ use Rattle.cue_sheet.specs.declared.place.Place.{Place}
 use Rattle.cut_edits.proofs.ChosenLemmas.{all_choosing, by_usual, cut_choosing, first_is_planning}
 use Rattle.cut_edits.proofs.ChosenLemmas.{IsChoosing, IsPlanning, laid-parts, plan-fitting}
 use Rattle.cut_edits.proofs.ChosenLemmas.{usual_slots}
-use Rattle.cut_edits.proofs.PieceLemmas.{head_long, piece-loses-none, piece-parts}
-use Rattle.cut_edits.proofs.PieceLemmas.{span-survey_without_head, span-there}
-use Rattle.cut_edits.proofs.PieceLemmas.{survey_without_head-relaid}
-use Rattle.cut_edits.specs.Chosen.{Choosing, chosen_file, cut_choice, cut_command, first_planning}
-use Rattle.cut_edits.specs.Chosen.{laying_making, own_slots_part, placed_part, Planning}
-use Rattle.cut_edits.specs.Exact.{exact_command, exact_making, exact_part, file_span, span_piece}
-use Rattle.cut_edits.specs.Exact.{survey_without_head}
+use Rattle.cut_edits.proofs.PieceLemmas.{head_long, piece-parts, plain-long}
+use Rattle.cut_edits.proofs.PieceLemmas.{span-survey_without_head, span-there, span_chosen}
+use Rattle.cut_edits.proofs.{PieceLemmas.survey_without_head-relaid, SealedLemmas.for-whole}
+use Rattle.cut_edits.proofs.SpanLemmas.{with-fitting}
+use Rattle.cut_edits.specs.Chosen.{all_choice, Choosing, chosen_file, cut_choice, cut_command}
+use Rattle.cut_edits.specs.Chosen.{first_planning, laying_making, own_slots_part, placed_part}
+use Rattle.cut_edits.specs.Chosen.{Planning}
+use Rattle.cut_edits.specs.Exact.{exact_command, exact_making, exact_part, file_span}
+use Rattle.cut_edits.specs.Exact.{row_sealed_part, span_part, span_piece, survey_without_head}
+use Rattle.exact_span.proofs.SealLemmas.{sealed-whole}
 use Rattle.exact_span.specs.declared.{exact_place.ExactPlace.ExactPlace, span.Span.Span}
-use Rattle.file_laws.specs.WrittenLaws.{AllLoseNoFrame, WritesAllFrames, WrittenFramesStay}
-use Rattle.frame_header.specs.Fields.{ClassFields}
+use Rattle.file_laws.specs.WrittenLaws.{AllOutputs, AllWritten, IsCountedFile, WritesOnly}
+use Rattle.file_laws.specs.WrittenLaws.{WrittenFilesAreCounted, WrittenFramesStay}
+use Rattle.frame_header.specs.{Fields.{ClassFields, SlotFields}, Tables.window_of}
 use Rattle.frame_writer.specs.Frames.{Frame}
-use Rattle.join_edits.proofs.RunFileLemmas.{files-lose-none}
+use Rattle.info_header.specs.FileInfo.{all_bytes}
+use Rattle.join_edits.proofs.RunFileLemmas.{blocks, file-is, found, info, parts-whole, seamless-is}
+use Rattle.join_edits.proofs.RunPartLemmas.{AreWholeFiles, IsWholeFile}
 use Rattle.join_edits.specs.Join.{join_command, join_parts, joined_file, joined_frames, joined_plan}
-use Rattle.join_edits.specs.{Join.joined_row_file, Seamless.seamless_command}
-use Rattle.laying.proofs.{FittingFrameLemmas.planned-frames-stay, HoldLemmas.blocks-kept}
-use Rattle.laying.proofs.{LaidLemmas.{first-there, laid-loses-none}, SurveyFrameLemmas.survey-had}
-use Rattle.laying.specs.{KeptFields.fields_of_head, Laid.{file_laid, LaidPart}}
-use Rattle.laying.specs.{LaidFiles.HasInfoSizes, LaidLaws.LosesNoFrame, NeedsFit.own_choice}
-use Rattle.laying.specs.{Relaid.{AreParts, FilePart}, Written.{front_blocks, plain_info}}
+use Rattle.join_edits.specs.Join.{joined_row_file}
+use Rattle.join_edits.specs.Seamless.{delay_of_run, seamless_command, seamless_file}
+use Rattle.join_edits.specs.Seamless.{seamless_frames, seamless_info}
+use Rattle.laying.proofs.{FittingFrameLemmas.{entries-hold, fitting-laid}, HoldLemmas.blocks-kept}
+use Rattle.laying.proofs.{LaidFileLemmas.laid-frames-stay, LaidLemmas.{first-there, laid-slots}}
+use Rattle.laying.{proofs.SurveyFrameLemmas.survey-had, specs.Fits.{FitsFromReach, IsFittingPlan}}
+use Rattle.laying.specs.KeptFields.{fields_of_head}
+use Rattle.laying.specs.Laid.{file_laid, file_with_first, frames_laid, info_laid, LaidPart}
+use Rattle.laying.specs.{Laid.{needs_laid, source_part}, LaidFiles.HasInfoSizes}
+use Rattle.laying.specs.{LaidLaws.LosesNoFrame, NeedsFit.own_choice, Relaid.{AreParts, FilePart}}
+use Rattle.laying.specs.Surveys.{CanBeRelaid}
+use Rattle.laying.specs.Written.{back_blocks, front_blocks, plain_info, slot_in}
 use Rattle.outside.specs.Files.{Contents}
-use Rattle.pack_edits.{proofs.ModeLemmas.planning, specs.Modes.pack_mode_command}
+use Rattle.pack_edits.proofs.ModeLemmas.{planning}
+use Rattle.pack_edits.specs.Modes.{mode_planning, pack_mode_command, pack_task}
 use Rattle.requests.specs.declared.mode.PackMode.{PackMode}
 use Rattle.salvage.specs.DamagedFiles.{damaged_of, DamagedFields}
-use Rattle.salvage_edits.specs.Salvaged.{all_chosen, input_salvaged, salvage_command, salvaged_file}
+use Rattle.salvage_edits.specs.Salvaged.{all_chosen, input_salvage_text, input_salvaged}
+use Rattle.salvage_edits.specs.Salvaged.{salvage_command, salvage_task, salvaged_file}
 use Rattle.salvage_edits.specs.Salvaged.{salvaged_or_fault}
+use Rattle.slot_plan.specs.declared.needs.{Need.Need, Placed.Placed}
 use Rattle.split_edits.proofs.{CommandLemmas.first-parts, PartsLemmas.split-parts}
 use Rattle.split_edits.specs.Cutting.{Cutting, piece_parts, piece_parts_from, pieces_from}
-use Rattle.split_edits.specs.{Cutting.{split_command, with_first}, Split.cut_part}
+use Rattle.split_edits.specs.Cutting.{split_command, with_first}
+use Rattle.split_edits.specs.Split.{cut_part, split_at_command, split_by_command}
+use Rattle.split_edits.specs.Split.{split_exact_at_command, split_exact_by_command}
 use Rattle.sync_survey.specs.{Faults.SurveyFields, HeadApart.emptied_survey, Row.Row}
 use Rattle.sync_survey.specs.{Survey.survey_of, declared.survey_fault.SurveyFault.SurveyFault}
 
 -- ---- one output
 
 one-stays : (output : List ℕ) (clash : Option ℕ) (r : Result (List ℕ) EditFault)
-    → ((bytes : List ℕ) → r ≡ Ok bytes → LosesNoFrame bytes) → (made : Made)
-    → command_result output (clash_or clash r) ≡ Ok made → AllLoseNoFrame made.outputs
+    → ((bytes : List ℕ) → r ≡ Ok bytes → IsCountedFile bytes) → (made : Made)
+    → command_result output (clash_or clash r) ≡ Ok made → AllOutputs IsCountedFile made.outputs
 one-stays output clash r stays made e = grind arith
 
 one_writes : (task : Task) (output : List ℕ)
-    → ((files : Contents) (bytes : List ℕ) → task.makes files ≡ Ok bytes → LosesNoFrame bytes)
-    → WritesAllFrames (one_command task output)
+    → ((files : Contents) (bytes : List ℕ) → task.makes files ≡ Ok bytes → IsCountedFile bytes)
+    → WritesOnly IsCountedFile (one_command task output)
 unfolding task_result
 one_writes task output stays files made e = grind (arith, one-stays)
+
+-- ---- frames of one file, in the slots of a plan that can be written
+
+placed-some : (window reach : ℕ) (needs : List Need) (placed : List Placed)
+    → FitsFromReach window reach needs placed → 0 < length needs → 0 < length placed
+unfolding FitsFromReach
+placed-some window reach needs placed fits some = grind arith
+
+module _ (laid : LaidPart) (file : List ℕ) (s : SurveyFields) (has : CanBeRelaid file s)
+    (some : laid.from < laid.to) (within : laid.to ≤ length s.frames)
+    (fitting : IsFittingPlan (window_of s.class.version) (needs_laid laid s) laid.placed)
+    (long : length laid.extension ≡ 36) where
+  needs-many : length (needs_laid laid s) ≡ laid.to - laid.from
+  needs-many = grind (arith, length-map, length-take-le, length-drop)
+
+  frames-some : 0 < length (frames_laid laid file s)
+  frames-some =
+      omega (
+        arith,
+        placed-some (window_of s.class.version) 0 (needs_laid laid s) laid.placed fitting.fits
+            (omega (arith, needs-many, some)),
+        length-map (frames_laid laid file s) slot_in,
+        ap (λ (l : List SlotFields). length l) (laid-slots laid file s has some within fitting),
+        length-map laid.placed (λ (p : Placed). p.slot),
+      )
+
+  -- the file of them
+  laid-counted : IsCountedFile (file_laid laid file s)
+  laid-counted =
+      let first = first-there s.frames laid.from (omega (arith, some, within)) in
+      let row = has.placed laid.from first.0 first.1 in
+      let blocks = blocks-kept file s has in
+      let sizes =
+      for-whole s.class (frames_laid laid file s) laid.quality laid.extension long in
+      let are = fitting-laid s.class (source_part laid file s) laid.placed
+      (record { has = has; class = refl; some = some; within = within }) fitting in
+      subst (λ (o : Option Row). IsCountedFile (file_with_first o laid file s)) (sym first.1)
+      (record {
+        class = s.class;
+        front = front_blocks file s;
+        first = first.0.header;
+        info = info_laid laid file s;
+        frames = frames_laid laid file s;
+        back = back_blocks file s;
+        is = refl;
+        laid = record {
+          blocks_before = blocks.0;
+          header = row.known;
+          class = row.class_is;
+          sizes = record { table = sizes.table; extension = sizes.extension };
+          some = frames-some;
+          entries = are.entries;
+          laid = are.fit;
+          blocks_behind = blocks.1;
+        };
+        frames_are = refl;
+        bytes_are = refl;
+      })
 
 -- ---- frames that are chosen from one file, in the slots of a plan
 
 module _ (choose : Choosing) (plan : Planning) (choosing : IsChoosing choose)
     (planned : IsPlanning plan) where
   chosen-stay : (file : List ℕ) (s : SurveyFields) (made : List ℕ) → survey_of file most_frames
-      ≡ Ok s → laying_making choose plan file s ≡ Ok made → LosesNoFrame made
+      ≡ Ok s → laying_making choose plan file s ≡ Ok made → IsCountedFile made
   chosen-stay file s made surveyed e =
       let by = laid-parts choose plan file s made e in
       let right = choosing.right file s by.chosen by.chose in
       let had = survey-had file most_frames s surveyed in
       let fitting =
       planned.fitting by.chosen s had.placed right.some right.within by.placed by.planned in
-      subst LosesNoFrame by.is (laid-loses-none (placed_part by.chosen by.placed) file s had
+      subst IsCountedFile by.is (laid-counted (placed_part by.chosen by.placed) file s had
       right.some right.within fitting right.extension)
 
   where-stay : (o : Option (List ℕ)) (made : List ℕ)
-      → input_result (laying_making choose plan) o ≡ Ok made → LosesNoFrame made
+      → input_result (laying_making choose plan) o ≡ Ok made → IsCountedFile made
   where-stay None made e = absurd cc
   where-stay (Some file) made e =
       let parts = made_parts (laying_making choose plan) file made e in
       chosen-stay file parts.0 made parts.1 parts.2
 
 cut-stay : (from to : Place) (least : Bool) (input output : List ℕ)
-    → WritesAllFrames (cut_command from to least input output)
+    → WritesOnly IsCountedFile (cut_command from to least input output)
 cut-stay from to least input output =
     search (arith, one_writes, where-stay, cut_choosing, first_is_planning, by_usual)
 
 pack-stay : (mode : PackMode) (input output : List ℕ)
-    → WritesAllFrames (pack_mode_command mode input output)
+    → WritesOnly IsCountedFile (pack_mode_command mode input output)
 pack-stay mode input output =
-    grind (arith, one_writes, where-stay, all_choosing, planning, packed-made)
+    let plan = mode_planning mode in
+    one_writes (pack_task mode input) output
+    (λ files bytes e. where-stay all_choice plan all_choosing (planning mode) (files input) bytes
+    (packed-made mode (files input) (input_result (laying_making all_choice plan) (files input))
+    bytes e))
 
 -- ---- the frames that a decoder needs for some samples
 
 module _ (from to : ExactPlace) (file : List ℕ) (s : SurveyFields)
     (surveyed : survey_of file most_frames ≡ Ok s) where
   span-stays : (span : Span) → file_span from to (fields_of_head file s.head) s ≡ Ok span
-      → LosesNoFrame
+      → IsCountedFile
       (file_laid (span_piece (fields_of_head file s.head) span file (survey_without_head s)) file
       (survey_without_head s))
+  unfolding span_piece
   span-stays span e =
       let head = fields_of_head file s.head in
-      piece-loses-none head (head_long file s.head) span file (survey_without_head s)
-      (survey_without_head-relaid file s surveyed)
-      (span-survey_without_head s span (span-there from to head s span e))
+      let own = survey_without_head s in
+      let has = survey_without_head-relaid file s surveyed in
+      let inside = span-survey_without_head s span (span-there from to head s span e) in
+      let plain = span_part head span own in
+      let first = first-there own.frames span.first (omega (arith, inside.some, inside.within)) in
+      let whole =
+      for-whole own.class (frames_laid plain file own) plain.quality plain.extension
+      (plain-long head (head_long file s.head) span file own has inside) in
+      let sealed = sealed-whole first.0.header (info_laid plain file own) whole in
+      subst
+      (λ (o : Option Row). IsCountedFile (file_laid (row_sealed_part o plain file own) file own))
+      (sym first.1)
+      (laid-counted (row_sealed_part (Some first.0) plain file own) file own has inside.some
+      inside.within
+      (with-fitting (span_chosen head span) own has.placed inside.some inside.within span.led)
+      sealed.extension)
 
-  samples-stay : (laid : LaidPart) → exact_part from to file s ≡ Ok laid
-      → LosesNoFrame (file_laid laid file (survey_without_head s))
+  -- the file of the samples between two places
+  pub samples-stay : (laid : LaidPart) → exact_part from to file s ≡ Ok laid
+      → IsCountedFile (file_laid laid file (survey_without_head s))
   unfolding exact_part
   samples-stay laid e = grind (arith, then_ok, span-stays)
 
 exact-stays : (from to : ExactPlace) (o : Option (List ℕ)) (made : List ℕ)
-    → input_result (exact_making from to) o ≡ Ok made → LosesNoFrame made
+    → input_result (exact_making from to) o ≡ Ok made → IsCountedFile made
 exact-stays from to None made e = absurd cc
 exact-stays from to (Some file) made e =
     let parts = made_parts (exact_making from to) file made e in
     let by = piece-parts from to file parts.0 made parts.2 in
-    subst LosesNoFrame by.is (span-stays from to file parts.0 parts.1 by.span by.span_is)
+    subst IsCountedFile by.is (span-stays from to file parts.0 parts.1 by.span by.span_is)
 
 exact-stay : (input : List ℕ) (from to : ExactPlace) (output : List ℕ)
-    → WritesAllFrames (exact_command from to input output)
+    → WritesOnly IsCountedFile (exact_command from to input output)
 exact-stay input from to output = search (arith, one_writes, exact-stays)
 
 -- ---- the pieces of a split
@@ -126,7 +222,7 @@ exact-stay input from to output = search (arith, one_writes, exact-stays)
 -- the frames between two positions, in the slots of their plan
 range-stays : (from to : Place) (file : List ℕ) (s : SurveyFields)
     → survey_of file most_frames ≡ Ok s → (laid : LaidPart) → cut_part from to file s ≡ Ok laid
-    → LosesNoFrame (file_laid laid file s)
+    → IsCountedFile (file_laid laid file s)
 range-stays from to file s surveyed laid e =
     chosen-stay (cut_choice from to) (first_planning own_choice) (cut_choosing from to)
     (first_is_planning own_choice (inl refl)) file s (file_laid laid file s) surveyed
@@ -135,10 +231,10 @@ range-stays from to file s surveyed laid e =
 module _ {P : Type 0} (cut : Cutting P) (prefix : List ℕ)
     (stays : (from to : P) (file : List ℕ) (s : SurveyFields) → survey_of file most_frames ≡ Ok s
     → (laid : LaidPart) → cut.between from to file s ≡ Ok laid
-    → LosesNoFrame (file_laid laid file (cut.survey s))) where
+    → IsCountedFile (file_laid laid file (cut.survey s))) where
   module _ (file : List ℕ) (s : SurveyFields) (surveyed : survey_of file most_frames ≡ Ok s) where
     abbrev AllStay : ℕ → List LaidPart → Type 0
-    AllStay k all = AllLoseNoFrame (pieces_from prefix k file (cut.survey s) all)
+    AllStay k all = AllOutputs IsCountedFile (pieces_from prefix k file (cut.survey s) all)
 
     from-stay : (k : ℕ) (from : P) (places : List P) (all : List LaidPart)
         → piece_parts_from cut file s from places ≡ Ok all → AllStay k all
@@ -154,7 +250,7 @@ module _ {P : Type 0} (cut : Cutting P) (prefix : List ℕ)
         → AllStay 1 all
     pieces-stay places all e = grind (arith, from-stay)
 
-  split-stays : (input : List ℕ) → WritesAllFrames (split_command cut input prefix)
+  split-stays : (input : List ℕ) → WritesOnly IsCountedFile (split_command cut input prefix)
   split-stays input files made e = grind (arith, split-parts, pieces-stay)
 
 -- ---- all frames of several files
@@ -170,72 +266,130 @@ module _ (first : FilePart) (more : List FilePart)
   info-sizes : HasInfoSizes (plain_info class frames)
   info-sizes = grind (arith, length-map, length-range_with_len)
 
-  joined-stays : LosesNoFrame (joined_file (first ∷ more))
+  joined-stays : IsCountedFile (joined_file (first ∷ more))
   unfolding joined_file
   joined-stays =
       let part = are.0 in
+      let plan = joined_plan class (first ∷ more) in
       let found = first-there first.survey.frames 0 (omega (arith, part.some, part.within)) in
       let row = part.has.placed 0 found.0 found.1 in
-      subst (λ (o : Option Row). LosesNoFrame (joined_row_file o first (first ∷ more)))
+      let hold =
+      entries-hold class own_choice (first ∷ more) plan (omega arith) are
+      (usual_slots own_choice (inl refl)) (join-plan first more are) in
+      subst (λ (o : Option Row). IsCountedFile (joined_row_file o first (first ∷ more)))
       (sym found.1)
-      (planned-frames-stay class own_choice (first ∷ more) (joined_plan class (first ∷ more))
-      (omega arith) are (usual_slots own_choice (inl refl)) (join-plan first more are)
-      (front_blocks first.file first.survey) found.0.header (plain_info class frames) []
-      (blocks-kept first.file first.survey part.has).0 row.known row.class_is info-sizes tt)
+      (record {
+        class = class;
+        front = front_blocks first.file first.survey;
+        first = found.0.header;
+        info = plain_info class frames;
+        frames = frames;
+        back = [];
+        is = refl;
+        laid = record {
+          blocks_before = (blocks-kept first.file first.survey part.has).0;
+          header = row.known;
+          class = row.class_is;
+          sizes = info-sizes;
+          some = hold.some;
+          entries = hold.entries;
+          laid = hold.fit;
+          blocks_behind = tt;
+        };
+        frames_are = refl;
+        bytes_are = refl;
+      })
 
 inputs-stay : (files : Contents) (inputs : List (List ℕ)) → 1 ≤ length inputs →
-    (parts : List FilePart) → join_parts files inputs ≡ Ok parts → LosesNoFrame (joined_file parts)
+    (parts : List FilePart) → join_parts files inputs ≡ Ok parts → IsCountedFile (joined_file parts)
 inputs-stay files [] some parts e = absurd (omega (arith, some))
 inputs-stay files (name ∷ names) some parts e =
     grind (arith, parts-join files name names parts e, joined-stays)
 
 join-stay : (output : List ℕ) (inputs : List (List ℕ)) → 1 ≤ length inputs
-    → WritesAllFrames (join_command output inputs)
+    → WritesOnly IsCountedFile (join_command output inputs)
 join-stay output inputs some = grind (arith, one_writes, then_ok, inputs-stay)
 
 -- ---- what is left of a damaged file
 
 left-stays : (file : List ℕ) (d : DamagedFields) → damaged_of file ≡ Ok d
-    → LosesNoFrame (salvaged_file file d)
+    → IsCountedFile (salvaged_file file d)
 unfolding salvaged_file chosen_file
 left-stays file d read =
     let own = emptied_survey d.survey in
     let had = left-had file d read in
     let some = left-some file d read in
-    laid-loses-none (own_slots_part (all_chosen own) own) file own had some (omega arith)
+    laid-counted (own_slots_part (all_chosen own) own) file own had some (omega arith)
     (plan-fitting (all_chosen own) own had.placed some (omega arith) own_choice (inl refl)) refl
 
 read-stays : (o : Option (List ℕ)) (bytes : List ℕ) → input_salvaged o ≡ Ok bytes
-    → LosesNoFrame bytes
+    → IsCountedFile bytes
 read-stays None bytes e = absurd cc
 read-stays (Some file) bytes e = at (damaged_of file) refl e
   where
     at : (r : Result DamagedFields SurveyFault) → damaged_of file ≡ r
-        → salvaged_or_fault file r ≡ Ok bytes → LosesNoFrame bytes
+        → salvaged_or_fault file r ≡ Ok bytes → IsCountedFile bytes
     at (Err fault) read e = absurd cc
     at (Ok d) read e = let same : salvaged_file file d ≡ bytes = cc in
-        subst LosesNoFrame same (left-stays file d read)
+        subst IsCountedFile same (left-stays file d read)
 
 text-stays : (text : List ℕ) (r : Result Made EditFault)
-    → ((made : Made) → r ≡ Ok made → AllLoseNoFrame made.outputs) → (made : Made)
-    → with_text text r ≡ Ok made → AllLoseNoFrame made.outputs
+    → ((made : Made) → r ≡ Ok made → AllOutputs IsCountedFile made.outputs) → (made : Made)
+    → with_text text r ≡ Ok made → AllOutputs IsCountedFile made.outputs
 text-stays text r stays made e = grind arith
 
-salvage-stay : (input output : List ℕ) → WritesAllFrames (salvage_command input output)
-salvage-stay input output files made e = grind (arith, text-stays, one_writes, read-stays)
+salvage-stay : (input output : List ℕ) → WritesOnly IsCountedFile (salvage_command input output)
+salvage-stay input output files made e =
+    text-stays (input_salvage_text (files input))
+    ((one_command (salvage_task input) output).makes files)
+    (one_writes (salvage_task input) output (λ others. read-stays (others input)) files) made e
 
 -- ---- several files without seams
 
+-- the Info frame of a run gives its numbers, with or without delay and padding
+run-frames : (delay : Option ℕ) (row : Row) (first : FilePart) (parts : List FilePart)
+    → (seamless_info delay row first parts).frames ≡ Some (length (seamless_frames first parts))
+run-frames None row first parts = refl
+run-frames (Some delay) row first parts = refl
+
+run-bytes : (delay : Option ℕ) (row : Row) (first : FilePart) (parts : List FilePart)
+    → (seamless_info delay row first parts).bytes
+    ≡ Some (all_bytes first.survey.class slot_in (seamless_frames first parts))
+run-bytes None row first parts = refl
+run-bytes (Some delay) row first parts = refl
+
+run-stays : (first : FilePart) (parts : List FilePart)
+    → IsWholeFile first.survey.class first → AreWholeFiles first.survey.class parts
+    → IsCountedFile (seamless_file (first ∷ parts))
+run-stays first parts is are =
+    let row : Row = (found first parts is are).0 in
+    record {
+      class = first.survey.class;
+      front = blocks first parts is are;
+      first = row.header;
+      info = info first parts is are;
+      frames = seamless_frames first parts;
+      back = [];
+      is = seamless-is first parts is are;
+      laid = file-is first parts is are;
+      frames_are = run-frames (delay_of_run first parts) row first parts;
+      bytes_are = run-bytes (delay_of_run first parts) row first parts;
+    }
+
+files-stay : (files : Contents) (names : List (List ℕ)) (parts : List FilePart)
+    → 1 ≤ length names → join_parts files names ≡ Ok parts → IsCountedFile (seamless_file parts)
+files-stay files names parts some e = grind (arith, parts-whole files names parts some e, run-stays)
+
 seamless-stay : (output : List ℕ) (inputs : List (List ℕ)) → 1 ≤ length inputs
-    → WritesAllFrames (seamless_command output inputs)
+    → WritesOnly IsCountedFile (seamless_command output inputs)
 seamless-stay output inputs some files made e =
-    grind (arith, text-stays, one_writes, then_ok, files-lose-none)
+    grind (arith, text-stays, one_writes, then_ok, files-stay)
 
 -- ---- all commands
 
--- no frame of a written file is lost
-pub frames-stay : WrittenFramesStay
-frames-stay =
+-- each command writes files of laid frames behind an Info frame that gives their numbers
+pub files-counted : WrittenFilesAreCounted
+files-counted =
     search (
       arith,
       cut-stay,
@@ -248,3 +402,47 @@ frames-stay =
       seamless-stay,
       salvage-stay,
     )
+
+-- ---- what holds of such files
+
+module _ (P : List ℕ → Type 0) (each : (bytes : List ℕ) → IsCountedFile bytes → P bytes) where
+  all-outputs : (outputs : List Output) → AllOutputs IsCountedFile outputs → AllOutputs P outputs
+  all-outputs [] all = tt
+  all-outputs (output ∷ outputs) all = (each output.bytes all.0, all-outputs outputs all.1)
+
+  all-made : (command : Command) → WritesOnly IsCountedFile command → WritesOnly P command
+  all-made command writes files made e = all-outputs made.outputs (writes files made e)
+
+  -- what holds of all such files holds of all files that the commands write
+  pub all-written : AllWritten P
+  all-written = record {
+    cut = λ from to least input output. all-made (cut_command from to least input output)
+        (files-counted.cut from to least input output);
+    cut_exact = λ input from to output. all-made (exact_command from to input output)
+        (files-counted.cut_exact input from to output);
+    pack = λ mode input output. all-made (pack_mode_command mode input output)
+        (files-counted.pack mode input output);
+    split_at = λ input prefix places. all-made (split_at_command places input prefix)
+        (files-counted.split_at input prefix places);
+    split_by = λ input prefix sheet. all-made (split_by_command input sheet prefix)
+        (files-counted.split_by input prefix sheet);
+    split_exact = λ input prefix places. all-made (split_exact_at_command places input prefix)
+        (files-counted.split_exact input prefix places);
+    split_exact_by = λ input prefix sheet. all-made (split_exact_by_command input sheet prefix)
+        (files-counted.split_exact_by input prefix sheet);
+    join = λ output inputs some. all-made (join_command output inputs)
+        (files-counted.join output inputs some);
+    join_seamless = λ output inputs some. all-made (seamless_command output inputs)
+        (files-counted.join_seamless output inputs some);
+    salvage = λ input output. all-made (salvage_command input output)
+        (files-counted.salvage input output);
+  }
+
+counted-loses-none : (bytes : List ℕ) → IsCountedFile bytes → LosesNoFrame bytes
+counted-loses-none bytes is =
+    subst LosesNoFrame (sym is.is)
+    (laid-frames-stay is.class is.front is.first is.info is.frames is.back is.laid)
+
+-- no frame of a written file is lost
+pub frames-stay : WrittenFramesStay
+frames-stay = all-written LosesNoFrame counted-loses-none

@@ -1,3 +1,4 @@
 -- What the contracts of this crate cite.
 pub mod StepText
 pub mod RoomLaw
+pub mod WrittenText

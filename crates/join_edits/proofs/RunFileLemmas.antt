@@ -1,5 +1,4 @@
--- The file of inputs that are joined without seams: it is well-formed, holds its stream, and loses
--- no frame.
+-- The file of inputs that are joined without seams: it is well-formed and holds its stream.
 use Rattle.std.proofs.Common.{ap, arith, Bool, cond, drop, length, List, None, Ok, Option, refl}
 use Rattle.std.proofs.Common.{Result, Some, subst, sym, take, ℕ, [], ◌++◌, ◌+◌, ◌-◌, ◌∙◌, ◌∷◌, ◌≡◌}
 use Rattle.std.proofs.{Common.◌≤◌, lemmas.List.{length-map, FromFn.length-range_with_len}}
@@ -19,10 +18,9 @@ use Rattle.join_edits.specs.Join.{join_part, join_parts, join_parts_from}
 use Rattle.join_edits.specs.Seamless.{delay_of_run, join_of_parts, part_head, run_extension}
 use Rattle.join_edits.specs.Seamless.{run_parts, run_plan, seamless_file, seamless_frames}
 use Rattle.join_edits.specs.Seamless.{seamless_info, seamless_row_file, seamless_stream}
-use Rattle.laying.proofs.{HoldLemmas.blocks-kept, LaidFileLemmas.{laid-frames-stay, laid-stream}}
+use Rattle.laying.proofs.{HoldLemmas.blocks-kept, LaidFileLemmas.laid-stream}
 use Rattle.laying.proofs.{LaidLemmas.first-there, SurveyFrameLemmas.survey-had}
-use Rattle.laying.specs.{LaidFiles.{HasInfoSizes, IsLaidFile, laid_file}, LaidLaws.LosesNoFrame}
-use Rattle.laying.specs.Laws.{AreFramesOfStream}
+use Rattle.laying.specs.{LaidFiles.{HasInfoSizes, IsLaidFile, laid_file}, Laws.AreFramesOfStream}
 use Rattle.laying.specs.{Relaid.{FilePart, part_stream, stream_with_lead_ins}, Written.front_blocks}
 use Rattle.outside.specs.Files.{Contents}
 use Rattle.sync_survey.specs.{Faults.HoldsStream, MainData.StreamFrame, Row.Row}
@@ -59,23 +57,25 @@ module _ (first : FilePart) (parts : List FilePart) where
     abbrev front : ℕ
     front = (join_of_parts first parts).front
 
-    abbrev blocks : List (List ℕ)
+    abbrev pub blocks : List (List ℕ)
     blocks = front_blocks first.file first.survey
 
     abbrev stream : List StreamFrame
     stream =
         stream_with_lead_ins (run_plan first parts) (flat_map part_stream (run_parts first parts))
 
-    found : (row : Row) × (slice_get first.survey.frames front ≡ Some row)
+    -- the first frame of the run
+    pub found : (row : Row) × (slice_get first.survey.frames front ≡ Some row)
     found = first-there first.survey.frames front (front-within first parts is are)
 
-    abbrev info : Info
+    abbrev pub info : Info
     info = seamless_info (delay_of_run first parts) found.0 first parts
 
     laid : AreFramesOfStream class frames stream
     laid = run-laid first parts is are
 
-    file-is : IsLaidFile class blocks found.0.header info frames []
+    -- its frames can be laid behind this Info frame
+    pub file-is : IsLaidFile class blocks found.0.header info frames []
     file-is =
         let row = is.had.placed front found.0 found.1 in
         record {
@@ -89,10 +89,11 @@ module _ (first : FilePart) (parts : List FilePart) where
           blocks_behind = tt;
         }
 
-    abbrev file : List ℕ
+    abbrev pub file : List ℕ
     file = laid_file blocks found.0.header info frames []
 
-    seamless-is : seamless_file (first ∷ parts) ≡ file
+    -- the join is the file of them
+    pub seamless-is : seamless_file (first ∷ parts) ≡ file
     unfolding seamless_file
     seamless-is = ap (λ (o : Option Row). seamless_row_file o first parts) found.1
 
@@ -104,12 +105,6 @@ module _ (first : FilePart) (parts : List FilePart) where
         subst (λ (f : List ℕ). HoldsStream f stream) (sym seamless-is)
         (subst (HoldsStream file) laid.stream_is
         (laid-stream class blocks found.0.header info frames [] file-is))
-
-    -- it loses no frame
-    pub seamless-loses-none : LosesNoFrame (seamless_file (first ∷ parts))
-    seamless-loses-none =
-        subst LosesNoFrame (sym seamless-is)
-        (laid-frames-stay class blocks found.0.header info frames [] file-is)
 
 -- ---- inputs that aren't refused
 
@@ -178,15 +173,9 @@ parts-whole files (name ∷ names) parts some e =
       all = later-whole files part.survey.class (0 + 1) left names more.0 more.1;
     }
 
--- the file made from them holds its stream, and loses no frame
+-- the file made from them holds its stream
 pub files-hold : (files : Contents) (names : List (List ℕ)) (parts : List FilePart)
     → 1 ≤ length names → join_parts files names ≡ Ok parts
     → HoldsStream (seamless_file parts) (seamless_stream parts)
 files-hold files names parts some e =
     grind (arith, parts-whole files names parts some e, seamless-holds)
-
--- the file made from them loses no frame
-pub files-lose-none : (files : Contents) (names : List (List ℕ)) (parts : List FilePart)
-    → 1 ≤ length names → join_parts files names ≡ Ok parts → LosesNoFrame (seamless_file parts)
-files-lose-none files names parts some e =
-    grind (arith, parts-whole files names parts some e, seamless-loses-none)

@@ -105,6 +105,25 @@ module _ (first : HeaderFields) (info : Info) (known : IsHeader first)
   unfolding info_in field_in field_place
   frames-in n is small = grind (arith, flags-is, le-leb, frames-long, frames-at)
 
+  -- the number of bytes, which has four bytes
+  bytes-by : (vbr : Bool) (m n : ℕ) (rest : List ℕ)
+      → take 4 (drop 12
+      (vbr_text vbr ++ (big_bytes 4 15 ++ (big_bytes 4 m ++ (big_bytes 4 n ++ rest)))))
+      ≡ big_bytes 4 n
+  bytes-by vbr m n rest = grind arith
+
+  bytes-long : 16 ≤ length fields
+  bytes-long = omega (arith, length-append (info_bytes info) zeros, length-info info sizes)
+
+  bytes-at : take 4 (drop 12 fields) ≡ big_bytes 4 (number_or_zero info.bytes)
+  unfolding info_bytes
+  bytes-at = grind (arith, append_assoc, bytes-by)
+
+  -- the number of bytes of an Info frame is read back
+  bytes-in : (n : ℕ) → info.bytes ≡ Some n → n < 256 ^ 4 → (info_in fields).bytes ≡ Some n
+  unfolding info_in field_in field_place
+  bytes-in n is small = grind (arith, flags-is, le-leb, bytes-long, bytes-at)
+
   -- the quality, after the table
   behind-by : (vbr : Bool) (m n : ℕ) (rest : List ℕ)
       → drop 16
@@ -170,6 +189,12 @@ module _ (first : HeaderFields) (info : Info) (known : IsHeader first)
         → (head_info file (Some (head_at (length (concat front)) first))).frames ≡ Some n
     unfolding head_info
     laid-count n is small = grind (arith, head-there, fields-there, frames-in)
+
+    -- the head of the file has the number of bytes that it was laid with
+    pub laid-bytes : (n : ℕ) → info.bytes ≡ Some n → n < 256 ^ 4
+        → (head_info file (Some (head_at (length (concat front)) first))).bytes ≡ Some n
+    unfolding head_info
+    laid-bytes n is small = grind (arith, head-there, fields-there, bytes-in)
 
     -- the head of the file has the quality that it was laid with
     pub laid-quality
