@@ -77,10 +77,9 @@ LeftOutIsEmpty =
 abbrev pub part_played : FilePart → Played
 part_played p = input_played p.file p.survey
 
--- Where these positions of the joined file are played, its first played position is the first
--- input's, and its last one is the last input's: if the position where the last input's played
--- positions end is in the joined file at all, its own end there. It is in the joined file if the
--- last input plays a sample, or ends where it begins.
+-- The first played position of the joined file is the first input's. Its played positions end where
+-- the last input's do, if that position is in the joined file at all; and it is, unless the last
+-- input's end is before its start.
 pub record KeepsEnds (first : FilePart) (parts : List FilePart) (last : FilePart) (joined : Played)
     : Type 0 where
   pub start : IsSamePosition first parts 0 first (part_played first).start joined.start
