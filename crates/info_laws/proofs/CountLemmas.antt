@@ -1,22 +1,23 @@
 -- The text about a file that was laid: its head gives the numbers of what is there.
 use Rattle.std.proofs.Common.{ap, ap₂, arith, Bool, cond, false, length, List, Ok, Option, refl}
-use Rattle.std.proofs.Common.{Some, sym, true, ℕ, [], ◌*◌, ◌++◌, ◌+◌, ◌<◌, ◌^◌, ◌∙◌, ◌∷◌, ◌≡◌, ◌≤◌}
-use Rattle.std.{proofs.lemmas.{Bool.{and_from, eq-eqb}, List.Sums.sum_by-cons}, specs.List.concat}
-use Rattle.std.specs.Prelude.{slice_get, ◌==◌}
+use Rattle.std.proofs.Common.{Some, subst, sym, true, ℕ, [], ◌*◌, ◌++◌, ◌+◌, ◌<◌, ◌^◌, ◌∙◌, ◌∷◌}
+use Rattle.std.proofs.{Common.{◌≡◌, ◌≤◌}, lemmas.{Bool.{and_from, eq-eqb}, List.Sums.sum_by-cons}}
+use Rattle.std.specs.{List.concat, Prelude.{slice_get, ◌==◌}}
 use Rattle.commands.specs.SingleOutput.{most_frames}
 use Rattle.exact_laws.proofs.ExactFileLemmas.{frames-few}
 use Rattle.exact_span.specs.{Extensions.counts_of, Laws.AreInfoFields}
 use Rattle.file_laws.{proofs.WrittenFrameLemmas.all-written, specs.WrittenLaws.IsCountedFile}
 use Rattle.frame_header.proofs.{HeaderLemmas.IsClass-class_of, LengthLemmas.length-most}
-use Rattle.frame_header.specs.{Fields.{ClassFields, IsClass}, Tables.{class_of, length_of}}
+use Rattle.frame_header.specs.{Fields.{ClassFields, IsHeader}, Tables.{class_of, length_of}}
 use Rattle.frame_writer.specs.Frames.{Frame}
 use Rattle.info_header.specs.FileInfo.{all_bytes, frames_length, info_length}
-use Rattle.info_header.specs.{InfoFrame.info_slot_of, declared.fields.Info.Info}
-use Rattle.info_laws.specs.WrittenText.{CountedTextsAgree, NeverSaysOther, SaysNoOther}
-use Rattle.laying.proofs.{InfoByteLemmas.info_slot-is, LaidFileLemmas.laid-survey}
-use Rattle.laying.{proofs.LaidFrameLemmas.rows-length, specs.KeptFields.fields_of_head}
+use Rattle.info_header.specs.{InfoFrame.{info_header_of, info_slot_of}, declared.fields.Info.Info}
+use Rattle.info_laws.specs.WrittenText.{CountedTextsAgree, NeverSaysOther, SaysNoOther, text_lines}
+use Rattle.info_laws.specs.WrittenText.{WrittenTextsAgree}
+use Rattle.laying.proofs.{LaidFileLemmas.laid-survey, LaidFrameLemmas.rows-length}
+use Rattle.laying.{proofs.SurveyFrameLemmas.survey-had, specs.KeptFields.fields_of_head}
 use Rattle.laying.specs.LaidFiles.{AreStreamEntries, frame_length, frames_offset, head_at}
-use Rattle.laying.specs.LaidFiles.{laid_fields, laid_file, rows_from}
+use Rattle.laying.specs.{LaidFiles.{laid_fields, laid_file, rows_from}, Surveys.HasWholeHead}
 use Rattle.laying.specs.Written.{head_info, slot_in}
 use Rattle.list_edits.specs.InfoText.{agrees, but_line, class_line, counts_text, frames_line}
 use Rattle.list_edits.specs.InfoText.{gain_lines, head_line, info_lines, is_as_said, main_data_line}
@@ -24,6 +25,7 @@ use Rattle.list_edits.specs.InfoText.{played_line, rates_line}
 use Rattle.list_edits.specs.Totals.{file_areas, greatest_rate, header_frame_length, least_rate}
 use Rattle.list_edits.specs.Totals.{lost_count, main_data_in, row_lengths, stream_length}
 use Rattle.moved_gains.specs.GainExtremes.{extremes_of, extremes_of_both}
+use Rattle.moved_gains.specs.declared.gain_extremes.Gains.{Gains}
 use Rattle.seam_laws.proofs.PieceHeadLemmas.{laid-bytes, laid-count}
 use Rattle.sync_survey.proofs.SurveyPartsLemmas.{survey_fields-allowed}
 use Rattle.sync_survey.proofs.SurveyedFileLemmas.{survey_of-parts}
@@ -31,10 +33,14 @@ use Rattle.sync_survey.specs.{Faults.{survey_fields, SurveyFields}, Row.Row, Sur
 
 -- ---- the text of a file whose head gives the numbers of what is there
 
-line-many : {A : Type 0} (one : Bool) (a b c d e f g h i j : A) → length
-    (a ∷ b ∷ c ∷ d ∷ e ∷ f ∷ cond one (g ∷ []) (h ∷ i ∷ j ∷ [])) ≡ cond one 7 9
-line-many true a b c d e f g h i j = refl
-line-many false a b c d e f g h i j = refl
+gains-many : (channels : ℕ) (left right both : Option Gains)
+    → length (gain_lines channels left right both) ≡ cond (channels == 1) 1 3
+gains-many channels left right both = grind arith
+
+lines-many : (one : Bool) {lines : List (List ℕ)} (a b c d e f : List ℕ) (gains : List (List ℕ))
+    → lines ≡ a ∷ b ∷ c ∷ d ∷ e ∷ f ∷ gains → length gains ≡ cond one 1 3
+    → length lines ≡ cond one 7 9
+lines-many one a b c d e f gains is few = grind arith
 
 -- its lines are the six about the file and those about gains
 pub says-no-other : (file : List ℕ) (s : SurveyFields)
@@ -57,8 +63,9 @@ says-no-other file s said =
     ∷ head_line head ∷ (cond b [] (but_line count (stream_length s) ∷ [])
     ++ (played_line head s.class count ∷ gains))) said in
     record {
-      many = ap (λ (l : List (List ℕ)). length l) lines
-          ∙ line-many (s.class.channels == 1) _ _ _ _ _ _ _ _ _ _;
+      many = lines-many (s.class.channels == 1) _ _ _ _ _ _ gains lines
+          (gains-many s.class.channels (extremes_of 0 rows) (extremes_of 1 rows)
+          (extremes_of_both rows));
       plays = record {
         before = counts_text (counts_of head);
         sixth = ap (λ (l : List (List ℕ)). slice_get l 5) lines;
@@ -114,9 +121,6 @@ module _ (file : List ℕ) (is : IsCountedFile file) where
   whole : AreInfoFields is.info
   whole = record { table = is.laid.sizes.table; extension = is.laid.sizes.extension }
 
-  class-known : IsClass is.class
-  class-known = subst IsClass is.laid.class (IsClass-class_of is.first is.laid.header)
-
   module _ (s : SurveyFields) (e : survey_of laid most_frames ≡ Ok s) where
     survey-is : survey_fields laid most_frames ≡ Ok s
     survey-is = (survey_of-parts laid most_frames s e).1
@@ -149,13 +153,22 @@ module _ (file : List ℕ) (is : IsCountedFile file) where
     few : length is.frames ≤ most_frames
     few = omega (arith, many, frames-few laid most_frames s survey-is)
 
+    head-known : IsHeader (info_header_of is.first)
+    unfolding laid_fields
+    head-known =
+        let head-as : s.head ≡ Some (head_at (length (concat is.front)) is.first) =
+        ap (λ (t : SurveyFields). t.head) (sym told) in
+        (subst (HasWholeHead laid) head-as (survey-had laid most_frames s e).head).header
+
     few-all : all_bytes is.class slot_in is.frames < 256 ^ 4
     few-all =
         omega (
           arith,
           few,
           few-bytes is.class is.frames is.laid.entries,
-          length-most is.class (info_slot_of is.class) class-known (info_slot-is is.class),
+          ap info_length is.laid.class,
+          length-most (class_of is.first) (info_slot_of (class_of is.first))
+              (IsClass-class_of is.first is.laid.header) head-known.slot,
         )
 
     said : is_as_said (fields_of_head laid s.head) (length s.frames) (stream_length s) ≡ true
