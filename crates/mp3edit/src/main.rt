@@ -1,7 +1,10 @@
 //! The program.
 #![tactic(auto)]
 
-ghost use Rattle.std.specs.Prelude.{◌≡◌, ◌≢◌, map, string_bytes, IfOk, IfErr, OnErr};
+ghost use Rattle.std.specs.Prelude.{◌≡◌, ◌≢◌, drop, map, string_bytes, IfOk, IfErr, OnErr};
+ghost use Rattle.std.specs.Vec.Iter.{into_iter_items};
+ghost use Rattle.std.specs.Process.{exit_status};
+ghost use Rattle.on_disk.specs.RealFiles.{stream_heard};
 ghost use Rattle.std.specs.IoError.{error_kind};
 ghost use Rattle.std.specs.declared.io.ErrorKind.TheVariants.{OutOfMemory};
 ghost use Rattle.mp3_cli.specs.Run.{world, ProgramRun};
@@ -9,15 +12,23 @@ ghost use Rattle.mp3_cli.specs.Run.{world, ProgramRun};
 use mp3_cli::run;
 use on_disk::{DiskFolder, StdSink};
 use outside::{Folder, Sink};
-use std::alloc::Global;
+use std::alloc::{AllocError, Global};
+use std::env::Args;
 use std::fs::File;
 use std::process::ExitCode;
-use std::rt::{Env, Files};
+use std::rt::{Env, Files, Stderr, Stdout};
 use std::{env, io};
 
-/// The arguments of the program, without its name. An error where one isn't UTF-8, or if memory runs out.
+/// The words: all arguments but the first, which is the program's name. An error if memory runs out.
+fn after_name(arguments: Args, alloc: Global) -> Result<Vec<String>, AllocError>
+    ensures { IfOk result (λ words. words.items ≡ drop 1 (into_iter_items arguments)) }
+{
+    arguments.skip(1).collect(alloc)
+}
+
+/// The words of the program. An error where an argument isn't UTF-8, or if memory runs out.
 fn words<R: Env + AllocGlobal>(rt: &R) -> io::Result<Vec<String>> {
-    Ok(env::args(rt)?.skip(1).collect(rt.alloc())?)
+    Ok(after_name(env::args(rt)?, rt.alloc())?)
 }
 
 /// The status where the words can't be read: 4 if memory ran out, otherwise 3.
@@ -60,6 +71,25 @@ fn answer<D: Folder, T: Sink, E: Sink>(
     }
 }
 
+/// The same, with texts to standard output and lines to standard error, as the program's exit code.
+fn answer_on_streams<D: Folder>(
+    alloc: Global,
+    words: io::Result<Vec<String>>,
+    folder: &mut D,
+    out: &mut StdSink<Stdout>,
+    err: &mut StdSink<Stderr>,
+) -> ExitCode
+    ensures run { IfOk words (λ v. ProgramRun (map string_bytes v.items)
+        (world (D.seen folder.old) (stream_heard out.old) (stream_heard err.old))
+        (world (D.seen folder.new) (stream_heard out.new) (stream_heard err.new))
+        (exit_status result)) }
+    ensures memory { IfErr words
+        (λ error. error_kind error ≡ OutOfMemory → exit_status result ≡ 4) }
+    ensures other { IfErr words (λ error. error_kind error ≢ OutOfMemory → exit_status result ≡ 3) }
+{
+    ExitCode::from(answer(alloc, words, folder, out, err))
+}
+
 /// Opens `/dev/null` for reading. While it is kept open, no other file gets its descriptor: where standard output or standard
 /// error is closed, an output would get the descriptor of that stream, and with it a text or a line that isn't its own.
 fn hold_descriptor<R: Files>(rt: &R) -> Option<R::File> {
@@ -77,5 +107,5 @@ fn main(rt: HostRuntime) -> ExitCode {
     let mut folder = DiskFolder::new(&rt, rt.alloc());
     let mut out = StdSink::new(rt.stdout());
     let mut err = StdSink::new(rt.stderr());
-    ExitCode::from(answer(rt.alloc(), words, &mut folder, &mut out, &mut err))
+    answer_on_streams(rt.alloc(), words, &mut folder, &mut out, &mut err)
 }
