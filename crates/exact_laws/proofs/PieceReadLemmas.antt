@@ -12,8 +12,8 @@ use Rattle.cut_edits.proofs.{PieceLemmas.{span-survey_without_head, span_chosen}
 use Rattle.cut_edits.specs.Chosen.{Chosen}
 use Rattle.cut_edits.specs.Exact.{exact_part, IsSpanIn, span_lead_ins, span_needs, span_plan}
 use Rattle.cut_edits.specs.{Exact.survey_without_head, ExactLaws.PlaysItsSamples}
-use Rattle.exact_laws.proofs.ExactFileLemmas.{all_run, frames-few, has-own, IsExactFile, IsFound}
-use Rattle.exact_laws.proofs.ExactFileLemmas.{laid-exact, laid_by, leads, own, piece-by, span-found}
+use Rattle.exact_laws.proofs.ExactFileLemmas.{all_run, has-own, IsExactFile, IsFound, laid-exact}
+use Rattle.exact_laws.proofs.ExactFileLemmas.{laid_by, leads, own, piece-by, span-found}
 use Rattle.exact_laws.proofs.ExactSpanLemmas.{has-span, HasSpan, input-class, leads-are, places-of}
 use Rattle.exact_laws.proofs.ExactSpanLemmas.{read, read-head, read-is}
 use Rattle.exact_laws.specs.PieceLaws.{all_read_samples, AreSurveysOf, ExactPiecesPlayAsRead}
@@ -26,7 +26,7 @@ use Rattle.info_header.specs.declared.fields.Info.{Info}
 use Rattle.laying.proofs.{LaidLemmas.first-there, SurveyFrameLemmas.survey-had}
 use Rattle.laying.specs.{KeptFields.fields_of_head, Laid.{file_laid, info_laid, LaidPart}}
 use Rattle.laying.specs.{NeedsFit.own_choice, Relaid.FilePart, Surveys.CanBeRelaid}
-use Rattle.seam_laws.proofs.SeamlessInputLemmas.{brought-many, IsInput}
+use Rattle.seam_laws.proofs.{JoinEndLemmas.frames-few, SeamlessInputLemmas.{brought-many, IsInput}}
 use Rattle.seam_plan.specs.Frames.{RunFrame}
 use Rattle.slot_plan.specs.{LeastPlan.led_plan, declared.needs.Need.Need}
 use Rattle.split_edits.proofs.RecordingLemmas.{between-plays, pieces-recording}

@@ -4,7 +4,6 @@ use Rattle.std.proofs.Common.{Some, subst, sym, true, ℕ, [], ◌*◌, ◌++◌
 use Rattle.std.proofs.{Common.{◌≡◌, ◌≤◌}, lemmas.{Bool.{and_from, eq-eqb}, List.Sums.sum_by-cons}}
 use Rattle.std.specs.{List.concat, Prelude.{slice_get, ◌==◌}}
 use Rattle.commands.specs.SingleOutput.{most_frames}
-use Rattle.exact_laws.proofs.ExactFileLemmas.{frames-few}
 use Rattle.exact_span.specs.{Extensions.counts_of, Laws.AreInfoFields}
 use Rattle.file_laws.{proofs.WrittenFrameLemmas.all-written, specs.WrittenLaws.IsCountedFile}
 use Rattle.frame_header.proofs.{HeaderLemmas.IsClass-class_of, LengthLemmas.length-most}
@@ -26,7 +25,7 @@ use Rattle.list_edits.specs.Totals.{file_areas, greatest_rate, header_frame_leng
 use Rattle.list_edits.specs.Totals.{lost_count, main_data_in, row_lengths, stream_length}
 use Rattle.moved_gains.specs.GainExtremes.{extremes_of, extremes_of_both}
 use Rattle.moved_gains.specs.declared.gain_extremes.Gains.{Gains}
-use Rattle.seam_laws.proofs.PieceHeadLemmas.{laid-bytes, laid-count}
+use Rattle.seam_laws.proofs.{JoinEndLemmas.frames-few, PieceHeadLemmas.{laid-bytes, laid-count}}
 use Rattle.sync_survey.proofs.SurveyPartsLemmas.{survey_fields-allowed}
 use Rattle.sync_survey.proofs.SurveyedFileLemmas.{survey_of-parts}
 use Rattle.sync_survey.specs.{Faults.{survey_fields, SurveyFields}, Row.Row, Survey.survey_of}

@@ -4,8 +4,8 @@ use Rattle.std.proofs.Common.{◌≡◌, ◌≤◌}
 use Rattle.commands.proofs.{MadeLemmas.some-frames, RefusingLemmas.then_ok}
 use Rattle.commands.specs.SingleOutput.{most_frames}
 use Rattle.cut_edits.specs.Exact.{exact_part, file_span, span_piece, survey_without_head}
-use Rattle.exact_laws.proofs.ExactFileLemmas.{frames-few, IsExactFile, IsFound, laid-exact}
-use Rattle.exact_laws.proofs.{ExactFileLemmas.span-found, ExactSpanLemmas.has-span}
+use Rattle.exact_laws.proofs.ExactFileLemmas.{IsExactFile, IsFound, laid-exact, span-found}
+use Rattle.exact_laws.proofs.ExactSpanLemmas.{has-span}
 use Rattle.exact_span.specs.PlayedPositions.{counted_positions, length_of_played, played_of}
 use Rattle.exact_span.specs.declared.{exact_place.ExactPlace.ExactPlace, played.Played.Played}
 use Rattle.exact_span.specs.declared.span.Span.{Span}
@@ -16,7 +16,7 @@ use Rattle.info_laws.proofs.CountLemmas.{counted-agree}
 use Rattle.info_laws.specs.WrittenText.{PieceTextsAgree, SaysSamples}
 use Rattle.laying.{proofs.SurveyFrameLemmas.survey-had, specs.KeptFields.fields_of_head}
 use Rattle.laying.specs.{Laid.{file_laid, LaidPart}, Relaid.FilePart, Surveys.CanBeRelaid}
-use Rattle.seam_laws.proofs.SeamlessInputLemmas.{IsInput}
+use Rattle.seam_laws.proofs.{JoinEndLemmas.frames-few, SeamlessInputLemmas.IsInput}
 use Rattle.split_edits.specs.Recording.{input_played, sample_named}
 use Rattle.sync_survey.{proofs.SurveyedFileLemmas.survey_of-parts, specs.Faults.SurveyFields}
 use Rattle.sync_survey.specs.Survey.{survey_of}
