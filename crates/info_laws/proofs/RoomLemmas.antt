@@ -10,8 +10,8 @@ use Rattle.side_info.specs.Side.{payload_bits, payload_bytes}
 use Rattle.sync_survey.proofs.ApartLemmas.{area-more, place-apart, Stands, stands_by}
 use Rattle.sync_survey.proofs.PlacedRowLemmas.{survey_fields-placed}
 use Rattle.sync_survey.proofs.SurveyPartsLemmas.{data-none_well}
-use Rattle.sync_survey.specs.MainData.{data_end_after, data_end_before, end_of_data, head_area}
-use Rattle.sync_survey.specs.{MainData.{is_silent, own_area, place}, Row.Row, Survey.AreWellPlaced}
+use Rattle.sync_survey.specs.MainData.{data_end_before, end_of_data, head_area, is_silent, own_area}
+use Rattle.sync_survey.specs.{MainData.place, Row.Row, Survey.AreWellPlaced}
 use Rattle.sync_survey.specs.declared.places.Head.{Head}
 
 silent-bytes : (r : Row) → is_silent r ≡ true → payload_bytes r.side ≡ 0
@@ -48,14 +48,7 @@ module _ (head : Option Head) (class : ClassFields) (rows : List Row)
   next-end : (i : ℕ) (r : Row) → slice_get rows i ≡ Some r → ended i ≤ at i
       → (ended i + row_main_data r ≤ ended (suc i)) × (ended (suc i) ≤ at (suc i))
   unfolding data_end_before
-  next-end i r found before =
-      let by =
-      one-by (at i) (ended i) r (is_silent r) r.lost (silent-bytes r) (stands i r found) before in
-      let here : ended (suc i) ≡ cond (is_silent r || r.lost) (ended i) (end_of_data (at i) r) =
-      ap (data_end_after (at i) (ended i)) found
-      ∙ ap (λ b. cond (is_silent r || b) (ended i) (end_of_data (at i) r))
-      (sym (placed i r found).mark) in
-      (omega (arith, by.0, here), omega (arith, by.1, here, next-place i r found))
+  next-end i r found before = grind (arith, one-by, silent-bytes, stands, next-place)
 
   -- from a frame on
   rest-fits : (n : ℕ) (xs : List Row)

@@ -23,11 +23,11 @@ use Rattle.list_edits.specs.Totals.{stream_length}
 use Rattle.moved_gains.proofs.ExtremesLemmas.{extremes-cons, extremes-nil, joined_extremes-append}
 use Rattle.moved_gains.{proofs.ExtremesLemmas.moving-nil, specs.Course.constant_steps}
 use Rattle.moved_gains.specs.GainExtremes.{extremes, extremes_of, extremes_of_both, joined_extremes}
-use Rattle.moved_gains.specs.GainExtremes.{moving_gains, row_gains, takes_steps}
+use Rattle.moved_gains.specs.GainExtremes.{moving_gains, takes_steps}
 use Rattle.moved_gains.specs.declared.gain_extremes.Gains.{Gains}
 use Rattle.requests.specs.{Shifts.steps_of, declared.shift.Channels.Channels}
 use Rattle.requests.specs.declared.shift.Channels.TheVariants.{Both, Left, Right}
-use Rattle.side_info.specs.Side.{granule_in, SideFits}
+use Rattle.side_info.specs.Side.{SideFits}
 use Rattle.sync_survey.proofs.PlacedRowLemmas.{survey_fields-placed}
 use Rattle.sync_survey.{proofs.SurveyedFileLemmas.survey_of-parts, specs.Faults.SurveyFields}
 use Rattle.sync_survey.specs.{Row.Row, Survey.{AreWellPlaced, survey_of}}
@@ -46,17 +46,9 @@ joined-none f g = grind arith
 -- no gains of a channel move exactly if it has no main data
 channel-none : (channel : ℕ) (rows : List Row)
     → is_none (extremes_of channel rows) ≡ list_all (lacks_channel channel) rows
-channel-none channel [] =
-    ap (λ l. is_none (extremes l)) (moving-nil channel) ∙ ap is_none extremes-nil
+channel-none channel [] = grind (arith, moving-nil, extremes-nil)
 channel-none channel (row ∷ rows) =
-    let first = granule_in row.side 0 channel in
-    let second = granule_in row.side 1 channel in
-    ap is_none (extremes-cons channel row rows)
-    ∙ joined-none (extremes (row_gains channel row)) (extremes_of channel rows)
-    ∙ ap₂ (λ (a b : Bool). a && b)
-    (gains-none row.lost (first.part2_3_length == 0) (second.part2_3_length == 0) first.global_gain
-    second.global_gain)
-    (channel-none channel rows)
+    grind (arith, extremes-cons, joined-none, gains-none, channel-none channel rows)
 
 both-none : (rows : List Row) → is_none (extremes_of_both rows) ≡ lack_channels Both rows
 both-none rows =
