@@ -337,8 +337,8 @@ static READ: [Case; 32] = table! {
     ("salvage a o", 513, Trouble::Short(1, 100), 3, "a: shrunk from 513 to 100\n", 1, 1)
 };
 
-// 864 bytes: the head is the 417 bytes from byte 30 on. It is read after the survey; in the second pass its area, from byte 66 on, is the
-// first part that is missing.
+// 864 bytes: the head is the 417 bytes from byte 30 on. It is read after the survey, in a join after both surveys; in the second pass its
+// area, from byte 66 on, is the first part that is missing.
 static HEADED: [Case; 7] = table! {
     Case { words, found, trouble, status, line, ends, created }
     ("info a", 864, Trouble::Short(1, 35), 3, "a: shrunk from 864 to 35\n", 1, 0)
@@ -347,7 +347,7 @@ static HEADED: [Case; 7] = table! {
     ("pack a o", 864, Trouble::Short(2, 35), 3, "a: shrunk from 864 to 66\n", 1, 1)
     ("cut --exact a 0 1 o", 864, Trouble::Short(1, 35), 3, "a: shrunk from 864 to 35\n", 1, 0)
     ("split --exact a p 0 1", 864, Trouble::Short(1, 35), 3, "a: shrunk from 864 to 35\n", 1, 0)
-    ("join --seamless o a c", 864, Trouble::Short(1, 35), 3, "a: shrunk from 864 to 35\n", 1, 0)
+    ("join --seamless o a c", 864, Trouble::Short(2, 35), 3, "a: shrunk from 864 to 35\n", 1, 0)
 };
 
 // 200 frames, 83,400 bytes, the first 65,536 of which are read at once. The second piece of a split isn't created before the first is
