@@ -1,8 +1,7 @@
 //! Side information by the tables of the standard, ISO/IEC 11172-3 and 13818-3, 2.4.1.7, and check words.
 use frame_header::{Class, Header, Version};
 use side_info::{
-    FrameFront, Granule, NO_GRANULE as NONE, Side, check_word, check_word_of_bytes, crc_of_bytes,
-    put_gains,
+    FrameFront, Granule, NO_GRANULE as NONE, Side, check_word, check_word_of_bytes, put_gains,
 };
 use std::alloc::{AllocError, Global};
 use std::process::Abort;
@@ -200,7 +199,7 @@ fn has_word(header: &Header, row: &Checked) -> bool {
 
 #[test]
 fn check_words(rt: HostRuntime) -> Result<(), Fail> {
-    assert!(rt; crc_of_bytes(b"123456789") == 0xaee7);
+    assert!(rt; check_word_of_bytes(b"--12", b"3456789") == 0xaee7);
     let header = Header::read(MONO_HEADER)?;
     for row in &WORDS {
         assert!(rt; has_word(&header, row), "word {}", row.word);

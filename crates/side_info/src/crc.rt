@@ -2,7 +2,7 @@
 ghost use Rattle.std.specs.Prelude.{◌≡◌, ◌*◌, ◌<◌, ◌≤◌, [], length, take, slice_index_or};
 ghost use Rattle.bit_fields.specs.Bits.{bits, bits_of};
 ghost use Rattle.frame_header.specs.Tables.{class_of};
-ghost use Rattle.side_info.specs.CheckWord.{remainder, crc_start, check_word_of, IsCrcOf};
+ghost use Rattle.side_info.specs.CheckWord.{remainder, check_word_of, IsCrcOf};
 ghost use Rattle.side_info.specs.Side.{SideFits};
 ghost use Rattle.side_info.specs.declared.crc.TheConstants.{REMAINDERS as remainders};
 
@@ -107,17 +107,9 @@ fn crc_after(word: u16, bytes: &[u8]) -> u16
     crc_after_bytes(crc_after_eights(word, bytes, eights), &bytes[8 * eights..])
 }
 
-/// The check word of these bytes: the remainder of their bits, the most significant first, divided by
-/// x^16 + x^15 + x^2 + 1 with all ones before them, and not inverted (ISO/IEC 11172-3 and 13818-3, 2.4.3.1).
-pub fn crc_of_bytes(bytes: &[u8]) -> u16
-    ensures { result ≡ remainder crc_start (bits bytes.now) }
-{
-    crc_after(START, bytes)
-}
-
 /// The check word of a frame, by the four bytes of its header and the bytes of its side information as they are in
-/// the frame: over the last two bytes of the header, followed by the side bytes (ISO/IEC 11172-3 and 13818-3,
-/// 2.4.3.1).
+/// the frame: the remainder of the last two bytes of the header and the side bytes, the most significant bits first,
+/// divided by x^16 + x^15 + x^2 + 1 with all ones before them, and not inverted (ISO/IEC 11172-3 and 13818-3, 2.4.3.1).
 pub fn check_word_of_bytes(header: &[u8], side: &[u8]) -> u16
     requires { length header.now ≡ 4 }
     ensures { IsCrcOf header.now side.now result }

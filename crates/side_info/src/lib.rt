@@ -13,7 +13,7 @@ mod side;
 mod widths;
 mod writing;
 
-pub use crc::{check_word, check_word_of_bytes, crc_of_bytes};
+pub use crc::{check_word, check_word_of_bytes};
 pub use frame::stored_crc;
 pub use frame_front::{Extent, FrameFront};
 pub use gains::put_gains;
