@@ -34,14 +34,14 @@ use Rattle.laying.specs.{NeedsFit.own_choice, Relaid.FilePart, Surveys.CanBeRela
 use Rattle.laying.specs.Written.{back_blocks, front_blocks, head_info}
 use Rattle.seam_laws.proofs.LaidInputLemmas.{brings-led, brings-own, BringsLed, BringsOwn}
 use Rattle.seam_laws.proofs.LaidInputLemmas.{class-same, frames-same, head-is}
-use Rattle.seam_laws.proofs.{SeamlessInputLemmas.IsInput, SeamlessRunLemmas.own-many}
+use Rattle.seam_laws.proofs.{OwnLeadInLemmas.lead-where-wanted, SeamlessInputLemmas.IsInput}
+use Rattle.seam_laws.proofs.SeamlessRunLemmas.{own-many}
 use Rattle.seam_laws.proofs.SplitJoinLemmas.{all_stream, between-needs, between-sounds, run_between}
 use Rattle.seam_laws.proofs.SplitJoinLemmas.{stream-many}
+use Rattle.seam_laws.specs.LeadInLaws.{AreInOwnSlots, AreLedInOwnSlots}
 use Rattle.seam_plan.proofs.{FitLemmas.fits-tested, FollowLemmas.sounds}
 use Rattle.seam_plan.specs.{Frames.{needs_of, RunFrame}, Joins.fits_behind}
-use Rattle.slot_plan.proofs.OwnLeadInLemmas.{lead-where-wanted}
-use Rattle.slot_plan.specs.{Laws.{AreInOwnSlots, AreLedInOwnSlots}, Plans.IsLedPlan}
-use Rattle.slot_plan.specs.declared.needs.{Need.Need, Placed.Placed}
+use Rattle.slot_plan.specs.{Plans.IsLedPlan, declared.needs.{Need.Need, Placed.Placed}}
 use Rattle.split_edits.specs.Recording.{input_played, sample_named}
 use Rattle.sync_survey.specs.{Faults.SurveyFields, MainData.StreamFrame, Row.Row}
 

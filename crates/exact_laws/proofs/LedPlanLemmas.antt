@@ -5,11 +5,12 @@ use Rattle.std.proofs.{Common.{ℕ, [], ◌∙◌, ◌∷◌, ◌≡◌, ◌≤�
 use Rattle.frame_header.specs.{Fields.{ClassFields, HeaderFields, SlotFields}, Slots.all_slots}
 use Rattle.frame_header.specs.Tables.{area_of, class_of}
 use Rattle.laying.specs.NeedsFit.{own_choice}
+use Rattle.seam_laws.proofs.OwnLeadInLemmas.{none-own}
+use Rattle.seam_laws.specs.LeadInLaws.{AreInOwnSlots, AreLedInOwnSlots}
 use Rattle.slot_plan.proofs.AreaLemmas.{Contains-area, only_one}
 use Rattle.slot_plan.proofs.FreeByteLemmas.{chosen-own, cons-fits, fit-feasible, fits-cons}
-use Rattle.slot_plan.proofs.{FreeByteLemmas.{more-behind, within-fit}, OwnLeadInLemmas.none-own}
+use Rattle.slot_plan.proofs.FreeByteLemmas.{more-behind, within-fit}
 use Rattle.slot_plan.specs.FreeBytes.{FitsBehind, IsLeadInSlot}
-use Rattle.slot_plan.specs.Laws.{AreInOwnSlots, AreLedInOwnSlots}
 use Rattle.slot_plan.specs.Layouts.{begins_of, FrameLengths, HasLayout}
 use Rattle.slot_plan.specs.Lists.{AreChosenAreas, frames_with_areas, IsNotBehind}
 use Rattle.slot_plan.specs.Parts.{all_items, AreLeadIns, IsLeadIn, led_items, need_item, open_frame}

@@ -32,13 +32,13 @@ use Rattle.seam_laws.proofs.{FrontBlockLemmas.front-stays, SeamlessFrontLemmas.n
 use Rattle.seam_laws.proofs.SeamlessInputLemmas.{brought-needs, brought-sounds, IsInput, run-needs}
 use Rattle.seam_laws.proofs.SeamlessInputLemmas.{run-sounds, whole_stream}
 use Rattle.seam_laws.proofs.SeamlessRunLemmas.{own-frames, own-many}
+use Rattle.seam_laws.specs.LeadInLaws.{AreInOwnSlots, AreLedInOwnSlots}
 use Rattle.seam_plan.proofs.{FollowLemmas.sounds, LeadInLemmas.lead-in-is}
 use Rattle.seam_plan.specs.Frames.{needs_of, RunFrame}
 use Rattle.seam_plan.specs.Joins.{has_lead_in, lead_in_header, leads_others, matches_header}
 use Rattle.side_info.specs.{Side.{no_side, payload_bits, payload_bytes}, declared.side.Side.Side}
 use Rattle.slot_plan.{proofs.AreaLemmas.only_one, specs.FreeBytes.IsLeadInHeader}
-use Rattle.slot_plan.specs.{Laws.{AreInOwnSlots, AreLedInOwnSlots}, Plans.AreItemSlots}
-use Rattle.slot_plan.specs.declared.needs.{Need.Need, Placed.Placed}
+use Rattle.slot_plan.specs.{Plans.AreItemSlots, declared.needs.{Need.Need, Placed.Placed}}
 use Rattle.sync_survey.proofs.{EmptiedLemmas.no_bytes, SurveyPartsLemmas.survey_fields-allowed}
 use Rattle.sync_survey.proofs.SurveyedFileLemmas.{survey_of-parts}
 use Rattle.sync_survey.specs.Faults.{stream_of, stream_of_survey, survey_fields, SurveyFields}

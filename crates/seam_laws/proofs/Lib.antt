@@ -1,4 +1,6 @@
 -- The lemmas of this crate.
+pub mod LedLemmas
+pub mod OwnLeadInLemmas
 pub mod SeamlessInputLemmas
 pub mod SeamlessRunLemmas
 pub mod SeamlessFrontLemmas

@@ -21,15 +21,15 @@ use Rattle.laying.specs.{NeedsFit.own_choice, Relaid.{FilePart, IsPart, part_str
 use Rattle.laying.specs.{Surveys.CanBeRelaid, Written.{back_blocks, front_blocks, head_info}}
 use Rattle.seam_laws.proofs.LaidInputLemmas.{brings-led, brings-own, BringsLed, BringsOwn}
 use Rattle.seam_laws.proofs.LaidInputLemmas.{class-same, front-same, head-is, input-stream}
+use Rattle.seam_laws.proofs.OwnLeadInLemmas.{lead-where-wanted}
 use Rattle.seam_laws.proofs.PieceHeadLemmas.{laid-extension, zero-counts}
 use Rattle.seam_laws.proofs.SeamlessInputLemmas.{IsInput, run-needs, stream-from, whole_stream}
 use Rattle.seam_laws.proofs.SeamlessRunLemmas.{has-leads, HasLeads}
+use Rattle.seam_laws.specs.LeadInLaws.{AreInOwnSlots, AreLedInOwnSlots}
 use Rattle.seam_plan.{proofs.FitLemmas.fits-tested, specs.Frames.{needs_of, RunFrame}}
 use Rattle.seam_plan.specs.Joins.{fits_behind, has_lead_in}
 use Rattle.seam_plan.specs.Laws.{IsLedPiece, IsPieceOf, IsUnledPiece}
-use Rattle.slot_plan.proofs.OwnLeadInLemmas.{lead-where-wanted}
-use Rattle.slot_plan.specs.{Laws.{AreInOwnSlots, AreLedInOwnSlots}, Plans.IsPlan}
-use Rattle.slot_plan.specs.declared.needs.{Need.Need, Placed.Placed}
+use Rattle.slot_plan.specs.{Plans.IsPlan, declared.needs.{Need.Need, Placed.Placed}}
 use Rattle.sync_survey.specs.{Faults.{survey_fields, SurveyFields}, MainData.StreamFrame, Row.Row}
 
 -- a row of an input, and the row of the first frame that was chosen: their headers are the same

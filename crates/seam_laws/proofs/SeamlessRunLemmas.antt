@@ -11,17 +11,18 @@ use Rattle.join_edits.specs.Seamless.{join_of_parts, later_parts, part_brought, 
 use Rattle.join_edits.specs.Seamless.{run_lead_ins, run_parts, run_plan, seamless_stream, sound_of}
 use Rattle.laying.specs.NeedsFit.{own_choice}
 use Rattle.laying.specs.Relaid.{FilePart, part_stream, silent_lead_in, stream_with_lead_ins}
+use Rattle.seam_laws.proofs.OwnLeadInLemmas.{lead-where-wanted}
 use Rattle.seam_laws.proofs.SeamlessInputLemmas.{AreInputs, brought-fit, brought-many}
 use Rattle.seam_laws.proofs.SeamlessInputLemmas.{brought-sounds, input-whole, inputs-fit}
 use Rattle.seam_laws.proofs.SeamlessInputLemmas.{inputs-whole, stream-from, whole_stream}
+use Rattle.seam_laws.specs.LeadInLaws.{AreInOwnSlots, AreLedInOwnSlots}
 use Rattle.seam_plan.proofs.{FitLemmas.fits-tested, FollowLemmas.sounds}
 use Rattle.seam_plan.proofs.RunSoundLemmas.{run-sounds, sounds_left}
 use Rattle.seam_plan.specs.{Frames.{Brought, needs_of, RunFrame}, Joins.{fits_behind, has_lead_in}}
 use Rattle.seam_plan.specs.Seams.{front_left_out_count, JointFrames, joints_of, left_out_count}
 use Rattle.seam_plan.specs.Seams.{run_of, run_with, seamless_join, SeamlessJoin}
-use Rattle.slot_plan.proofs.OwnLeadInLemmas.{lead-where-wanted}
-use Rattle.slot_plan.specs.{Laws.{AreInOwnSlots, AreLedInOwnSlots}, Parts.need_item}
-use Rattle.slot_plan.specs.{Plans.{AreItemSlots, IsPlan}, declared.needs.{Need.Need, Placed.Placed}}
+use Rattle.slot_plan.specs.{Parts.need_item, Plans.{AreItemSlots, IsPlan}, declared.needs.Need.Need}
+use Rattle.slot_plan.specs.declared.needs.Placed.{Placed}
 use Rattle.sync_survey.specs.MainData.{StreamFrame}
 
 -- a value whose negation is true is false

@@ -1,3 +1,4 @@
 -- What the laws of this crate cite.
+pub mod LeadInLaws
 pub mod SeamlessLaws
 pub mod JoinLaws

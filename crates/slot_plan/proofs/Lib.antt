@@ -4,11 +4,8 @@ pub mod LengthLemmas
 pub mod TableLemmas
 pub mod PartLemmas
 pub mod PlacedLemmas
-pub mod CheckedLemmas
 pub mod LeadInLemmas
 pub mod OnePlanLemmas
 pub mod LeastPlanLemmas
-pub mod LedLemmas
 pub mod FreeByteLemmas
 pub mod JoinLemmas
-pub mod OwnLeadInLemmas

@@ -1,15 +1,15 @@
 -- Laws of plans, and of frames after free bytes, whatever the code.
-use Rattle.std.specs.Prelude.{All, AllPairs, Contains, false, List, map, None, Some, true, ℕ, []}
-use Rattle.std.specs.Prelude.{◌++◌, ◌<◌, ◌↔◌, ◌∷◌, ◌≡◌, ◌≤◌}
+use Rattle.std.specs.Prelude.{All, AllPairs, Contains, false, List, map, None, Some, ℕ, [], ◌++◌}
+use Rattle.std.specs.Prelude.{◌<◌, ◌↔◌, ◌∷◌, ◌≡◌, ◌≤◌}
 use Rattle.frame_header.specs.Fields.{ClassFields, HeaderFields, IsClass, SlotFields}
 use Rattle.frame_header.specs.{Slots.all_slots, Tables.{area_of, class_of, window_of}}
-use Rattle.slot_plan.specs.FreeBytes.{FitsBehind, IsLeadInSlot, IsLeastWanted, IsMostLeft}
+use Rattle.slot_plan.specs.FreeBytes.{FitsBehind, IsLeastWanted, IsMostLeft}
 use Rattle.slot_plan.specs.LeastPlan.{least_plan, led_plan}
 use Rattle.slot_plan.specs.Lists.{CanBeLaid, IsLeastList, OpenFrame}
 use Rattle.slot_plan.specs.Parts.{AreNeedsOfClass, ArePartsFeasible, IsLeadIn, lead_in_item}
 use Rattle.slot_plan.specs.Parts.{need_item, needs_in_parts, open_frame, part_items, slot_areas}
-use Rattle.slot_plan.specs.{Parts.window_in, Plans.{AreItemSlots, IsLedPlan, IsPlan}}
-use Rattle.slot_plan.specs.declared.needs.{Need.Need, Placed.Placed}
+use Rattle.slot_plan.specs.{Parts.window_in, Plans.{IsLedPlan, IsPlan}, declared.needs.Need.Need}
+use Rattle.slot_plan.specs.declared.needs.Placed.{Placed}
 
 -- a part's frames after one lead-in, which may have any slot
 abbrev pub led_open_frames : (HeaderFields → List SlotFields) → Need → List Need → List OpenFrame
@@ -84,13 +84,6 @@ LedPlanIsLeast =
     → IsLedPlan (window_of class.version) choices part placed
     ↔ (placed ≡ led_plan (window_of class.version) choices part)
 
--- the plan of a part that has no layout without a lead-in is its led plan
-abbrev pub LedWhereNeeded : Type 0
-LedWhereNeeded =
-    (window : ℕ) (choices : HeaderFields → List SlotFields) (part : List Need)
-    (placed : List Placed) → (CanBeLaid window (map open_frame (part_items choices part None)) → ⊥)
-    → IsPlan window choices (part ∷ []) placed → IsLedPlan window choices part placed
-
 -- Frames and then others fit after some free bytes exactly if the
 -- first do and what the others want is at most what the first leave.
 abbrev pub FitsBehindWhatIsLeft : Type 0
@@ -111,24 +104,3 @@ LeavesGoOn =
 abbrev pub FitsWhereWanted : Type 0
 FitsWhereWanted = (window free wanted : ℕ) (needs : List Need) → IsLeastWanted window needs wanted
     → FitsBehind window free needs ↔ (wanted ≤ free)
-
--- the frames of a plan, each in its own slot, without a lead-in
-abbrev pub AreInOwnSlots : List Need → List Placed → Type 0
-AreInOwnSlots needs placed = AreItemSlots (map (need_item (λ h. h.slot ∷ [])) needs) placed
-
--- the frames of a plan, each in its own slot, after their lead-in
-unfoldable pub AreLedInOwnSlots : ℕ → List Need → List Placed → Type 0
-AreLedInOwnSlots window [] placed = ⊥
-AreLedInOwnSlots window (first ∷ needs) [] = ⊥
-AreLedInOwnSlots window (first ∷ needs) (p ∷ placed) =
-    (p.lead_in ≡ true) × IsLeadInSlot window (class_of first.header) (first ∷ needs) p.slot
-    × AreInOwnSlots (first ∷ needs) placed
-
--- the plan of one part whose frames keep their slots has no
--- lead-in if they want nothing, and otherwise their lead-in
-abbrev pub LeadInWhereWanted : Type 0
-LeadInWhereWanted =
-    (window : ℕ) (needs : List Need) (placed : List Placed)
-    → IsPlan window (λ h. h.slot ∷ []) (needs ∷ []) placed
-    → (FitsBehind window 0 needs → AreInOwnSlots needs placed)
-    × ((FitsBehind window 0 needs → ⊥) → AreLedInOwnSlots window needs placed)

@@ -1,6 +1,6 @@
 //! Laws of the definitions that the contracts of `plan`, `wants` and `leaves` cite. Each function
 //! does nothing: a proof that needs its law calls it.
-ghost use Rattle.slot_plan.specs.Laws.{LeadInsComeFirst, PlansAreUnique, LeastPlanIsThePlan, LedPlanIsLeast, LedWhereNeeded, FitsBehindWhatIsLeft, LeavesGoOn, FitsWhereWanted, LeadInWhereWanted};
+ghost use Rattle.slot_plan.specs.Laws.{LeadInsComeFirst, PlansAreUnique, LeastPlanIsThePlan, LedPlanIsLeast, FitsBehindWhatIsLeft, LeavesGoOn, FitsWhereWanted};
 
 /// If the frames of a part have no layout without a lead-in, its lead-in is the one with the
 /// smallest area with which they have one. This is the first entry of the lexicographically least
@@ -28,11 +28,6 @@ pub fn led_plan_is_least()
     ensures { LedPlanIsLeast }
 {}
 
-/// If the frames of a part have no layout without a lead-in, its plan is its led plan.
-pub fn led_where_needed()
-    ensures { LedWhereNeeded }
-{}
-
 /// Frames and then others fit after some free bytes exactly if the first do and what the others
 /// want is at most what the first leave. One number thus represents all frames before a seam.
 pub fn fits_behind_what_is_left()
@@ -47,10 +42,4 @@ pub fn leaves_go_on()
 /// Frames fit after exactly the numbers of bytes that are at least what they want.
 pub fn fits_where_wanted()
     ensures { FitsWhereWanted }
-{}
-
-/// The plan of one part whose frames keep their slots has no lead-in if they want nothing.
-/// Otherwise it begins with their lead-in, in the slot of the header that `lead_in` returns.
-pub fn lead_in_where_wanted()
-    ensures { LeadInWhereWanted }
 {}

@@ -18,8 +18,8 @@ mod table;
 pub use ascending::largest_area_of;
 pub use free_bytes::{joins, lead_in, leaves, wants};
 pub use laws::{
-    fits_behind_what_is_left, fits_where_wanted, lead_in_where_wanted, lead_ins_come_first,
-    least_plan_is_the_plan, leaves_go_on, led_plan_is_least, led_where_needed, plans_are_unique,
+    fits_behind_what_is_left, fits_where_wanted, lead_ins_come_first, least_plan_is_the_plan,
+    leaves_go_on, led_plan_is_least, plans_are_unique,
 };
 pub use lengths::Lengths;
 pub use needs::{Need, Placed, Plan};

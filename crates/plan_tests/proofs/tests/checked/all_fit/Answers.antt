@@ -1,6 +1,6 @@
 -- One more part, and the last.
 use Rattle.std.proofs.Common.{arith, get_or, refl}
-use Rattle.slot_plan.proofs.CheckedLemmas.{parts-fit, parts-fit-all}
+use Rattle.plan_tests.proofs.CheckedLemmas.{parts-fit, parts-fit-all}
 use Rattle.plan_tests.proofs.tests.checked.all_fit.Goals as goal
 
 pub loop-at-preserved : goal.loop-at-preserved

@@ -1,6 +1,6 @@
 -- One more need, and the last.
 use Rattle.std.proofs.Common.{arith, sym, ◌∙◌}
-use Rattle.slot_plan.proofs.CheckedLemmas.{class-all, class-more}
+use Rattle.plan_tests.proofs.CheckedLemmas.{class-all, class-more}
 use Rattle.plan_tests.proofs.tests.checked.are_of_one_class.Goals as goal
 
 pub loop-need-preserved : goal.loop-need-preserved

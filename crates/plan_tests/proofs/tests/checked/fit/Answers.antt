@@ -1,6 +1,6 @@
 -- One more frame, and the last.
 use Rattle.std.proofs.Common.{arith}
-use Rattle.slot_plan.proofs.CheckedLemmas.{fit-all, fit-next}
+use Rattle.plan_tests.proofs.CheckedLemmas.{fit-all, fit-next}
 use Rattle.plan_tests.proofs.tests.checked.fit.Goals as goal
 
 pub loop-need-preserved : goal.loop-need-preserved

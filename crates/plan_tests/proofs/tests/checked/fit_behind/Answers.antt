@@ -1,5 +1,5 @@
 -- Frames of one class that fit after a number of free bytes fit after more.
-use Rattle.slot_plan.proofs.CheckedLemmas.{behind-free, behind-window, joins-window}
+use Rattle.plan_tests.proofs.CheckedLemmas.{behind-free, behind-window, joins-window}
 use Rattle.plan_tests.proofs.tests.checked.fit_behind.Goals as goal
 
 pub returns-clause-free : goal.returns-clause-free

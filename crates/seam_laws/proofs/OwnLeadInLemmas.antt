@@ -3,15 +3,14 @@
 use Rattle.std.proofs.Common.{arith, false, inl, inr, List, map, Option, Some, ℕ, [], ◌∷◌, ◌≤◌}
 use Rattle.std.proofs.lemmas.{Bool.cases_lt, List.append-nil}
 use Rattle.frame_header.specs.{Fields.{ClassFields, SlotFields}, Tables.{area_of, class_of}}
+use Rattle.seam_laws.specs.LeadInLaws.{AreInOwnSlots, AreLedInOwnSlots, LeadInWhereWanted}
 use Rattle.slot_plan.proofs.AreaLemmas.{only_one}
 use Rattle.slot_plan.proofs.FreeByteLemmas.{chosen-own, fit-own, more-behind, own-from, own-wanted}
 use Rattle.slot_plan.proofs.FreeByteLemmas.{own_needed, own_slot, within-fit}
 use Rattle.slot_plan.proofs.LeadInLemmas.{within-tail}
 use Rattle.slot_plan.proofs.PlacedLemmas.{lead-chosen, lead-reserve_before, lead-within}
 use Rattle.slot_plan.proofs.ReserveLemmas.{can-reserve_before, reserve_before-can}
-use Rattle.slot_plan.specs.FreeBytes.{FitsBehind, IsLeadInSlot}
-use Rattle.slot_plan.specs.Laws.{AreInOwnSlots, AreLedInOwnSlots, LeadInWhereWanted}
-use Rattle.slot_plan.specs.Lists.{CanBeLaid, OpenFrame}
+use Rattle.slot_plan.specs.{FreeBytes.{FitsBehind, IsLeadInSlot}, Lists.{CanBeLaid, OpenFrame}}
 use Rattle.slot_plan.specs.Parts.{all_items, AreLeadIns, IsLeadIn, lead_in_item, open_frame}
 use Rattle.slot_plan.specs.{Parts.{own_frame, part_items}, Plans.{AreItemSlots, IsPlanFor}}
 use Rattle.slot_plan.specs.Reserve.{area_by_header, open_frames, own_area_of}

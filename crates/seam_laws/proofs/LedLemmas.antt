@@ -3,9 +3,9 @@ use Rattle.std.proofs.Common.{arith, Contains, false, List, map, None, Option, S
 use Rattle.std.proofs.lemmas.List.{append-nil}
 use Rattle.frame_header.specs.{Fields.{ClassFields, HeaderFields, SlotFields}, Slots.all_slots}
 use Rattle.frame_header.specs.Tables.{area_of, class_of}
+use Rattle.seam_laws.specs.LeadInLaws.{LedWhereNeeded}
 use Rattle.slot_plan.proofs.AreaLemmas.{Contains-area, only_one}
 use Rattle.slot_plan.proofs.{LeadInLemmas.{lead-least, only-area}, OnePlanLemmas.equal_lists}
-use Rattle.slot_plan.specs.Laws.{LedWhereNeeded}
 use Rattle.slot_plan.specs.Lists.{AreChosenAreas, CanBeLaid, frames_with_areas, IsLeastList}
 use Rattle.slot_plan.specs.Lists.{OpenFrame}
 use Rattle.slot_plan.specs.Parts.{all_items, AreLeadIns, IsLeadIn, lead_in_item, led_items}
