@@ -1,15 +1,16 @@
 -- The last point up to a frame and the first point after it, among points that are split there.
 use Rattle.std.proofs.Common.{ap, ap₂, arith, Bool, cond, drop, false, find, get_or, length}
-use Rattle.std.proofs.Common.{length-append, length-drop, List, map, nat_le, nat_lt, None}
-use Rattle.std.proofs.Common.{option_map, refl, reverse, Some, subst, suc, sym, take, true, ℕ, []}
-use Rattle.std.proofs.{Common.{◌++◌, ◌-◌, ◌<◌, ◌∙◌, ◌∷◌, ◌≡◌, ◌≤◌}, Math.ListN.get_or-append}
+use Rattle.std.proofs.Common.{length-append, length-drop, List, map, nat_le, nat_lt, None, Ok}
+use Rattle.std.proofs.Common.{Option, option_map, refl, reverse, Some, subst, suc, sym, take, true}
+use Rattle.std.proofs.{Common.{ℕ, [], ◌++◌, ◌-◌, ◌<◌, ◌∙◌, ◌∷◌, ◌≡◌, ◌≤◌}, Math.ListN.get_or-append}
 use Rattle.std.proofs.lemmas.Bool.{le-leb, le-ltb, leb-false, leb-true, lt-leb, lt-ltb, ltb-true}
 use Rattle.std.proofs.lemmas.List.{get_or-append_right, get_or-drop, get_or-reverse, get_or-take}
 use Rattle.std.proofs.lemmas.List.{get_or_default, length-reverse, length-take-le, map-append}
 use Rattle.std.proofs.lemmas.List.{reverse-append, take-append-drop, Folds.find-append}
 use Rattle.std.proofs.lemmas.Option.{get_or_from_slice_get, none-some}
 use Rattle.std.specs.List.{All, AllWithin, slice_get, Sorted.IsNonDecreasingBy}
-use Rattle.fade_plan.specs.Curves.{first_point_after, last_point_up_to, neighbour_steps, steps_at}
+use Rattle.fade_plan.specs.Curves.{CurvePoint, first_point_after, last_point_up_to, line_or_curve}
+use Rattle.fade_plan.specs.Curves.{neighbour_steps, steps_at}
 use Rattle.fade_plan.specs.{Points.{curve_point_of, IsKeptPoint}, declared.point.Point.Point}
 
 -- ---- finding in mapped lists
@@ -269,3 +270,15 @@ pub all_behind : (frame : ℕ) (points : List Point) (count : ℕ) (e : Point)
     → AllWithin (λ p. nat_le p.frame frame ≡ false) points count (length points)
 all_behind frame points count e rising within first k d from below =
     grind (arith, get_or_default points count e d within, lt-leb, ltb-true)
+
+-- ---- points that rise
+
+-- if there is no fault at all, the first test passes and the rest has no fault
+pub none_of : (b : Bool) (o : Option ℕ) (line : ℕ) → cond b o (Some line) ≡ None
+    → (b ≡ true) × (o ≡ None)
+none_of b o line e = grind arith
+
+-- there is a curve only if no point is at fault, and it is these points
+pub made_of : (o : Option ℕ) (points curve : List CurvePoint) → line_or_curve o points ≡ Ok curve
+    → (o ≡ None) × (points ≡ curve)
+made_of o points curve e = grind arith

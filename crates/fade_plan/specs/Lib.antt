@@ -1,7 +1,6 @@
 pub mod Sheets
 pub mod Curves
 pub mod Points
-pub mod Laws
 pub use Rattle.cue_sheet.specs.Digits
 pub use Rattle.cue_sheet.specs.Lines
 pub use Rattle.cue_sheet.specs.Places

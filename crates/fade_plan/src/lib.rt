@@ -7,10 +7,8 @@ mod curve;
 mod entry;
 mod envelope;
 mod envelope_fault;
-mod laws;
 mod point;
 
 pub use curve::Curve;
 pub use envelope::Envelope;
 pub use envelope_fault::EnvelopeFault;
-pub use laws::{curves_go_evenly, curves_stay_within, opposite_curves};

@@ -10,7 +10,6 @@ use Rattle.commands.specs.{Sheet.sheet_read, SingleOutput.{made_file, most_frame
 use Rattle.commands.specs.declared.fault.EditFault.{EditFault, TheVariants.Refused}
 use Rattle.commands.specs.declared.fault.Refusal.{Refusal, TheVariants.SheetTooLarge}
 use Rattle.cue_sheet.specs.Limits.{longest_sheet}
-use Rattle.fade_plan.proofs.WithinLemmas.{steps_of_one, steps_within, within-opposite}
 use Rattle.fade_plan.specs.Curves.{curve_of, curve_point, CurvePoint, line_not_rising, steps_at}
 use Rattle.fade_plan.specs.{Curves.steps_back, Sheets.{envelope_of, EnvelopePoint}}
 use Rattle.frame_header.specs.{Fields.ClassFields, Tables.class_of}
@@ -24,6 +23,7 @@ use Rattle.gain_edits.specs.UndoItem.{noted_undo, number_fault, output_fault, si
 use Rattle.gain_edits.specs.UndoItem.{tag_result, undo_fault}
 use Rattle.gain_laws.proofs.TakenStepLemmas.{stuck-cons, stuck-nil, take_steps}
 use Rattle.gain_laws.proofs.TakenStepLemmas.{takes_steps-joined_extremes}
+use Rattle.gain_laws.proofs.WithinLemmas.{steps_of_one, steps_within, within-opposite}
 use Rattle.gain_laws.specs.ExactSteps.{fade_result, gain_result, is_range_refusal, IsMadeIfTaken}
 use Rattle.gain_laws.specs.ExactSteps.{leaves_range, StepsAreExact, strict_shift, takes_point}
 use Rattle.gain_laws.specs.StepLaws.{AreSidesFitting, is_some_out_of_range, separate_steps}

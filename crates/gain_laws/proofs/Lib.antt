@@ -1,4 +1,7 @@
 -- The lemmas of this crate.
+pub mod WithinLemmas
+pub mod EvenLemmas
+pub mod OppositeLemmas
 pub mod TakenStepLemmas
 pub mod KeptFrameLemmas
 pub mod KeptFileLemmas

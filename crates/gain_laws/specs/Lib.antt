@@ -6,3 +6,4 @@ pub mod GainKept
 pub mod TakenBack
 pub mod FadeKept
 pub mod ExactSteps
+pub mod CurveLaws

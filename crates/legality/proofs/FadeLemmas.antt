@@ -6,7 +6,7 @@ use Rattle.commands.proofs.{FoundSheetLemmas.{is-sheet, sheet-is}, RefusingLemma
 use Rattle.commands.specs.{Refusing.{refusal_or, then_made}, Sheet.sheet_in}
 use Rattle.commands.specs.{SingleOutput.most_frames, declared.fault.EditFault.EditFault}
 use Rattle.commands.specs.declared.fault.Refusal.{Refusal}
-use Rattle.fade_plan.proofs.EvenLemmas.{made_of, none_of}
+use Rattle.fade_plan.proofs.CurveLemmas.{made_of, none_of}
 use Rattle.fade_plan.specs.Curves.{curve_of, curve_point, CurvePoint, line_not_rising}
 use Rattle.fade_plan.specs.Curves.{line_or_curve, point_frame, steps_at, steps_back}
 use Rattle.fade_plan.specs.Sheets.{envelope_of, EnvelopePoint}

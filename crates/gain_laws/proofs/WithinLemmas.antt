@@ -7,7 +7,8 @@ use Rattle.std.{proofs.lemmas.List.{get_or-reverse, length-reverse}, specs.Cmp.b
 use Rattle.std.specs.List.{All}
 use Rattle.std.specs.Prelude.{find, int_div, IsTrue, neg_ℤ, negsuc, pos, reverse, ℤ, ◌*ℤ◌, ◌+ℤ◌}
 use Rattle.fade_plan.specs.Curves.{CurvePoint, first_point_after, last_point_up_to, neighbour_steps}
-use Rattle.fade_plan.specs.{Curves.{steps_at, steps_between}, Laws.is_step_within}
+use Rattle.fade_plan.specs.Curves.{steps_at, steps_between}
+use Rattle.gain_laws.specs.CurveLaws.{is_step_within}
 
 -- ---- how far a number is above 0 and below it
 

@@ -1,17 +1,18 @@
 -- Curves go evenly from point to point.
 use Rattle.std.proofs.Common.{ap, append-nil, append_assoc, ap₂, arith, Bool, cond, find, get_or}
 use Rattle.std.proofs.Common.{inl, inr, length, length-append, List, map, nat_le, nat_lt, None, Ok}
-use Rattle.std.proofs.Common.{Option, refl, reverse, Some, subst, sym, true, ℕ, [], ◌++◌, ◌+◌, ◌-◌}
-use Rattle.std.proofs.{Common.{◌<◌, ◌∙◌, ◌∷◌, ◌≡◌, ◌≤◌}, Math.ListN.get_or-append}
+use Rattle.std.proofs.Common.{refl, reverse, Some, subst, sym, ℕ, [], ◌++◌, ◌+◌, ◌-◌, ◌<◌, ◌∙◌, ◌∷◌}
+use Rattle.std.proofs.{Common.{◌≡◌, ◌≤◌}, Math.ListN.get_or-append}
 use Rattle.std.proofs.lemmas.Bool.{cases_lt, le-leb, le-ltb, lt-leb, lt-ltb, ltb-true}
 use Rattle.std.proofs.lemmas.List.{get_or-append_right, get_or_default, reverse-append}
 use Rattle.std.{proofs.lemmas.List.{Folds.find-append, Kept.AllPairs-cons}, specs.List.All}
-use Rattle.fade_plan.proofs.CurveLemmas.{last_passes, none_passes, none_passes_back}
+use Rattle.fade_plan.proofs.CurveLemmas.{last_passes, made_of, none_of, none_passes}
+use Rattle.fade_plan.proofs.CurveLemmas.{none_passes_back}
 use Rattle.fade_plan.specs.Curves.{curve_of, curve_point, CurvePoint, line_not_rising}
-use Rattle.fade_plan.specs.Curves.{line_or_curve, neighbour_steps, point_frame, steps_at}
-use Rattle.fade_plan.specs.{Curves.steps_between, Laws.{CurvesGoEvenly, IsCurveRising}}
+use Rattle.fade_plan.specs.Curves.{neighbour_steps, point_frame, steps_at, steps_between}
 use Rattle.fade_plan.specs.Sheets.{EnvelopePoint}
 use Rattle.frame_header.specs.Fields.{ClassFields}
+use Rattle.gain_laws.specs.CurveLaws.{CurvesGoEvenly, IsCurveRising}
 
 -- ---- points that rise
 
@@ -23,11 +24,6 @@ all_later x y xs less rising k d within =
           omega (arith, less, above)
       | inr first ↦ grind arith
     ]
-
--- if there is no fault at all, the first test passes and the rest has no fault
-pub none_of : (b : Bool) (o : Option ℕ) (line : ℕ) → cond b o (Some line) ≡ None
-    → (b ≡ true) × (o ≡ None)
-none_of b o line e = grind arith
 
 next_of : (class : ClassFields) (frames : ℕ) (p q : EnvelopePoint) (more : List EnvelopePoint)
     → line_not_rising class frames (p ∷ q ∷ more) ≡ cond (nat_lt (point_frame class frames p)
@@ -48,11 +44,6 @@ rises class frames (p ∷ q ∷ more) none =
     (map (curve_point class frames) (q ∷ more))
     (all_later (curve_point class frames p) (curve_point class frames q)
     (map (curve_point class frames) more) (ltb-true _ _ parts.0) later) later
-
--- there is a curve only if no point is at fault, and it is these points
-pub made_of : (o : Option ℕ) (points curve : List CurvePoint) → line_or_curve o points ≡ Ok curve
-    → (o ≡ None) × (points ≡ curve)
-made_of o points curve e = grind arith
 
 curve_rises : (class : ClassFields) (frames : ℕ) (points : List EnvelopePoint)
     (curve : List CurvePoint) → curve_of class frames points ≡ Ok curve → IsCurveRising curve

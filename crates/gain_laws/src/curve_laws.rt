@@ -1,5 +1,5 @@
-//! Laws of fades. Each function does nothing: a proof that needs its law calls it.
-ghost use Rattle.fade_plan.specs.Laws.{CurvesGoEvenly, CurvesStayWithin, OppositeCurves};
+//! Laws of the curves of fades. Each function does nothing: a proof that needs its law calls it.
+ghost use Rattle.gain_laws.specs.CurveLaws.{CurvesGoEvenly, CurvesStayWithin, OppositeCurves};
 
 /// The frames of a curve's points rise. A curve has the steps of the first point before that point's frame and the
 /// steps of the last point from that point's frame on; from the frame of any other point to the frame of the next it

@@ -7,8 +7,9 @@ use Rattle.fade_plan.proofs.CurveLemmas.{find_mapped, reverse_mapped}
 use Rattle.fade_plan.specs.Curves.{curve_of, curve_point, CurvePoint, first_point_after}
 use Rattle.fade_plan.specs.Curves.{last_point_up_to, line_not_rising, line_or_curve}
 use Rattle.fade_plan.specs.Curves.{neighbour_steps, point_frame, steps_at, steps_between}
-use Rattle.fade_plan.specs.{Laws.{AreOpposite, opposite_envelope}, Sheets.EnvelopePoint}
+use Rattle.fade_plan.specs.Sheets.{EnvelopePoint}
 use Rattle.frame_header.specs.Fields.{ClassFields}
+use Rattle.gain_laws.specs.CurveLaws.{AreOpposite, opposite_envelope}
 
 abbrev opposed : CurvePoint → CurvePoint
 opposed point = record point { steps = neg_ℤ point.steps }
