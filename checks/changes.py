@@ -365,11 +365,13 @@ def exact_places(random, data, found, many=2):
     words = []
     for it in chosen:
         time, back = 1000 * it // frequency, 1000 * (length - it) // frequency
-        places = (f"{it}s", f"{it}s", f"{it:010}s", f"0.{time // 1000}.{time % 1000:03}", f"EOF-0.{back // 1000}.{back % 1000:03}")
+        places = (f"{it}samples", f"{it}samples", f"{it:010}samples", f"0.{time // 1000}.{time % 1000:03}", f"EOF-0.{back // 1000}.{back % 1000:03}")
         places += f"EOF-0.{back // 1000}.{back % 1000 // 10:02}", str(it // 1152), "EOF"
+        places += f"{time // 1000}.{time % 1000:03}s", f"EOF-{back // 1000}.{back % 1000 // 10:02}s", f"{time // 1000}.{time % 1000 // 100}s"
         words.append(random.choice(places))
     if random.random() < 0.1:
-        others = (f"{length + 1}s", "EOF-9.0", "EOF-0.0", "4294967296s", "0.0.0005", "EOF-0.0.5", "1.0s", "eof-0.1", "0.60.000", "s")
+        others = (f"{length + 1}samples", "EOF-9.0", "EOF-0.0", "4294967296samples", "0.0.0005", "EOF-0.0.5", "1.0samples", "eof-0.1")
+        others += "0.60.000", "samples", "s", "1.s", "1.5000s", "30s", "999999.999s", "EOF-30s"
         words[random.randrange(many)] = random.choice(others)
     return words
 

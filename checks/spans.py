@@ -11,7 +11,8 @@ the last padding - 529 positions of the frames that it says. To play a position 
 480 earlier, and all granules from there on; so a piece begins with the frame of the position 1,056 before its first. A lead-in, one silent
 frame, comes first if main data have no room otherwise, or if the first position is before 529. The head's area holds no main data here: a
 frame whose main data begin in it is lost if all earlier frames are silent or lost. A place among the samples is a position as in `cut`, with
-frames counted as time; digits and `s`; M.SS.mmm; or EOF- and M.SS, M.SS.hh or M.SS.mmm.
+frames counted as time; digits and `samples`; M.SS.mmm; a decimal number of seconds and `s`; or EOF- and M.SS, M.SS.hh, M.SS.mmm or such
+seconds.
 """
 import copy
 import re
@@ -43,16 +44,25 @@ def millis(word, pattern):
     return 1000 * (60 * int(time[1]) + int(time[2])) + int(((time[3] or "") + "000")[:3])
 
 
+def seconds(word):
+    """A decimal number of seconds and `s`, in thousandths; or None."""
+    time = re.fullmatch(r"([0-9]{1,6})(?:\.([0-9]{1,3}))?s", word)
+    return 1000 * int(time[1]) + int(((time[2] or "") + "000")[:3]) if time else None
+
+
 def exact_place(word):
     """The kind of a place among the samples, and its value; or None."""
     if fades.place(word) is not None:
         return "position", fades.place(word)
-    if re.fullmatch(r"[0-9]{1,10}s", word) and int(word[:-1]) < 2**32:
-        return "sample", int(word[:-1])
-    if millis(word, r"\.([0-9]{3})") is not None:
-        return "time", millis(word, r"\.([0-9]{3})")
-    if word.startswith("EOF-") and millis(word[4:], r"(?:\.([0-9]{2,3}))?") is not None:
-        return "back", millis(word[4:], r"(?:\.([0-9]{2,3}))?")
+    if re.fullmatch(r"[0-9]{1,10}samples", word) and int(word[:-7]) < 2**32:
+        return "sample", int(word[:-7])
+    for time in (millis(word, r"\.([0-9]{3})"), seconds(word)):
+        if time is not None:
+            return "time", time
+    if word.startswith("EOF-"):
+        for time in (millis(word[4:], r"(?:\.([0-9]{2,3}))?"), seconds(word[4:])):
+            if time is not None:
+                return "back", time
     return None
 
 

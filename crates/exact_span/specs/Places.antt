@@ -1,6 +1,6 @@
--- Places of samples, and the words that say them: the positions of mp3splt, samples as in sox
--- (digits and `s`), times with thousandths of a second, and times before the end as in mp3splt
--- (`EOF-`).
+-- Places of samples, and the words that say them: the positions of mp3splt, samples (digits and
+-- `samples`), times with thousandths of a second, seconds as in ffmpeg (a decimal number and `s`),
+-- and times before the end as in mp3splt (`EOF-`).
 use Rattle.std.specs.{List.{after_first, before_first, position_or_len}, Option.option_or}
 use Rattle.std.specs.Prelude.{bytes_eq, codes, drop, if◌then◌else◌, length, List, None, Option}
 use Rattle.std.specs.Prelude.{option_and_then, option_map, slice_index, Some, take, ℕ, [], ⊤, ◌*◌}
@@ -58,6 +58,17 @@ fraction_of (dot ∷ digits) =
     if length digits == 2 then option_map thousandths_in_hundredths (number_in 2 2 99 digits)
     else number_in 3 3 999 digits
 
+-- tenths as thousandths
+abbrev pub thousandths_in_tenths : ℕ → ℕ
+thousandths_in_tenths tenths = 100 * tenths
+
+-- nothing, or a dot and one to three digits: a decimal fraction
+abbrev pub decimals_of : List ℕ → Option ℕ
+decimals_of [] = Some 0
+decimals_of (dot ∷ digits) =
+    if length digits == 1 then option_map thousandths_in_tenths (number_in 1 1 9 digits)
+    else fraction_of (dot ∷ digits)
+
 -- minutes, seconds and thousandths, in thousandths
 unfoldable pub millis_of : List ℕ → Option ℕ
 millis_of word =
@@ -70,23 +81,53 @@ fine_millis_of word =
     option_and_then (λ s. option_map (total_millis s) (fraction_of (seconds_tail word)))
     (clock_of word)
 
+-- ---- seconds alone
+
+-- one to six digits, up to the first dot or the end
+abbrev pub lone_seconds_in : List ℕ → Option ℕ
+lone_seconds_in number = number_in 1 6 999999 (before_first is_dot number)
+
+-- the decimal fraction from the first dot on
+abbrev pub decimals_in : List ℕ → Option ℕ
+decimals_in number = decimals_of (drop (position_or_len is_dot number) number)
+
+-- a decimal number of seconds, in thousandths
+unfoldable pub decimal_millis_of : List ℕ → Option ℕ
+decimal_millis_of number =
+    option_and_then (λ s. option_map (total_millis s) (decimals_in number)) (lone_seconds_in number)
+
+-- such a number, and then `s`
+unfoldable pub lone_seconds_of : List ℕ → Option ℕ
+lone_seconds_of word =
+    if slice_index word (length word - 1) == 115
+    then decimal_millis_of (take (length word - 1) word) else None
+
 -- ---- words
 
--- the number of a sample: one to ten digits, up to 4,294,967,295, and then `s`
+-- the number of a sample: one to ten digits, up to 4,294,967,295, and then `samples`
 unfoldable pub sample_of : List ℕ → Option ℕ
 sample_of word =
-    if slice_index word (length word - 1) == 115
-    then number_in 1 10 4294967295 (take (length word - 1) word) else None
+    if bytes_eq (drop (length word - 7) word) (codes "samples")
+    then number_in 1 10 4294967295 (take (length word - 7) word) else None
 
--- a time before the end: `EOF-` and the time
+-- a time after the first sample, in thousandths: minutes, seconds and thousandths, or seconds alone
+unfoldable pub instant_of : List ℕ → Option ℕ
+instant_of word = option_or (millis_of word) (lone_seconds_of word)
+
+-- how long before the end, in thousandths: minutes, seconds, and hundredths or thousandths or
+-- neither, or seconds alone
+unfoldable pub interval_of : List ℕ → Option ℕ
+interval_of word = option_or (fine_millis_of word) (lone_seconds_of word)
+
+-- a time before the end: `EOF-` and how long
 unfoldable pub back_of : List ℕ → Option ℕ
-back_of word = if bytes_eq (take 4 word) (codes "EOF-") then fine_millis_of (drop 4 word) else None
+back_of word = if bytes_eq (take 4 word) (codes "EOF-") then interval_of (drop 4 word) else None
 
 -- the place that a word says, in one of these forms
 unfoldable pub exact_place_of : List ℕ → Option ExactPlace
 exact_place_of word =
     option_or (option_map Place (place_of word)) (option_or (option_map Sample (sample_of word))
-    (option_or (option_map Millis (millis_of word)) (option_map Back (back_of word))))
+    (option_or (option_map Millis (instant_of word)) (option_map Back (back_of word))))
 
 -- ---- samples
 

@@ -5,7 +5,7 @@ ghost use Rattle.cue_sheet.specs.Places.{IsPlace};
 ghost use Rattle.exact_span.specs.declared.exact_place.ExactPlace.TheVariants.{Place as PlaceVariant};
 ghost use Rattle.exact_span.specs.Places.{sample_of, back_of, exact_place_of, IsExactPlace, samples_until, sample_of_position, sample_at};
 
-use crate::times::{read_fine_millis, read_millis};
+use crate::times::{read_instant, read_interval};
 use cue_sheet::Place;
 use cue_sheet::digits::read_number;
 use frame_header::Class;
@@ -32,15 +32,13 @@ impl Default for ExactPlace {
     }
 }
 
-/// One to ten digits, and then `s`.
+/// One to ten digits, and then `samples`.
 #[tactic(auto, unfolding(crate::specs::Places::sample_of))]
 fn read_sample(word: &[u8]) -> Option<u32>
     ensures { result ≡ sample_of word.now }
 {
-    match word {
-        [digits @ .., b's'] => read_number(digits, 1, 10, u32::MAX),
-        _ => None,
-    }
+    let digits = word.strip_suffix(b"samples")?;
+    read_number(digits, 1, 10, u32::MAX)
 }
 
 /// `EOF-` and a time.
@@ -49,7 +47,7 @@ fn read_back(word: &[u8]) -> Option<u32>
     ensures { result ≡ back_of word.now }
 {
     match word {
-        [b'E', b'O', b'F', b'-', time @ ..] => read_fine_millis(time),
+        [b'E', b'O', b'F', b'-', time @ ..] => read_interval(time),
         _ => None,
     }
 }
@@ -79,11 +77,13 @@ impl ExactPlace {
     /// The place that a word says:
     ///
     /// - a position, as `Place::read` reads it;
-    /// - one to ten digits of a number up to 4,294,967,295, and `s`: a sample;
+    /// - one to ten digits of a number up to 4,294,967,295, and `samples`: a sample;
     /// - minutes of one to four digits, a dot, seconds of one or two digits up to 59, a dot and
     ///   three digits: a time to a thousandth of a second;
-    /// - `EOF-`, minutes and seconds in the same form, and optionally a dot and two or three
-    ///   digits, hundredths or thousandths of a second: so long before the end.
+    /// - one to six digits, optionally a dot and one to three digits, and `s`: a decimal number of
+    ///   seconds;
+    /// - `EOF-`, and minutes and seconds in the same form with optionally a dot and two or three
+    ///   digits, hundredths or thousandths of a second, or seconds alone: so long before the end.
     ///
     /// `None` exactly for every other word.
     pub fn read(word: &str) -> Option<ExactPlace>
@@ -97,7 +97,7 @@ impl ExactPlace {
         if let Some(number) = read_sample(word) {
             return Some(ExactPlace::Sample(number));
         }
-        if let Some(time) = read_millis(word) {
+        if let Some(time) = read_instant(word) {
             return Some(ExactPlace::Millis(time));
         }
         read_back(word).map(ExactPlace::Back)

@@ -47,16 +47,18 @@ $ cut --exact a 1 2 o
 > o INFO_FRONT BOTH 00*4 LAME 26f211 00*4 00000412 0000 8a70 00*16 FIRST SECOND
 
 # p is 0, so a lead-in is before the frames: the delay is 1,152 - 529.
+WHOLE = INFO_FRONT THREE_OF_1146 00*4 LAME 26f211 00*4 0000047a 0000 cf7d 00*16 FULL_LEAD_IN FILLED_FROM_68 SECOND_FROM_149
 # all of it
 < a A
 $ cut --exact a 0 EOF o
-> o INFO_FRONT THREE_OF_1146 00*4 LAME 26f211 00*4 0000047a 0000 cf7d 00*16 FULL_LEAD_IN FILLED_FROM_68 SECOND_FROM_149
+> o WHOLE
 
 # Times of hundredths are samples 882 and 1,323, before frames 0 and 2 end: 882 - 529 is 353, 161
 # (hex), and 2,304 - 1,323 + 529 is 1,510, 5e6.
+FROM_882 = INFO_FRONT BOTH 00*4 LAME 1615e6 00*4 00000412 0000 385f 00*16 FIRST SECOND
 < a A
 $ cut --exact a 0.00.02 0.00.03 o
-> o INFO_FRONT BOTH 00*4 LAME 1615e6 00*4 00000412 0000 385f 00*16 FIRST SECOND
+> o FROM_882
 
 # Samples 441 to 882 with a lead-in: 1,152 + 441 - 529 is 1,064, 428, and 1,152 - 882 + 529 is 799,
 # 31f.
@@ -76,48 +78,93 @@ $ cut --exact r 0.00.13 EOF o
 
 # samples
 < a A
-$ cut --exact a 1152s 2304s o
+$ cut --exact a 1152samples 2304samples o
 > o INFO_FRONT BOTH 00*4 LAME 26f211 00*4 00000412 0000 8a70 00*16 FIRST SECOND
 
 # so long before the end, which is before the start
 < a A
 $ cut --exact a EOF-1.0 EOF o
-> o INFO_FRONT THREE_OF_1146 00*4 LAME 26f211 00*4 0000047a 0000 cf7d 00*16 FULL_LEAD_IN FILLED_FROM_68 SECOND_FROM_149
+> o WHOLE
 
 # 20 ms are 882 samples, and 10 ms 441: samples 1,422 to 1,863. 893 is 37d, and 970 is 3ca.
+FROM_1422 = INFO_FRONT BOTH 00*4 LAME 37d3ca 00*4 00000412 0000 00bd 00*16 FIRST SECOND
 # hundredths before the end
 < a A
 $ cut --exact a EOF-0.00.02 EOF-0.00.01 o
-> o INFO_FRONT BOTH 00*4 LAME 37d3ca 00*4 00000412 0000 00bd 00*16 FIRST SECOND
+> o FROM_1422
 
 # thousandths before the end
 < a A
 $ cut --exact a EOF-0.0.020 EOF-0.0.010 o
-> o INFO_FRONT BOTH 00*4 LAME 37d3ca 00*4 00000412 0000 00bd 00*16 FIRST SECOND
+> o FROM_1422
 
 # 5 ms are 220.5 samples: 1,152 + 220 - 529 is 843, 34b.
+FROM_220 = INFO_FRONT THREE_OF_1146 00*4 LAME 34b211 00*4 0000047a 0000 2245 00*16 FULL_LEAD_IN FILLED_FROM_68 SECOND_FROM_149
 # thousandths
 < a A
 $ cut --exact a 0.0.005 EOF o
-> o INFO_FRONT THREE_OF_1146 00*4 LAME 34b211 00*4 0000047a 0000 2245 00*16 FULL_LEAD_IN FILLED_FROM_68 SECOND_FROM_149
+> o FROM_220
 
 # 2,304 - 220 - 529 is 1,555, 613.
+FROM_2084 = INFO_FRONT BOTH 00*4 LAME 613211 00*4 00000412 0000 4c86 00*16 FIRST SECOND
 # a part of a sample before the end
 < a A
 $ cut --exact a EOF-0.0.005 EOF o
-> o INFO_FRONT BOTH 00*4 LAME 613211 00*4 00000412 0000 4c86 00*16 FIRST SECOND
+> o FROM_2084
 
 # a sample and a time
 < a A
-$ cut --exact a 882s 0.00.030 o
-> o INFO_FRONT BOTH 00*4 LAME 1615e6 00*4 00000412 0000 385f 00*16 FIRST SECOND
+$ cut --exact a 882samples 0.00.030 o
+> o FROM_882
 
 # 1,585 - 1,056 is 529, so the whole warm-up is in the frames: 1,056 is 420, and 2,304 - 1,586 + 529
 # is 1,247, 4df.
 # one sample
 < a A
-$ cut --exact a 1585s 1586s o
+$ cut --exact a 1585samples 1586samples o
 > o INFO_FRONT BOTH 00*4 LAME 4204df 00*4 00000412 0000 4c7c 00*16 FIRST SECOND
+
+# Seconds are a decimal number: 0.02s is 20 ms, as 0.020s is.
+
+< a A
+$ cut --exact a 0.02s 0.03s o
+> o FROM_882
+
+# as many digits as there may be
+< a A
+$ cut --exact a 000000.020s 000000.03s o
+> o FROM_882
+
+< a A
+$ cut --exact a 0.005s EOF o
+> o FROM_220
+
+# before the end
+< a A
+$ cut --exact a EOF-0.005s EOF o
+> o FROM_2084
+
+< a A
+$ cut --exact a EOF-0.02s EOF-0.01s o
+> o FROM_1422
+
+# before the start
+< a A
+$ cut --exact a EOF-1s EOF o
+> o WHOLE
+
+# none
+< a A
+$ cut --exact a 0s EOF-0s o
+> o WHOLE
+
+# Samples 0 to 2,205: 2,304 - 2,205 + 529 is 628, 274 (hex). The last part of 0.0.5 is hundredths.
+< a A
+to o r
+$ cut --exact a 0 0.05s o
+$ cut --exact a 0 0.0.5 r
+> o INFO_FRONT THREE_OF_1146 00*4 LAME 26f274 00*4 0000047a 0000 0292 00*16 FULL_LEAD_IN FILLED_FROM_68 SECOND_FROM_149
+> r INFO_FRONT THREE_OF_1146 00*4 LAME 26f274 00*4 0000047a 0000 0292 00*16 FULL_LEAD_IN FILLED_FROM_68 SECOND_FROM_149
 
 # Files with a head that counts: 4 frames, 2,085 bytes, the quality 57, the delay 576, 240 (hex), and
 # the padding 720, 2d0. Positions 1,105 to 4,417 are played, 3,312 samples.
@@ -318,12 +365,12 @@ $ cut --exact a EOF EOF o
 ! 1 range 2304 to 2304 of 2304 samples
 
 < a A
-$ cut --exact a 0s 2305s o
+$ cut --exact a 0samples 2305samples o
 ! 1 range 0 to 2305 of 2304 samples
 
 # the greatest number
 < a A
-$ cut --exact a 4294967295s EOF o
+$ cut --exact a 4294967295samples EOF o
 ! 1 range 4294967295 to 2304 of 2304 samples
 
 < a A
@@ -333,6 +380,38 @@ $ cut --exact a EOF-0.0 EOF o
 < a A
 $ cut --exact a 0 EOF-1.0 o
 ! 1 range 0 to 0 of 2304 samples
+
+# Seconds are times, and not samples: a second has 44,100.
+
+< a A
+$ cut --exact a 30s 60s o
+! 1 range 1323000 to 2646000 of 2304 samples
+
+< a A
+$ cut --exact a 0 0.5s o
+! 1 range 0 to 22050 of 2304 samples
+
+< a A
+$ cut --exact a 0 1.30s o
+! 1 range 0 to 57330 of 2304 samples
+
+< a A
+$ cut --exact a 0 90.5s o
+! 1 range 0 to 3991050 of 2304 samples
+
+< a A
+$ cut --exact a 44100samples 44100s o
+! 1 range 44100 to 1944810000 of 2304 samples
+
+< a A
+$ cut --exact a 999999.999s EOF o
+! 1 range 44099999955 to 2304 of 2304 samples
+
+< a A
+$ cut --exact a EOF-0s EOF o
+! 1 range 2304 to 2304 of 2304 samples
+
+# Names.
 
 < a A
 $ cut --exact a 0 1 a
@@ -353,7 +432,7 @@ $ cut --exact a 0 1 o
 
 < u A
 $ cut --exact u 0 EOF o
-> o INFO_FRONT THREE_OF_1146 00*4 LAME 26f211 00*4 0000047a 0000 cf7d 00*16 FULL_LEAD_IN FILLED_FROM_68 SECOND_FROM_149
+> o WHOLE
 each Find 1 u: read fault
 each Read 2 u: read fault
 each Create 1 o: write fault
@@ -386,26 +465,35 @@ each Read 1 after 65536 h: read fault
 
 # Samples 0 to 2,205, and from there on: 2,304 - 2,205 + 529 is 628, 274 (hex), and 2,205 - 529 is
 # 1,676, 68c.
+TO_2205 = INFO_FRONT THREE_OF_1146 00*4 LAME 26f274 00*4 0000047a 0000 0292 00*16 SILENT_LEAD_IN EMPTY_FROM_68 EMPTY_FROM_449
+FROM_2205 = INFO_FRONT FOUR_OF_1876 00*4 LAME 68c211 00*4 00000754 0000 19f1 00*16 FOUR
 # at a time
 < z Z*4
 to p01.mp3 p02.mp3
 $ split --exact z p 0.0 0.00.05 EOF
-> p01.mp3 INFO_FRONT THREE_OF_1146 00*4 LAME 26f274 00*4 0000047a 0000 0292 00*16 SILENT_LEAD_IN EMPTY_FROM_68 EMPTY_FROM_449
-> p02.mp3 INFO_FRONT FOUR_OF_1876 00*4 LAME 68c211 00*4 00000754 0000 19f1 00*16 FOUR
+> p01.mp3 TO_2205
+> p02.mp3 FROM_2205
 
 # at samples
 < z Z*4
 to p01.mp3 p02.mp3
-$ split --exact z p 0s 2205s EOF
-> p01.mp3 INFO_FRONT THREE_OF_1146 00*4 LAME 26f274 00*4 0000047a 0000 0292 00*16 SILENT_LEAD_IN EMPTY_FROM_68 EMPTY_FROM_449
-> p02.mp3 INFO_FRONT FOUR_OF_1876 00*4 LAME 68c211 00*4 00000754 0000 19f1 00*16 FOUR
+$ split --exact z p 0samples 2205samples EOF
+> p01.mp3 TO_2205
+> p02.mp3 FROM_2205
+
+# at seconds
+< z Z*4
+to p01.mp3 p02.mp3
+$ split --exact z p 0s 0.05s EOF
+> p01.mp3 TO_2205
+> p02.mp3 FROM_2205
 
 # 441 samples before the end are position 3,976, 1,056 before in frame 2: 4,608 - 3,976 + 529 is
 # 1,161, 489, and 3,976 - 2,304 - 529 is 1,143, 477.
 # before the end of a file with a head
 < k K
 to p01.mp3 p02.mp3
-$ split --exact k p 0s EOF-0.0.010 3312s
+$ split --exact k p 0samples EOF-0.0.010 3312samples
 > p01.mp3 INFO_FRONT FOUR_OF_1876 00000039 LAME_3_100 240489 22*4 00000754 0000 a56d 00*16 FOUR
 > p02.mp3 INFO_FRONT BOTH 00000039 LAME_3_100 4772d0 22*4 00000412 0000 b1a6 00*16 Z Z_FROM_381
 

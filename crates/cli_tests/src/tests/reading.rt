@@ -39,12 +39,22 @@ pub fn join_words(alloc: Global, count: u32) -> Result<Vec<String>, AllocError> 
     Ok(words)
 }
 
-/// The words of a line, where `''` is an empty one.
+/// A word of a line: `''` is the empty one, and a last `_` a blank.
+fn word_of(alloc: Global, word: &str) -> Result<String, AllocError> {
+    if word == "''" {
+        return Ok(String::new(alloc));
+    }
+    match word.strip_suffix("_") {
+        Some(front) => format!(in alloc; "{front} "),
+        None => String::from_str(alloc, word),
+    }
+}
+
+/// The words of a line.
 fn words_of(alloc: Global, line: &str) -> Result<Vec<String>, AllocError> {
     let mut words = Vec::new(alloc);
     for word in line.split_ascii_whitespace() {
-        let word = if word == "''" { "" } else { word };
-        words.push(String::from_str(alloc, word)?)?;
+        words.push(word_of(alloc, word)?)?;
     }
     Ok(words)
 }

@@ -54,9 +54,11 @@ fade --back a b s => Fade { back: true, input: \"a\", output: \"b\", sheet: \"s\
 # Exact cuts, with every kind of place among the samples.
 cut --exact a 1 EOF b => CutExact { input: \"a\", from: Place(Frame(1)), to: Place(End), output: \"b\" }
 cut --exact a 0.0.05 1.02.5 b => CutExact { input: \"a\", from: Place(Time(5, 100)), to: Place(Time(6205, 100)), output: \"b\" }
-cut --exact a 0s 4294967295s b => CutExact { input: \"a\", from: Sample(0), to: Sample(4294967295), output: \"b\" }
+cut --exact a 0samples 4294967295samples b => CutExact { input: \"a\", from: Sample(0), to: Sample(4294967295), output: \"b\" }
 cut --exact a 0.0.005 9999.59.999 b => CutExact { input: \"a\", from: Millis(5), to: Millis(599999999), output: \"b\" }
 cut --exact a EOF-1.2.34 EOF-0.0 b => CutExact { input: \"a\", from: Back(62340), to: Back(0), output: \"b\" }
+cut --exact a 0.5s 999999.999s b => CutExact { input: \"a\", from: Millis(500), to: Millis(999999999), output: \"b\" }
+cut --exact a EOF-90.25s EOF-0s b => CutExact { input: \"a\", from: Back(90250), to: Back(0), output: \"b\" }
 cut --exact ./--exact EOF-0.1.005 EOF b => CutExact { input: \"./--exact\", from: Back(1005), to: Place(End), output: \"b\" }
 
 # Cuts and splits.
@@ -64,7 +66,7 @@ cut a 1 EOF b => Cut { from: Frame(1), to: End, least: false, input: \"a\", outp
 cut --least a 0.0 1.02.5 b => Cut { from: Time(0, 100), to: Time(6205, 100), least: true, input: \"a\", output: \"b\" }
 split a p -c s => SplitBy { exact: false, input: \"a\", prefix: \"p\", sheet: \"s\" }
 split --exact a p -c s => SplitBy { exact: true, input: \"a\", prefix: \"p\", sheet: \"s\" }
-split --exact a p 0s 0.1 EOF-0.0.005 => SplitExact { input: \"a\", prefix: \"p\", places: [Sample(0), Place(Time(100, 100)), Back(5)] }
+split --exact a p 0samples 0.1 EOF-0.0.005 => SplitExact { input: \"a\", prefix: \"p\", places: [Sample(0), Place(Time(100, 100)), Back(5)] }
 split a p 0.0 7 EOF => SplitAt { input: \"a\", prefix: \"p\", places: [Time(0, 100), Frame(7), End] }
 
 # Joins.

@@ -98,12 +98,12 @@ static ROWS: [Row; 10] = table! {
     // The first sample comes before the end of a decoder's delay.
     (TWO, ["0", "EOF"], Ok(()), LED)
     (TWO, ["0", "3"], Err(EditFault::Refused(Refusal::Span(0, 3456, 2304))), OLD)
-    (TWO, ["1152s", "1"], Err(EditFault::Refused(Refusal::Span(1152, 1152, 2304))), OLD)
+    (TWO, ["1152samples", "1"], Err(EditFault::Refused(Refusal::Span(1152, 1152, 2304))), OLD)
     (BY_LAME, ["0", "EOF"], Ok(()), ALL_BY_LAME)
     (BY_LAME, ["0.00.03", "0.00.05"], Ok(()), TWO_BY_LAME)
     // A piece of a piece.
     (TWO_BY_LAME, ["0", "EOF"], Ok(()), TWO_BY_LAME)
-    (BY_LAME, ["0", "3313s"], Err(EditFault::Refused(Refusal::Span(0, 3313, 3312))), OLD)
+    (BY_LAME, ["0", "3313samples"], Err(EditFault::Refused(Refusal::Span(0, 3313, 3312))), OLD)
     (INTO_HEAD, ["0", "EOF"], Ok(()), LOST)
     (PROTECTED, ["0", "1"], Ok(()), LED_PROTECTED)
 };

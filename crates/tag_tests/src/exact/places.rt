@@ -18,16 +18,29 @@ static WORDS: [Word; 10] = table! {
     ("EOF", ExactPlace::Place(Place::End))
     ("9999999", ExactPlace::Place(Place::Frame(9_999_999)))
     ("0.00.5", ExactPlace::Place(Place::Time(5, 100)))
-    ("0s", Sample(0))
-    ("1152s", Sample(1_152))
-    ("4294967295s", Sample(4_294_967_295))
-    ("0000000001s", Sample(1))
+    ("0samples", Sample(0))
+    ("1152samples", Sample(1_152))
+    ("4294967295samples", Sample(4_294_967_295))
+    ("0000000001samples", Sample(1))
     ("0.0.005", Millis(5))
     ("9999.59.999", Millis(599_999_999))
     ("0001.1.010", Millis(61_010))
 };
 
-static BEFORE_THE_END: [Word; 7] = table! {
+static SECONDS: [Word; 9] = table! {
+    Word { text, says }
+    ("0s", Millis(0))
+    ("30s", Millis(30_000))
+    ("90.5s", Millis(90_500))
+    ("1.30s", Millis(1_300))
+    ("0.005s", Millis(5))
+    ("000000.03s", Millis(30))
+    ("000000.020s", Millis(20))
+    ("999999.999s", Millis(999_999_999))
+    ("44100s", Millis(44_100_000))
+};
+
+static BEFORE_THE_END: [Word; 10] = table! {
     Word { text, says }
     ("EOF-0.10", Back(10_000))
     ("EOF-1.0", Back(60_000))
@@ -36,33 +49,57 @@ static BEFORE_THE_END: [Word; 7] = table! {
     ("EOF-0.0.020", Back(20))
     ("EOF-0.0.005", Back(5))
     ("EOF-9999.59.99", Back(599_999_990))
+    ("EOF-90s", Back(90_000))
+    ("EOF-0.02s", Back(20))
+    ("EOF-999999.9s", Back(999_999_900))
 };
 
-static OTHERS: [&'static str; 24] = [
+static OTHERS: [&'static str; 45] = [
     "",
-    "4294967296s",
-    "00000000001s",
+    "4294967296samples",
+    "00000000001samples",
+    "samples",
+    "1sample",
+    "1Samples",
+    "+1samples",
+    "1.0samples",
+    "30samples ",
     "s",
     "1S",
+    "30S",
     "+1s",
-    "1.0s",
+    ".5s",
+    "1.s",
+    "1.5000s",
+    "1234567s",
+    "0.0.5s",
     "1ms",
-    "1 s",
     "0.0.0005",
     "0.60.000",
     "10000.0.000",
     "0..000",
-    "0.0.00a",
-    "1.2.3.004",
     "EOF-",
     "EOF-3",
-    "EOF-3s",
+    "EOF-s",
+    "EOF-.5s",
+    "EOF-1.s",
+    "EOF-1.5000s",
+    "EOF-1234567s",
+    "EOF-1samples",
     "EOF-0.0.5",
     "EOF-0.0.0005",
     "EOF-0.60",
+    "eof-0.1",
+    "eof-1s",
+    "1 s",
+    "0.0.00a",
+    "1.2.3.004",
     "EOF-0.10.",
     "EOF-EOF",
-    "eof-0.1",
+    "0.5.s",
+    "s30",
+    "1,5s",
+    "30 seconds",
 ];
 
 fn are_read(words: &[Word]) -> bool {
@@ -74,6 +111,7 @@ fn are_read(words: &[Word]) -> bool {
 #[test]
 fn words(rt: HostRuntime) {
     assert!(rt; are_read(&WORDS));
+    assert!(rt; are_read(&SECONDS));
     assert!(rt; are_read(&BEFORE_THE_END));
 }
 
@@ -92,17 +130,21 @@ struct At {
     sample: u64,
 }
 
-static SAMPLES: [At; 9] = table! {
+static SAMPLES: [At; 12] = table! {
     At { version, frequency_index, word, sample }
     (Version::One, 0, "3", 3_456)
     (Version::TwoFive, 2, "3", 1_728)
     (Version::One, 0, "EOF", 2_304)
-    (Version::One, 0, "4294967295s", 4_294_967_295)
+    (Version::One, 0, "4294967295samples", 4_294_967_295)
     // 220.5 samples, and twice as many.
     (Version::One, 0, "0.0.005", 220)
     (Version::Two, 0, "0.00.020", 441)
     (Version::One, 0, "EOF-0.0.005", 2_084)
     (Version::One, 0, "EOF-0.0", 2_304)
+    // 30 s and 999,999.999 s, in 64 bits.
+    (Version::One, 0, "30s", 1_323_000)
+    (Version::One, 0, "999999.999s", 44_099_999_955)
+    (Version::One, 0, "EOF-0.02s", 1_422)
     // More than the file has.
     (Version::One, 0, "EOF-1.0", 0)
 };

@@ -50,10 +50,10 @@ static TWO_FRAMES: [Row; 10] = table! {
     (Version::One, 0, None, 2, ["0.00.01", "0.00.02"], false, Piece(0, 1, 1, 1064, 799))
     (Version::One, 0, None, 2, ["EOF-0.0.020", "EOF-0.00.01"], false, Piece(0, 2, 0, 893, 970))
     (Version::One, 0, None, 2, ["0.0.005", "EOF"], false, Piece(0, 2, 1, 843, 529))
-    (Version::One, 0, None, 2, ["1585s", "1586s"], false, Piece(0, 2, 0, 1056, 1247))
+    (Version::One, 0, None, 2, ["1585samples", "1586samples"], false, Piece(0, 2, 0, 1056, 1247))
     (Version::One, 0, None, 2, ["0", "3"], false, Range(0, 3456, 2304))
     (Version::One, 0, None, 2, ["EOF-0.0", "EOF"], false, Range(2304, 2304, 2304))
-    (Version::One, 0, None, 2, ["4294967295s", "EOF"], false, Range(4_294_967_295, 2304, 2304))
+    (Version::One, 0, None, 2, ["4294967295samples", "EOF"], false, Range(4_294_967_295, 2304, 2304))
 };
 
 /// More frames, and the other versions.
@@ -62,7 +62,7 @@ static OTHERS: [Row; 10] = table! {
     // The last of five frames, whose main data need a lead-in.
     (Version::One, 0, None, 5, ["0.00.13", "EOF"], true, Piece(4, 5, 1, 1748, 529))
     (Version::One, 0, None, 4, ["0.0", "0.00.05"], false, Piece(0, 2, 1, 623, 628))
-    (Version::One, 0, None, 4, ["2205s", "EOF"], false, Piece(0, 4, 0, 1676, 529))
+    (Version::One, 0, None, 4, ["2205samples", "EOF"], false, Piece(0, 4, 0, 1676, 529))
     (Version::One, 0, None, 100, ["0.0", "0.02"], false, Piece(0, 77, 1, 623, 1033))
     (Version::One, 0, None, 100, ["0.02", "EOF"], false, Piece(75, 100, 0, 1271, 529))
     (Version::One, 0, None, 76, ["0.0", "0.02"], false, Range(0, 88_200, 87_552))
@@ -79,7 +79,7 @@ static COUNTING: [Row; 8] = table! {
         Piece(0, 4, 0, 576, 720))
     (Version::One, 0, Some(Head { frames: 4, text: *b"LAME3.100", numbers: [0x24, 0x02, 0xd0] }), 4, ["0.00.03", "0.00.05"], false,
         Piece(1, 3, 0, 747, 675))
-    (Version::One, 0, Some(Head { frames: 4, text: *b"LAME3.100", numbers: [0x24, 0x02, 0xd0] }), 4, ["EOF-0.0.010", "3312s"], false,
+    (Version::One, 0, Some(Head { frames: 4, text: *b"LAME3.100", numbers: [0x24, 0x02, 0xd0] }), 4, ["EOF-0.0.010", "3312samples"], false,
         Piece(2, 4, 0, 1143, 720))
     // The delays at which the warm-up begins with the second frame and with the first.
     (Version::One, 0, Some(Head { frames: 4, text: *b"LAME3.100", numbers: [0x68, 0xf2, 0xd0] }), 4, ["0", "EOF"], false,
