@@ -8,7 +8,6 @@ pub mod SoundLemmas
 pub mod ProgressLemmas
 pub mod ResultLemmas
 pub mod ReadingStepLemmas
-pub mod KeepsLemmas
 pub mod KeptLemmas
 pub mod LaidOutLemmas
 pub mod StreamLemmas

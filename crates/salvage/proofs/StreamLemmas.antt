@@ -8,12 +8,10 @@ use Rattle.std.specs.List.{enumerate_from}
 use Rattle.bit_fields.{proofs.BitsLemmas.{bits-append, length-bits}, specs.Bits.bits}
 use Rattle.frame_header.specs.Fields.{ClassFields, HeaderFields}
 use Rattle.frame_header.specs.Tables.{area_of, class_of, length_of}
-use Rattle.salvage.proofs.KeptLemmas.{sound_within}
-use Rattle.salvage.proofs.LaidOutLemmas.{damaged_fields-from, damaged_of-is, read-laid}
+use Rattle.salvage.proofs.{KeptLemmas.sound_within, LaidOutLemmas.damaged_fields-from}
 use Rattle.salvage.proofs.SoundLemmas.{judged_from, judged_rows-from}
 use Rattle.salvage.specs.DamagedFiles.{damaged_fields, damaged_from, DamagedFields, things_from}
-use Rattle.salvage.specs.{JudgedFrames.state_after_frame, Laws.SalvageTellsStreams}
-use Rattle.salvage.specs.Progress.{IsDamagedLaidOut}
+use Rattle.salvage.specs.{JudgedFrames.state_after_frame, Progress.IsDamagedLaidOut}
 use Rattle.salvage.specs.SoundFrames.{FrameRuns, is_sound, judged_rows, judged_runs, runs_of}
 use Rattle.salvage.specs.Stream.{run_stream, runs_stream, salvaged_stream, stream_from}
 use Rattle.salvage.specs.Walk.{first_frame}
@@ -290,7 +288,7 @@ module _ (file : List ℕ) where
       (ap (λ n. frames_at (main ++ behind) n others) (sym size)
       ∙ later_stream main runs.later parts.1)
 
--- ---- the law
+-- ---- the stream of a file
 
 from_first : (file : List ℕ) (first : PlacedFrame) → first_frame file (front_end_of file)
     ≡ Some first → runs_stream file (head_of file first) (runs_of (things_from file first))
@@ -313,7 +311,3 @@ stream-told file d e laid =
     ap (λ (c : DamagedFields). stream_of_survey file c.survey) (sym is.same)
     ∙ told_stream file (front_end_of file) is.first (subst IsDamagedLaidOut (sym is.same) laid)
     ∙ from_first file is.first is.first_is
-
--- the law for all that is read of a file
-pub tells_streams : SalvageTellsStreams
-tells_streams file d e = grind (arith, damaged_of-is, stream-told, read-laid)

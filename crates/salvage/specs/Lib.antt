@@ -10,6 +10,5 @@ pub mod Progress
 pub mod Answers
 pub mod Text
 pub mod Stream
-pub mod Laws
 pub mod KeptFrames
 pub mod EmptiedFrames

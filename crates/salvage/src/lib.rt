@@ -7,7 +7,6 @@ mod damaged;
 mod found;
 mod gap;
 mod later;
-mod laws;
 mod mended;
 mod raw_header;
 mod reading;
@@ -16,6 +15,5 @@ mod usable;
 
 pub use damaged::Damaged;
 pub use gap::Gap;
-pub use laws::{salvage_keeps_streams, salvage_tells_streams};
 pub use mended::{Emptied, Mended};
 pub use reading::read_damaged;

@@ -11,13 +11,13 @@ use Rattle.salvage.proofs.SearchLemmas.{first_here, first_later, next_usable_fra
 use Rattle.salvage.proofs.WalkLemmas.{things-item, things-past}
 use Rattle.salvage.specs.DamagedFiles.{damaged_by, damaged_fields, damaged_from, damaged_with_count}
 use Rattle.salvage.specs.DamagedFiles.{DamagedFields, gap_between, things_from}
-use Rattle.salvage.specs.Laws.{SalvageKeepsStreams}
 use Rattle.salvage.specs.SoundFrames.{end_of_sound, FrameRuns, is_sound, judged_row, judged_rows}
 use Rattle.salvage.specs.SoundFrames.{runs_of, sound_end}
 use Rattle.salvage.specs.UsableFrames.{has_right_crc, is_head, is_usable, usable_frame_at}
 use Rattle.salvage.specs.Walk.{blocks_of_things, first_frame, gaps_of, is_item_read, IsItem}
 use Rattle.salvage.specs.{Walk.{item_read, PlacedThing, things}, declared.usable.Role.Role}
 use Rattle.salvage.specs.declared.usable.Role.TheVariants.{First, Later}
+use Rattle.salvage_laws.specs.Laws.{SalvageKeepsStreams}
 use Rattle.side_info.specs.Frame.{stored_crc}
 use Rattle.sync_survey.proofs.{FaultsLemmas.length-marked_rows, ProgressLemmas.first_of_stream}
 use Rattle.sync_survey.proofs.RunsLemmas.{frames-next, item_run-ends, whole_item_at-is}

@@ -1,5 +1,5 @@
-//! Laws of the definitions. Each function does nothing: a proof that needs its law calls it.
-ghost use Rattle.salvage.specs.Laws.{SalvageKeepsStreams, SalvageTellsStreams};
+//! Laws of what is read of a damaged file. Each function does nothing: a proof that needs its law calls it.
+ghost use Rattle.salvage_laws.specs.Laws.{SalvageKeepsStreams, SalvageTellsStreams};
 
 /// Everything in the survey of a file without fault is read, and nothing is missing except the junk
 /// before the first frame, so the file's stream is kept.

@@ -1,6 +1,0 @@
--- What a survey says is read.
-use Rattle.salvage.proofs.KeepsLemmas.{keeps_streams}
-use Rattle.salvage.proofs.laws.salvage_keeps_streams.Goals as goal
-
-pub returns : goal.returns
-returns c = keeps_streams
