@@ -57,7 +57,7 @@ use Rattle.laying.specs.Written.{front_blocks, info_for, slot_in}
 use Rattle.seam_laws.proofs.BareFrameLemmas.{bare-same, relaid_frames-same}
 use Rattle.seam_laws.proofs.{LaidInputLemmas.{BringsLed, front-same}, LedLemmas.led-needed}
 use Rattle.seam_laws.proofs.OwnLeadInLemmas.{lead-where-wanted, own-none}
-use Rattle.seam_laws.proofs.SeamlessInputLemmas.{AreInputs, IsInput}
+use Rattle.seam_laws.proofs.{PieceRunLemmas.front-fits, SeamlessInputLemmas.{AreInputs, IsInput}}
 use Rattle.seam_laws.proofs.SeamlessRunLemmas.{front-few, front-parts, run, run-planned, stream}
 use Rattle.seam_laws.proofs.SplitFileLemmas.{AreRead, run-read}
 use Rattle.seam_laws.proofs.SplitJoinLemmas.{between-append, between-needs, range-append}
@@ -65,7 +65,7 @@ use Rattle.seam_laws.proofs.SplitJoinLemmas.{run_between}
 use Rattle.seam_laws.specs.LeadInLaws.{AreInOwnSlots, AreLedInOwnSlots}
 use Rattle.seam_laws.specs.SeamlessLaws.{bare_file, bare_row_file, last_place}
 use Rattle.seam_plan.proofs.{FitLemmas.fits-tested, LeadInLemmas.lead-in-is}
-use Rattle.seam_plan.{proofs.PieceRunLemmas.front-fits, specs.Frames.{needs_of, RunFrame}}
+use Rattle.seam_plan.specs.Frames.{needs_of, RunFrame}
 use Rattle.seam_plan.specs.Joins.{fits_behind, has_lead_in, lead_in_header}
 use Rattle.slot_plan.proofs.FreeByteLemmas.{more-behind}
 use Rattle.slot_plan.specs.{FreeBytes.{FitsBehind, IsLeadInHeader}, Layouts.begins_of}

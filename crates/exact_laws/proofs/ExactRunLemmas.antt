@@ -15,6 +15,8 @@ use Rattle.exact_laws.proofs.ExactFileLemmas.{IsFound, IsLaidLed, leads, own, sa
 use Rattle.exact_laws.proofs.ExactSpanLemmas.{brought-led, first-early, first-is, first-rises}
 use Rattle.exact_laws.proofs.ExactSpanLemmas.{has-led-span, has-own-span, has-span, HasSpan}
 use Rattle.exact_laws.proofs.ExactSpanLemmas.{input-class, last-is, last-rises}
+use Rattle.exact_laws.proofs.SpanRunLemmas.{spans-one-run}
+use Rattle.exact_laws.specs.SpanLaws.{AreSpansOf, is_following_seam, IsSpanOf, spans_end}
 use Rattle.exact_span.specs.PlayedPositions.{rest_of, samples_in}
 use Rattle.exact_span.specs.Spans.{frames_before, warm_up_frame}
 use Rattle.exact_span.specs.declared.{exact_place.ExactPlace.ExactPlace, played.Played.Played}
@@ -24,7 +26,7 @@ use Rattle.frame_header.specs.declared.version.Version.{Version}
 use Rattle.join_edits.specs.Seamless.{join_of_parts, later_parts, part_brought, part_from}
 use Rattle.join_edits.specs.Seamless.{run_lead_ins, seamless_stream}
 use Rattle.laying.specs.{Relaid.{FilePart, part_stream, silent_lead_in}, Surveys.CanBeRelaid}
-use Rattle.seam_laws.proofs.LaidInputLemmas.{BringsLed}
+use Rattle.seam_laws.proofs.{FollowerLemmas.followers-on, LaidInputLemmas.BringsLed}
 use Rattle.seam_laws.proofs.SeamlessFrontLemmas.{front-silent, none-zero}
 use Rattle.seam_laws.proofs.SeamlessInputLemmas.{AreInputs, IsInput, stream-from}
 use Rattle.seam_laws.proofs.SeamlessRunLemmas.{front-few, front-is, front-parts, joints-are}
@@ -33,10 +35,8 @@ use Rattle.seam_laws.proofs.SeamlessRunLemmas.{stream}
 use Rattle.seam_laws.proofs.SplitJoinLemmas.{all_stream, between-fits, between-known, range-append}
 use Rattle.seam_laws.proofs.SplitJoinLemmas.{range-none, run_between, stream-many}
 use Rattle.seam_laws.specs.SeamlessLaws.{is_empty_frame, last_place}
-use Rattle.seam_plan.proofs.{FitLemmas.fits-tested, FollowLemmas.followers-on}
-use Rattle.seam_plan.proofs.SpanRunLemmas.{spans-one-run}
-use Rattle.seam_plan.specs.{Frames.{Brought, needs_of, RunFrame}, Joins.{fits_behind, has_lead_in}}
-use Rattle.seam_plan.specs.Laws.{AreSpansOf, is_following_seam, IsSpanOf, spans_end}
+use Rattle.seam_plan.{proofs.FitLemmas.fits-tested, specs.Frames.{Brought, needs_of, RunFrame}}
+use Rattle.seam_plan.specs.Joins.{fits_behind, has_lead_in}
 use Rattle.seam_plan.specs.Seams.{front_left_out_count, joint_of, JointFrames, joints_from}
 use Rattle.seam_plan.specs.{Seams.{joints_of, left_out_count, run_with}, declared.seam.Seam.Seam}
 use Rattle.seam_plan.specs.declared.seam.Seam.TheVariants.{Follows}

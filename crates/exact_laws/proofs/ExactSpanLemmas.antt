@@ -14,6 +14,7 @@ use Rattle.exact_laws.proofs.ExactFileLemmas.{has-own, head, IsExactFile, IsFoun
 use Rattle.exact_laws.proofs.ExactFileLemmas.{IsLaidOwn, laid_by, leads, led-leads, own, own-leads}
 use Rattle.exact_laws.proofs.ExactFileLemmas.{piece-by, sample, span-class, span-head, span-led}
 use Rattle.exact_laws.proofs.ExactFileLemmas.{span-long, span-own, span-ways}
+use Rattle.exact_laws.specs.SpanLaws.{AreEmptyFrames, IsSpanOf}
 use Rattle.exact_span.proofs.PlayedLemmas.{places-kept}
 use Rattle.exact_span.specs.Laws.{AreInfoFields, IsPieceHead, KeepsPlaces, SaysNumbers}
 use Rattle.exact_span.specs.PlayedPositions.{counted_positions, played_of, samples_in}
@@ -32,7 +33,7 @@ use Rattle.seam_laws.proofs.LaidInputLemmas.{BringsLed, BringsOwn}
 use Rattle.seam_laws.proofs.PieceHeadLemmas.{laid-count, laid-extension, laid-quality}
 use Rattle.seam_laws.proofs.SeamlessInputLemmas.{brought-many, IsInput, whole_stream}
 use Rattle.seam_laws.proofs.SplitJoinLemmas.{all_stream, between-needs, run_between}
-use Rattle.seam_plan.specs.{Frames.RunFrame, Laws.{AreEmptyFrames, IsSpanOf}}
+use Rattle.seam_plan.specs.Frames.{RunFrame}
 use Rattle.slot_plan.specs.declared.needs.Need.{Need}
 use Rattle.split_edits.specs.Recording.{input_played}
 use Rattle.sync_survey.specs.{Faults.SurveyFields, MainData.StreamFrame, Row.Row}

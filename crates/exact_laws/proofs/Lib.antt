@@ -1,4 +1,5 @@
 -- The lemmas of this crate.
+pub mod SpanRunLemmas
 pub mod LedPlanLemmas
 pub mod ExactFileLemmas
 pub mod ExactSpanLemmas

@@ -4,6 +4,7 @@ use Rattle.std.specs.Prelude.{length, List, Ok, slice_get, slice_range, Some, tr
 use Rattle.std.specs.Prelude.{◌+◌, ◌-◌, ◌∷◌, ◌≡◌, ◌≤◌}
 use Rattle.commands.specs.SingleOutput.{most_frames}
 use Rattle.cut_edits.specs.Exact.{exact_part, file_span, survey_without_head}
+use Rattle.exact_laws.specs.SpanLaws.{is_following_seam}
 use Rattle.exact_span.specs.{Laws.{IsPieceHead, KeepsPlaces}, PlayedPositions.played_of}
 use Rattle.exact_span.specs.declared.{exact_place.ExactPlace.ExactPlace, span.Span.Span}
 use Rattle.join_edits.specs.Seamless.{delay_of_run, join_of_parts, seamless_file, seamless_info}
@@ -12,7 +13,7 @@ use Rattle.laying.specs.{KeptFields.fields_of_head, Laid.LaidPart, Relaid.FilePa
 use Rattle.seam_laws.specs.SeamlessLaws.{ArePieceInputs, bare_file, has_no_look_alike}
 use Rattle.seam_laws.specs.SeamlessLaws.{HasNoEmptyFrame, is_empty_frame, IsJoinedInSteps}
 use Rattle.seam_laws.specs.SeamlessLaws.{last_place}
-use Rattle.seam_plan.specs.{Laws.is_following_seam, Seams.JointFrames}
+use Rattle.seam_plan.specs.Seams.{JointFrames}
 use Rattle.split_edits.specs.{Cutting.piece_parts, Recording.{input_played, sample_named}}
 use Rattle.split_edits.specs.{Split.exact_cutting_of, declared.exact_points.ExactPoints.ExactPoints}
 use Rattle.sync_survey.specs.{Faults.{stream_of_survey, SurveyFields}, MainData.StreamFrame}

@@ -1,3 +1,4 @@
 -- What the laws of this crate cite.
+pub mod SpanLaws
 pub mod ExactSeamLaws
 pub mod PieceLaws

@@ -42,11 +42,11 @@ use Rattle.seam_laws.proofs.SeamlessPlaceLemmas.{input-at, leads-enough}
 use Rattle.seam_laws.proofs.SeamlessRunLemmas.{all, front-few, HasLeads, joints-are, leads-many}
 use Rattle.seam_laws.proofs.SeamlessRunLemmas.{run, run-is, run-leads, stream, stream-length}
 use Rattle.seam_laws.specs.JoinLaws.{IsInputWritten, JoinsKeepTheirEnds, KeepsEnds, MayBeLeftOut}
-use Rattle.seam_laws.specs.{JoinLaws.{part_played, seam_at}, SeamlessLaws.{IsSamePosition, run_end}}
+use Rattle.seam_laws.specs.{JoinLaws.{part_played, seam_at}, RunLaws.run_after}
+use Rattle.seam_laws.specs.SeamlessLaws.{IsSamePosition, run_end}
 use Rattle.seam_plan.{proofs.FollowLemmas.added, specs.Frames.{Brought, RunFrame}}
-use Rattle.seam_plan.specs.{Joins.fits_behind, Laws.run_after}
-use Rattle.seam_plan.specs.{Seams.{JointFrames, joints_of, left_out_count}, declared.seam.Seam.Seam}
-use Rattle.seam_plan.specs.declared.seam.Seam.TheVariants.{Follows, LeadIn, Whole}
+use Rattle.seam_plan.specs.{Joins.fits_behind, Seams.{JointFrames, joints_of, left_out_count}}
+use Rattle.seam_plan.specs.declared.seam.Seam.{Seam, TheVariants.{Follows, LeadIn, Whole}}
 use Rattle.slot_plan.specs.declared.needs.{Need.Need, Placed.Placed}
 use Rattle.split_edits.specs.Recording.{input_played}
 use Rattle.sync_survey.proofs.{FaultsLemmas.length-marked_rows, FoldersLemmas.octets_bytes}

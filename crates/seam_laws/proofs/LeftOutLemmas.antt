@@ -15,6 +15,7 @@ use Rattle.join_edits.proofs.FramePlaceLemmas.{get-some, get-within}
 use Rattle.join_edits.specs.Seamless.{begins_blank, join_of_parts, later_parts, part_brought}
 use Rattle.join_edits.specs.Seamless.{part_from}
 use Rattle.laying.{proofs.EntryByteLemmas.shaped, specs.Relaid.{FilePart, part_stream}}
+use Rattle.seam_laws.proofs.FollowerLemmas.{followers-on}
 use Rattle.seam_laws.proofs.SeamlessFrontLemmas.{begins-first, empty-frame, no-parts, none-zero}
 use Rattle.seam_laws.proofs.SeamlessFrontLemmas.{silent_frame, whole-first, zero-side}
 use Rattle.seam_laws.proofs.SeamlessInputLemmas.{AreInputs, brought-many, inputs-are, IsInput}
@@ -22,12 +23,10 @@ use Rattle.seam_laws.proofs.SeamlessInputLemmas.{stream-from, stream-many, whole
 use Rattle.seam_laws.proofs.SeamlessPlaceLemmas.{input-at}
 use Rattle.seam_laws.proofs.SeamlessRunLemmas.{front-few, front-parts, joints-are}
 use Rattle.seam_laws.specs.JoinLaws.{IsEmptyFront, IsInputWritten, LeftOutIsEmpty, MayBeLeftOut}
-use Rattle.seam_laws.specs.JoinLaws.{seam_at}
-use Rattle.seam_plan.proofs.FollowLemmas.{followers-on}
+use Rattle.seam_laws.specs.{JoinLaws.seam_at, RunLaws.{InputGoesOn, run_after}}
 use Rattle.seam_plan.proofs.SeamLemmas.{follow-is, follows_with, IfWithout, without-led}
 use Rattle.seam_plan.specs.{Decisions.alike_overlap, Frames.{Brought, needs_of, RunFrame}}
 use Rattle.seam_plan.specs.Joins.{has_lead_in, joining_frames, leads_others}
-use Rattle.seam_plan.specs.Laws.{InputGoesOn, run_after}
 use Rattle.seam_plan.specs.Seams.{following_joint, joint_of, joint_with, joint_without_lead_in}
 use Rattle.seam_plan.specs.Seams.{JointFrames, joints_from, joints_of, left_out_count, SeamlessJoin}
 use Rattle.seam_plan.specs.{Seams.whole_joint, declared.seam.Seam.Seam}

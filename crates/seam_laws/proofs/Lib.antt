@@ -1,6 +1,8 @@
 -- The lemmas of this crate.
 pub mod LedLemmas
 pub mod OwnLeadInLemmas
+pub mod FollowerLemmas
+pub mod PieceRunLemmas
 pub mod SeamlessInputLemmas
 pub mod SeamlessRunLemmas
 pub mod SeamlessFrontLemmas

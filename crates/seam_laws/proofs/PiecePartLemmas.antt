@@ -26,9 +26,9 @@ use Rattle.seam_laws.proofs.PieceHeadLemmas.{laid-extension, zero-counts}
 use Rattle.seam_laws.proofs.SeamlessInputLemmas.{IsInput, run-needs, stream-from, whole_stream}
 use Rattle.seam_laws.proofs.SeamlessRunLemmas.{has-leads, HasLeads}
 use Rattle.seam_laws.specs.LeadInLaws.{AreInOwnSlots, AreLedInOwnSlots}
+use Rattle.seam_laws.specs.RunLaws.{IsLedPiece, IsPieceOf, IsUnledPiece}
 use Rattle.seam_plan.{proofs.FitLemmas.fits-tested, specs.Frames.{needs_of, RunFrame}}
 use Rattle.seam_plan.specs.Joins.{fits_behind, has_lead_in}
-use Rattle.seam_plan.specs.Laws.{IsLedPiece, IsPieceOf, IsUnledPiece}
 use Rattle.slot_plan.specs.{Plans.IsPlan, declared.needs.{Need.Need, Placed.Placed}}
 use Rattle.sync_survey.specs.{Faults.{survey_fields, SurveyFields}, MainData.StreamFrame, Row.Row}
 

@@ -11,15 +11,16 @@ use Rattle.join_edits.proofs.FramePlaceLemmas.{get-some}
 use Rattle.join_edits.specs.Seamless.{join_of_parts, part_brought, part_without_head, run_lead_ins}
 use Rattle.join_edits.specs.Seamless.{seamless_stream, sound_of}
 use Rattle.laying.specs.Relaid.{FilePart, part_stream, silent_lead_in}
+use Rattle.seam_laws.proofs.FollowerLemmas.{followers-on, get-drop}
 use Rattle.seam_laws.proofs.SeamlessFrontLemmas.{front-alike}
 use Rattle.seam_laws.proofs.SeamlessInputLemmas.{AreInputs, brought-many, brought-sounds}
 use Rattle.seam_laws.proofs.SeamlessInputLemmas.{inputs-are, IsInput, played-end, stream-whole}
 use Rattle.seam_laws.proofs.SeamlessRunLemmas.{all, brought, class, front-few, front-parts, joined}
 use Rattle.seam_laws.proofs.SeamlessRunLemmas.{joints-are, leads-many, others, run, run-is}
 use Rattle.seam_laws.proofs.SeamlessRunLemmas.{run-leads, seamless-is, stream, stream-sounds}
+use Rattle.seam_laws.specs.RunLaws.{InputGoesOn, run_after}
 use Rattle.seam_laws.specs.SeamlessLaws.{ComesBehind, FollowingSamplesStay, IsPositionKept, run_end}
-use Rattle.seam_plan.proofs.FollowLemmas.{added, followers-on, get-drop, sounds}
-use Rattle.seam_plan.specs.{Frames.{Brought, RunFrame}, Laws.{InputGoesOn, run_after}}
+use Rattle.seam_plan.{proofs.FollowLemmas.{added, sounds}, specs.Frames.{Brought, RunFrame}}
 use Rattle.seam_plan.specs.{Seams.{JointFrames, joints_of}, declared.seam.Seam.TheVariants.Follows}
 use Rattle.sync_survey.specs.MainData.{StreamFrame}
 

@@ -10,6 +10,7 @@ use Rattle.join_edits.specs.Seamless.{begins_blank, join_of_parts, later_parts, 
 use Rattle.join_edits.specs.Seamless.{part_from, seamless_stream}
 use Rattle.laying.specs.{Relaid.{FilePart, part_stream}, Surveys.CanBeRelaid}
 use Rattle.seam_laws.proofs.PiecePartLemmas.{IsPieceFile, own_leads, piece-stream, uncounted}
+use Rattle.seam_laws.proofs.PieceRunLemmas.{uncounted-joint}
 use Rattle.seam_laws.proofs.SeamlessFrontLemmas.{blank-side, none-zero}
 use Rattle.seam_laws.proofs.SeamlessInputLemmas.{AreInputs, IsInput, stream-from, whole_stream}
 use Rattle.seam_laws.proofs.SeamlessRunLemmas.{front-few, front-parts, HasLeads, joints-are}
@@ -17,7 +18,6 @@ use Rattle.seam_laws.proofs.SeamlessRunLemmas.{run-leads, seamless-is, stream}
 use Rattle.seam_laws.proofs.SplitJoinLemmas.{all_stream, AreFiles, chosen_between, cut-last}
 use Rattle.seam_laws.proofs.SplitJoinLemmas.{range-append, range-none, Rise}
 use Rattle.seam_laws.specs.SeamlessLaws.{full_frames, is_empty_frame}
-use Rattle.seam_plan.proofs.PieceRunLemmas.{uncounted-joint}
 use Rattle.seam_plan.specs.{Frames.{Brought, needs_of, RunFrame}, Joins.{has_lead_in, leads_others}}
 use Rattle.seam_plan.specs.Seams.{joint_of, JointFrames, joints_from, left_out_count}
 use Rattle.side_info.specs.{Side.side_bits, declared.side.Side.Side}

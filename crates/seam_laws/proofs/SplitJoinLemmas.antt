@@ -24,13 +24,13 @@ use Rattle.laying.specs.Surveys.{CanBeRelaid}
 use Rattle.outside.specs.Files.{Contents}
 use Rattle.seam_laws.proofs.LaidInputLemmas.{frames-same}
 use Rattle.seam_laws.proofs.PiecePartLemmas.{IsPieceFile, left-own, own_leads, piece-is, same-class}
+use Rattle.seam_laws.proofs.PieceRunLemmas.{pieces-one-run}
 use Rattle.seam_laws.proofs.SeamlessInputLemmas.{AreInputs, IsInput, run-needs, run-sounds}
+use Rattle.seam_laws.specs.RunLaws.{AreHeadersKnown, AreOneRun, ArePiecesOf, concat_frames}
+use Rattle.seam_laws.specs.RunLaws.{IsPieceOf, piece_seam}
 use Rattle.seam_laws.specs.SeamlessLaws.{is_look_alike, last_place}
 use Rattle.seam_plan.proofs.{FitLemmas.fits-tested, FollowLemmas.sounds}
-use Rattle.seam_plan.{proofs.PieceRunLemmas.pieces-one-run, specs.Frames.{needs_of, RunFrame}}
-use Rattle.seam_plan.specs.Joins.{fits_behind, has_lead_in}
-use Rattle.seam_plan.specs.Laws.{AreHeadersKnown, AreOneRun, ArePiecesOf, concat_frames, IsPieceOf}
-use Rattle.seam_plan.specs.Laws.{piece_seam}
+use Rattle.seam_plan.specs.{Frames.{needs_of, RunFrame}, Joins.{fits_behind, has_lead_in}}
 use Rattle.seam_plan.specs.Seams.{JointFrames, left_out_count, run_of, seamless_join}
 use Rattle.seam_plan.specs.declared.seam.Seam.TheVariants.{LeadIn, Whole}
 use Rattle.slot_plan.specs.{FreeBytes.FitsBehind, LeastPlan.least_plan, declared.needs.Need.Need}

@@ -12,6 +12,7 @@ use Rattle.frame_header.specs.{Fields.{ClassFields, IsClass}, Tables.window_of}
 use Rattle.join_edits.specs.Seamless.{begins_blank, part_brought, seamless_file}
 use Rattle.laying.proofs.{LaidLemmas.first-there, SurveyFrameLemmas.survey-had}
 use Rattle.laying.specs.{Laid.LaidPart, Needs.need_of, Relaid.FilePart, Surveys.CanBeRelaid}
+use Rattle.seam_laws.proofs.FollowerLemmas.{get-drop}
 use Rattle.seam_laws.proofs.PiecePartLemmas.{IsPieceFile, own_leads, piece-stream}
 use Rattle.seam_laws.proofs.SeamlessInputLemmas.{AreInputs, inputs-are, IsInput, whole_stream}
 use Rattle.seam_laws.proofs.{SplitFileLemmas.seamless-file, SplitFullLemmas.first-empty}
@@ -21,7 +22,7 @@ use Rattle.seam_laws.proofs.SplitJoinLemmas.{parts-files, pieces-cut, Rise, same
 use Rattle.seam_laws.proofs.SplitLemmas.{class-of, laid-files}
 use Rattle.seam_laws.specs.SeamlessLaws.{bare_file, full_frames, is_empty_frame, is_look_alike}
 use Rattle.seam_laws.specs.SeamlessLaws.{IsJoinedInSteps, StepsJoinTheSame}
-use Rattle.seam_plan.{proofs.FollowLemmas.get-drop, specs.Joins.has_lead_in}
+use Rattle.seam_plan.specs.Joins.{has_lead_in}
 use Rattle.split_edits.specs.Recording.{piece_lead_ins}
 use Rattle.sync_survey.proofs.SurveyedFileLemmas.{survey_of-parts}
 use Rattle.sync_survey.specs.{Faults.{survey_fields, SurveyFields}, MainData.StreamFrame}

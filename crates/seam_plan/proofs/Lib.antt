@@ -5,8 +5,6 @@ pub mod JoinLemmas
 pub mod PlaceLemmas
 pub mod RunLemmas
 pub mod SeamLemmas
-pub mod PieceRunLemmas
 pub mod FollowLemmas
 pub mod RunFitLemmas
 pub mod RunSoundLemmas
-pub mod SpanRunLemmas

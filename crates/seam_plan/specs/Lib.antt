@@ -3,7 +3,6 @@ pub mod Frames
 pub mod Joins
 pub mod Seams
 pub mod Decisions
-pub mod Laws
 pub use Rattle.exact_span.specs.Overlaps
 pub use Rattle.exact_span.specs.PlayedPositions
 pub use Rattle.slot_plan.specs.FreeBytes

@@ -4,13 +4,11 @@
 #![tactic(auto)]
 
 mod input;
-mod laws;
 mod lead_ins;
 mod run;
 mod seam;
 
 pub use input::Input;
-pub use laws::{followers_go_on, pieces_are_one_run, spans_are_one_run};
 pub use lead_ins::front_left_out;
 pub use run::{FramePlace, Joint, Run};
 pub use seam::Seam;

@@ -1,5 +1,5 @@
 //! Laws of the run. Each function does nothing: a proof that needs its law calls it.
-ghost use Rattle.seam_plan.specs.Laws.{FollowersGoOn, PiecesAreOneRun, SpansAreOneRun};
+ghost use Rattle.seam_laws.specs.RunLaws.{FollowersGoOn, PiecesAreOneRun};
 
 /// An input that follows the one before it continues where the played positions of that one end,
 /// and its frames from the first played one on are the last frames of the run, except for their
@@ -13,11 +13,4 @@ pub fn followers_go_on()
 /// the run is thus the plan of these frames.
 pub fn pieces_are_one_run()
     ensures { PiecesAreOneRun }
-{}
-
-/// Inputs that are spans of one recording, each playing from where the one before it ends, follow
-/// each other, and are joined to the frames from the first of the first span to the last of the
-/// last, each once. Before these are the first input's lead-ins.
-pub fn spans_are_one_run()
-    ensures { SpansAreOneRun }
 {}

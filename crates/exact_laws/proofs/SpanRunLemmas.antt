@@ -9,17 +9,18 @@ use Rattle.std.proofs.lemmas.List.{length-take-le, take-append-drop, take-take}
 use Rattle.std.{proofs.lemmas.Slice.Eq.bytes_eq-Decides, specs.{List.list_all, Option.option_or}}
 use Rattle.std.specs.Prelude.{if◌then◌else◌, nat_le, option_and_then, option_map, slice_range}
 use Rattle.std.specs.Prelude.{unwrap_or, ◌&&◌}
+use Rattle.exact_laws.specs.SpanLaws.{AreEmptyFrames, AreSpansOf, is_following_seam, IsSpanOf}
+use Rattle.exact_laws.specs.SpanLaws.{spans_end, SpansAreOneRun}
 use Rattle.exact_span.specs.{Overlaps.shared_overlap, PlayedPositions.{rest_of, samples_in}}
 use Rattle.exact_span.specs.declared.{overlap.Overlap.Overlap, played.Played.Played}
 use Rattle.frame_header.specs.{Fields.ClassFields, Tables.{samples_of, window_of}}
 use Rattle.frame_header.specs.declared.version.Version.{Version}
+use Rattle.seam_laws.proofs.PieceRunLemmas.{empty-fits, front-fits, joining_frames-own}
+use Rattle.seam_laws.proofs.PieceRunLemmas.{known-behind, known-front}
+use Rattle.seam_laws.specs.RunLaws.{AreHeadersKnown}
 use Rattle.seam_plan.proofs.{FitLemmas.fits-tested, FollowLemmas.added}
-use Rattle.seam_plan.proofs.PieceRunLemmas.{empty-fits, front-fits, joining_frames-own}
-use Rattle.seam_plan.proofs.PieceRunLemmas.{known-behind, known-front}
 use Rattle.seam_plan.specs.Frames.{Brought, needs_of, RunFrame}
 use Rattle.seam_plan.specs.Joins.{fits_behind, joining_frames}
-use Rattle.seam_plan.specs.Laws.{AreEmptyFrames, AreHeadersKnown, AreSpansOf, is_following_seam}
-use Rattle.seam_plan.specs.Laws.{IsSpanOf, spans_end, SpansAreOneRun}
 use Rattle.seam_plan.specs.Seams.{are_frames_alike, compared_frames, ends_alike, following_joint}
 use Rattle.seam_plan.specs.Seams.{joint_of, joint_with, joint_without_lead_in, JointFrames}
 use Rattle.seam_plan.specs.Seams.{joints_from, overlap_joint, overlap_of, whole_joint}

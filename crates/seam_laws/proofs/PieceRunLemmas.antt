@@ -7,12 +7,13 @@ use Rattle.frame_header.proofs.HeaderLemmas.{IsClass-class_of}
 use Rattle.frame_header.proofs.SlotLemmas.{areas-ascend, Contains-all_slots}
 use Rattle.frame_header.specs.{Fields.{ClassFields, IsHeader, SlotFields}, Slots.all_slots}
 use Rattle.frame_header.specs.Tables.{class_of, window_of}
+use Rattle.seam_laws.specs.RunLaws.{AreHeadersKnown, AreOneRun, ArePiecesOf, concat_frames}
+use Rattle.seam_laws.specs.RunLaws.{IsLedPiece, IsPieceOf, IsUnledPiece, piece_seam}
+use Rattle.seam_laws.specs.RunLaws.{PiecesAreOneRun}
 use Rattle.seam_plan.proofs.{FitLemmas.fits-tested, SeamLemmas.without-led, SlotLemmas.find-least}
 use Rattle.seam_plan.specs.Frames.{Brought, needs_of, RunFrame}
 use Rattle.seam_plan.specs.Joins.{fits_behind, has_lead_in, is_area_no_less, join_slot}
 use Rattle.seam_plan.specs.Joins.{joining_frames}
-use Rattle.seam_plan.specs.Laws.{AreHeadersKnown, AreOneRun, ArePiecesOf, concat_frames, IsLedPiece}
-use Rattle.seam_plan.specs.Laws.{IsPieceOf, IsUnledPiece, piece_seam, PiecesAreOneRun}
 use Rattle.seam_plan.specs.Seams.{following_joint, front_left_out_count, joint_of, joint_with}
 use Rattle.seam_plan.specs.Seams.{joint_without_lead_in, JointFrames, joints_from, run_of}
 use Rattle.seam_plan.specs.Seams.{seamless_join, SeamlessJoin}

@@ -1,0 +1,319 @@
+-- The frames of an input that follows the one before it are the
+-- last of the run, from the frame of its first played position on.
+use Rattle.std.proofs.Common.{ap, append-nil, append_assoc, ap₂, arith, Bool, drop, eqb, false}
+use Rattle.std.proofs.Common.{length, List, min, None, Option, refl, Some, subst, suc, sym, take}
+use Rattle.std.proofs.Common.{true, zero, ℕ, [], ◌%◌, ◌*◌, ◌++◌, ◌+◌, ◌-◌, ◌/◌, ◌∙◌, ◌∷◌, ◌≡◌, ◌≤◌}
+use Rattle.std.proofs.lemmas.Bool.{and_parts, leb-true}
+use Rattle.std.proofs.lemmas.List.{drop-append-le, drop-drop, length-append, length-drop}
+use Rattle.std.proofs.lemmas.List.{length-map, length-take-le, map-append, take-append-drop}
+use Rattle.std.proofs.lemmas.{Option.slice_get-map, Slice.Eq.bytes_eq-Decides}
+use Rattle.std.specs.Option.{option_or}
+use Rattle.std.specs.Prelude.{bytes_eq, if◌then◌else◌, nat_le, option_and_then, option_map}
+use Rattle.std.specs.Prelude.{slice_get, unwrap_or, ◌&&◌}
+use Rattle.exact_span.specs.{Overlaps.shared_overlap, PlayedPositions.{rest_of, samples_in}}
+use Rattle.exact_span.specs.declared.{overlap.Overlap.Overlap, played.Played.Played}
+use Rattle.frame_header.specs.{Fields.ClassFields, Tables.window_of}
+use Rattle.seam_laws.specs.RunLaws.{FollowersGoOn, InputGoesOn, run_after}
+use Rattle.seam_plan.proofs.FollowLemmas.{added, joining_frames-sounds, sounds}
+use Rattle.seam_plan.{proofs.SeamLemmas.{IfWithout, without-led}, specs.Frames.{Brought, RunFrame}}
+use Rattle.seam_plan.specs.Joins.{joining_frames}
+use Rattle.seam_plan.specs.Seams.{are_frames_alike, compared_frames, ends_alike, following_joint}
+use Rattle.seam_plan.specs.Seams.{joint_of, joint_with, joint_without_lead_in, JointFrames}
+use Rattle.seam_plan.specs.Seams.{joints_from, joints_of, overlap_joint, whole_joint}
+use Rattle.seam_plan.specs.declared.seam.Seam.TheVariants.{Follows, LeadIn}
+
+-- ---- lists
+
+-- an item of a list without its first n is the item n places further on in the list
+pub get-drop : {X : Type 0} (n : ℕ) (xs : List X) (i : ℕ)
+    → slice_get (drop n xs) i ≡ slice_get xs (n + i)
+get-drop zero xs i = ap (slice_get xs) (omega arith)
+get-drop (suc n) [] i = refl
+get-drop (suc n) (x ∷ xs) i = grind (arith, get-drop n xs i)
+
+pub record IsSoundOf (frames : List RunFrame) (i : ℕ) (sound : List ℕ) : Type 0 where
+  pub frame : RunFrame
+  pub found : slice_get frames i ≡ Some frame
+  pub is : frame.sound ≡ sound
+
+-- a sound in the list of sounds is the sound of the frame at the same place
+pub sound-of : (frames : List RunFrame) (i : ℕ) (sound : List ℕ)
+    → slice_get (sounds frames) i ≡ Some sound → IsSoundOf frames i sound
+sound-of frames i sound is =
+    at (slice_get frames i) refl (sym (slice_get-map (λ (f : RunFrame). f.sound) frames i) ∙ is)
+  where
+    at : (o : Option RunFrame) → slice_get frames i ≡ o
+        → option_map (λ (f : RunFrame). f.sound) o ≡ Some sound → IsSoundOf frames i sound
+    at None found none = absurd cc
+    at (Some f) found some = record { frame = f; found = found; is = cc }
+
+-- ---- frames that are alike, and frames that join
+
+alike-sounds : (fs gs : List RunFrame) → are_frames_alike fs gs ≡ true → sounds fs ≡ sounds gs
+unfolding are_frames_alike
+alike-sounds [] [] is = refl
+alike-sounds [] (g ∷ gs) is = absurd cc
+alike-sounds (f ∷ fs) [] is = absurd cc
+alike-sounds (f ∷ fs) (g ∷ gs) is =
+    let parts = and_parts (bytes_eq f.sound g.sound) (are_frames_alike fs gs) is in
+    ap₂ (λ (x : List ℕ) (xs : List (List ℕ)). x ∷ xs) ((bytes_eq-Decides f.sound g.sound).0 parts.0)
+    (alike-sounds fs gs parts.1)
+
+-- ---- what is shared
+
+-- the shared frames are whole and in the input, and those that
+-- must be alike begin with the frame of the first played position
+record IsShared (class : ClassFields) (rest start frames : ℕ) (overlap : Overlap) : Type 0 where
+  whole : start + rest ≡ overlap.frames * samples_in class
+  there : overlap.frames ≤ frames
+  early : overlap.first_alike ≤ start / samples_in class
+  within : overlap.first_alike ≤ overlap.frames
+
+module _ (class : ClassFields) (rest start frames : ℕ) (overlap : Overlap) where
+  abbrev samples : ℕ
+  samples = samples_in class
+
+  abbrev whole_frames : ℕ
+  whole_frames = (start + rest) / samples
+
+  abbrev made : Overlap
+  made = record { frames = whole_frames; first_alike = min (start / samples) (whole_frames - 1) }
+
+  shared-test : (b : Bool) → (eqb ((start + rest) % samples) 0 && nat_le whole_frames frames) ≡ b
+      → (if b then Some made else None) ≡ Some overlap
+      → IsShared class rest start frames overlap
+  shared-test b test none = grind arith
+
+  is-shared : shared_overlap class rest start frames ≡ Some overlap
+      → IsShared class rest start frames overlap
+  unfolding shared_overlap
+  is-shared is = grind (arith, shared-test, frames, is)
+
+-- ---- an input that follows
+
+record IsFollowing (class : ClassFields) (run : List RunFrame) (before input : Brought)
+    (joint : JointFrames) : Type 0 where
+  ended : Played
+  played : Played
+  ended_is : before.played ≡ Some ended
+  played_is : input.played ≡ Some played
+  overlap : Overlap
+  shared : IsShared class (rest_of class (length before.frames) ended) played.start
+      (length input.frames) overlap
+  alike : ends_alike run (compared_frames overlap input) ≡ true
+  frames : joining_frames (window_of class.version) run (drop overlap.frames input.frames)
+      ≡ Some joint.frames
+  seam : joint.seam ≡ Follows overlap.frames
+
+module _ (class : ClassFields) (run : List RunFrame) (before input : Brought) where
+  abbrev shared_by : Played → Played → Option Overlap
+  shared_by p q =
+      shared_overlap class (rest_of class (length before.frames) p) q.start (length input.frames)
+
+  abbrev joined_by : Overlap → Option (List RunFrame)
+  joined_by overlap =
+      joining_frames (window_of class.version) run (drop overlap.frames input.frames)
+
+  module _ (joint : JointFrames) where
+    by_joined : (overlap : Overlap) (o : Option (List RunFrame)) → joined_by overlap ≡ o
+        → option_map (joint_with (Follows overlap.frames)) o ≡ Some joint
+        → (joined_by overlap ≡ Some joint.frames) × (joint.seam ≡ Follows overlap.frames)
+    by_joined overlap o found none = grind arith
+
+    by_alike : (p q : Played) (overlap : Overlap) (b : Bool) → before.played ≡ Some p
+        → input.played ≡ Some q → shared_by p q ≡ Some overlap
+        → ends_alike run (compared_frames overlap input) ≡ b
+        → (if b then option_map (joint_with (Follows overlap.frames)) (joined_by overlap) else None)
+        ≡ Some joint
+        → IsFollowing class run before input joint
+    by_alike p q overlap false ended_is played_is shared test none = absurd cc
+    by_alike p q overlap true ended_is played_is shared test some =
+        let joined = by_joined overlap (joined_by overlap) refl some in
+        record {
+          ended = p;
+          played = q;
+          ended_is = ended_is;
+          played_is = played_is;
+          overlap = overlap;
+          shared = is-shared class (rest_of class (length before.frames) p) q.start
+              (length input.frames) overlap shared;
+          alike = test;
+          frames = joined.0;
+          seam = joined.1;
+        }
+
+    by_shared : (p q : Played) (o : Option Overlap) → before.played ≡ Some p → input.played ≡ Some q
+        → shared_by p q ≡ o
+        → option_and_then (overlap_joint class run input) o ≡ Some joint
+        → IsFollowing class run before input joint
+    by_shared p q o ended_is played_is shared none = grind (arith, by_alike)
+
+    by_played : (p : Played) (o : Option Played) → before.played ≡ Some p → input.played ≡ o
+        → option_and_then (overlap_joint class run input) (option_and_then (shared_by p) o)
+        ≡ Some joint → IsFollowing class run before input joint
+    by_played p o ended_is played_is none = grind (arith, by_shared)
+
+    by_ended : (o : Option Played) → before.played ≡ o
+        → option_and_then (overlap_joint class run input)
+        (option_and_then (λ (p : Played). option_and_then (shared_by p) input.played) o)
+        ≡ Some joint
+        → IsFollowing class run before input joint
+    by_ended o ended_is none = grind (arith, by_played)
+
+    following_joint-is : following_joint class run before input ≡ Some joint
+        → IsFollowing class run before input joint
+    unfolding following_joint
+    following_joint-is is = by_ended before.played refl is
+
+  -- what becomes of an input that follows is the joint with which it can follow
+  joint-follows : (out : ℕ) → (joint_of class run before input).seam ≡ Follows out
+      → following_joint class run before input ≡ Some (joint_of class run before input)
+  joint-follows out is =
+      at (following_joint class run before input)
+      (joint_without_lead_in class run input) (without-led class run input) is
+    where
+      at : (x y : Option JointFrames) → IfWithout (window_of class.version) input y
+          → (unwrap_or (option_or x y) (whole_joint input)).seam ≡ Follows out
+          → x ≡ Some (unwrap_or (option_or x y) (whole_joint input))
+      at (Some joint) y without seam = refl
+      at None (Some joint) without seam = let never : LeadIn ≡ Follows out = grind (arith, seam) in
+          absurd cc
+      at None None without seam = absurd cc
+
+  -- ---- the frames of the run
+
+  module _ (joint : JointFrames) (is : IsFollowing class run before input joint) where
+    abbrev shared : ℕ
+    shared = is.overlap.frames
+
+    abbrev first : ℕ
+    first = is.overlap.first_alike
+
+    abbrev from_end : ℕ
+    from_end = length run - (shared - first)
+
+    abbrev new : List RunFrame
+    new = run ++ joint.frames
+
+    length-compared_frames : length (compared_frames is.overlap input) ≡ shared - first
+    length-compared_frames = grind (arith, length-take-le, shared, length-drop)
+
+    enough : shared - first ≤ length run
+    enough = grind (arith, length-compared_frames, leb-true)
+
+    last-sounds : sounds (drop from_end run) ≡ sounds (compared_frames is.overlap input)
+    last-sounds = grind (arith, length-compared_frames, alike-sounds)
+
+    added-sounds : sounds joint.frames ≡ sounds (drop shared input.frames)
+    added-sounds = grind (arith, joining_frames-sounds, shared)
+
+    -- the frames that are alike and the added ones are the input's from the first of these on
+    input-parts : compared_frames is.overlap input ++ drop shared input.frames
+        ≡ drop first input.frames
+    input-parts =
+        let at : first + (shared - first) ≡ shared = omega (arith, is.shared.within) in
+        ap (λ (l : List RunFrame). compared_frames is.overlap input ++ l)
+        (ap (λ n. drop n input.frames) (sym at)
+        ∙ sym (drop-drop (shared - first) first input.frames))
+        ∙ take-append-drop (shared - first) (drop first input.frames)
+
+    new-sounds : sounds (drop from_end new) ≡ sounds (drop first input.frames)
+    new-sounds =
+        grind (arith, drop-append-le, map-append, last-sounds, added-sounds, shared, input-parts)
+
+    added-length : length joint.frames ≡ length input.frames - shared
+    added-length = grind (arith, length-map, added-sounds, shared, length-drop)
+
+    new-length : length new + shared ≡ length run + length input.frames
+    new-length = omega (arith, length-append run joint.frames, added-length, is.shared.there)
+
+    abbrev from : ℕ
+    from = is.played.start / samples_in class
+
+    alike-at : (i : ℕ) (f : RunFrame) → from ≤ i → slice_get input.frames i ≡ Some f
+        → (g : RunFrame) × (slice_get new (i + length new - length input.frames) ≡ Some g)
+        × (g.sound ≡ f.sound)
+    alike-at i f late found =
+        let in_input : first + (i - first) ≡ i = omega (arith, late, is.shared.early) in
+        let in_run : from_end + (i - first) ≡ i + length new - length input.frames =
+        omega (
+          arith,
+          late,
+          is.shared.early,
+          is.shared.within,
+          is.shared.there,
+          new-length,
+          enough,
+        ) in
+        let own : slice_get (sounds (drop first input.frames)) (i - first) ≡ Some f.sound =
+        grind (arith, slice_get-map, get-drop, found) in
+        let there =
+        sound-of (drop from_end new) (i - first) f.sound
+        (ap (λ (l : List (List ℕ)). slice_get l (i - first)) new-sounds ∙ own) in (
+          there.frame,
+          sym (get-drop from_end new (i - first) ∙ ap (slice_get new) in_run)
+              ∙ there.found,
+          there.is,
+        )
+
+    goes-on : (out : ℕ) → joint.seam ≡ Follows out → InputGoesOn class before input run new out
+    goes-on out seam =
+        let both : Follows shared ≡ Follows out = sym is.seam ∙ seam in
+        let same : shared ≡ out = cc in
+        subst (InputGoesOn class before input run new) same
+        (record {
+          ended = is.ended;
+          played = is.played;
+          ended_is = is.ended_is;
+          played_is = is.played_is;
+          meets = is.shared.whole;
+          has = is.shared.there;
+          longer = new-length;
+          alike = record {
+            within = omega
+                (arith, is.shared.early, is.shared.within, is.shared.there, new-length, enough);
+            alike = alike-at;
+          };
+        })
+
+-- ---- the joints of a run
+
+added-next : (joints : List JointFrames) (n : ℕ) (joint : JointFrames) → slice_get joints n
+    ≡ Some joint → added (take (suc n) joints) ≡ added (take n joints) ++ joint.frames
+added-next [] n joint is = absurd cc
+added-next (j ∷ joints) zero joint is = grind (arith, append-nil)
+added-next (j ∷ joints) (suc n) joint is =
+    grind (arith, is, append_assoc, added-next joints n joint is)
+
+joint-at : (class : ClassFields) (run : List RunFrame) (first : Brought) (inputs : List Brought)
+    (n : ℕ) (before input : Brought) (joint : JointFrames)
+    → slice_get (first ∷ inputs) n ≡ Some before → slice_get inputs n ≡ Some input
+    → slice_get (joints_from class run first inputs) n ≡ Some joint
+    → joint ≡ joint_of class (run ++ added (take n (joints_from class run first inputs))) before
+    input
+unfolding joints_from
+joint-at class run first [] n before input joint is_before is_input is_joint = absurd cc
+joint-at class run first (i ∷ inputs) zero before input joint is_before is_input is_joint =
+    grind (arith, append-nil)
+joint-at class run first (i ∷ inputs) (suc n) before input joint is_before is_input is_joint =
+    let here : JointFrames = joint_of class run first i in
+    joint-at class (run ++ here.frames) i inputs n before input joint is_before is_input is_joint
+    ∙ ap (λ (l : List RunFrame). joint_of class l before input)
+    (append_assoc run here.frames
+    (added (take n (joints_from class (run ++ here.frames) i inputs))))
+
+-- each input that follows continues where the one before it ends
+pub followers-on : FollowersGoOn
+followers-on class first inputs number before input joint out is_before is_input is_joint seam =
+    let joints : List JointFrames = joints_of class first inputs in
+    let run : List RunFrame = run_after first joints number in
+    let here : joint ≡ joint_of class run before input = grind (arith, joint-at) in
+    let follows =
+    joint-follows class run before input out (sym (ap (λ (j : JointFrames). j.seam) here) ∙ seam) in
+    let is = following_joint-is class run before input joint
+    (follows ∙ ap (λ (j : JointFrames). Some j) (sym here)) in
+    let next : number + 1 ≡ suc number = omega arith in
+    let after : run ++ joint.frames ≡ run_after first joints (number + 1) =
+    grind (arith, append_assoc, added-next) in
+    subst (λ (l : List RunFrame). InputGoesOn class before input run l out) after
+    (goes-on class run before input joint is out seam)
