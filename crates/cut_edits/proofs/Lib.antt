@@ -5,4 +5,3 @@ pub mod HeadLemmas
 pub mod SpanLemmas
 pub mod SealedLemmas
 pub mod PieceLemmas
-pub mod PlayLemmas

@@ -4,4 +4,3 @@ pub mod Layable
 pub mod Choices
 pub mod Exact
 pub mod Heads
-pub mod ExactLaws

@@ -39,10 +39,10 @@ use Rattle.seam_laws.proofs.SeamlessRunLemmas.{own-many}
 use Rattle.seam_laws.proofs.SplitJoinLemmas.{all_stream, between-needs, between-sounds, run_between}
 use Rattle.seam_laws.proofs.SplitJoinLemmas.{stream-many}
 use Rattle.seam_laws.specs.LeadInLaws.{AreInOwnSlots, AreLedInOwnSlots}
+use Rattle.seam_laws.specs.PlayedParts.{input_played, sample_named}
 use Rattle.seam_plan.proofs.{FitLemmas.fits-tested, FollowLemmas.sounds}
 use Rattle.seam_plan.specs.{Frames.{needs_of, RunFrame}, Joins.fits_behind}
 use Rattle.slot_plan.specs.{Plans.IsLedPlan, declared.needs.{Need.Need, Placed.Placed}}
-use Rattle.split_edits.specs.Recording.{input_played, sample_named}
 use Rattle.sync_survey.specs.{Faults.SurveyFields, MainData.StreamFrame, Row.Row}
 
 -- ---- heads that count

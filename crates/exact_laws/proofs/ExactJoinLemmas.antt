@@ -12,8 +12,9 @@ use Rattle.exact_laws.proofs.ExactNumberLemmas.{padding-is, padding-least, paddi
 use Rattle.exact_laws.proofs.ExactNumberLemmas.{whole-files, whole-first, whole-is, whole-last}
 use Rattle.exact_laws.proofs.{ExactNumberLemmas.whole_span, ExactReadLemmas.read-plays}
 use Rattle.exact_laws.proofs.ExactRunLemmas.{all-follow, AreExactFiles, first_leads, IsJoined}
-use Rattle.exact_laws.proofs.ExactRunLemmas.{joined-is, st}
+use Rattle.exact_laws.proofs.{ExactRunLemmas.{joined-is, st}, RecordingLemmas.pieces-recording}
 use Rattle.exact_laws.specs.ExactSeamLaws.{ExactSplitThenSeamlessJoin, HasTheSpan, PlaysTheSpan}
+use Rattle.exact_laws.specs.Recording.{PlayInTurn}
 use Rattle.exact_span.specs.declared.exact_place.ExactPlace.{ExactPlace}
 use Rattle.frame_header.specs.{Fields.IsClass, Tables.window_of}
 use Rattle.join_edits.proofs.RunPartLemmas.{front-within}
@@ -22,11 +23,9 @@ use Rattle.laying.proofs.{LaidLemmas.first-there, SurveyFrameLemmas.survey-had}
 use Rattle.laying.specs.{Laid.{file_laid, LaidPart}, Relaid.FilePart, Surveys.CanBeRelaid}
 use Rattle.seam_laws.proofs.{JoinEndLemmas.frames-few, SeamlessInputLemmas.{AreInputs, inputs-are}}
 use Rattle.seam_laws.proofs.{SeamlessRunLemmas.not-true, SplitJoinLemmas.parts-files}
-use Rattle.seam_laws.proofs.SplitLemmas.{class-of}
+use Rattle.seam_laws.{proofs.SplitLemmas.class-of, specs.PlayedParts.piece_lead_ins}
 use Rattle.seam_laws.specs.SeamlessLaws.{has_no_look_alike, is_look_alike, last_place}
 use Rattle.seam_plan.specs.Joins.{has_lead_in}
-use Rattle.split_edits.proofs.RecordingLemmas.{pieces-recording}
-use Rattle.split_edits.specs.Recording.{piece_lead_ins, PlayInTurn}
 use Rattle.sync_survey.{proofs.SurveyedFileLemmas.survey_of-parts, specs.Faults.SurveyFields}
 use Rattle.sync_survey.specs.MainData.{StreamFrame}
 

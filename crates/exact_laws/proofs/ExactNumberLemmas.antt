@@ -33,9 +33,9 @@ use Rattle.laying.specs.{LaidFiles.stream_entry, Relaid.FilePart, Surveys.CanBeR
 use Rattle.laying.specs.Written.{info_for}
 use Rattle.seam_laws.proofs.JoinNumberLemmas.{run-long, run-says}
 use Rattle.seam_laws.proofs.SeamlessInputLemmas.{AreInputs, brought-many, IsInput}
-use Rattle.seam_laws.{proofs.SplitJoinLemmas.stream-many, specs.SeamlessLaws.last_place}
+use Rattle.seam_laws.{proofs.SplitJoinLemmas.stream-many, specs.PlayedParts.input_played}
+use Rattle.seam_laws.specs.SeamlessLaws.{last_place}
 use Rattle.seam_plan.specs.Frames.{RunFrame}
-use Rattle.split_edits.specs.Recording.{input_played}
 use Rattle.sync_survey.specs.{Faults.SurveyFields, MainData.StreamFrame, Row.Row}
 
 -- ---- positions

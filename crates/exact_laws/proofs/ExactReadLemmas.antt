@@ -17,8 +17,8 @@ use Rattle.join_edits.specs.Seamless.{delay_of_run, seamless_file}
 use Rattle.laying.specs.{Relaid.FilePart, Surveys.CanBeRelaid}
 use Rattle.seam_laws.proofs.JoinReadLemmas.{front-row, read-count, read-played, read-says}
 use Rattle.seam_laws.proofs.JoinReadLemmas.{read_info, written_info}
-use Rattle.seam_laws.{proofs.SeamlessInputLemmas.AreInputs, specs.SeamlessLaws.last_place}
-use Rattle.split_edits.specs.Recording.{input_played}
+use Rattle.seam_laws.{proofs.SeamlessInputLemmas.AreInputs, specs.PlayedParts.input_played}
+use Rattle.seam_laws.specs.SeamlessLaws.{last_place}
 use Rattle.sync_survey.specs.{Faults.SurveyFields, Survey.survey_of}
 
 module _ (file : List ℕ) (s : SurveyFields) (has : CanBeRelaid file s)

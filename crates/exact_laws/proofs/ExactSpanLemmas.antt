@@ -6,14 +6,14 @@ use Rattle.std.proofs.lemmas.List.{length-append, length-drop, length-map, lengt
 use Rattle.std.specs.{List.concat, Prelude.slice_range}
 use Rattle.commands.specs.SingleOutput.{most_frames}
 use Rattle.cut_edits.proofs.HeadLemmas.{survey_without_head-length}
-use Rattle.cut_edits.proofs.{PieceLemmas.span-survey_without_head, PlayLemmas.pieces-play}
-use Rattle.cut_edits.{proofs.SealedLemmas.for-whole, specs.Exact.{IsSpanIn, span_lead_ins}}
-use Rattle.cut_edits.specs.ExactLaws.{PlaysItsSamples}
+use Rattle.cut_edits.proofs.{PieceLemmas.span-survey_without_head, SealedLemmas.for-whole}
+use Rattle.cut_edits.specs.Exact.{IsSpanIn, span_lead_ins}
 use Rattle.exact_laws.proofs.ExactFileLemmas.{all-many, all-range, all_run, begin, counted-is}
 use Rattle.exact_laws.proofs.ExactFileLemmas.{has-own, head, IsExactFile, IsFound, IsLaidLed}
 use Rattle.exact_laws.proofs.ExactFileLemmas.{IsLaidOwn, laid_by, leads, led-leads, own, own-leads}
 use Rattle.exact_laws.proofs.ExactFileLemmas.{piece-by, sample, span-class, span-head, span-led}
 use Rattle.exact_laws.proofs.ExactFileLemmas.{span-long, span-own, span-ways}
+use Rattle.exact_laws.{proofs.PlayLemmas.pieces-play, specs.SampleLaws.PlaysItsSamples}
 use Rattle.exact_laws.specs.SpanLaws.{AreEmptyFrames, IsSpanOf}
 use Rattle.exact_span.proofs.PlayedLemmas.{places-kept}
 use Rattle.exact_span.specs.Laws.{AreInfoFields, IsPieceHead, KeepsPlaces, SaysNumbers}
@@ -33,9 +33,9 @@ use Rattle.seam_laws.proofs.LaidInputLemmas.{BringsLed, BringsOwn}
 use Rattle.seam_laws.proofs.PieceHeadLemmas.{laid-count, laid-extension, laid-quality}
 use Rattle.seam_laws.proofs.SeamlessInputLemmas.{brought-many, IsInput, whole_stream}
 use Rattle.seam_laws.proofs.SplitJoinLemmas.{all_stream, between-needs, run_between}
+use Rattle.seam_laws.specs.PlayedParts.{input_played}
 use Rattle.seam_plan.specs.Frames.{RunFrame}
 use Rattle.slot_plan.specs.declared.needs.Need.{Need}
-use Rattle.split_edits.specs.Recording.{input_played}
 use Rattle.sync_survey.specs.{Faults.SurveyFields, MainData.StreamFrame, Row.Row}
 
 -- ---- the first and the last frame of a span

@@ -10,7 +10,7 @@ use Rattle.exact_laws.proofs.{ExactFileLemmas.{piece-by, span-ways}, ExactJoinLe
 use Rattle.exact_laws.proofs.ExactNumberLemmas.{whole-found, whole_span}
 use Rattle.exact_laws.proofs.ExactRunLemmas.{AreExactFiles, class-is, first-some, IsPiece, position}
 use Rattle.exact_laws.proofs.{ExactRunLemmas.st, ExactSpanLemmas.brought-own}
-use Rattle.exact_laws.specs.ExactSeamLaws.{ExactInSteps}
+use Rattle.exact_laws.{proofs.RecordingLemmas.pieces-recording, specs.ExactSeamLaws.ExactInSteps}
 use Rattle.exact_span.specs.{Spans.span_of, declared.exact_place.ExactPlace.ExactPlace}
 use Rattle.exact_span.specs.declared.span.Span.{Span}
 use Rattle.frame_header.specs.{Fields.IsClass, Tables.window_of}
@@ -25,7 +25,6 @@ use Rattle.seam_laws.proofs.SplitStepLemmas.{first-of-range, inputs-front, none-
 use Rattle.seam_laws.specs.SeamlessLaws.{bare_file, bare_row_file, HasNoEmptyFrame, IsJoinedInSteps}
 use Rattle.seam_laws.specs.SeamlessLaws.{last_place}
 use Rattle.seam_plan.specs.{Frames.needs_of, Joins.{has_lead_in, leads_others}}
-use Rattle.split_edits.proofs.RecordingLemmas.{pieces-recording}
 use Rattle.sync_survey.proofs.SurveyedFileLemmas.{survey_of-parts}
 use Rattle.sync_survey.specs.{Faults.{survey_fields, SurveyFields}, MainData.StreamFrame}
 

@@ -1,4 +1,6 @@
 -- The lemmas of this crate.
+pub mod PlayLemmas
+pub mod RecordingLemmas
 pub mod SpanRunLemmas
 pub mod LedPlanLemmas
 pub mod ExactFileLemmas

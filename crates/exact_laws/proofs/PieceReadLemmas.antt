@@ -11,14 +11,17 @@ use Rattle.cut_edits.proofs.ChosenLemmas.{the-plan}
 use Rattle.cut_edits.proofs.{PieceLemmas.{span-survey_without_head, span_chosen}, SpanLemmas.led-is}
 use Rattle.cut_edits.specs.Chosen.{Chosen}
 use Rattle.cut_edits.specs.Exact.{exact_part, IsSpanIn, span_lead_ins, span_needs, span_plan}
-use Rattle.cut_edits.specs.{Exact.survey_without_head, ExactLaws.PlaysItsSamples}
+use Rattle.cut_edits.specs.Exact.{survey_without_head}
 use Rattle.exact_laws.proofs.ExactFileLemmas.{all_run, has-own, IsExactFile, IsFound, laid-exact}
 use Rattle.exact_laws.proofs.ExactFileLemmas.{laid_by, leads, own, piece-by, span-found}
 use Rattle.exact_laws.proofs.ExactSpanLemmas.{has-span, HasSpan, input-class, leads-are, places-of}
 use Rattle.exact_laws.proofs.ExactSpanLemmas.{read, read-head, read-is}
+use Rattle.exact_laws.proofs.RecordingLemmas.{between-plays, pieces-recording}
 use Rattle.exact_laws.specs.PieceLaws.{all_read_samples, AreSurveysOf, ExactPiecesPlayAsRead}
 use Rattle.exact_laws.specs.PieceLaws.{ExactPlansAreFirst, first_position, HoldsInTurn, IsExactPlan}
 use Rattle.exact_laws.specs.PieceLaws.{IsPlanFrom, piece_file, PlaysAsRead, read_samples}
+use Rattle.exact_laws.specs.Recording.{all_piece_samples, piece_played, piece_sample, piece_samples}
+use Rattle.exact_laws.specs.{Recording.{PlayInTurn, PlaysBetween}, SampleLaws.PlaysItsSamples}
 use Rattle.exact_span.specs.{Laws.KeepsPlaces, PlayedPositions.played_of, Spans.span_of}
 use Rattle.exact_span.specs.declared.{exact_place.ExactPlace.ExactPlace, span.Span.Span}
 use Rattle.frame_header.specs.{Fields.ClassFields, Tables.window_of}
@@ -27,12 +30,9 @@ use Rattle.laying.proofs.{LaidLemmas.first-there, SurveyFrameLemmas.survey-had}
 use Rattle.laying.specs.{KeptFields.fields_of_head, Laid.{file_laid, info_laid, LaidPart}}
 use Rattle.laying.specs.{NeedsFit.own_choice, Relaid.FilePart, Surveys.CanBeRelaid}
 use Rattle.seam_laws.proofs.{JoinEndLemmas.frames-few, SeamlessInputLemmas.{brought-many, IsInput}}
+use Rattle.seam_laws.specs.PlayedParts.{input_played, piece_lead_ins, sample_named}
 use Rattle.seam_plan.specs.Frames.{RunFrame}
 use Rattle.slot_plan.specs.{LeastPlan.led_plan, declared.needs.Need.Need}
-use Rattle.split_edits.proofs.RecordingLemmas.{between-plays, pieces-recording}
-use Rattle.split_edits.specs.Recording.{all_piece_samples, input_played, piece_lead_ins}
-use Rattle.split_edits.specs.Recording.{piece_played, piece_sample, piece_samples, PlayInTurn}
-use Rattle.split_edits.specs.Recording.{PlaysBetween, sample_named}
 use Rattle.sync_survey.{proofs.SurveyedFileLemmas.survey_of-parts, specs.Faults.SurveyFields}
 use Rattle.sync_survey.specs.{Row.Row, Survey.survey_of}
 

@@ -10,12 +10,13 @@ use Rattle.exact_span.specs.declared.{exact_place.ExactPlace.ExactPlace, span.Sp
 use Rattle.join_edits.specs.Seamless.{delay_of_run, join_of_parts, seamless_file, seamless_info}
 use Rattle.join_edits.specs.Seamless.{seamless_padding, seamless_stream}
 use Rattle.laying.specs.{KeptFields.fields_of_head, Laid.LaidPart, Relaid.FilePart}
+use Rattle.seam_laws.specs.PlayedParts.{input_played, sample_named}
 use Rattle.seam_laws.specs.SeamlessLaws.{ArePieceInputs, bare_file, has_no_look_alike}
 use Rattle.seam_laws.specs.SeamlessLaws.{HasNoEmptyFrame, is_empty_frame, IsJoinedInSteps}
 use Rattle.seam_laws.specs.SeamlessLaws.{last_place}
 use Rattle.seam_plan.specs.Seams.{JointFrames}
-use Rattle.split_edits.specs.{Cutting.piece_parts, Recording.{input_played, sample_named}}
-use Rattle.split_edits.specs.{Split.exact_cutting_of, declared.exact_points.ExactPoints.ExactPoints}
+use Rattle.split_edits.specs.{Cutting.piece_parts, Split.exact_cutting_of}
+use Rattle.split_edits.specs.declared.exact_points.ExactPoints.{ExactPoints}
 use Rattle.sync_survey.specs.{Faults.{stream_of_survey, SurveyFields}, MainData.StreamFrame}
 use Rattle.sync_survey.specs.{Row.Row, Survey.survey_of}
 

@@ -3,15 +3,16 @@ use Rattle.std.specs.List.{range_with_len}
 use Rattle.std.specs.Prelude.{flat_map, List, map, Ok, zip, ℕ, [], ◌+◌, ◌<◌, ◌∷◌, ◌≡◌, ◌≤◌}
 use Rattle.commands.specs.SingleOutput.{most_frames}
 use Rattle.cut_edits.specs.Exact.{exact_part, survey_without_head}
+use Rattle.exact_laws.specs.Recording.{piece_sample}
 use Rattle.exact_span.specs.Laws.{KeepsPlaces, last_point, samples_between}
 use Rattle.exact_span.specs.PlayedPositions.{length_of_played}
 use Rattle.exact_span.specs.declared.exact_place.ExactPlace.{ExactPlace}
 use Rattle.frame_header.specs.Tables.{window_of}
 use Rattle.laying.specs.{Laid.{file_laid, LaidPart, needs_laid}, NeedsFit.own_choice}
+use Rattle.seam_laws.specs.PlayedParts.{input_played, piece_lead_ins, sample_named}
 use Rattle.slot_plan.specs.{Plans.{IsLedPlan, IsPlan}, declared.needs.{Need.Need, Placed.Placed}}
-use Rattle.split_edits.specs.Cutting.{piece_parts}
-use Rattle.split_edits.specs.Recording.{input_played, piece_lead_ins, piece_sample, sample_named}
-use Rattle.split_edits.specs.{Split.exact_cutting_of, declared.exact_points.ExactPoints.ExactPoints}
+use Rattle.split_edits.specs.{Cutting.piece_parts, Split.exact_cutting_of}
+use Rattle.split_edits.specs.declared.exact_points.ExactPoints.{ExactPoints}
 use Rattle.sync_survey.specs.{Faults.SurveyFields, Survey.survey_of}
 
 -- ---- pieces in order

@@ -8,7 +8,7 @@ use Rattle.exact_span.specs.declared.exact_place.ExactPlace.{ExactPlace}
 use Rattle.file_laws.specs.WrittenLaws.{AllWritten, IsCountedFile}
 use Rattle.laying.specs.{KeptFields.fields_of_head, Laid.{file_laid, LaidPart}}
 use Rattle.list_edits.specs.InfoText.{info_lines}
-use Rattle.split_edits.specs.Recording.{input_played, sample_named}
+use Rattle.seam_laws.specs.PlayedParts.{input_played, sample_named}
 use Rattle.sync_survey.specs.{Faults.SurveyFields, Survey.survey_of}
 
 -- the lines of the text of a file

@@ -42,13 +42,12 @@ use Rattle.seam_laws.proofs.SeamlessPlaceLemmas.{input-at, leads-enough}
 use Rattle.seam_laws.proofs.SeamlessRunLemmas.{all, front-few, HasLeads, joints-are, leads-many}
 use Rattle.seam_laws.proofs.SeamlessRunLemmas.{run, run-is, run-leads, stream, stream-length}
 use Rattle.seam_laws.specs.JoinLaws.{IsInputWritten, JoinsKeepTheirEnds, KeepsEnds, MayBeLeftOut}
-use Rattle.seam_laws.specs.{JoinLaws.{part_played, seam_at}, RunLaws.run_after}
-use Rattle.seam_laws.specs.SeamlessLaws.{IsSamePosition, run_end}
+use Rattle.seam_laws.specs.{JoinLaws.{part_played, seam_at}, PlayedParts.input_played}
+use Rattle.seam_laws.specs.{RunLaws.run_after, SeamlessLaws.{IsSamePosition, run_end}}
 use Rattle.seam_plan.{proofs.FollowLemmas.added, specs.Frames.{Brought, RunFrame}}
 use Rattle.seam_plan.specs.{Joins.fits_behind, Seams.{JointFrames, joints_of, left_out_count}}
 use Rattle.seam_plan.specs.declared.seam.Seam.{Seam, TheVariants.{Follows, LeadIn, Whole}}
 use Rattle.slot_plan.specs.declared.needs.{Need.Need, Placed.Placed}
-use Rattle.split_edits.specs.Recording.{input_played}
 use Rattle.sync_survey.proofs.{FaultsLemmas.length-marked_rows, FoldersLemmas.octets_bytes}
 use Rattle.sync_survey.proofs.SurveyPartsLemmas.{all_faults-none_sound, frames_from}
 use Rattle.sync_survey.proofs.SurveyPartsLemmas.{survey_fields-parts}

@@ -21,7 +21,7 @@ use Rattle.laying.specs.{Relaid.FilePart, Written.{front_blocks, head_info, info
 use Rattle.seam_laws.proofs.JoinNumberLemmas.{run-long}
 use Rattle.seam_laws.proofs.PieceHeadLemmas.{laid-count, laid-extension}
 use Rattle.seam_laws.proofs.SeamlessInputLemmas.{AreInputs, input-whole, inputs-whole}
-use Rattle.split_edits.specs.Recording.{input_played}
+use Rattle.seam_laws.specs.PlayedParts.{input_played}
 use Rattle.sync_survey.proofs.SurveyPartsLemmas.{survey_fields-allowed}
 use Rattle.sync_survey.proofs.SurveyedFileLemmas.{survey_of-parts}
 use Rattle.sync_survey.specs.{Faults.{survey_fields, SurveyFields}, Row.Row, Survey.survey_of}

@@ -26,6 +26,7 @@ use Rattle.seam_laws.proofs.LaidInputLemmas.{frames-same}
 use Rattle.seam_laws.proofs.PiecePartLemmas.{IsPieceFile, left-own, own_leads, piece-is, same-class}
 use Rattle.seam_laws.proofs.PieceRunLemmas.{pieces-one-run}
 use Rattle.seam_laws.proofs.SeamlessInputLemmas.{AreInputs, IsInput, run-needs, run-sounds}
+use Rattle.seam_laws.specs.PlayedParts.{piece_lead_ins}
 use Rattle.seam_laws.specs.RunLaws.{AreHeadersKnown, AreOneRun, ArePiecesOf, concat_frames}
 use Rattle.seam_laws.specs.RunLaws.{IsPieceOf, piece_seam}
 use Rattle.seam_laws.specs.SeamlessLaws.{is_look_alike, last_place}
@@ -35,8 +36,8 @@ use Rattle.seam_plan.specs.Seams.{JointFrames, left_out_count, run_of, seamless_
 use Rattle.seam_plan.specs.declared.seam.Seam.TheVariants.{LeadIn, Whole}
 use Rattle.slot_plan.specs.{FreeBytes.FitsBehind, LeastPlan.least_plan, declared.needs.Need.Need}
 use Rattle.split_edits.proofs.CommandLemmas.{first-parts}
-use Rattle.split_edits.specs.{Cutting.{piece_parts_from, with_first}, Recording.piece_lead_ins}
-use Rattle.split_edits.specs.{Split.{cut_part, cutting_of}, declared.points.Points.Points}
+use Rattle.split_edits.specs.{Cutting.{piece_parts_from, with_first}, Split.{cut_part, cutting_of}}
+use Rattle.split_edits.specs.declared.points.Points.{Points}
 use Rattle.sync_survey.specs.{Faults.{stream_of_survey, SurveyFields}, MainData.StreamFrame}
 use Rattle.sync_survey.specs.Row.{Row}
 

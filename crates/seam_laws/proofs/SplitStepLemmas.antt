@@ -19,11 +19,10 @@ use Rattle.seam_laws.proofs.{SplitFileLemmas.seamless-file, SplitFullLemmas.firs
 use Rattle.seam_laws.proofs.SplitJoinLemmas.{all_stream, AreFiles, chosen_between, class-is}
 use Rattle.seam_laws.proofs.SplitJoinLemmas.{cut-last, cut-within, laid_between, NoneAlike, number}
 use Rattle.seam_laws.proofs.SplitJoinLemmas.{parts-files, pieces-cut, Rise, same-many}
-use Rattle.seam_laws.proofs.SplitLemmas.{class-of, laid-files}
+use Rattle.seam_laws.{proofs.SplitLemmas.{class-of, laid-files}, specs.PlayedParts.piece_lead_ins}
 use Rattle.seam_laws.specs.SeamlessLaws.{bare_file, full_frames, is_empty_frame, is_look_alike}
 use Rattle.seam_laws.specs.SeamlessLaws.{IsJoinedInSteps, StepsJoinTheSame}
 use Rattle.seam_plan.specs.Joins.{has_lead_in}
-use Rattle.split_edits.specs.Recording.{piece_lead_ins}
 use Rattle.sync_survey.proofs.SurveyedFileLemmas.{survey_of-parts}
 use Rattle.sync_survey.specs.{Faults.{survey_fields, SurveyFields}, MainData.StreamFrame}
 

@@ -10,10 +10,9 @@ use Rattle.join_edits.specs.Seamless.{delay_of_run, join_of_parts, last_part, ru
 use Rattle.join_edits.specs.Seamless.{seamless_file}
 use Rattle.laying.specs.Relaid.{FilePart, part_stream}
 use Rattle.outside.specs.Files.{AreOctets, Contents}
-use Rattle.seam_laws.specs.SeamlessLaws.{is_empty_frame, IsSamePosition}
+use Rattle.seam_laws.specs.{PlayedParts.input_played, SeamlessLaws.{is_empty_frame, IsSamePosition}}
 use Rattle.seam_plan.specs.{Seams.JointFrames, declared.seam.Seam.Seam}
 use Rattle.seam_plan.specs.declared.seam.Seam.TheVariants.{Follows, LeadIn, Whole}
-use Rattle.split_edits.specs.Recording.{input_played}
 use Rattle.sync_survey.specs.Faults.{stream_of, stream_of_survey, SurveyFields}
 use Rattle.sync_survey.specs.{MainData.StreamFrame, Survey.survey_of}
 

@@ -1,4 +1,5 @@
 -- What the laws of this crate cite.
+pub mod PlayedParts
 pub mod LeadInLaws
 pub mod RunLaws
 pub mod SeamlessLaws

@@ -13,12 +13,12 @@ use Rattle.join_edits.specs.Seamless.{seamless_file, seamless_stream, sound_of}
 use Rattle.laying.specs.Laid.{file_laid, frames_laid, info_laid, LaidPart, stream_laid}
 use Rattle.laying.specs.{LaidFiles.laid_file, Relaid.{FilePart, part_stream}, Written.front_blocks}
 use Rattle.outside.specs.Files.{Contents}
-use Rattle.seam_laws.specs.RunLaws.{run_after}
+use Rattle.seam_laws.specs.{PlayedParts.piece_lead_ins, RunLaws.run_after}
 use Rattle.seam_plan.specs.{Joins.has_lead_in, Seams.JointFrames}
 use Rattle.seam_plan.specs.declared.seam.Seam.TheVariants.{Follows}
 use Rattle.side_info.specs.Side.{side_bits}
-use Rattle.split_edits.specs.{Cutting.piece_parts, Recording.piece_lead_ins}
-use Rattle.split_edits.specs.{Split.{cut_part, cutting_of}, declared.points.Points.Points}
+use Rattle.split_edits.specs.{Cutting.piece_parts, Split.{cut_part, cutting_of}}
+use Rattle.split_edits.specs.declared.points.Points.{Points}
 use Rattle.sync_survey.specs.{Faults.{stream_of, SurveyFields}, MainData.StreamFrame, Row.Row}
 use Rattle.sync_survey.specs.Survey.{survey_of}
 

@@ -5,4 +5,3 @@ pub mod CutLemmas
 pub mod CommandLemmas
 pub mod SheetLemmas
 pub mod PartsLemmas
-pub mod RecordingLemmas

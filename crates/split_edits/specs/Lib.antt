@@ -2,4 +2,3 @@
 pub mod Cutting
 pub mod Split
 pub mod Steps
-pub mod Recording

@@ -3,7 +3,6 @@
 
 mod cut;
 mod exact_points;
-mod laws;
 mod piece;
 mod points;
 mod sheet;
@@ -12,6 +11,5 @@ mod split_file;
 mod writing;
 
 pub use exact_points::ExactPoints;
-pub use laws::pieces_are_the_recording;
 pub use points::Points;
 pub use split_file::{split, split_exact};

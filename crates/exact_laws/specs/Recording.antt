@@ -1,34 +1,21 @@
 -- The samples that the pieces of `split_exact` play, in order.
 use Rattle.std.specs.List.{range_with_len}
-use Rattle.std.specs.Prelude.{flat_map, length, List, map, Ok, Some, ℕ, [], ◌*◌, ◌+◌, ◌-◌, ◌∷◌, ◌≡◌}
+use Rattle.std.specs.Prelude.{flat_map, List, map, Ok, Some, ℕ, [], ◌*◌, ◌+◌, ◌-◌, ◌∷◌, ◌≡◌}
 use Rattle.commands.specs.SingleOutput.{most_frames}
 use Rattle.cut_edits.specs.Exact.{file_span, span_lead_ins, span_piece, survey_without_head}
-use Rattle.cut_edits.specs.ExactLaws.{PlaysItsSamples}
-use Rattle.exact_span.specs.{Laws.{last_point, samples_between}, Places.sample_at}
+use Rattle.exact_laws.specs.SampleLaws.{PlaysItsSamples}
+use Rattle.exact_span.specs.Laws.{last_point, samples_between}
 use Rattle.exact_span.specs.PlayedPositions.{length_of_played, played_of, samples_in}
 use Rattle.exact_span.specs.declared.{exact_place.ExactPlace.ExactPlace, played.Played.Played}
 use Rattle.exact_span.specs.declared.span.Span.{Span}
 use Rattle.frame_header.specs.Fields.{ClassFields}
 use Rattle.laying.specs.{KeptFields.fields_of_head, Laid.{info_laid, LaidPart}}
+use Rattle.seam_laws.specs.PlayedParts.{input_played, piece_lead_ins, sample_named}
 use Rattle.split_edits.specs.{Cutting.piece_parts, Split.exact_cutting_of}
 use Rattle.split_edits.specs.declared.exact_points.ExactPoints.{ExactPoints}
 use Rattle.sync_survey.specs.{Faults.SurveyFields, Survey.survey_of}
 
--- ---- the input
-
--- the positions of the input that are played
-abbrev pub input_played : List ℕ → SurveyFields → Played
-input_played file s = played_of (fields_of_head file s.head) s.class (length s.frames)
-
--- the number of the sample at a place
-abbrev pub sample_named : List ℕ → SurveyFields → ExactPlace → ℕ
-sample_named file s place = sample_at s.class (length_of_played (input_played file s)) place
-
 -- ---- the samples of a piece
-
--- how many lead-ins come before the frames of a piece
-abbrev pub piece_lead_ins : LaidPart → ℕ
-piece_lead_ins laid = length laid.placed - (laid.to - laid.from)
 
 -- the positions of a piece that are played, given its Info frame and the number of its frames
 abbrev pub piece_played : List ℕ → SurveyFields → LaidPart → Played

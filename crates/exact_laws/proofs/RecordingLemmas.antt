@@ -5,9 +5,12 @@ use Rattle.std.proofs.Common.{sym, zero, ℕ, [], ◌*◌, ◌+◌, ◌-◌, ◌
 use Rattle.std.specs.List.{range_with_len}
 use Rattle.commands.{proofs.RefusingLemmas.{refusal_or-ok, then_ok}, specs.SingleOutput.most_frames}
 use Rattle.cut_edits.proofs.PieceLemmas.{samples_there}
-use Rattle.cut_edits.proofs.PlayLemmas.{piece-from, piece-to, pieces-play}
 use Rattle.cut_edits.specs.Exact.{exact_part, file_span, span_lead_ins, span_piece}
-use Rattle.cut_edits.specs.{Exact.survey_without_head, ExactLaws.PlaysItsSamples}
+use Rattle.cut_edits.specs.Exact.{survey_without_head}
+use Rattle.exact_laws.proofs.PlayLemmas.{piece-from, piece-to, pieces-play}
+use Rattle.exact_laws.specs.Recording.{all_piece_samples, piece_played, piece_samples}
+use Rattle.exact_laws.specs.Recording.{PiecesAreTheRecording, PlayInTurn, PlaysBetween}
+use Rattle.exact_laws.specs.SampleLaws.{PlaysItsSamples}
 use Rattle.exact_span.proofs.SplitLemmas.{pieces-whole}
 use Rattle.exact_span.specs.Laws.{pieces_samples, PointsAscend, samples_between}
 use Rattle.exact_span.specs.PlayedPositions.{length_of_played, played_of, samples_in}
@@ -15,12 +18,10 @@ use Rattle.exact_span.specs.declared.{exact_place.ExactPlace.ExactPlace, span.Sp
 use Rattle.info_header.specs.declared.fields.Info.{Info}
 use Rattle.laying.{proofs.SurveyFrameLemmas.survey-had, specs.KeptFields.fields_of_head}
 use Rattle.laying.specs.{Laid.{info_laid, LaidPart}, Surveys.CanBeRelaid}
+use Rattle.seam_laws.specs.PlayedParts.{input_played, piece_lead_ins, sample_named}
 use Rattle.split_edits.proofs.CommandLemmas.{first-parts}
-use Rattle.split_edits.specs.Cutting.{piece_parts_from, with_first}
-use Rattle.split_edits.specs.Recording.{all_piece_samples, input_played, piece_lead_ins}
-use Rattle.split_edits.specs.Recording.{piece_played, piece_samples, PiecesAreTheRecording}
-use Rattle.split_edits.specs.Recording.{PlayInTurn, PlaysBetween, sample_named}
-use Rattle.split_edits.specs.{Split.exact_cutting_of, declared.exact_points.ExactPoints.ExactPoints}
+use Rattle.split_edits.specs.{Cutting.{piece_parts_from, with_first}, Split.exact_cutting_of}
+use Rattle.split_edits.specs.declared.exact_points.ExactPoints.{ExactPoints}
 use Rattle.sync_survey.specs.Faults.{SurveyFields}
 
 -- ---- the samples of one piece

@@ -13,7 +13,7 @@ use Rattle.cut_edits.proofs.SealedLemmas.{for-whole}
 use Rattle.cut_edits.proofs.SpanLemmas.{with-fitting, with-leads, with-many}
 use Rattle.cut_edits.specs.Exact.{file_span, IsSpanIn, row_sealed_part, samples_fault}
 use Rattle.cut_edits.specs.Exact.{span_lead_ins, span_part, span_piece, survey_without_head}
-use Rattle.cut_edits.specs.ExactLaws.{PiecesPlayTheirSamples}
+use Rattle.exact_laws.specs.SampleLaws.{PiecesPlayTheirSamples}
 use Rattle.exact_span.proofs.{ExtensionLemmas.extension-says, PlayedLemmas.places-kept}
 use Rattle.exact_span.proofs.{SealLemmas.frames-sealed, SpanLemmas.span-in_range}
 use Rattle.exact_span.specs.{Laws.{AreInfoFields, IsPieceHead}, Places.sample_at}
