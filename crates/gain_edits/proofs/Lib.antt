@@ -1,6 +1,6 @@
 -- The lemmas of this crate.
 pub mod RefusalLemmas
 pub mod ProperLemmas
-pub mod RangeAgainLemmas
+pub mod RangeFaultLemmas
 pub mod FadeLemmas
 pub mod FadeProperLemmas

@@ -21,7 +21,7 @@ use Rattle.gain_edits.specs.UndoItem.{output_fault, size_fault, tag_result, tag_
 use Rattle.gain_edits.specs.UndoItem.{tag_without_undo, undo_fault, undo_steps}
 use Rattle.gain_edits.specs.declared.changes.Changes.{Changes, TheVariants.{Move, Undo as UndoAll}}
 use Rattle.moved_gains.proofs.EditedSurveyLemmas.{survey_fields-edited_file}
-use Rattle.moved_gains.proofs.{MovedStreamLemmas.stream-edited_file, NewTagLemmas.own-tag}
+use Rattle.moved_gains.proofs.{MovedStreamLemmas.stream-edited_file, OwnTagLemmas.own-tag}
 use Rattle.moved_gains.proofs.RetaggedFileLemmas.{stream-retagged_fields}
 use Rattle.moved_gains.proofs.RetaggedFileLemmas.{survey_fields-retagged_fields}
 use Rattle.moved_gains.proofs.TagReadingLemmas.{file_tag-none}

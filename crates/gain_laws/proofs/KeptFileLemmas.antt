@@ -6,6 +6,7 @@ use Rattle.std.proofs.Common.{take-append-drop, zero, ℕ, [], ◌++◌, ◌+◌
 use Rattle.std.proofs.{Common.{◌≤◌, ◌⊎◌}, Math.Seq.take-add, lemmas.List.drop-drop}
 use Rattle.bit_fields.specs.Bits.{AreBytes}
 use Rattle.gain_laws.proofs.KeptFrameLemmas.{row_differs}
+use Rattle.gain_laws.proofs.WholeFrameLemmas.{AreFramesOf, frames_there, IsFrameOf}
 use Rattle.gain_laws.specs.Kept.{ArePatchesAllowed, ArePatchesInOrder, BeginsAfter, ChangesKeepAll}
 use Rattle.gain_laws.specs.Kept.{KeepsAll, MovesFrame, Patch, patched_file, ReplacesTag}
 use Rattle.moved_gains.proofs.LostOffsetLemmas.{EndBy}
@@ -13,9 +14,7 @@ use Rattle.moved_gains.proofs.MovingLemmas.{moved_from, moved_from-nil, moved_to
 use Rattle.moved_gains.proofs.MovingLemmas.{written-edited_file}
 use Rattle.moved_gains.proofs.RowLemmas.{Each, each_before, each_behind}
 use Rattle.moved_gains.proofs.TagPlaceLemmas.{IsApart, IsInFront, stands_apart, stands_somewhere}
-use Rattle.moved_gains.proofs.TagPlaceLemmas.{StandsSomewhere}
-use Rattle.moved_gains.proofs.WholeFrameLemmas.{AreFramesOf, frames_there, IsFrameOf}
-use Rattle.moved_gains.proofs.WrittenLemmas.{append_three}
+use Rattle.moved_gains.proofs.{TagPlaceLemmas.StandsSomewhere, WrittenLemmas.append_three}
 use Rattle.moved_gains.proofs.WrittenTagLemmas.{parted_among, parted_front}
 use Rattle.moved_gains.specs.{Change.{file_with_change, retagged_file}, Edited.edited_file}
 use Rattle.moved_gains.specs.{Moving.{moved_row_bytes, row_end}, Streams.edited_survey}

@@ -11,11 +11,11 @@ use Rattle.frame_header.specs.Fields.{ClassFields, HeaderFields, IsClass}
 use Rattle.frame_header.specs.HeaderBits.{flag_of, header_widths}
 use Rattle.frame_header.specs.Tables.{class_of, overhead_of, side_size_of}
 use Rattle.frame_header.specs.declared.version.Version.{Version, TheVariants.{One, Two}}
+use Rattle.gain_laws.proofs.WholeFrameLemmas.{frame_of, IsFrameOf}
 use Rattle.gain_laws.specs.Kept.{crc_fields, DiffersInFields, DiffersInGains, Field, fixed_fields}
 use Rattle.gain_laws.specs.Kept.{frame_fields, granule_fields, MayBecome, side_fields}
 use Rattle.moved_gains.proofs.MovedFrameLemmas.{IsWhole, moved_whole, whole_class, whole_room}
-use Rattle.moved_gains.proofs.MovedGainLemmas.{IsShaped-moved}
-use Rattle.moved_gains.proofs.{WholeFrameLemmas.{frame_of, IsFrameOf}, WrittenLemmas.append_three}
+use Rattle.moved_gains.proofs.{MovedGainLemmas.IsShaped-moved, WrittenLemmas.append_three}
 use Rattle.moved_gains.specs.Edited.{moved_frame}
 use Rattle.moved_gains.specs.Gains.{is_silent_granule, moved_gain, moved_granule, moved_side}
 use Rattle.moved_gains.specs.Moving.{moved_row_bytes}

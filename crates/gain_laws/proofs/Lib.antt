@@ -1,4 +1,9 @@
 -- The lemmas of this crate.
+pub mod MovedTwiceLemmas
+pub mod WholeFrameLemmas
+pub mod MovedAgainLemmas
+pub mod RangeAgainLemmas
+pub mod NewTagLemmas
 pub mod WithinLemmas
 pub mod EvenLemmas
 pub mod OppositeLemmas

@@ -11,22 +11,21 @@ use Rattle.commands.{proofs.RefusingLemmas.refusal_or-ok, specs.SingleOutput.mos
 use Rattle.commands.specs.declared.fault.Refusal.TheVariants.{Joint}
 use Rattle.gain_edits.proofs.ProperLemmas.{changed_survey, constant_steps-stream}
 use Rattle.gain_edits.proofs.ProperLemmas.{file_with_change-ok, made_of, stream-file_with_change}
-use Rattle.gain_edits.proofs.ProperLemmas.{survey_fields-file_with_change}
-use Rattle.gain_edits.proofs.RangeAgainLemmas.{constant_steps-opposite, range_back, row_fits, still}
-use Rattle.gain_edits.{proofs.RefusalLemmas.not_there, specs.Change.change_result}
+use Rattle.gain_edits.proofs.{ProperLemmas.survey_fields-file_with_change, RefusalLemmas.not_there}
+use Rattle.gain_edits.specs.Change.{change_result}
 use Rattle.gain_edits.specs.Channels.{channel_fault, is_joint, joint_fault, joint_refusal}
 use Rattle.gain_edits.specs.{Channels.single_channel_fault, Gain.gain_change, GainRange.range_fault}
+use Rattle.gain_laws.proofs.MovedAgainLemmas.{AllTogether, AreMovedBy, AreTogether, even_together}
+use Rattle.gain_laws.proofs.MovedAgainLemmas.{moved_again, stood}
+use Rattle.gain_laws.proofs.MovedTwiceLemmas.{GainsFit, IsNoStep, side_none}
+use Rattle.gain_laws.proofs.RangeAgainLemmas.{constant_steps-opposite, range_back, row_fits, still}
+use Rattle.gain_laws.proofs.WholeFrameLemmas.{AreFramesOf, frame_none, frame_of, frames_there}
+use Rattle.gain_laws.proofs.WholeFrameLemmas.{IsFrameOf, row_shaped}
 use Rattle.gain_laws.specs.GivenBack.{opposite_shift, OppositeGivesBack}
 use Rattle.moved_gains.proofs.EditedSurveyLemmas.{survey_fields-edited_file}
-use Rattle.moved_gains.proofs.LostOffsetLemmas.{end_rises, EndBy}
-use Rattle.moved_gains.proofs.MovedAgainLemmas.{AllTogether, AreMovedBy, AreTogether, even_together}
-use Rattle.moved_gains.proofs.{MovedAgainLemmas.{moved_again, stood}, MovedFrameLemmas.frame_none}
-use Rattle.moved_gains.proofs.MovedGainLemmas.{GainsFit, IsNoStep, side_none}
-use Rattle.moved_gains.proofs.MovedStreamLemmas.{counts_shaped}
+use Rattle.moved_gains.proofs.{LostOffsetLemmas.{end_rises, EndBy}, MovedStreamLemmas.counts_shaped}
 use Rattle.moved_gains.proofs.MovingLemmas.{moved_from, moved_to, written-edited_file}
 use Rattle.moved_gains.proofs.TagPlaceLemmas.{IsAmong, IsInFront, stands_somewhere, StandsSomewhere}
-use Rattle.moved_gains.proofs.WholeFrameLemmas.{AreFramesOf, frame_of, frames_there, IsFrameOf}
-use Rattle.moved_gains.proofs.WholeFrameLemmas.{row_shaped}
 use Rattle.moved_gains.proofs.WrittenTagLemmas.{parted_among, parted_front}
 use Rattle.moved_gains.specs.{Change.{file_with_change, FileChange}, Course.constant_steps}
 use Rattle.moved_gains.specs.{Edited.edited_file, Moving.{moved_row_bytes, row_end, row_length}}

@@ -5,19 +5,19 @@ use Rattle.std.proofs.Common.{length-drop, List, map, Ok, refl, Some, subst, sym
 use Rattle.std.proofs.Common.{◌+◌, ◌-◌, ◌∙◌, ◌∷◌, ◌≡◌, ◌≤◌, ◌⊎◌}
 use Rattle.std.proofs.lemmas.List.{drop-drop, drop_at, length-take-le, map-append, take_at}
 use Rattle.bit_fields.specs.Bits.{AreBytes}
+use Rattle.gain_laws.proofs.MovedAgainLemmas.{AllTogether, AreMovedBy, ends_again, IsTogether}
+use Rattle.gain_laws.proofs.{MovedAgainLemmas.{moved_again, stood}, NewTagLemmas.tagged-again}
+use Rattle.gain_laws.proofs.WholeFrameLemmas.{AreFramesOf, frames_there, IsFrameOf}
+use Rattle.gain_laws.specs.NewTagLaws.{HasNewTag}
 use Rattle.moved_gains.proofs.{EditedSurveyLemmas.survey_fields-edited_file, LostOffsetLemmas.EndBy}
-use Rattle.moved_gains.proofs.MovedAgainLemmas.{AllTogether, AreMovedBy, ends_again, IsTogether}
-use Rattle.moved_gains.proofs.{MovedAgainLemmas.{moved_again, stood}, MovingLemmas.moved_to}
-use Rattle.moved_gains.proofs.NewTagLemmas.{tagged-again}
+use Rattle.moved_gains.proofs.MovingLemmas.{moved_to}
 use Rattle.moved_gains.proofs.RetaggedFileLemmas.{survey_fields-retagged_fields}
 use Rattle.moved_gains.proofs.RowLemmas.{each_before, each_behind}
 use Rattle.moved_gains.proofs.TagPlaceLemmas.{IsAmong, IsInFront, stands_somewhere, StandsSomewhere}
 use Rattle.moved_gains.proofs.TaggedByteLemmas.{follows, stays}
-use Rattle.moved_gains.proofs.WholeFrameLemmas.{AreFramesOf, frames_there, IsFrameOf}
 use Rattle.moved_gains.proofs.WrittenTagLemmas.{at_behind, at_front, IsParted, length_moved}
 use Rattle.moved_gains.proofs.WrittenTagLemmas.{parted_among, parted_front}
 use Rattle.moved_gains.specs.{Edited.edited_file, Streams.{edited_row, edited_survey, junk_length}}
-use Rattle.moved_gains.specs.TagLaws.{HasNewTag}
 use Rattle.moved_gains.specs.TagPlace.{file_with_tag, retagged_fields, retagged_offset}
 use Rattle.moved_gains.specs.TagPlace.{retagged_row, tag_length, tag_offset}
 use Rattle.outside.specs.Pass.{bytes_between}

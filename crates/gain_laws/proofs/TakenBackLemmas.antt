@@ -17,17 +17,17 @@ use Rattle.fade_plan.specs.Curves.{curve_of, CurvePoint, steps_at, steps_back}
 use Rattle.frame_header.specs.Fields.{ClassFields}
 use Rattle.gain_edits.proofs.FadeProperLemmas.{faded-parts}
 use Rattle.gain_edits.proofs.ProperLemmas.{file_with_change-ok, made_of}
-use Rattle.gain_edits.proofs.RangeAgainLemmas.{AllOpposite, AreOpposite, range_back, still}
 use Rattle.gain_edits.specs.Change.{change_making, change_result}
 use Rattle.gain_edits.specs.Fade.{curve_change, curve_result, fade_change, fade_command, fade_task}
 use Rattle.gain_edits.specs.Fade.{input_sheet_change, points_in, sheet_change, sheet_curve}
 use Rattle.gain_edits.specs.GainRange.{range_fault}
+use Rattle.gain_laws.proofs.MovedAgainLemmas.{AllTogether, stood}
 use Rattle.gain_laws.proofs.OppositeStepLemmas.{bytes_again, edited_file-still, frames, new_survey}
 use Rattle.gain_laws.proofs.OppositeStepLemmas.{plain-file_with_change, still_holds}
+use Rattle.gain_laws.proofs.RangeAgainLemmas.{AllOpposite, AreOpposite, range_back, still}
 use Rattle.gain_laws.specs.TakenBack.{FadeGivesBack, FadeIsTakenBack}
 use Rattle.moved_gains.proofs.CourseLemmas.{survey_numbered}
 use Rattle.moved_gains.proofs.EditedSurveyLemmas.{survey_fields-edited_file}
-use Rattle.moved_gains.proofs.MovedAgainLemmas.{AllTogether, stood}
 use Rattle.moved_gains.specs.Change.{file_with_change, FileChange}
 use Rattle.moved_gains.specs.Course.{constant_steps, course_steps, equal_steps, number_at}
 use Rattle.moved_gains.specs.{Course.steps_at_offset, Edited.edited_file}

@@ -6,10 +6,10 @@ use Rattle.std.proofs.{Common.{◌<◌, ◌||◌, ◌∙◌, ◌∷◌, ◌≡�
 use Rattle.std.{proofs.lemmas.List.append-nil, specs.{Option.option_or, Prelude.MatchBool}}
 use Rattle.frame_header.specs.{Fields.ClassFields, Tables.{class_of, granules_of}}
 use Rattle.frame_header.specs.declared.version.Version.{Version}
+use Rattle.gain_laws.proofs.MovedTwiceLemmas.{gain_fits, is_stuck, wrapped-free}
 use Rattle.gain_laws.specs.StepLaws.{AreSidesFitting, is_some_out_of_range, separate_steps}
 use Rattle.gain_laws.specs.StepLaws.{TakeSteps}
 use Rattle.moved_gains.proofs.ExtremesLemmas.{joined_extremes-append, moving-cons, moving-nil}
-use Rattle.moved_gains.proofs.{MovedFrameLemmas.gain_fits, MovedGainLemmas.{is_stuck, wrapped-free}}
 use Rattle.moved_gains.specs.{Course.{constant_steps, equal_steps}, Edited.row_out_of_range}
 use Rattle.moved_gains.specs.GainExtremes.{extremes, extremes_of_both, gain_that_moves}
 use Rattle.moved_gains.specs.GainExtremes.{joined_extremes, moving_gains, row_gains, side_gains}

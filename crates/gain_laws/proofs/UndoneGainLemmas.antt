@@ -9,9 +9,7 @@ use Rattle.commands.proofs.RefusingLemmas.{none_first, refusal_or-ok, then_ok}
 use Rattle.commands.specs.{Refusing.{or_else, refusal_or, then_made}, SingleOutput.most_frames}
 use Rattle.commands.specs.declared.fault.{EditFault.EditFault, Refusal.Refusal}
 use Rattle.gain_edits.proofs.ProperLemmas.{file_tag-is, file_with_change-ok, made_of, same_tag}
-use Rattle.gain_edits.proofs.ProperLemmas.{unless_empty-are}
-use Rattle.gain_edits.proofs.RangeAgainLemmas.{constant_steps-opposite, range_back, range_both}
-use Rattle.gain_edits.proofs.{RangeAgainLemmas.still, RefusalLemmas.not_there}
+use Rattle.gain_edits.proofs.{ProperLemmas.unless_empty-are, RefusalLemmas.not_there}
 use Rattle.gain_edits.specs.{Change.change_result, Channels.channel_fault}
 use Rattle.gain_edits.specs.{Gain.{gain_change, noted_change}, GainRange.range_fault}
 use Rattle.gain_edits.specs.Undo.{undo_change, undone_change, undone_tag_change}
@@ -19,16 +17,18 @@ use Rattle.gain_edits.specs.UndoItem.{bytes_unless_empty, found_undo, next_undo,
 use Rattle.gain_edits.specs.UndoItem.{noted_undo, number_fault, output_fault, output_length}
 use Rattle.gain_edits.specs.UndoItem.{size_fault, tag_result, tag_with_undo, tag_without_undo}
 use Rattle.gain_edits.specs.UndoItem.{undo_fault, undo_steps}
+use Rattle.gain_laws.proofs.MovedAgainLemmas.{AreTogether, even_together, stood}
+use Rattle.gain_laws.proofs.MovedTwiceLemmas.{sum_of}
 use Rattle.gain_laws.proofs.OppositeStepLemmas.{edited_file-still, own_again, still_holds}
+use Rattle.gain_laws.proofs.RangeAgainLemmas.{constant_steps-opposite, range_back, range_both}
+use Rattle.gain_laws.proofs.RangeAgainLemmas.{still}
 use Rattle.gain_laws.proofs.TaggedAgainLemmas.{changed_again, clean_survey, has_block, new}
 use Rattle.gain_laws.proofs.TaggedAgainLemmas.{new_frames, new_is, new_long, new_survey, to}
+use Rattle.gain_laws.proofs.WholeFrameLemmas.{AreFramesOf, frames_there}
 use Rattle.gain_laws.specs.GivenBack.{gains_result, HasNoEmptyTag, IsGivenBack, tidied_file}
 use Rattle.gain_laws.specs.GivenBack.{UndoGivesBack}
-use Rattle.moved_gains.proofs.FoundTagLemmas.{survey_fields-length}
-use Rattle.moved_gains.proofs.MovedAgainLemmas.{AreTogether, even_together, stood}
-use Rattle.moved_gains.proofs.{MovedGainLemmas.sum_of, NewTagLemmas.own-tag}
+use Rattle.moved_gains.proofs.{FoundTagLemmas.survey_fields-length, OwnTagLemmas.own-tag}
 use Rattle.moved_gains.proofs.{TagPlaceLemmas.tag_none, TagReadingLemmas.file_tag-none}
-use Rattle.moved_gains.proofs.WholeFrameLemmas.{AreFramesOf, frames_there}
 use Rattle.moved_gains.proofs.WrittenTagLemmas.{length_moved}
 use Rattle.moved_gains.specs.{Change.{file_with_change, FileChange}, Course.constant_steps}
 use Rattle.moved_gains.specs.Edited.{edited_file}

@@ -7,3 +7,4 @@ pub mod TakenBack
 pub mod FadeKept
 pub mod ExactSteps
 pub mod CurveLaws
+pub mod NewTagLaws

@@ -9,7 +9,7 @@ use Rattle.commands.{proofs.RefusingLemmas.refusal_or-ok, specs.Refusing.{refusa
 use Rattle.commands.specs.declared.fault.{EditFault.EditFault, Refusal.Refusal}
 use Rattle.commands.specs.declared.fault.Refusal.TheVariants.{Joint, Mono}
 use Rattle.gain_edits.proofs.ProperLemmas.{read_ok, tagged-parts, undone-parts}
-use Rattle.gain_edits.proofs.{RangeAgainLemmas.{frame-none, none-frame}, RefusalLemmas.not_there}
+use Rattle.gain_edits.proofs.{RangeFaultLemmas.{frame-none, none-frame}, RefusalLemmas.not_there}
 use Rattle.gain_edits.specs.Change.{changed_or_fault}
 use Rattle.gain_edits.specs.Channels.{are_both, channel_fault, is_joint, joint_fault, joint_refusal}
 use Rattle.gain_edits.specs.Channels.{single_channel_fault}

@@ -14,8 +14,6 @@ pub mod EditedSurveyLemmas
 pub mod MovedStreamLemmas
 pub mod TagPlaceLemmas
 pub mod WrittenTagLemmas
-pub mod WholeFrameLemmas
-pub mod MovedAgainLemmas
 pub mod RowLemmas
 pub mod TagEndLemmas
 pub mod BufferLemmas
@@ -30,4 +28,4 @@ pub mod CleanFileLemmas
 pub mod TaggedByteLemmas
 pub mod SplitBlockLemmas
 pub mod RetaggedFileLemmas
-pub mod NewTagLemmas
+pub mod OwnTagLemmas

@@ -1,28 +1,26 @@
--- A frame with moved gains: what it has in common with the frame, moved twice, and not at all.
-use Rattle.std.proofs.Common.{ap, arith, Bool, cond, drop, false, length, List, MatchBool, Ok, refl}
-use Rattle.std.proofs.Common.{take, true, ℕ, ℤ, [], ◌++◌, ◌+◌, ◌-◌, ◌<◌, ◌∙◌, ◌≡◌}
+-- A frame with moved gains, and what it has in common with the frame.
+use Rattle.std.proofs.Common.{arith, Bool, cond, drop, false, length, List, Ok, refl, take, true, ℕ}
+use Rattle.std.proofs.Common.{ℤ, [], ◌++◌, ◌+◌, ◌-◌, ◌<◌, ◌∙◌, ◌≡◌}
 use Rattle.bit_fields.proofs.BitsLemmas.{AreBelow-append, AreBelow-drop, AreBelow-take}
 use Rattle.bit_fields.proofs.BitsLemmas.{AreBits-bits_of, AreBytes-bytes}
 use Rattle.bit_fields.specs.Bits.{AreBytes, bits_of, bytes}
 use Rattle.frame_header.proofs.{HeaderLemmas.IsClass-class_of, LengthLemmas.area_some}
 use Rattle.frame_header.specs.Fields.{ClassFields, HeaderFields, IsClass}
 use Rattle.frame_header.specs.Tables.{class_of, length_of, overhead_of, side_size_of}
-use Rattle.moved_gains.proofs.GainsLemmas.{SideFits-moved_side}
-use Rattle.moved_gains.proofs.MovedGainLemmas.{GainsFit, IsNoStep, IsShaped-moved, side_none}
+use Rattle.moved_gains.proofs.{GainsLemmas.SideFits-moved_side, MovedGainLemmas.IsShaped-moved}
 use Rattle.moved_gains.specs.Edited.{moved_frame, moved_frame_unless_lost}
 use Rattle.moved_gains.specs.Gains.{moved_granule, moved_side, moved_side_unless_lost}
 use Rattle.requests.specs.declared.shift.Steps.{Steps}
-use Rattle.side_info.proofs.FrameLemmas.{area-frame_with_side, fits-side_in, frame_with_side-own}
-use Rattle.side_info.proofs.FrameLemmas.{HasRoom, header-frame_with_side, IsRight}
-use Rattle.side_info.proofs.FrameLemmas.{length-frame_with_side, overhead-most, shaped-side_in}
-use Rattle.side_info.proofs.FrameLemmas.{side_in-frame_with_side, stored_crc-frame_with_side}
+use Rattle.side_info.proofs.FrameLemmas.{area-frame_with_side, fits-side_in, HasRoom}
+use Rattle.side_info.proofs.FrameLemmas.{header-frame_with_side, IsRight, length-frame_with_side}
+use Rattle.side_info.proofs.FrameLemmas.{overhead-most, shaped-side_in, side_in-frame_with_side}
+use Rattle.side_info.proofs.FrameLemmas.{stored_crc-frame_with_side}
 use Rattle.side_info.proofs.LastBytesLemmas.{AreGranulesAlike, last_bytes-frame_with_side}
 use Rattle.side_info.proofs.LastBytesLemmas.{last_granule}
 use Rattle.side_info.proofs.SideLemmas.{AreBits-side_bits, each_class, each_shaped, IsShaped}
 use Rattle.side_info.{proofs.SideLemmas.side_with, specs.CheckWord.check_word_of}
 use Rattle.side_info.specs.Frame.{crc_part, frame_with_side, side_in}
-use Rattle.side_info.specs.Granule.{GranuleFits, no_granule}
-use Rattle.side_info.specs.Side.{granule_in, HasOtherGains, side_bits, SideFits}
+use Rattle.side_info.specs.Side.{granule_in, HasOtherGains, side_bits}
 use Rattle.side_info.specs.declared.{granule.Granule.Granule, side.Side.Side}
 use Rattle.sync_survey.proofs.ItemBytesLemmas.{frame_item, header_front-four, IsItem}
 use Rattle.sync_survey.{proofs.ItemsLemmas.header_front-in_range, specs.Items.header_front}
@@ -153,23 +151,3 @@ moved_whole false steps h frame whole =
 pub whole_item : (h : HeaderFields) (frame : List ℕ) → IsWhole h frame → IsItem (Frame h) frame
 whole_item h frame whole =
     frame_item h frame whole.header whole.size (omega (arith, (whole_room h frame whole).1))
-
--- a gain that fits is below 256
-pub gain_fits : (c : ClassFields) (has : Bool) (g : Granule)
-    → MatchBool has (GranuleFits c.version g) (g ≡ no_granule) → g.global_gain < 256
-gain_fits c has g fits = grind arith
-
--- all gains of side information that fits are below 256
-pub gains_fit : (c : ClassFields) (s : Side) → SideFits c s → GainsFit s
-gains_fit c s fits = grind (arith, gain_fits)
-
--- moved by no step, a frame with the right check word stays
-pub frame_none : (steps : Steps) → IsNoStep steps → (h : HeaderFields) (frame : List ℕ)
-    → IsWhole h frame → IsRight h frame → moved_frame steps h frame ≡ frame
-frame_none steps none h frame whole right =
-    let s = side_in h frame in
-    let class = whole_class h frame whole in
-    let room = (whole_room h frame whole).0 in
-    ap (λ t. frame_with_side h t frame) (side_none steps none s (shaped-side_in h frame)
-    (gains_fit (class_of h) s (fits-side_in h frame class)))
-    ∙ frame_with_side-own h frame class whole.all room right

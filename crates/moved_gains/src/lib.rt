@@ -24,6 +24,6 @@ pub use gain_extremes::{Gains, gains_in, gains_of, joined};
 pub use gains::{OutOfRange, first_out_of_range};
 pub use moving::write_changed;
 pub use tag_fault::FileTagFault;
-pub use tag_laws::{own_tag, retagged_survey, same_stream, tag_again, tagged_bytes};
+pub use tag_laws::{own_tag, retagged_survey, same_stream};
 pub use tag_places::{TagPlace, first_tag, tag_place};
 pub use tag_reading::read_tag;

@@ -1,5 +1,5 @@
 //! Laws of the tag of a file. Each function does nothing: a proof that needs its law calls it.
-ghost use Rattle.moved_gains.specs.TagLaws.{RetaggedSurvey, SameStream, TagAgain, OwnTag, TaggedBytes};
+ghost use Rattle.moved_gains.specs.TagLaws.{RetaggedSurvey, SameStream, OwnTag};
 
 /// A file without fault and without junk still has no fault with another tag, or none, instead of
 /// its tag: its survey then finds the same frames, head and blocks at their new offsets, and the
@@ -13,19 +13,8 @@ pub fn same_stream()
     ensures { SameStream }
 {}
 
-/// A tag that was put into a file instead of its first is then the file's tag, and yet another tag
-/// replaces it as it would replace the first.
-pub fn tag_again()
-    ensures { TagAgain }
-{}
-
 /// With the bytes of its own tag instead of its tag, a file is unchanged. If the tag can be read,
 /// they are the tag's bytes.
 pub fn own_tag()
     ensures { OwnTag }
-{}
-
-/// The length of the file with another tag, and that it consists of bytes.
-pub fn tagged_bytes()
-    ensures { TaggedBytes }
 {}

@@ -3,15 +3,18 @@
 use Rattle.std.proofs.Common.{ap, Bool, cond, drop, false, length, List, Ok, refl, subst, suc, sym}
 use Rattle.std.proofs.Common.{take, true, ℕ, [], ◌-◌, ◌∙◌, ◌∷◌, ◌≡◌}
 use Rattle.bit_fields.specs.Bits.{AreBytes}
+use Rattle.frame_header.specs.{Fields.HeaderFields, Tables.class_of}
+use Rattle.gain_laws.proofs.MovedTwiceLemmas.{gains_fit, IsNoStep, side_none}
 use Rattle.moved_gains.proofs.EditedRunLemmas.{frames-moved, gap_of, lost_from, new_file}
 use Rattle.moved_gains.proofs.ImageLemmas.{AreImages, AreRight, own-right, own-side}
 use Rattle.moved_gains.proofs.LostOffsetLemmas.{rows_by, told_rows}
-use Rattle.moved_gains.proofs.{MovedFrameLemmas.{IsWhole, moved_whole}, MovedItemLemmas.no_steps}
-use Rattle.moved_gains.{proofs.RowLemmas.Each, specs.Gains.moved_side}
-use Rattle.moved_gains.specs.Moving.{moved_row_bytes, row_length}
+use Rattle.moved_gains.proofs.MovedFrameLemmas.{IsWhole, moved_whole, whole_class, whole_room}
+use Rattle.moved_gains.{proofs.{MovedItemLemmas.no_steps, RowLemmas.Each}, specs.Edited.moved_frame}
+use Rattle.moved_gains.specs.{Gains.moved_side, Moving.{moved_row_bytes, row_length}}
 use Rattle.requests.specs.declared.shift.Steps.{Steps}
-use Rattle.side_info.proofs.{FrameLemmas.{IsRight, shaped-side_in}, SideLemmas.IsShaped}
-use Rattle.side_info.specs.{Frame.{frame_with_side, side_in}, declared.side.Side.Side}
+use Rattle.side_info.proofs.FrameLemmas.{fits-side_in, frame_with_side-own, IsRight, shaped-side_in}
+use Rattle.side_info.{proofs.SideLemmas.IsShaped, specs.Frame.{frame_with_side, side_in}}
+use Rattle.side_info.specs.declared.side.Side.{Side}
 use Rattle.sync_survey.proofs.SurveyPartsLemmas.{all_faults-none_sound, frames_from, IsRead}
 use Rattle.sync_survey.proofs.SurveyPartsLemmas.{survey_fields-parts, told_from}
 use Rattle.sync_survey.specs.Faults.{class_from, survey_fields, SurveyFields}
@@ -81,3 +84,14 @@ frames_there file allowed s all e =
         (frames-moved no_steps file allowed start all read)
         (λ i r is. (all_faults-none_sound file (head_of file start.first) (class_from start) allowed
         (rows_of file (frames_from file start)) read.frames i r is).word))
+
+-- moved by no step, a frame with the right check word stays
+pub frame_none : (steps : Steps) → IsNoStep steps → (h : HeaderFields) (frame : List ℕ)
+    → IsWhole h frame → IsRight h frame → moved_frame steps h frame ≡ frame
+frame_none steps none h frame whole right =
+    let s = side_in h frame in
+    let class = whole_class h frame whole in
+    let room = (whole_room h frame whole).0 in
+    ap (λ t. frame_with_side h t frame) (side_none steps none s (shaped-side_in h frame)
+    (gains_fit (class_of h) s (fits-side_in h frame class)))
+    ∙ frame_with_side-own h frame class whole.all room right

@@ -4,13 +4,13 @@ use Rattle.std.proofs.Common.{ap, ap₂, arith, Bool, cond, drop, false, length,
 use Rattle.std.proofs.Common.{subst, sym, take, true, ℕ, ◌+ℤ◌, [], ◌++◌, ◌+◌, ◌-◌, ◌<◌, ◌∙◌, ◌∷◌}
 use Rattle.std.proofs.{Common.{◌≡◌, ◌≤◌}, lemmas.List.{drop-drop, drop_at, take_at}}
 use Rattle.frame_header.specs.Fields.{HeaderFields}
+use Rattle.gain_laws.proofs.MovedTwiceLemmas.{side_twice, sum_of}
+use Rattle.gain_laws.proofs.WholeFrameLemmas.{AreFramesOf, frame_of, IsFrameOf, row_shaped}
+use Rattle.gain_laws.proofs.WholeFrameLemmas.{row_sized}
 use Rattle.moved_gains.proofs.LostOffsetLemmas.{end_rises, EndBy}
 use Rattle.moved_gains.proofs.MovedFrameLemmas.{whole_class, whole_room}
-use Rattle.moved_gains.proofs.MovedGainLemmas.{IsShaped-moved, side_twice, sum_of}
-use Rattle.moved_gains.proofs.{MovingLemmas.moved_to, RowLemmas.Each}
-use Rattle.moved_gains.proofs.WholeFrameLemmas.{AreFramesOf, frame_of, IsFrameOf, row_shaped}
-use Rattle.moved_gains.proofs.WholeFrameLemmas.{row_sized}
-use Rattle.moved_gains.proofs.WrittenLemmas.{append_three, between_long}
+use Rattle.moved_gains.proofs.{MovedGainLemmas.IsShaped-moved, MovingLemmas.moved_to}
+use Rattle.moved_gains.proofs.{RowLemmas.Each, WrittenLemmas.{append_three, between_long}}
 use Rattle.moved_gains.specs.Gains.{moved_side, moved_side_unless_lost}
 use Rattle.moved_gains.specs.Moving.{moved_bytes, moved_row_bytes, row_end, row_length}
 use Rattle.outside.specs.Pass.{bytes_between}

@@ -3,15 +3,15 @@
 use Rattle.std.proofs.Common.{ap₂, arith, Bool, cond, false, List, map, None, Option, pos, refl}
 use Rattle.std.proofs.Common.{sym, true, ℕ, ℤ, ◌+ℤ◌, [], ◌<◌, ◌||◌, ◌∙◌, ◌∷◌, ◌≡◌}
 use Rattle.std.proofs.lemmas.Bool.{le-ltb}
-use Rattle.commands.proofs.RefusingLemmas.{first-cons, first-nil, none_both, none_first}
-use Rattle.gain_edits.specs.GainRange.{out_of_range_refusal, range_fault, row_range_fault}
-use Rattle.moved_gains.proofs.MovedAgainLemmas.{AreTogether, stood}
-use Rattle.moved_gains.proofs.MovedFrameLemmas.{gains_fit, whole_class}
-use Rattle.moved_gains.proofs.MovedGainLemmas.{free-parts, free-whole, GainsFit, granule_next}
-use Rattle.moved_gains.proofs.MovedGainLemmas.{is_stuck, IsNoStep, moved_granule-with, side_then}
-use Rattle.moved_gains.proofs.MovedGainLemmas.{wrapped-free}
-use Rattle.moved_gains.proofs.WholeFrameLemmas.{AreFramesOf, frame_of, IsFrameOf, row_shaped}
-use Rattle.moved_gains.specs.{Course.constant_steps, Edited.row_out_of_range}
+use Rattle.commands.proofs.RefusingLemmas.{first-nil}
+use Rattle.gain_edits.proofs.RangeFaultLemmas.{frame-none, none-frame}
+use Rattle.gain_edits.specs.GainRange.{range_fault, row_range_fault}
+use Rattle.gain_laws.proofs.MovedAgainLemmas.{AreTogether, stood}
+use Rattle.gain_laws.proofs.MovedTwiceLemmas.{free-parts, free-whole, gains_fit, GainsFit}
+use Rattle.gain_laws.proofs.MovedTwiceLemmas.{granule_next, is_stuck, IsNoStep, moved_granule-with}
+use Rattle.gain_laws.proofs.MovedTwiceLemmas.{side_then, wrapped-free}
+use Rattle.gain_laws.proofs.WholeFrameLemmas.{AreFramesOf, frame_of, IsFrameOf, row_shaped}
+use Rattle.moved_gains.{proofs.MovedFrameLemmas.whole_class, specs.Course.constant_steps}
 use Rattle.moved_gains.specs.Gains.{moved_side, moved_side_unless_lost, side_out_of_range}
 use Rattle.moved_gains.specs.declared.gains.OutOfRange.{OutOfRange}
 use Rattle.requests.specs.declared.shift.Steps.{Steps}
@@ -72,21 +72,6 @@ pub row_fits : (file : List ℕ) (row : Row) → IsFrameOf file row → GainsFit
 row_fits file row here = grind (arith, gains_fit, fits-side_in, frame_of, whole_class)
 
 -- ---- all frames
-
-stuck_none : (at : ℕ) (s : Option OutOfRange) → out_of_range_refusal at s ≡ None → s ≡ None
-stuck_none at s e = grind arith
-
--- if no gain of all frames leaves its range, none of the first does, and none of the others
-pub frame-none : (steps : ℕ → Steps) (row : Row) (rows : List Row)
-    → range_fault steps (row ∷ rows) ≡ None
-    → (row_out_of_range (steps row.offset) row ≡ None) × (range_fault steps rows ≡ None)
-frame-none steps row rows none = grind (arith, none_first, first-cons, stuck_none)
-
--- if no gain of the first frame is stuck and none of the others is, none of all is
-pub none-frame : (steps : ℕ → Steps) (row : Row) (rows : List Row)
-    → row_out_of_range (steps row.offset) row
-    ≡ None → range_fault steps rows ≡ None → range_fault steps (row ∷ rows) ≡ None
-none-frame steps row rows here rest = grind (arith, first-cons, none_both)
 
 -- what follows for a frame none of whose gains leaves the range also follows for a lost one, whose
 -- gains are never looked at

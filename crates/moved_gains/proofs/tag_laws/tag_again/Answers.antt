@@ -1,6 +1,0 @@
--- The new tag is the first of its kind, where the old one was.
-use Rattle.moved_gains.proofs.NewTagLemmas.{tagged-again}
-use Rattle.moved_gains.proofs.tag_laws.tag_again.Goals as goal
-
-pub returns : goal.returns
-returns c = tagged-again
