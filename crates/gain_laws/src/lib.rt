@@ -1,5 +1,5 @@
-//! Laws of the commands that change gains: a change can be undone, it changes nothing else, and the least and the greatest gain decide which
-//! steps are accepted. Nothing here runs, and no crate of the program waits for these proofs.
+//! Laws of fades, and of the commands that change gains: a change can be undone, it changes nothing else, and the least and the greatest
+//! gain decide which steps are accepted. Nothing here runs, and no crate of the program waits for these proofs.
 #![tactic(auto)]
 
 mod change_laws;

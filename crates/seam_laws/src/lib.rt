@@ -1,4 +1,5 @@
-//! Laws of pieces that are joined again, and of joins without seams. Nothing here runs, and no crate of the program waits for these proofs.
+//! Laws of lead-ins, of pieces that are joined again, and of joins without seams. Nothing here runs, and no crate of the program waits for
+//! these proofs.
 #![tactic(auto)]
 
 mod join_laws;
