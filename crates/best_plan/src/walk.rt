@@ -16,9 +16,10 @@ fn frame_at<P: Policy>(need: &Need, place: u8, free: u32, policy: &P) -> Placed
     requires free { free ≤ most_back }
     ensures { IsFrameAt (P.choices_of policy.now) need.now place free result }
 {
+    let choices = policy.choices(&need.header);
     Placed {
         lead_in: false,
-        slot: policy.choice_at(&need.header, place as usize),
+        slot: choices.as_slice()[place as usize],
         begin: free as u16,
     }
 }

@@ -1,7 +1,6 @@
 -- The frames of each part, with the slots among which they choose, and the lead-in of a part.
-use Rattle.std.specs.Prelude.{All, AllPairs, Bool, Contains, false, get_or, length, List, map, None}
-use Rattle.std.specs.Prelude.{Option, slice_index, slice_range, Some, true, ℕ, [], ◌++◌, ◌<◌, ◌∷◌}
-use Rattle.std.specs.Prelude.{◌≡◌, ◌≤◌}
+use Rattle.std.specs.Prelude.{All, AllPairs, Bool, Contains, false, length, List, map, None, Option}
+use Rattle.std.specs.Prelude.{slice_index, slice_range, Some, true, ℕ, [], ◌++◌, ◌<◌, ◌∷◌, ◌≡◌, ◌≤◌}
 use Rattle.frame_header.specs.{Fields.{ClassFields, HeaderFields, SlotFields}, Slots.all_slots}
 use Rattle.frame_header.specs.Tables.{area_of, class_of, window_of}
 use Rattle.slot_plan.specs.{Layouts.{FrameLengths, HasLayout}, Lists.{CanBeLaid, OpenFrame}}
@@ -26,12 +25,6 @@ slot_areas class protected slots = map (λ s. area_of class s protected) slots
 -- the areas of the slots that a frame with this header may have
 abbrev pub header_areas : (HeaderFields → List SlotFields) → HeaderFields → List ℕ
 header_areas choices h = slot_areas (class_of h) h.protected (choices h)
-
--- the slot at this place of those that a frame with this header may have, whose areas ascend
-pub record IsChoiceAt (place : ℕ) (choices : HeaderFields → List SlotFields) (h : HeaderFields)
-    (slot : SlotFields) : Type 0 where
-  pub there : (other : SlotFields) → get_or (choices h) place other ≡ slot
-  pub ascending : AllPairs (λ m n. m < n) (header_areas choices h)
 
 -- at least one slot, their areas ascending
 pub record AreRisingSlots (class : ClassFields) (protected : Bool)

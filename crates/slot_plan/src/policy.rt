@@ -1,9 +1,9 @@
 //! The slots among which a frame may choose.
-ghost use Rattle.std.specs.Prelude.{◌≡◌, ◌<◌, ◌≤◌, List, [], ◌∷◌, map, length, Contains, AllPairs};
+ghost use Rattle.std.specs.Prelude.{◌≡◌, ◌<◌, ◌≤◌, List, [], ◌∷◌, map, Contains, AllPairs};
 ghost use Rattle.frame_header.specs.Fields.{SlotFields, HeaderFields};
 ghost use Rattle.frame_header.specs.Tables.{class_of, area_of};
 ghost use Rattle.frame_header.specs.Slots.{all_slots};
-ghost use Rattle.slot_plan.specs.Parts.{header_areas, IsChoiceAt};
+ghost use Rattle.slot_plan.specs.Parts.{header_areas};
 ghost use Rattle.slot_plan.specs.Reserve.{greatest_number, IsLargestAreaFor, IsLeastSlotFor};
 ghost use Rattle.slot_plan.specs.SlotTables.{IsClassTable};
 
@@ -24,14 +24,6 @@ pub trait Policy {
         ensures ascending { AllPairs (λ m n. m < n)
             (map (λ s. area_of (class_of header.now) s header.now.protected) result.items) }
         ensures own { Contains result.items header.now.slot };
-
-    /// The slot at this place, counted from 0, of the choices of a frame with this header.
-    fn choice_at(&self, header: &Header, place: usize) -> Slot
-        requires { place < length (choices_of self.now header.now) }
-        ensures { IsChoiceAt place (choices_of self.now) header.now result }
-    {
-        self.choices(header).as_slice()[place]
-    }
 
     /// The largest area that a frame with this header may have, in bytes: the area of the last
     /// choice.
@@ -110,15 +102,6 @@ impl Policy for Least {
         // Reading the slot gives the proof that the header's own slot is one of them.
         let _ = &header.slot;
         header.class().slots()
-    }
-
-    fn choice_at(&self, header: &Header, place: usize) -> Slot {
-        // Reading the slot gives the proof that the areas of the header's class ascend.
-        let _ = &header.slot;
-        Slot {
-            rate_index: place as u8 / 2 + 1,
-            padding: place % 2 == 1,
-        }
     }
 
     fn largest_area_by(&self, header: &Header, table: &SlotTable) -> u32 {
