@@ -82,7 +82,7 @@ impl SizedFront {
 
     /// The front, if the class of the header is known.
     #[inline(always)]
-    fn of_class(&self, class: Class) -> FrontOfClass<'_>
+    pub fn of_class(&self, class: Class) -> FrontOfClass<'_>
         requires { class ≡ class_of self.now.header }
         ensures { result ≡ self.now }
     {
@@ -92,7 +92,7 @@ impl SizedFront {
 
 /// The front of a frame whose class is known, to be written.
 #[derive(Drop)]
-struct FrontOfClass<'f> {
+pub(crate) struct FrontOfClass<'f> {
     front: &'f SizedFront,
     class: Class,
 }
@@ -170,15 +170,14 @@ impl<'f, 'a> Frame<'f, 'a> {
     }
 }
 
-/// Adds the bytes of a frame of this class, whose area is the first of those that wait, to what
-/// waits for the file. `stored` bytes of the area are in the queue, as `Areas::stored` says.
+/// Adds the bytes of a frame, whose area is the first of those that wait, to what waits for the
+/// file. `stored` bytes of the area are in the queue, as `Areas::stored` says.
 ///
 /// # Errors
 /// If a write failed. Then a prefix of both was appended.
 #[inline(always)]
 pub(crate) fn add_frame<D: Folder>(
-    class: Class,
-    first: &SizedFront,
+    first: &FrontOfClass<'_>,
     areas: &Areas,
     stored: usize,
     folder: &mut D,
@@ -186,13 +185,11 @@ pub(crate) fn add_frame<D: Folder>(
     unsent: &mut WriteBuffer,
 ) -> Result<(), Failed>
     requires there { IsFileThere (D.seen folder.old).files name.now }
-    requires class { class ≡ class_of first.now.header }
     requires within { frame_area first.now ≤ length areas.now.bytes }
     requires stored { stored ≡ laid_count (frame_area first.now) areas.now }
     ensures { PassAnswer name.now unsent.old (first_bytes first.now areas.now.bytes) unsent.new
         (D.seen folder.old) (D.seen folder.new) result }
 {
-    let front = first.of_class(class);
-    unsent.push_made(folder, name, &front)?;
-    areas.add_first(first.area() as usize, stored, folder, name, unsent)
+    unsent.push_made(folder, name, first)?;
+    areas.add_first(first.front.area() as usize, stored, folder, name, unsent)
 }

@@ -215,7 +215,8 @@ impl FrameQueue {
         let first = self.kept.front().unwrap();
         let area = first.area() as usize;
         let stored = self.areas.stored(area);
-        let added = add_frame(self.class, first, &self.areas, stored, folder, name, unsent);
+        let first = first.of_class(self.class);
+        let added = add_frame(&first, &self.areas, stored, folder, name, unsent);
         self.kept.pop_front();
         self.areas.drop_first(area, stored);
         added

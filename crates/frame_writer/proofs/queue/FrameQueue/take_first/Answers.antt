@@ -17,10 +17,10 @@ first : (g : given.Over) (c : After-unwrap-first g)
     → c.self.inside.kept.items ≡ c.unwrap-first.result.now ∷ drop 1 c.self.inside.kept.items
 first g c = grind (arith, first-kept, option_copied)
 
-pub add_frame-added-requires-clause-class : goal.add_frame-added-requires-clause-class
-add_frame-added-requires-clause-class g c =
+pub of_class-first-requires : goal.of_class-first-requires
+of_class-first-requires g c =
     sym (subst (AreFieldsOfClass c.self.inside.class) (first g
-    (goal.at.add_frame-added-requires-clause-class g c).After-unwrap-first) c.self.invariant.3).1
+    (goal.at.of_class-first-requires g c).After-unwrap-first) c.self.invariant.3).1
 
 -- its area is there, and is dropped
 within : (g : given.Over) (c : After-unwrap-first g)
@@ -29,7 +29,8 @@ within g c = grind (arith, first g c)
 
 pub add_frame-added-requires-clause-within : goal.add_frame-added-requires-clause-within
 add_frame-added-requires-clause-within g c =
-    within g (goal.at.add_frame-added-requires-clause-within g c).After-unwrap-first
+    rw c.of_class-first.ensures
+    (within g (goal.at.add_frame-added-requires-clause-within g c).After-unwrap-first)
 
 drops : (g : given.Over) (c : After-drop_first g) → c.drop_first.new.self.bytes
     ≡ drop (frame_area c.unwrap-first.result.now) c.self.inside.areas.bytes
@@ -60,7 +61,7 @@ returns g c = record {
       (ap (λ (b : Buffer FrameFields). b.items) c.pop_front.ensures.items) (drops g c) (step g c)
       (within g (goal.at.returns g c).After-unwrap-first)
       c.args.name.now c.args.unsent.now _ _)
-      c.add_frame-added.ensures.prefix;
+      (rw c.of_class-first.ensures at c.add_frame-added.ensures.prefix);
   prefix = let k = c.unwrap-first.result.now in
       let items = c.self.inside.kept.items in
       let bytes = c.self.inside.areas.bytes in
@@ -70,7 +71,7 @@ returns g c = record {
       (first-framed_bytes k (drop 1 items) bytes
       ∙ ap (λ (js : List FrameFields). framed_bytes js bytes)
       (sym (first g (goal.at.returns g c).After-unwrap-first)) ∙ ap held_bytes c.self.view_is))
-      c.add_frame-added.ensures.prefix;
+      (rw c.of_class-first.ensures at c.add_frame-added.ensures.prefix);
   class = search rules;
   kept = search rules;
   left = search rules;
