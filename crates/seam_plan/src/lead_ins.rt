@@ -14,7 +14,7 @@ use frame_header::Header;
 use slot_plan::{Need, lead_in, wants};
 
 /// Whether two headers have the same 32 bits.
-fn are_same(first: &Header, second: &Header) -> bool
+pub fn is_same_header(first: &Header, second: &Header) -> bool
     ensures { result ≡ is_same_header first.now second.now }
 {
     first.bytes() == second.bytes()
@@ -30,7 +30,7 @@ fn leads_others(needs: &[Need]) -> bool
         return false;
     }
     let header = lead_in(needs_after(needs, 1));
-    are_same(&needs[0].header, &header)
+    is_same_header(&needs[0].header, &header)
 }
 
 /// Whether the frames fit after no bytes.

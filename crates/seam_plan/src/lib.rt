@@ -9,6 +9,6 @@ mod run;
 mod seam;
 
 pub use input::Input;
-pub use lead_ins::front_left_out;
+pub use lead_ins::{front_left_out, is_same_header};
 pub use run::{FramePlace, Joint, Run};
 pub use seam::Seam;

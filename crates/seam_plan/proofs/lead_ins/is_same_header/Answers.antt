@@ -1,7 +1,7 @@
 -- The bytes of headers decide whether they are the same.
 use Rattle.std.{proofs.Common.{rules, ◌≡◌}, specs.Prelude.bytes_eq}
 use Rattle.seam_plan.proofs.LeadInLemmas.{header-same}
-use Rattle.seam_plan.proofs.lead_ins.are_same.Goals as goal
+use Rattle.seam_plan.proofs.lead_ins.is_same_header.Goals as goal
 
 pub returns : goal.returns
 returns c =

@@ -22,7 +22,7 @@ returns c = λ class same.
     let leads = c.lead_in-header.ensures class
     (subst (AreNeedsOfClass class) (sym c.needs_after.ensures)
     (class-drop class c.args.needs.now 1 same)) in
-    c.are_same.ensures
+    c.is_same_header.ensures
     ∙ ap (λ (n : Need). is_same_header n.header c.lead_in-header.result) (sym c.index-needs-0.is)
     ∙ leads-is (window_of class.version) c.args.needs.now c.index-needs-0.result
     c.lead_in-header.result c.index-needs-0.is (omega (arith, c.if-needs-lt2.false)) header
