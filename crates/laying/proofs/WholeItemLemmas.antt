@@ -1,8 +1,8 @@
 -- Bytes that are concatenated items: where they are in a file, the items are its run.
 use Rattle.std.proofs.Common.{ap, append_assoc, arith, drop, length, length-append, length-drop}
-use Rattle.std.proofs.Common.{List, None, refl, Some, subst, sym, take, true, ℕ, [], ◌++◌, ◌+◌, ◌∙◌}
-use Rattle.std.proofs.{Common.{◌∷◌, ◌≡◌, ◌≤◌}, Math.Seq.take-length}
-use Rattle.std.{proofs.lemmas.List.{drop-drop, drop_at}, specs.List.concat}
+use Rattle.std.proofs.Common.{List, None, refl, Some, sym, take, true, ℕ, [], ◌++◌, ◌+◌, ◌∙◌, ◌∷◌}
+use Rattle.std.proofs.{Common.{◌≡◌, ◌≤◌}, Math.Seq.take-length, lemmas.List.{drop-drop, drop_at}}
+use Rattle.std.specs.List.{concat}
 use Rattle.laying.specs.LaidFiles.{AreBlocks, blocks_from, IsBlock}
 use Rattle.sync_survey.proofs.ItemBytesLemmas.{block_front-bytes, IsItem}
 use Rattle.sync_survey.proofs.{ItemListLemmas.item_at-known, OneItemLemmas.stands-only}
@@ -40,29 +40,26 @@ pub whole-end : (part : Region) (file : List ℕ) (at : ℕ) (items : List Item)
     → AreEndToEnd part file at (placed at items) (at + length bytes)
 whole-end part file at [] bytes behind are within is = omega (arith, ap length are)
 whole-end part file at (item ∷ items) bytes behind are within is =
-    let own = are.0 in
-    let rest = are.1 in
     let size = size_of item in
-    let stands : drop at file ≡ own ++ (rest ++ behind) =
-    is ∙ ap (λ (l : List ℕ). l ++ behind) are.2 ∙ append_assoc own rest behind in
+    let rest = are.1 ++ behind in
+    let stands : drop at file ≡ are.0 ++ rest = grind (arith, append_assoc) in
+    let known =
+    item_at-known file at at (are.0 ++ rest) item refl stands (are.3.known rest) in
     let room : at + size ≤ length file = omega (
       arith,
       within,
       ap length stands,
       length-drop at file,
-      length-append own (rest ++ behind),
+      length-append are.0 rest,
       are.3.size,
     ) in
-    let known = item_at-known file at at (own ++ (rest ++ behind)) item refl stands
-    (are.3.known (rest ++ behind)) in
-    let next : drop (at + size) file ≡ rest ++ behind = sym (drop-drop size at file)
-    ∙ ap (drop size) stands ∙ drop_at own (rest ++ behind) size are.3.size in
-    let to : at + size + length rest ≡ at + length bytes =
-    omega (arith, ap length are.2, length-append own rest, are.3.size) in (
-      refl,
+    let next : drop (at + size) file ≡ rest = sym (drop-drop size at file) ∙ ap (drop size) stands
+    ∙ drop_at are.0 rest size are.3.size in
+    grind (
+      arith,
+      length-append,
       whole_item_at-whole part file at item known are.4 room,
-      subst (AreEndToEnd part file (at + size) (placed (at + size) items)) to
-          (whole-end part file (at + size) items rest behind are.5 room next),
+      whole-end part file (at + size) items are.1 behind are.5 room next,
     )
 
 -- the items are the run, if no further item of the part is after them

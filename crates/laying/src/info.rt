@@ -55,12 +55,12 @@ impl Kept {
     }
 }
 
-/// The seek table has 100 entries. The function does nothing: the type says so, and its contract
-/// gives that to a proof.
-fn has_all(table: &[u8; 100])
-    ensures { length table.now ≡ 100 }
+/// An array has as many bytes as its type says. The function does nothing: its contract gives that
+/// to a proof.
+pub fn has_all<const N: usize>(array: &[u8; N])
+    ensures { length array.now ≡ N }
 {
-    let _ = table;
+    let _ = array;
 }
 
 /// The sizes of fields are those of their types. Like `has_all`, it is there for its contract.
@@ -75,7 +75,7 @@ fn are_sized(info: &Info)
 /// The fields of the Info frame before the frames of a plan of at most 2,900,064 places: how many
 /// frames there are, the bytes of the Info frame and of all of them, the seek table, and what is
 /// kept from a head. The text is `Info` if all have one bit rate, otherwise `Xing`.
-pub fn info_of(class: Class, placed: &[Placed], kept: &Kept) -> Info
+pub fn info_for(class: Class, placed: &[Placed], kept: &Kept) -> Info
     requires few { length placed.now ≤ most_output_frames }
     ensures info { (frames : List Frame) → map slot_in frames ≡ map
         (λ (p : PlacedFields). p.slot) placed.now
@@ -107,7 +107,7 @@ pub fn info_bytes(
         → result.items ≡ info_frame first.header (info_for (survey_view survey.now).class frames
         kept.now.quality kept.now.extension) }
 {
-    let fields = info_of(survey.class(), placed, kept);
+    let fields = info_for(survey.class(), placed, kept);
     let first = &survey.frames()[from].header();
     let mut info = ArrayVec::new();
     write_info(first, &fields, &mut info);

@@ -25,7 +25,7 @@ mod relay;
 mod selected;
 
 pub use buffers::RelayBuffers;
-pub use info::{Kept, head_fields, info_bytes, info_of, kept_fields};
+pub use info::{Kept, has_all, head_fields, info_bytes, info_for, kept_fields};
 pub use info_laws::slots_are_planned;
 pub use laid_laws::{laid_frames_stay, laid_stream, laid_survey, surveyed_blocks};
 pub use laws::{

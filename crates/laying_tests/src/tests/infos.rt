@@ -3,7 +3,7 @@
 
 use frame_header::{Header, Slot};
 use info_header::Info;
-use laying::{Kept, info_of, kept_fields};
+use laying::{Kept, info_for, kept_fields};
 use outside::{Call, Folder, MemFolder, PassFault};
 use slot_plan::Placed;
 use std::alloc::{AllocError, Global};
@@ -67,7 +67,7 @@ fn a_lead_in_and_a_frame(rt: HostRuntime) -> Result<(), Fail> {
         quality: Some(57),
         extension: EXTENSION,
     };
-    let info = info_of(class, &placed, &kept);
+    let info = info_for(class, &placed, &kept);
     assert!(rt; has_counts(&info, true, 834) && has_entries(&info));
     assert!(rt; has_fields(&info, Some(57), &EXTENSION));
     Ok(())
@@ -82,7 +82,7 @@ fn one_bit_rate(rt: HostRuntime) -> Result<(), Fail> {
         slot: RATE_128,
         begin: 0,
     }; 2];
-    let info = info_of(class, &placed, &Kept::none());
+    let info = info_for(class, &placed, &Kept::none());
     assert!(rt; has_counts(&info, false, 1044));
     assert!(rt; has_fields(&info, None, &[0; 36]));
     Ok(())

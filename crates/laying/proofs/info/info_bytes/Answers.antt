@@ -15,5 +15,5 @@ returns c = λ first frames found slots.
     c.index-frames-from.result found in
     c.write_info.ensures
     ∙ ap₂ info_frame (c.header.ensures ∙ ap (λ (r : Row). r.header) (c.index-frames-from.is ∙ row))
-    (c.info_of-fields.ensures.info frames slots
+    (c.info_for-fields.ensures.info frames slots
     ∙ ap (λ (k : ClassFields). info_for k frames kept.quality kept.extension) c.class.ensures)

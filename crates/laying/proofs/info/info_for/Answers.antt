@@ -2,7 +2,7 @@
 use Rattle.std.proofs.Common.{IfSome, length, List, subst, ℕ, ◌≡◌}
 use Rattle.laying.proofs.InfoLemmas.{fields-are}
 use Rattle.slot_plan.specs.declared.needs.Placed.{Placed}
-use Rattle.laying.proofs.info.info_of.Goals as goal
+use Rattle.laying.proofs.info.info_for.Goals as goal
 
 pub returns-clause-info : goal.returns-clause-info
 returns-clause-info c = λ frames slots.
