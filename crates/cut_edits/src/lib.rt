@@ -19,7 +19,7 @@ pub use choice::{FrameChoice, all_choice, cut_choice};
 pub use chosen::{Chosen, choose};
 pub use edit::FrameEdit;
 pub use heads::read_head;
-pub use pieces::select_piece;
+pub use pieces::{quality_of, sealed_info_bytes, select_piece};
 pub use plans::{chosen_parts, plan_file};
 pub use spans::find_span;
 pub use work::LaidWork;

@@ -26,7 +26,7 @@ use arrayvec::ArrayVec;
 use exact_span::{Span, extension, seal};
 use frame_header::Class;
 use info_header::Info;
-use laying::{Kept, Selected, info_bytes};
+use laying::{Kept, Selected, has_all, info_bytes};
 use slot_plan::{Keep, Placed, Plan, plan_led};
 use std::alloc::{AllocError, Global};
 use sync_survey::Survey;
@@ -55,7 +55,7 @@ fn plan_piece(
 }
 
 /// The quality given by a head, if there is one.
-fn quality_of(head: Option<&Info>) -> Option<u32>
+pub fn quality_of(head: Option<&Info>) -> Option<u32>
     ensures { result ≡ quality_of (option_copied head.entry) }
 {
     head?.quality
@@ -92,17 +92,14 @@ fn extension_in(class: Class, frame: &[u8]) -> [u8; 36]
     extension
 }
 
-/// The extension has 36 bytes. It runs nothing: the type says so, and its contract gives that to a
-/// proof.
-fn has_all(extension: &[u8; 36])
-    ensures { length extension.now ≡ 36 }
-{
-    let _ = extension;
-}
-
 /// The bytes of the sealed Info frame before frames of a surveyed input in the slots of a plan. The
 /// first of the frames is frame `from`, whose header it has.
-fn sealed_info(survey: &Survey, from: usize, kept: &Kept, placed: &[Placed]) -> ArrayVec<u8, 1441>
+pub fn sealed_info_bytes(
+    survey: &Survey,
+    from: usize,
+    kept: &Kept,
+    placed: &[Placed],
+) -> ArrayVec<u8, 1441>
     requires well { IsPlacedSurvey (survey_view survey.now) }
     requires within { from < length (survey_view survey.now).frames }
     requires few { length placed.now ≤ most_output_frames }
@@ -135,7 +132,7 @@ fn select_sealed(survey: &Survey, from: usize, to: usize, kept: Kept, plan: Plan
     ensures writable { IsWritableSelection (survey_view survey.now) result }
 {
     has_all(&kept.extension);
-    let info = sealed_info(survey, from, &kept, plan.placed());
+    let info = sealed_info_bytes(survey, from, &kept, plan.placed());
     let extension = extension_in(survey.class(), info.as_slice());
     Selected {
         from,

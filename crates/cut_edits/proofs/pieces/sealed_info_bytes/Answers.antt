@@ -4,7 +4,7 @@ use Rattle.cut_edits.proofs.SealedLemmas.{info-room, sealed-is, sealed-room}
 use Rattle.exact_span.specs.TagWord.{sealed_frame}
 use Rattle.frame_header.specs.Fields.{ClassFields}
 use Rattle.sync_survey.specs.Faults.{survey_view}
-use Rattle.cut_edits.proofs.pieces.sealed_info.Goals as goal
+use Rattle.cut_edits.proofs.pieces.sealed_info_bytes.Goals as goal
 
 pub seal-requires : goal.seal-requires
 seal-requires c =

@@ -23,12 +23,14 @@ returns-clause-laid c = λ file has.
     let first = there.0 in
     let slots = laid-slots plain file s has c.requires.some c.requires.within c.requires.fitting
     ∙ sym (ap (map (λ (p : Placed). p.slot)) c.placed.ensures) in
-    let bytes = c.sealed_info-info.ensures.bytes first (frames_laid plain file s) there.1 slots in
+    let bytes =
+    c.sealed_info_bytes-info.ensures.bytes first (frames_laid plain file s) there.1 slots in
     let whole =
     for-whole s.class (frames_laid plain file s) plain.quality plain.extension c.has_all.ensures in
     let read =
     c.extension_in-extension.ensures ∙ ap₂ kept_at c.class.ensures c.as_slice.ensures.value
-    ∙ sealed-read s.class first.header (info_laid plain file s) c.sealed_info-info.result.items
+    ∙ sealed-read s.class first.header (info_laid plain file s)
+    c.sealed_info_bytes-info.result.items
     whole (c.requires.placed c.args.from first there.1).class_is bytes in
     ap (λ (e : List ℕ). record {
       from = plain.from;
@@ -51,11 +53,12 @@ returns-clause-writable c = record {
       let frames = frames_laid plain file s in
       let slots = laid-slots plain file s has c.requires.some c.requires.within c.requires.fitting
       ∙ sym (ap (map (λ (p : Placed). p.slot)) c.placed.ensures) in
-      let bytes = c.sealed_info-info.ensures.bytes first frames found slots in
+      let bytes = c.sealed_info_bytes-info.ensures.bytes first frames found slots in
       let whole = for-whole s.class frames plain.quality plain.extension c.has_all.ensures in
       let read =
       c.extension_in-extension.ensures ∙ ap₂ kept_at c.class.ensures c.as_slice.ensures.value
-      ∙ sealed-read s.class first.header (info_laid plain file s) c.sealed_info-info.result.items
+      ∙ sealed-read s.class first.header (info_laid plain file s)
+      c.sealed_info_bytes-info.result.items
       whole (c.requires.placed c.args.from first found).class_is bytes in
       bytes ∙ ap (λ (e : List ℕ). info_frame first.header (info_for s.class frames plain.quality e))
       (sym read);
