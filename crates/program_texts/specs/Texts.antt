@@ -166,29 +166,26 @@ fixed_text_command text = record {
 unfoldable pub help_text : List ℕ
 help_text =
     codes "usage: mp3edit COMMAND\n"
-    ++ (codes
-    "  list IN                list what is in the MP3 file IN: tags, junk, the Xing or Info frame (head), and frames\n"
+    ++ (codes "  list IN                list what is in the MP3 file IN: tags, junk, the Xing or Info frame (head), and frames\n"
     ++ (codes "  info IN                describe IN in a few lines, including how many steps down and up its gains can go\n"
     ++ (codes "  gain [-s s] [-w] -g N IN OUT\n"
-    ++ (codes
-    "                         write IN to OUT, N steps of 1.5 dB louder (quieter if N is negative)\n"
+    ++ (codes "                         write IN to OUT, N steps of 1.5 dB louder (quieter if N is negative)\n"
     ++ (codes "  gain [-s s] [-w] -l C N IN OUT\n"
-    ++ (codes
-    "                         the same for one channel: C is 0 for left, 1 for right\n"
+    ++ (codes "                         the same for one channel: C is 0 for left, 1 for right\n"
     ++ (codes "                         -s s: leave tags alone, and don't record the change\n"
     ++ (codes "                         -w: wrap gains that would leave the range 0 to 255, instead of refusing the file\n"
     ++ (codes "  gain -u IN OUT         write IN to OUT, undoing all changes that its tag records\n"
     ++ (codes "  cut [--least] IN FROM TO OUT\n"
     ++ (codes "                         write to OUT the frames of IN from FROM up to but not including TO, with all main data\n"
-    ++ (codes
-    "                         FROM, TO: a frame number (from 0), a time (M.S or M.S.H), or EOF\n"
-    ++ (codes
-    "                         --least: give each frame the lowest bit rate at which all main data fit\n"
+    ++ (codes "                         FROM, TO: a frame number (from 0), a time in minutes, seconds up to 59 and hundredths of\n"
+    ++ (codes "                         a second (M.S or M.S.H), or EOF. A number without a dot counts frames: a minute and a\n"
+    ++ (codes "                         half is 1.30, not 90\n"
+    ++ (codes "                         --least: give each frame the lowest bit rate at which all main data fit\n"
     ++ (codes "  cut --exact IN FROM TO OUT\n"
     ++ (codes "                         write to OUT the frames of IN needed for its samples from FROM up to but not including\n"
     ++ (codes "                         TO, with an Info frame that tells players to play exactly these samples;\n"
-    ++ (codes
-    "                         FROM, TO: also a sample Ns, a time M.S.TTT, or EOF- and a time (that long before EOF)\n"
+    ++ (codes "                         FROM, TO: also seconds (90s or 90.5s), a time with thousandths (M.S.TTT), a sample\n"
+    ++ (codes "                         (44100samples), or EOF- and seconds or a time (that long before EOF)\n"
     ++ (codes "  pack IN OUT            write all frames of IN to OUT, each at the lowest bit rate at which all main data fit\n"
     ++ (codes "  pack --constant B IN OUT\n"
     ++ (codes "                         the same with every frame at B kbit/s; refused if that is too low for some frame\n"
@@ -205,8 +202,7 @@ help_text =
     ++ (codes "  split --exact IN PREFIX -c CUE\n"
     ++ (codes "                         the same with the samples of each track\n"
     ++ (codes "  join [--seamless] OUT IN1 [IN2 to IN64]\n"
-    ++ (codes
-    "                         write to OUT the frames of IN1 to IN64, in order\n"
+    ++ (codes "                         write to OUT the frames of IN1 to IN64, in order\n"
     ++ (codes "                         --seamless: leave out the frames that only a piece on its own needs, so that pieces in\n"
     ++ (codes "                         order are the whole again, and say what was left out of each input but the first\n"
     ++ (codes "  drill SEED COUNT       generate COUNT frames from the seed SEED, pack them in memory, and print both lengths\n"
@@ -218,9 +214,14 @@ help_text =
     ++ (codes "                         a frame whose main data can't be read becomes empty\n"
     ++ (codes "  --help, -h             print this help\n"
     ++ (codes "  --version              print the version\n"
-    ++ (codes
-    "status: 0 done; 1 refused; 2 bad arguments; 3 a file is absent, or reading or writing failed;\n"
-    ++ codes "        4 out of memory\n"))))))))))))))))))))))))))))))))))))))))))))
+    ++ (codes "An output that exists is overwritten without asking. No input is written to.\n"
+    ++ (codes "examples:\n"
+    ++ (codes "  mp3edit gain -g -2 song.mp3 quieter.mp3       3 dB quieter\n"
+    ++ (codes "  mp3edit cut song.mp3 1.30 2.00.50 clip.mp3    from a minute and a half to half a second after two minutes\n"
+    ++ (codes "  mp3edit split album.mp3 disc/ -c album.cue    disc/01.mp3, disc/02.mp3 and so on, one for each track\n"
+    ++ (codes "status: 0 done; 1 refused; 2 bad arguments; 3 a file is absent, or reading or writing failed;\n"
+    ++ (codes "        4 out of memory\n"
+    ++ codes "manual: man mp3edit, and MANUAL.md among the documents (such as /usr/local/share/doc/mp3edit/docs)\n")))))))))))))))))))))))))))))))))))))))))))))))))))))
 
 -- the program's name and version
 unfoldable pub version_text : List ℕ

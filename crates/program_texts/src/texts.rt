@@ -42,7 +42,7 @@ pub fn status(fault: &EditFault) -> u8
 }
 
 /// What the program does, form by form, and the statuses.
-static HELP: [&str; 46] = [
+static HELP: [&str; 55] = [
     "usage: mp3edit COMMAND\n",
     "  list IN                list what is in the MP3 file IN: tags, junk, the Xing or Info frame (head), and frames\n",
     "  info IN                describe IN in a few lines, including how many steps down and up its gains can go\n",
@@ -55,12 +55,15 @@ static HELP: [&str; 46] = [
     "  gain -u IN OUT         write IN to OUT, undoing all changes that its tag records\n",
     "  cut [--least] IN FROM TO OUT\n",
     "                         write to OUT the frames of IN from FROM up to but not including TO, with all main data\n",
-    "                         FROM, TO: a frame number (from 0), a time (M.S or M.S.H), or EOF\n",
+    "                         FROM, TO: a frame number (from 0), a time in minutes, seconds up to 59 and hundredths of\n",
+    "                         a second (M.S or M.S.H), or EOF. A number without a dot counts frames: a minute and a\n",
+    "                         half is 1.30, not 90\n",
     "                         --least: give each frame the lowest bit rate at which all main data fit\n",
     "  cut --exact IN FROM TO OUT\n",
     "                         write to OUT the frames of IN needed for its samples from FROM up to but not including\n",
     "                         TO, with an Info frame that tells players to play exactly these samples;\n",
-    "                         FROM, TO: also a sample Ns, a time M.S.TTT, or EOF- and a time (that long before EOF)\n",
+    "                         FROM, TO: also seconds (90s or 90.5s), a time with thousandths (M.S.TTT), a sample\n",
+    "                         (44100samples), or EOF- and seconds or a time (that long before EOF)\n",
     "  pack IN OUT            write all frames of IN to OUT, each at the lowest bit rate at which all main data fit\n",
     "  pack --constant B IN OUT\n",
     "                         the same with every frame at B kbit/s; refused if that is too low for some frame\n",
@@ -87,8 +90,14 @@ static HELP: [&str; 46] = [
     "                         a frame whose main data can't be read becomes empty\n",
     "  --help, -h             print this help\n",
     "  --version              print the version\n",
+    "An output that exists is overwritten without asking. No input is written to.\n",
+    "examples:\n",
+    "  mp3edit gain -g -2 song.mp3 quieter.mp3       3 dB quieter\n",
+    "  mp3edit cut song.mp3 1.30 2.00.50 clip.mp3    from a minute and a half to half a second after two minutes\n",
+    "  mp3edit split album.mp3 disc/ -c album.cue    disc/01.mp3, disc/02.mp3 and so on, one for each track\n",
     "status: 0 done; 1 refused; 2 bad arguments; 3 a file is absent, or reading or writing failed;\n",
     "        4 out of memory\n",
+    "manual: man mp3edit, and MANUAL.md among the documents (such as /usr/local/share/doc/mp3edit/docs)\n",
 ];
 
 // Sends a text to standard output.

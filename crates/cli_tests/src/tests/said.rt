@@ -19,12 +19,15 @@ const USAGE: &[u8] = b"usage: mp3edit COMMAND
   gain -u IN OUT         write IN to OUT, undoing all changes that its tag records
   cut [--least] IN FROM TO OUT
                          write to OUT the frames of IN from FROM up to but not including TO, with all main data
-                         FROM, TO: a frame number (from 0), a time (M.S or M.S.H), or EOF
+                         FROM, TO: a frame number (from 0), a time in minutes, seconds up to 59 and hundredths of
+                         a second (M.S or M.S.H), or EOF. A number without a dot counts frames: a minute and a
+                         half is 1.30, not 90
                          --least: give each frame the lowest bit rate at which all main data fit
   cut --exact IN FROM TO OUT
                          write to OUT the frames of IN needed for its samples from FROM up to but not including
                          TO, with an Info frame that tells players to play exactly these samples;
-                         FROM, TO: also a sample Ns, a time M.S.TTT, or EOF- and a time (that long before EOF)
+                         FROM, TO: also seconds (90s or 90.5s), a time with thousandths (M.S.TTT), a sample
+                         (44100samples), or EOF- and seconds or a time (that long before EOF)
   pack IN OUT            write all frames of IN to OUT, each at the lowest bit rate at which all main data fit
   pack --constant B IN OUT
                          the same with every frame at B kbit/s; refused if that is too low for some frame
@@ -51,8 +54,14 @@ const USAGE: &[u8] = b"usage: mp3edit COMMAND
                          a frame whose main data can't be read becomes empty
   --help, -h             print this help
   --version              print the version
+An output that exists is overwritten without asking. No input is written to.
+examples:
+  mp3edit gain -g -2 song.mp3 quieter.mp3       3 dB quieter
+  mp3edit cut song.mp3 1.30 2.00.50 clip.mp3    from a minute and a half to half a second after two minutes
+  mp3edit split album.mp3 disc/ -c album.cue    disc/01.mp3, disc/02.mp3 and so on, one for each track
 status: 0 done; 1 refused; 2 bad arguments; 3 a file is absent, or reading or writing failed;
         4 out of memory
+manual: man mp3edit, and MANUAL.md among the documents (such as /usr/local/share/doc/mp3edit/docs)
 ";
 
 /// Words, whether the first write to standard output fails, and what is sent.
