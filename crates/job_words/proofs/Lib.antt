@@ -5,3 +5,4 @@ pub mod FollowLemmas
 pub mod PlaceLemmas
 pub mod ReadingLemmas
 pub mod SoundLemmas
+pub mod EmptyLemmas

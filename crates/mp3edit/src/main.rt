@@ -1,52 +1,84 @@
 //! The program.
 #![tactic(auto)]
 
-ghost use Rattle.std.specs.Prelude.{◌≡◌, ◌≢◌, drop, map, string_bytes, IfOk, IfErr, OnErr};
-ghost use Rattle.std.specs.Vec.Iter.{into_iter_items};
+ghost use Rattle.std.specs.Prelude.{◌≡◌, [], map, string_bytes, Contains, IfOk, OnErr};
 ghost use Rattle.std.specs.Process.{exit_status};
 ghost use Rattle.on_disk.specs.RealFiles.{stream_heard};
-ghost use Rattle.std.specs.IoError.{error_kind};
-ghost use Rattle.std.specs.declared.io.ErrorKind.TheVariants.{OutOfMemory};
+ghost use Rattle.mp3edit.specs.Words.{argument_word, argument_words};
 ghost use Rattle.mp3_cli.specs.Run.{world, ProgramRun};
 
 use mp3_cli::run;
 use on_disk::{DiskFolder, StdSink};
 use outside::{Folder, Sink};
 use std::alloc::{AllocError, Global};
-use std::env::Args;
+use std::env::FillError;
 use std::fs::File;
 use std::process::ExitCode;
 use std::rt::{Env, Files, Stderr, Stdout};
-use std::{env, io};
+use std::str;
 
-/// The words: all arguments but the first, which is the program's name. An error if memory runs out.
-fn after_name(arguments: Args, alloc: Global) -> Result<Vec<String>, AllocError>
-    ensures { IfOk result (λ words. words.items ≡ drop 1 (into_iter_items arguments)) }
-{
-    arguments.skip(1).collect(alloc)
+/// The bytes of the argument with this number, where there is one. They are read into a buffer of twice the size until they fit.
+fn argument<R: Env>(rt: &R, number: usize, alloc: Global) -> Result<Option<Vec<u8>>, AllocError> {
+    let mut size: usize = 256;
+    for _ in 0..usize::BITS {
+        let mut bytes = vec![in alloc; 0_u8; size]?;
+        match rt.arg(number, bytes.as_mut_slice()) {
+            Ok(length) => {
+                bytes.truncate(length);
+                return Ok(Some(bytes));
+            }
+            Err(FillError::NotPresent) => return Ok(None),
+            Err(FillError::TooLong) => size = size.saturating_add(size),
+        }
+    }
+    Err(AllocError)
 }
 
-/// The words of the program. An error where an argument isn't UTF-8, or if memory runs out.
-fn words<R: Env + AllocGlobal>(rt: &R) -> io::Result<Vec<String>> {
-    Ok(after_name(env::args(rt)?, rt.alloc())?)
+/// The bytes of all arguments but the first, which is the program's name.
+fn arguments<R: Env>(rt: &R, alloc: Global) -> Result<Vec<Vec<u8>>, AllocError> {
+    let mut arguments = Vec::new(alloc);
+    for number in 1..usize::MAX {
+        match argument(rt, number, alloc)? {
+            Some(bytes) => arguments.push(bytes)?,
+            None => break,
+        }
+    }
+    Ok(arguments)
 }
 
-/// The status where the words can't be read: 4 if memory ran out, otherwise 3.
-fn status_without_words(error: &io::Error) -> u8
-    ensures memory { error_kind error.now ≡ OutOfMemory → result ≡ 4 }
-    ensures other { error_kind error.now ≢ OutOfMemory → result ≡ 3 }
+/// The word that an argument is. One that isn't UTF-8 counts as an empty word, which is of no kind.
+fn word(argument: &[u8], alloc: Global) -> Result<String, AllocError>
+    ensures { IfOk result (λ word. string_bytes word ≡ argument_word argument.now) }
 {
-    match error.kind() {
-        io::ErrorKind::OutOfMemory => 4,
-        _ => 3,
+    match str::from_utf8(argument) {
+        Ok(text) => String::from_str(alloc, text),
+        Err(_) => Ok(String::new(alloc)),
     }
 }
 
-/// Does what the words ask for, and returns the status. Where the words can't be read, nothing is done and
-/// nothing is sent.
+/// The words that the arguments are.
+fn words(arguments: &[Vec<u8>], alloc: Global) -> Result<Vec<String>, AllocError>
+    ensures { IfOk result (λ words. map string_bytes words.items
+        ≡ argument_words (map (λ argument. argument.items) arguments.now)) }
+{
+    let mut words = Vec::new(alloc);
+    for argument in arguments {
+        words.push(word(argument, alloc)?)?;
+    }
+    Ok(words)
+}
+
+/// The words of the program. An error if memory runs out.
+fn all_words<R: Env>(rt: &R, alloc: Global) -> Result<Vec<String>, AllocError> {
+    words(&arguments(rt, alloc)?, alloc)
+}
+
+/// Does what the words ask for, and returns the status. Without words, as memory ran out, nothing is done and nothing is sent. An
+/// empty word is bad wherever it is, and so is one that isn't UTF-8.
+#[tactic(auto, using(job_words::proofs::EmptyLemmas::empty_is_bad))]
 fn answer<D: Folder, T: Sink, E: Sink>(
     alloc: Global,
-    words: io::Result<Vec<String>>,
+    words: Result<Vec<String>, AllocError>,
     folder: &mut D,
     out: &mut T,
     err: &mut E,
@@ -58,23 +90,22 @@ fn answer<D: Folder, T: Sink, E: Sink>(
         (T.heard out.new) (E.heard err.new))
         result) }
 
-    // The clauses of `status_without_words`.
-    ensures memory { IfErr words (λ error. error_kind error ≡ OutOfMemory → result ≡ 4) }
-    ensures other { IfErr words (λ error. error_kind error ≢ OutOfMemory → result ≡ 3) }
+    ensures bad { IfOk words (λ v. Contains (map string_bytes v.items) [] → result ≡ 2) }
+    ensures memory { OnErr words (result ≡ 4) }
     ensures untouched { OnErr words (D.seen folder.new ≡ D.seen folder.old) }
     ensures silent { OnErr words (((T.heard out.new).sent ≡ (T.heard out.old).sent)
         × ((E.heard err.new).sent ≡ (E.heard err.old).sent)) }
 {
     match words {
         Ok(words) => run(alloc, &words, folder, out, err),
-        Err(error) => status_without_words(&error),
+        Err(_) => 4,
     }
 }
 
 /// The same, with texts to standard output and lines to standard error, as the program's exit code.
 fn answer_on_streams<D: Folder>(
     alloc: Global,
-    words: io::Result<Vec<String>>,
+    words: Result<Vec<String>, AllocError>,
     folder: &mut D,
     out: &mut StdSink<Stdout>,
     err: &mut StdSink<Stderr>,
@@ -83,9 +114,9 @@ fn answer_on_streams<D: Folder>(
         (world (D.seen folder.old) (stream_heard out.old) (stream_heard err.old))
         (world (D.seen folder.new) (stream_heard out.new) (stream_heard err.new))
         (exit_status result)) }
-    ensures memory { IfErr words
-        (λ error. error_kind error ≡ OutOfMemory → exit_status result ≡ 4) }
-    ensures other { IfErr words (λ error. error_kind error ≢ OutOfMemory → exit_status result ≡ 3) }
+    ensures bad { IfOk words
+        (λ v. Contains (map string_bytes v.items) [] → exit_status result ≡ 2) }
+    ensures memory { OnErr words (exit_status result ≡ 4) }
 {
     ExitCode::from(answer(alloc, words, folder, out, err))
 }
@@ -103,7 +134,7 @@ fn main(rt: HostRuntime) -> ExitCode {
         hold_descriptor(&rt),
         hold_descriptor(&rt),
     );
-    let words = words(&rt);
+    let words = all_words(&rt, rt.alloc());
     let mut folder = DiskFolder::new(&rt, rt.alloc());
     let mut out = StdSink::new(rt.stdout());
     let mut err = StdSink::new(rt.stderr());
