@@ -4,13 +4,14 @@ use Rattle.std.proofs.Common.{Option, refl, Result, Some, sym, take, true, ℕ, 
 use Rattle.std.proofs.{Common.{◌≡◌, ◌≤◌}, lemmas.Bool.leb-true}
 use Rattle.std.proofs.lemmas.List.{drop-drop, drop-take, take-take}
 use Rattle.bit_fields.specs.Bits.{bits}
-use Rattle.frame_header.specs.{Fields.HeaderFields, Reading.header_at}
+use Rattle.frame_header.specs.{Fields.{ClassFields, HeaderFields}, Reading.header_at}
 use Rattle.frame_header.specs.Tables.{class_of, length_of, overhead_of, side_size_of}
 use Rattle.frame_header.specs.declared.header.NotHeader.{NotHeader, TheVariants.No}
 use Rattle.salvage.specs.Steps.{admits_item}
 use Rattle.salvage.specs.UsableFrames.{frame_if_usable, has_right_crc, is_head, is_usable}
 use Rattle.salvage.specs.UsableFrames.{usable_frame_at}
 use Rattle.salvage.specs.{Walk.{is_item_read, item_if_read, item_read}, declared.usable.Role.Role}
+use Rattle.salvage.specs.declared.usable.Role.TheVariants.{First, Later}
 use Rattle.side_info.proofs.FrameLemmas.{overhead-few, side_in-take, stored_crc-take}
 use Rattle.side_info.specs.{Frame.{side_in, side_part}, Side.side_at}
 use Rattle.sync_survey.proofs.{LooksLemmas.item_at-shown, RunsLemmas.whole_item_at-whole}
@@ -21,6 +22,16 @@ use Rattle.sync_survey.specs.{Start.anchored_frame, declared.items.Item.Item}
 use Rattle.sync_survey.specs.declared.items.Item.TheVariants.{Block, Frame, Zero}
 use Rattle.sync_survey.specs.declared.places.PlacedFrame.{PlacedFrame}
 use Rattle.sync_survey.specs.declared.runs.{Region.TheVariants.Stream, Step.Step}
+
+-- ---- the roles, which other crates can't name
+
+-- the role of a first frame
+abbrev pub first_role : Role
+first_role = First
+
+-- the role of a later frame, after a first one of this class
+abbrev pub later_role : ClassFields → Role
+later_role class = Later class
 
 -- ---- the check word of the bytes
 

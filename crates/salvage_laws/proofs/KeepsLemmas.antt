@@ -8,6 +8,7 @@ use Rattle.std.specs.List.{cons_option, enumerate_from}
 use Rattle.frame_header.specs.{Fields.{ClassFields, HeaderFields, same_class}, Tables.class_of}
 use Rattle.salvage.proofs.ProgressLemmas.{no_frame_or_damaged-few}
 use Rattle.salvage.proofs.SearchLemmas.{first_here, first_later, next_usable_frame-some, not_usable}
+use Rattle.salvage.proofs.UsableLemmas.{first_role, later_role}
 use Rattle.salvage.proofs.WalkLemmas.{things-item, things-past}
 use Rattle.salvage.specs.DamagedFiles.{damaged_by, damaged_fields, damaged_from, damaged_with_count}
 use Rattle.salvage.specs.DamagedFiles.{DamagedFields, gap_between, things_from}
@@ -15,8 +16,7 @@ use Rattle.salvage.specs.SoundFrames.{end_of_sound, FrameRuns, is_sound, judged_
 use Rattle.salvage.specs.SoundFrames.{runs_of, sound_end}
 use Rattle.salvage.specs.UsableFrames.{has_right_crc, is_head, is_usable, usable_frame_at}
 use Rattle.salvage.specs.Walk.{blocks_of_things, first_frame, gaps_of, is_item_read, IsItem}
-use Rattle.salvage.specs.{Walk.{item_read, PlacedThing, things}, declared.usable.Role.Role}
-use Rattle.salvage.specs.declared.usable.Role.TheVariants.{First, Later}
+use Rattle.salvage.specs.Walk.{item_read, PlacedThing, things}
 use Rattle.salvage_laws.specs.Laws.{SalvageKeepsStreams}
 use Rattle.side_info.specs.Frame.{stored_crc}
 use Rattle.sync_survey.proofs.{FaultsLemmas.length-marked_rows, ProgressLemmas.first_of_stream}
@@ -57,13 +57,14 @@ word_by : (file : List ℕ) (class : ClassFields) (p : PlacedFrame)
 word_by file class p sound = grind (arith, right_by)
 
 usable_by : (file : List ℕ) (class : ClassFields) (p : PlacedFrame)
-    → HasNoFault file class (row_of file p) → is_usable (Later class) p (drop p.offset file) ≡ true
+    → HasNoFault file class (row_of file p)
+    → is_usable (later_role class) p (drop p.offset file) ≡ true
 usable_by file class p sound = grind (arith, not-false, word_by)
 
 abbrev AreUsable : List ℕ → ClassFields → List PlacedFrame → Type 0
 AreUsable file class [] = Unit {0}
 AreUsable file class (p ∷ ps) =
-    (is_usable (Later class) p (drop p.offset file) ≡ true) × AreUsable file class ps
+    (is_usable (later_role class) p (drop p.offset file) ≡ true) × AreUsable file class ps
 
 usable_all : (file : List ℕ) (class : ClassFields) (ps : List PlacedFrame)
     → ((i : ℕ) (r : Row) → slice_get (rows_of file ps) i ≡ Some r → HasNoFault file class r)
@@ -80,14 +81,14 @@ abbrev as_thing : PlacedItem → PlacedThing
 as_thing p = record { offset = p.offset; thing = IsItem p.item }
 
 read_by : (file : List ℕ) (class : ClassFields) (at : ℕ) (item : Item)
-    → whole_item_at Stream file at ≡ Some item → is_item_read file (Later class) at item ≡ true
-    → item_read file (Later class) at ≡ Some item
+    → whole_item_at Stream file at ≡ Some item → is_item_read file (later_role class) at item ≡ true
+    → item_read file (later_role class) at ≡ Some item
 unfolding item_read
 read_by file class at item here reads = grind arith
 
 item_reads : (file : List ℕ) (class : ClassFields) (at : ℕ) (item : Item) (ps : List PlacedFrame)
     → AreUsable file class (cons_option (frame_of_item at item) ps)
-    → is_item_read file (Later class) at item ≡ true
+    → is_item_read file (later_role class) at item ≡ true
 item_reads file class at item ps usable = grind arith
 
 rest_usable : (file : List ℕ) (class : ClassFields) (o : Option PlacedFrame) (ps : List PlacedFrame)
@@ -182,7 +183,7 @@ first_usable : (file : List ℕ) (class : ClassFields) (start : Start) (o : Opti
     → whole_item_at Stream file start.first.offset ≡ Some (Frame start.first.header)
     → head_of file start.first ≡ o → ((i : ℕ) (r : Row) → slice_get (rows_of file (numbered_frames o
     (frames_of (stream_run file start).items))) i ≡ Some r → HasNoFault file class r)
-    → is_usable First start.first (drop start.first.offset file) ≡ true
+    → is_usable first_role start.first (drop start.first.offset file) ≡ true
 first_usable file class start (Some head) here is sound = grind (arith, or_right, head_seen)
 first_usable file class start None here is sound =
     let frames = frames-next Stream file start.first.offset (Frame start.first.header) here in
@@ -190,26 +191,27 @@ first_usable file class start None here is sound =
     (ap (λ ps. slice_get (rows_of file ps) zero) frames)))
 
 read_first : (file : List ℕ) (at : ℕ) (h : HeaderFields) → whole_item_at Stream file at
-    ≡ Some (Frame h) → is_usable First (record { offset = at; header = h }) (drop at file) ≡ true
-    → option_and_then (frame_of_item at) (item_read file First at)
+    ≡ Some (Frame h) → is_usable first_role (record { offset = at; header = h }) (drop at file)
+    ≡ true → option_and_then (frame_of_item at) (item_read file first_role at)
     ≡ Some (record { offset = at; header = h })
 unfolding item_read
 read_first file at h here usable = grind (arith, option_and_then)
 
 no_frame : (file : List ℕ) (at : ℕ) (item : Item) (b : Bool) → item_at file at ≡ item
     → ((h : HeaderFields) → item ≡ Frame h → ⊥)
-    → option_and_then (frame_of_item at) (item_read file First at) ≡ None
+    → option_and_then (frame_of_item at) (item_read file first_role at) ≡ None
 unfolding item_read whole_item_at
 no_frame file at item b is none = grind arith
 
-usable_here : (file : List ℕ) (role : Role) (at : ℕ) (p : PlacedFrame) → anchored_frame file at
-    ≡ Some p → is_usable role p (drop p.offset file) ≡ true → usable_frame_at file role at ≡ Some p
+usable_here : (file : List ℕ) (at : ℕ) (p : PlacedFrame) → anchored_frame file at
+    ≡ Some p → is_usable first_role p (drop p.offset file) ≡ true
+    → usable_frame_at file first_role at ≡ Some p
 unfolding usable_frame_at
-usable_here file role at p here usable = grind arith
+usable_here file at p here usable = grind arith
 
 module _ (file : List ℕ) (at : ℕ) (start : Start)
     (within : start.first.offset + size_of (Frame start.first.header) ≤ length file)
-    (usable : is_usable First start.first (drop start.first.offset file) ≡ true) where
+    (usable : is_usable first_role start.first (drop start.first.offset file) ≡ true) where
   junk_first : (item : Item) → item_at file at ≡ item → ((h : HeaderFields) → item ≡ Frame h → ⊥)
       → first_anchored longest_junk file (at + 1) ≡ Some start.first
       → 0 < size_of (Frame start.first.header) → first_frame file at ≡ Some start.first
@@ -218,9 +220,9 @@ module _ (file : List ℕ) (at : ℕ) (start : Start)
       let first = first_of-is (anchored_frame file) longest_junk (at + 1) start.first found in
       let place = (anchored_frame-is file first.0 start.first first.1.here).offset in
       first_later file at (no_frame file at item true is none)
-      ∙ next_usable_frame-some file First (at + 1) first.0 start.first first.1.low (omega
-      (arith, place, within, some)) (usable_here file First first.0 start.first first.1.here usable)
-      (λ k low high. not_usable file First k (first.1.none k low high))
+      ∙ next_usable_frame-some file first_role (at + 1) first.0 start.first first.1.low (omega
+      (arith, place, within, some)) (usable_here file first.0 start.first first.1.here usable)
+      (λ k low high. not_usable file first_role k (first.1.none k low high))
 
   start_same : (o : Option PlacedFrame) → start_after_junk at o ≡ Ok start → o ≡ Some start.first
   start_same o e = grind arith
