@@ -15,7 +15,8 @@ use Rattle.gain_edits.specs.{Fade.faded_stream, Undo.file_undo_steps}
 use Rattle.job_words.specs.Request.{Cut, CutExact, Drill, Fade, Gain, Help, InfoFile, Join}
 use Rattle.job_words.specs.Request.{ListFile, Pack, Request, Salvage, SplitAt, SplitBy, SplitExact}
 use Rattle.job_words.specs.Request.{Undo, Version}
-use Rattle.join_edits.specs.{Join.join_parts, Seamless.run_parts}
+use Rattle.join_edits.specs.Join.{join_parts}
+use Rattle.seamless_edits.specs.Seamless.{run_parts}
 use Rattle.laying.specs.{KeptFields.fields_of_head, Relaid.{FilePart, part_stream}}
 use Rattle.moved_gains.specs.Streams.{moved_stream_frame}
 use Rattle.outside.specs.Files.{Contents}

@@ -12,7 +12,10 @@ use Rattle.gain_edits.specs.{Fade.fade_command, Gain.gain_command, Undo.undo_com
 use Rattle.job_words.specs.Request.{Cut, CutExact, Fade, Gain, Join, Pack, Request, Salvage}
 use Rattle.job_words.specs.Request.{SplitAt, SplitBy, SplitExact, Undo}
 use Rattle.join_edits.specs.Join.{join_command, join_parts, joined_plan, joined_stream}
-use Rattle.join_edits.specs.Seamless.{join_of_parts, part_brought, run_plan, seamless_command}
+use Rattle.seamless_edits.specs.Seamless.{join_of_parts}
+use Rattle.seamless_edits.specs.Seamless.{part_brought}
+use Rattle.seamless_edits.specs.Seamless.{run_plan}
+use Rattle.seamless_edits.specs.Seamless.{seamless_command}
 use Rattle.laying.specs.{Laid.stream_laid, Needs.need_of, NeedsFit.own_choice}
 use Rattle.laying.specs.Relaid.{AreParts, FilePart, part_needs, part_stream, stream_with_lead_ins}
 use Rattle.outside.specs.Files.{Contents}

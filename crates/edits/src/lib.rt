@@ -13,7 +13,7 @@
 //! | `pack_with` | `pack_edits` | packs in a mode: with the least slots, one bit rate alone, bit rates from one on, or the fewest bytes |
 //! | `split` | `split_edits` | repacks the frames between positions, into a file for each piece |
 //! | `join` | `join_edits` | repacks the frames of several files into one |
-//! | `join_seamless` | `join_edits` | joins files without the frames that only a piece needs, and sends which were left out to a sink |
+//! | `join_seamless` | `seamless_edits` | joins files without the frames that only a piece needs, and sends which were left out to a sink |
 //! | `salvage` | `salvage_edits` | repacks what can be read of a damaged file, and sends what is missing to a sink |
 //!
 //! What they share, the faults and the one body of the calls that make one file, is in `commands`.
@@ -25,10 +25,11 @@ pub use gain_laws::{
     fade_gives_back, fade_keeps_all, gains_keep_all, opposite_gives_back, steps_are_exact,
     undo_gives_back,
 };
-pub use join_edits::{join, join_seamless};
+pub use join_edits::join;
 pub use list_edits::{info, list};
 pub use moved_gains::{Gains, OutOfRange, gains_of};
 pub use pack_edits::{PackMode, fewest_bytes, floors_fit, never_longer, pack_with};
 pub use requests::{Channels, Shift, Steps};
 pub use salvage_edits::salvage;
+pub use seamless_edits::join_seamless;
 pub use split_edits::{ExactPoints, Points, split, split_exact};

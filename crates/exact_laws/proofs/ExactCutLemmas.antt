@@ -39,11 +39,22 @@ use Rattle.frame_header.specs.{Slots.all_slots, Tables.{area_of, class_of, windo
 use Rattle.frame_writer.specs.Frames.{bytes_of_frames, Frame}
 use Rattle.info_header.specs.{Info.number_or_zero, InfoFrame.{info_frame, info_header_of}}
 use Rattle.info_header.specs.declared.fields.Info.{Info}
-use Rattle.join_edits.proofs.RunPartLemmas.{front-within}
-use Rattle.join_edits.specs.Seamless.{delay_of_run, gain_of, join_of_parts, part_brought, part_head}
-use Rattle.join_edits.specs.Seamless.{part_says_gain, replay_gain, run_extension, run_parts}
-use Rattle.join_edits.specs.Seamless.{run_plan, seamless_file, seamless_frames, seamless_info}
-use Rattle.join_edits.specs.Seamless.{seamless_padding, seamless_row_file}
+use Rattle.seamless_edits.proofs.RunPartLemmas.{front-within}
+use Rattle.seamless_edits.specs.Seamless.{delay_of_run}
+use Rattle.seamless_edits.specs.Seamless.{gain_of}
+use Rattle.seamless_edits.specs.Seamless.{join_of_parts}
+use Rattle.seamless_edits.specs.Seamless.{part_brought}
+use Rattle.seamless_edits.specs.Seamless.{part_head}
+use Rattle.seamless_edits.specs.Seamless.{part_says_gain}
+use Rattle.seamless_edits.specs.Seamless.{replay_gain}
+use Rattle.seamless_edits.specs.Seamless.{run_extension}
+use Rattle.seamless_edits.specs.Seamless.{run_parts}
+use Rattle.seamless_edits.specs.Seamless.{run_plan}
+use Rattle.seamless_edits.specs.Seamless.{seamless_file}
+use Rattle.seamless_edits.specs.Seamless.{seamless_frames}
+use Rattle.seamless_edits.specs.Seamless.{seamless_info}
+use Rattle.seamless_edits.specs.Seamless.{seamless_padding}
+use Rattle.seamless_edits.specs.Seamless.{seamless_row_file}
 use Rattle.laying.proofs.HoldLemmas.{part-entries, part-stream}
 use Rattle.laying.proofs.LaidLemmas.{first-there, laid-slots}
 use Rattle.laying.proofs.PlannedFrameLemmas.{one, one-entry, one-stream, relaid_frames-cons}

@@ -25,7 +25,8 @@ use Rattle.exact_span.specs.declared.exact_place.ExactPlace.{ExactPlace}
 use Rattle.exact_span.specs.declared.{extensions.HeadCounts.HeadCounts, span.Span.Span}
 use Rattle.frame_header.specs.{Fields.ClassFields, Tables.window_of}
 use Rattle.info_header.specs.declared.fields.Info.{Info}
-use Rattle.join_edits.specs.Seamless.{part_head, sound_of}
+use Rattle.seamless_edits.specs.Seamless.{part_head}
+use Rattle.seamless_edits.specs.Seamless.{sound_of}
 use Rattle.laying.proofs.{HoldLemmas.blocks-kept, LaidLemmas.first-there, PlacesLemmas.range-whole}
 use Rattle.laying.specs.{Fits.IsFittingPlan, KeptFields.fields_of_head}
 use Rattle.laying.specs.Laid.{file_laid, file_with_first, frames_laid, info_laid, LaidPart}

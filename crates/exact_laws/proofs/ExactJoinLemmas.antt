@@ -17,8 +17,9 @@ use Rattle.exact_laws.specs.ExactSeamLaws.{ExactSplitThenSeamlessJoin, HasTheSpa
 use Rattle.exact_laws.specs.Recording.{PlayInTurn}
 use Rattle.exact_span.specs.declared.exact_place.ExactPlace.{ExactPlace}
 use Rattle.frame_header.specs.{Fields.IsClass, Tables.window_of}
-use Rattle.join_edits.proofs.RunPartLemmas.{front-within}
-use Rattle.join_edits.specs.Seamless.{join_of_parts, part_brought}
+use Rattle.seamless_edits.proofs.RunPartLemmas.{front-within}
+use Rattle.seamless_edits.specs.Seamless.{join_of_parts}
+use Rattle.seamless_edits.specs.Seamless.{part_brought}
 use Rattle.laying.proofs.{LaidLemmas.first-there, SurveyFrameLemmas.survey-had}
 use Rattle.laying.specs.{Laid.{file_laid, LaidPart}, Relaid.FilePart, Surveys.CanBeRelaid}
 use Rattle.seam_laws.proofs.{JoinEndLemmas.frames-few, SeamlessInputLemmas.{AreInputs, inputs-are}}

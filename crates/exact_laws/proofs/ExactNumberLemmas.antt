@@ -24,11 +24,22 @@ use Rattle.exact_span.specs.declared.{played.Played.Played, span.Span.Span}
 use Rattle.frame_header.specs.{Fields.{ClassFields, IsClass}, Tables.samples_of}
 use Rattle.frame_header.specs.declared.version.Version.{Version}
 use Rattle.info_header.specs.declared.fields.Info.{Info}
-use Rattle.join_edits.proofs.NumberLemmas.{rest-counted}
-use Rattle.join_edits.proofs.RunPartLemmas.{AreWholeFiles, IsWholeFile, run-laid}
-use Rattle.join_edits.specs.Seamless.{delay_of_run, join_of_parts, last_part, part_head, part_rest}
-use Rattle.join_edits.specs.Seamless.{run_extension, run_lead_ins, seamless_delay, seamless_frames}
-use Rattle.join_edits.specs.Seamless.{seamless_info, seamless_padding, seamless_stream}
+use Rattle.seamless_edits.proofs.NumberLemmas.{rest-counted}
+use Rattle.seamless_edits.proofs.RunPartLemmas.{AreWholeFiles}
+use Rattle.seamless_edits.proofs.RunPartLemmas.{IsWholeFile}
+use Rattle.seamless_edits.proofs.RunPartLemmas.{run-laid}
+use Rattle.seamless_edits.specs.Seamless.{delay_of_run}
+use Rattle.seamless_edits.specs.Seamless.{join_of_parts}
+use Rattle.seamless_edits.specs.Seamless.{last_part}
+use Rattle.seamless_edits.specs.Seamless.{part_head}
+use Rattle.seamless_edits.specs.Seamless.{part_rest}
+use Rattle.seamless_edits.specs.Seamless.{run_extension}
+use Rattle.seamless_edits.specs.Seamless.{run_lead_ins}
+use Rattle.seamless_edits.specs.Seamless.{seamless_delay}
+use Rattle.seamless_edits.specs.Seamless.{seamless_frames}
+use Rattle.seamless_edits.specs.Seamless.{seamless_info}
+use Rattle.seamless_edits.specs.Seamless.{seamless_padding}
+use Rattle.seamless_edits.specs.Seamless.{seamless_stream}
 use Rattle.laying.specs.{LaidFiles.stream_entry, Relaid.FilePart, Surveys.CanBeRelaid}
 use Rattle.laying.specs.Written.{info_for}
 use Rattle.seam_laws.proofs.JoinNumberLemmas.{run-long, run-says}

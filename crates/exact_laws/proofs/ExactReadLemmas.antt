@@ -13,7 +13,8 @@ use Rattle.exact_span.specs.Spans.{delay_of, padding_of}
 use Rattle.exact_span.specs.declared.{exact_place.ExactPlace.ExactPlace, span.Span.Span}
 use Rattle.frame_header.specs.Fields.{ClassFields, IsClass}
 use Rattle.info_header.specs.declared.fields.Info.{Info}
-use Rattle.join_edits.specs.Seamless.{delay_of_run, seamless_file}
+use Rattle.seamless_edits.specs.Seamless.{delay_of_run}
+use Rattle.seamless_edits.specs.Seamless.{seamless_file}
 use Rattle.laying.specs.{Relaid.FilePart, Surveys.CanBeRelaid}
 use Rattle.seam_laws.proofs.JoinReadLemmas.{front-row, read-count, read-played, read-says}
 use Rattle.seam_laws.proofs.JoinReadLemmas.{read_info, written_info}

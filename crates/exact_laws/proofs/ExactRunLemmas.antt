@@ -23,8 +23,12 @@ use Rattle.exact_span.specs.declared.{exact_place.ExactPlace.ExactPlace, played.
 use Rattle.exact_span.specs.declared.span.Span.{Span}
 use Rattle.frame_header.specs.{Fields.{ClassFields, IsClass}, Tables.{samples_of, window_of}}
 use Rattle.frame_header.specs.declared.version.Version.{Version}
-use Rattle.join_edits.specs.Seamless.{join_of_parts, later_parts, part_brought, part_from}
-use Rattle.join_edits.specs.Seamless.{run_lead_ins, seamless_stream}
+use Rattle.seamless_edits.specs.Seamless.{join_of_parts}
+use Rattle.seamless_edits.specs.Seamless.{later_parts}
+use Rattle.seamless_edits.specs.Seamless.{part_brought}
+use Rattle.seamless_edits.specs.Seamless.{part_from}
+use Rattle.seamless_edits.specs.Seamless.{run_lead_ins}
+use Rattle.seamless_edits.specs.Seamless.{seamless_stream}
 use Rattle.laying.specs.{Relaid.{FilePart, part_stream, silent_lead_in}, Surveys.CanBeRelaid}
 use Rattle.seam_laws.proofs.{FollowerLemmas.followers-on, LaidInputLemmas.BringsLed}
 use Rattle.seam_laws.proofs.SeamlessFrontLemmas.{front-silent, none-zero}

@@ -25,7 +25,8 @@ use Rattle.frame_header.specs.{Fields.ClassFields, Tables.samples_of}
 use Rattle.frame_header.specs.declared.version.Version.{Version}
 use Rattle.frame_writer.specs.Frames.{Frame}
 use Rattle.info_header.specs.{Info.number_or_zero, declared.fields.Info.Info}
-use Rattle.join_edits.specs.Seamless.{part_brought, part_head}
+use Rattle.seamless_edits.specs.Seamless.{part_brought}
+use Rattle.seamless_edits.specs.Seamless.{part_head}
 use Rattle.laying.specs.{Laid.{frames_laid, info_laid, LaidPart}, LaidFiles.{head_at, laid_file}}
 use Rattle.laying.specs.{Needs.need_of, Relaid.{FilePart, silent_lead_in}, Surveys.CanBeRelaid}
 use Rattle.laying.specs.Written.{front_blocks, head_info}

@@ -14,7 +14,9 @@ use Rattle.exact_laws.{proofs.RecordingLemmas.pieces-recording, specs.ExactSeamL
 use Rattle.exact_span.specs.{Spans.span_of, declared.exact_place.ExactPlace.ExactPlace}
 use Rattle.exact_span.specs.declared.span.Span.{Span}
 use Rattle.frame_header.specs.{Fields.IsClass, Tables.window_of}
-use Rattle.join_edits.specs.Seamless.{begins_blank, part_brought, seamless_file}
+use Rattle.seamless_edits.specs.Seamless.{begins_blank}
+use Rattle.seamless_edits.specs.Seamless.{part_brought}
+use Rattle.seamless_edits.specs.Seamless.{seamless_file}
 use Rattle.laying.proofs.{LaidLemmas.first-there, SurveyFrameLemmas.survey-had}
 use Rattle.laying.specs.{Laid.LaidPart, Relaid.FilePart, Surveys.CanBeRelaid}
 use Rattle.seam_laws.proofs.JoinEndLemmas.{frames-few}

@@ -32,12 +32,21 @@ use Rattle.file_laws.specs.WrittenLaws.{WrittenFilesAreCounted, WrittenFramesSta
 use Rattle.frame_header.specs.{Fields.{ClassFields, SlotFields}, Tables.window_of}
 use Rattle.frame_writer.specs.Frames.{Frame}
 use Rattle.info_header.specs.FileInfo.{all_bytes}
-use Rattle.join_edits.proofs.RunFileLemmas.{blocks, file-is, found, info, parts-whole, seamless-is}
-use Rattle.join_edits.proofs.RunPartLemmas.{AreWholeFiles, IsWholeFile}
+use Rattle.seamless_edits.proofs.RunFileLemmas.{blocks}
+use Rattle.seamless_edits.proofs.RunFileLemmas.{file-is}
+use Rattle.seamless_edits.proofs.RunFileLemmas.{found}
+use Rattle.seamless_edits.proofs.RunFileLemmas.{info}
+use Rattle.seamless_edits.proofs.RunFileLemmas.{parts-whole}
+use Rattle.seamless_edits.proofs.RunFileLemmas.{seamless-is}
+use Rattle.seamless_edits.proofs.RunPartLemmas.{AreWholeFiles}
+use Rattle.seamless_edits.proofs.RunPartLemmas.{IsWholeFile}
 use Rattle.join_edits.specs.Join.{join_command, join_parts, joined_file, joined_frames, joined_plan}
 use Rattle.join_edits.specs.Join.{joined_row_file}
-use Rattle.join_edits.specs.Seamless.{delay_of_run, seamless_command, seamless_file}
-use Rattle.join_edits.specs.Seamless.{seamless_frames, seamless_info}
+use Rattle.seamless_edits.specs.Seamless.{delay_of_run}
+use Rattle.seamless_edits.specs.Seamless.{seamless_command}
+use Rattle.seamless_edits.specs.Seamless.{seamless_file}
+use Rattle.seamless_edits.specs.Seamless.{seamless_frames}
+use Rattle.seamless_edits.specs.Seamless.{seamless_info}
 use Rattle.laying.proofs.{FittingFrameLemmas.{entries-hold, fitting-laid}, HoldLemmas.blocks-kept}
 use Rattle.laying.proofs.{LaidFileLemmas.laid-frames-stay, LaidLemmas.{first-there, laid-slots}}
 use Rattle.laying.{proofs.SurveyFrameLemmas.survey-had, specs.Fits.{FitsFromReach, IsFittingPlan}}

@@ -7,7 +7,8 @@ use Rattle.exact_span.specs.declared.exact_place.ExactPlace.{ExactPlace}
 use Rattle.frame_header.specs.Fields.{ClassFields, HeaderFields}
 use Rattle.frame_writer.specs.Frames.{Frame}
 use Rattle.info_header.specs.{FileInfo.all_bytes, declared.fields.Info.Info}
-use Rattle.join_edits.specs.{Join.join_command, Seamless.seamless_command}
+use Rattle.join_edits.specs.Join.{join_command}
+use Rattle.seamless_edits.specs.Seamless.{seamless_command}
 use Rattle.laying.specs.{LaidFiles.{IsLaidFile, laid_file}, LaidLaws.LosesNoFrame, Written.slot_in}
 use Rattle.outside.specs.Files.{Contents}
 use Rattle.pack_edits.specs.Modes.{pack_mode_command}

@@ -1,33 +1,32 @@
--- If no frame is left out, the frames of inputs from the first on are all frames.
-use Rattle.std.proofs.Common.{arith, length, List, refl, suc, unwrap_or, zero, ℕ, [], ◌∷◌, ◌≡◌, ◌≤◌}
-use Rattle.std.specs.Prelude.{replicate}
-use Rattle.join_edits.specs.Inputs.{parts_in, survey_rows}
-use Rattle.join_edits.specs.RestOfInputs.{AreCountsWithin, rest_parts, rest_rows}
+-- If all frames of the inputs are written, the frames from the first one on are all frames.
+use Rattle.std.proofs.Common.{arith, length, List, Option, refl, Some, ℕ, [], ◌-◌, ◌∷◌, ◌≡◌}
+use Rattle.std.specs.Prelude.{unwrap_or}
+use Rattle.frame_header.specs.Fields.{ClassFields}
+use Rattle.join_edits.specs.Inputs.{AreJoinInputs, InputFields, survey_rows}
+use Rattle.join_edits.specs.Laying.{AreFromsWithin, rest_rows}
 use Rattle.laying.proofs.PlacesLemmas.{range-whole}
-use Rattle.outside.specs.Files.{Contents}
-use Rattle.sync_survey.specs.Faults.{SurveyFields}
+use Rattle.outside.specs.Files.{Files}
 
--- with a 0 for each input, each input has at least this many frames
-pub within-whole : (n : ℕ) (ss : List SurveyFields) → length ss ≤ n
-    → AreCountsWithin ss (replicate n 0)
-within-whole n [] few = tt
-within-whole zero (s ∷ ss) few = absurd (omega (arith, few))
-within-whole (suc n) (s ∷ ss) few = (omega arith, within-whole n ss (omega (arith, few)))
+-- each input has at least as many frames as are left out
+pub within-whole : (first : Option ClassFields) (allowed : ℕ) (files : Files)
+    (inputs : List InputFields) → AreJoinInputs first allowed files inputs → AreFromsWithin inputs
+within-whole first allowed files [] are = tt
+within-whole first allowed files (i ∷ inputs) are = (
+  omega (arith, are.2),
+  within-whole (Some (unwrap_or first i.survey.class))
+      (allowed - length i.survey.frames) files
+      inputs are.3,
+)
 
 -- the rows from the first on are all rows
-pub rows-whole : (n : ℕ) (ss : List SurveyFields) → length ss ≤ n
-    → rest_rows ss (replicate n 0) ≡ survey_rows ss
-unfolding rest_rows
-rows-whole n [] few = refl
-rows-whole zero (s ∷ ss) few = absurd (omega (arith, few))
-rows-whole (suc n) (s ∷ ss) few = grind (arith, range-whole, rows-whole n ss (omega (arith, few)))
-
--- the parts from the first frame on are the parts of whole inputs
-pub parts-whole : (n : ℕ) (files : Contents) (names : List (List ℕ)) (ss : List SurveyFields)
-    → length ss ≤ n → rest_parts files names ss (replicate n 0) ≡ parts_in files names ss
-unfolding rest_parts parts_in
-parts-whole n files [] ss few = refl
-parts-whole n files (name ∷ names) [] few = refl
-parts-whole zero files (name ∷ names) (s ∷ ss) few = absurd (omega (arith, few))
-parts-whole (suc n) files (name ∷ names) (s ∷ ss) few =
-    grind (arith, unwrap_or, parts-whole n files names ss (omega (arith, few)))
+pub rows-whole : (first : Option ClassFields) (allowed : ℕ) (files : Files)
+    (inputs : List InputFields) → AreJoinInputs first allowed files inputs
+    → rest_rows inputs ≡ survey_rows inputs
+rows-whole first allowed files [] are = refl
+rows-whole first allowed files (i ∷ inputs) are =
+    grind (
+      arith,
+      range-whole,
+      rows-whole (Some (unwrap_or first i.survey.class))
+          (allowed - length i.survey.frames) files inputs are.3,
+    )

@@ -1,4 +1,4 @@
--- The surveys of the inputs, made in order.
+-- The inputs of a join: their surveys, made in order, and which of their frames are written.
 use Rattle.std.specs.Prelude.{Err, length, List, map, None, Ok, Option, Some, true, unwrap_or, ℕ}
 use Rattle.std.specs.Prelude.{[], ◌+◌, ◌-◌, ◌<◌, ◌∷◌, ◌≡◌, ◌≢◌, ◌≤◌}
 use Rattle.commands.specs.{AfterCall.{by_why, no_cause, why_of}, FaultKinds.HasRightNumbers}
@@ -6,18 +6,33 @@ use Rattle.commands.specs.SingleOutput.{LosesInput, MissesAt, most_frames, Needs
 use Rattle.commands.specs.{SingleOutput.ReadsNothing, declared.fault.EditFault.EditFault}
 use Rattle.commands.specs.declared.fault.EditFault.TheVariants.{Input, Memory, Refused, Write}
 use Rattle.frame_header.specs.Fields.{ClassFields}
-use Rattle.join_edits.specs.Join.{join_part, join_refuses, whole_part}
+use Rattle.join_edits.specs.{Join.{join_part, join_refuses}, declared.inputs.JoinInput.JoinInput}
 use Rattle.laying.specs.Relaid.{FilePart}
 use Rattle.outside.specs.Files.{Contents, Files, Holds, IfTold, IsFileThere, Told, Untold}
 use Rattle.outside.specs.Seen.{Seen}
-use Rattle.sync_survey.specs.{Faults.SurveyFields, Row.Row}
+use Rattle.sync_survey.specs.{Faults.{survey_view, SurveyFields}, Row.Row}
 use Rattle.sync_survey.specs.Survey.{HoldsOctets, IsSurveyLaidOut, survey_of}
 use Rattle.sync_survey.specs.declared.survey_fault.SurveyFault.TheVariants.{Memory as NoRoom}
 
 -- ---- one input
 
+-- an input: its name, its survey, and the number of the first of its frames that is written
+pub record InputFields : Type 0 where
+  pub name : List ℕ
+  pub survey : SurveyFields
+  pub from : ℕ
+
+-- an input as the code has it
+abbrev pub input_view : JoinInput → InputFields
+input_view input =
+    record { name = input.name.now; survey = survey_view input.survey; from = input.from }
+
+-- the names of these inputs
+abbrev pub input_names : List InputFields → List (List ℕ)
+input_names inputs = map (λ (i : InputFields). i.name) inputs
+
 -- an input is there and has a frame, and this is its survey, which allows `allowed` frames
-pub record IsJoinInput (allowed : ℕ) (files : Files) (name : List ℕ)
+pub record IsSurveyed (allowed : ℕ) (files : Files) (name : List ℕ)
     (s : SurveyFields) : Type 0 where
   pub there : IsFileThere files name
   pub exact : (file : List ℕ) → Holds files name file → survey_of file allowed ≡ Ok s
@@ -61,58 +76,61 @@ abbrev pub HasClassOfFirst : Option ClassFields → ClassFields → Type 0
 HasClassOfFirst None class = Unit {0}
 HasClassOfFirst (Some first) class = class ≡ first
 
--- each is there with its survey, is of the class of the first, and has no more frames than those
--- before it leave
-abbrev pub AreJoinInputs : Option ClassFields → ℕ → Files → List (List ℕ) → List SurveyFields
-    → Type 0
-AreJoinInputs first allowed files [] [] = Unit {0}
-AreJoinInputs first allowed files (name ∷ names) (s ∷ ss) =
-    IsJoinInput allowed files name s × HasClassOfFirst first s.class
-    × AreJoinInputs (Some (unwrap_or first s.class)) (allowed - length s.frames) files names ss
-AreJoinInputs first allowed files _ _ = ⊥
+-- each is there with its survey, is of the class of the first, has no more frames than those before
+-- it leave, and all its frames are written
+abbrev pub AreJoinInputs : Option ClassFields → ℕ → Files → List InputFields → Type 0
+AreJoinInputs first allowed files [] = Unit {0}
+AreJoinInputs first allowed files (i ∷ inputs) =
+    IsSurveyed allowed files i.name i.survey × HasClassOfFirst first i.survey.class × (i.from ≡ 0)
+    × AreJoinInputs (Some (unwrap_or first i.survey.class)) (allowed - length i.survey.frames) files
+    inputs
 
 -- the class of the first of these inputs, if there is one
-abbrev pub class_of_first : List SurveyFields → Option ClassFields
+abbrev pub class_of_first : List InputFields → Option ClassFields
 class_of_first [] = None
-class_of_first (s ∷ ss) = Some s.class
+class_of_first (i ∷ inputs) = Some i.survey.class
 
 -- how many frames these inputs have together
-unfoldable pub frames_together : List SurveyFields → ℕ
+unfoldable pub frames_together : List InputFields → ℕ
 frames_together [] = 0
-frames_together (s ∷ ss) = length s.frames + frames_together ss
+frames_together (i ∷ inputs) = length i.survey.frames + frames_together inputs
 
 -- ---- inputs as parts
 
 -- the frames of each input
-abbrev pub survey_rows : List SurveyFields → List (List Row)
-survey_rows ss = map (λ (s : SurveyFields). s.frames) ss
+abbrev pub survey_rows : List InputFields → List (List Row)
+survey_rows inputs = map (λ (i : InputFields). i.survey.frames) inputs
 
 -- each has a frame, and the surveys are of this class
-abbrev pub AreInputsOfClass : ClassFields → List SurveyFields → Type 0
+abbrev pub AreInputsOfClass : ClassFields → List InputFields → Type 0
 AreInputsOfClass class [] = Unit {0}
-AreInputsOfClass class (s ∷ ss) =
-    (0 < length s.frames) × IsSurveyLaidOut s × (s.class ≡ class) × AreInputsOfClass class ss
+AreInputsOfClass class (i ∷ inputs) =
+    (0 < length i.survey.frames) × IsSurveyLaidOut i.survey × (i.survey.class ≡ class)
+    × AreInputsOfClass class inputs
 
 -- there is at least one input, all are of one class, and they have no more frames than may be
 -- planned at once
-pub record CanInputsBeJoined (ss : List SurveyFields) : Type 0 where
+pub record CanInputsBeJoined (inputs : List InputFields) : Type 0 where
   pub class : ClassFields
-  pub first : class_of_first ss ≡ Some class
-  pub alike : AreInputsOfClass class ss
-  pub few : length ss ≤ 64
-  pub frames : frames_together ss ≤ most_frames
+  pub first : class_of_first inputs ≡ Some class
+  pub alike : AreInputsOfClass class inputs
+  pub few : length inputs ≤ 64
+  pub frames : frames_together inputs ≤ most_frames
 
--- these files as parts, with their surveys
-unfoldable pub parts_in : Contents → List (List ℕ) → List SurveyFields → List FilePart
-parts_in files (name ∷ names) (s ∷ ss) =
-    whole_part (unwrap_or (files name) []) s ∷ parts_in files names ss
-parts_in files _ _ = []
+-- the frames of an input that are written, in a file with this content
+abbrev pub part_in : Contents → InputFields → FilePart
+part_in files i = record {
+  file = unwrap_or (files i.name) [];
+  survey = i.survey;
+  from = i.from;
+  to = length i.survey.frames;
+}
 
 -- the content of each name; nothing where the contents of the folder aren't known
 abbrev pub told_contents : Files → Contents
 told_contents (Told files) = files
 told_contents (Untold touched) = λ name. None
 
--- the same parts, with the contents that the folder has
-abbrev pub told_parts : Files → List (List ℕ) → List SurveyFields → List FilePart
-told_parts files names ss = parts_in (told_contents files) names ss
+-- these inputs as parts, with the contents that the folder has
+abbrev pub parts_of : Files → List InputFields → List FilePart
+parts_of files inputs = map (part_in (told_contents files)) inputs

@@ -1,14 +1,17 @@
--- The second pass over the inputs of a join.
-use Rattle.std.specs.List.{AllZip}
-use Rattle.std.specs.Prelude.{drop, IfErr, IfSome, length, List, map, None, OnOk, Option, Result}
-use Rattle.std.specs.Prelude.{slice_get, slice_index_or, Some, ℕ, [], ◌<◌, ◌∷◌, ◌≡◌, ◌≢◌}
+-- The plan of a join, and the second pass over its inputs.
+use Rattle.std.specs.List.{concat}
+use Rattle.std.specs.Prelude.{flat_map, IfErr, IfSome, length, List, map, None, OnOk, Option}
+use Rattle.std.specs.Prelude.{Result, slice_get, slice_index_or, slice_range, Some, ℕ, [], ◌++◌}
+use Rattle.std.specs.Prelude.{◌<◌, ◌∷◌, ◌≡◌, ◌≢◌, ◌≤◌}
 use Rattle.frame_header.specs.{Fields.ClassFields, Tables.window_of}
-use Rattle.frame_writer.specs.Frames.{Frame}
+use Rattle.frame_writer.specs.Frames.{bytes_of_frames, Frame}
 use Rattle.info_header.specs.InfoFrame.{info_frame}
-use Rattle.join_edits.specs.Inputs.{CanInputsBeJoined, class_of_first, survey_rows}
-use Rattle.join_edits.specs.declared.{planned.JoinWork.JoinWork, stopped.Stopped.Stopped}
+use Rattle.join_edits.specs.Inputs.{CanInputsBeJoined, class_of_first, InputFields, parts_of}
+use Rattle.join_edits.specs.{Inputs.survey_rows, declared.planned.JoinWork.JoinWork}
+use Rattle.join_edits.specs.declared.stopped.Stopped.{Stopped}
 use Rattle.laying.specs.{Fits.FitsFromReach, Needs.{need_of, needs_of_parts}, NeedsFit.own_choice}
-use Rattle.laying.specs.{Passing.IsRelayFresh, Surveys.CanBeRelaid, Written.{plain_info, slot_in}}
+use Rattle.laying.specs.{Passing.IsRelayFresh, Relaid.{part_frames, relaid_frames}}
+use Rattle.laying.specs.{Surveys.CanBeRelaid, Written.{front_blocks, plain_info, slot_in}}
 use Rattle.laying.specs.declared.relay.Relay.{Relay}
 use Rattle.outside.specs.{Counts.Counts, Files.{Files, Holds, IsFileThere}}
 use Rattle.outside.specs.Pass.{AppendsMadeBytes, AppendsPrefix, HasPassCause, route}
@@ -24,36 +27,75 @@ window_for None = 0
 window_for (Some class) = window_of class.version
 
 -- the slots of the plan of all frames of these inputs
-unfoldable pub least_plan_of : List SurveyFields → List Placed
-least_plan_of ss =
-    least_plan (window_for (class_of_first ss)) own_choice (map (map need_of) (survey_rows ss))
+unfoldable pub least_plan_of : List InputFields → List Placed
+least_plan_of inputs =
+    least_plan (window_for (class_of_first inputs)) own_choice
+    (map (map need_of) (survey_rows inputs))
 
 -- the plan can be written frame by frame
-abbrev pub FitsAll : List SurveyFields → List Placed → Type 0
-FitsAll ss placed =
-    FitsFromReach (window_for (class_of_first ss)) 0 (needs_of_parts (survey_rows ss)) placed
+abbrev pub FitsAll : List InputFields → List Placed → Type 0
+FitsAll inputs placed =
+    FitsFromReach (window_for (class_of_first inputs)) 0
+    (needs_of_parts (survey_rows inputs)) placed
 
 -- these are the bytes of the Info frame before frames in the slots of this plan
-abbrev pub IsJoinedInfo : List SurveyFields → List Placed → List ℕ → Type 0
-IsJoinedInfo ss placed bytes =
+abbrev pub IsJoinedInfo : List InputFields → List Placed → List ℕ → Type 0
+IsJoinedInfo inputs placed bytes =
     (frames : List Frame) → map slot_in frames ≡ map (λ (p : Placed). p.slot) placed →
-    (s : SurveyFields) → slice_get ss 0 ≡ Some s → (first : Row) → slice_get s.frames 0 ≡ Some first
-    → bytes ≡ info_frame first.header (plain_info s.class frames)
+    (i : InputFields) → slice_get inputs 0 ≡ Some i
+    → (first : Row) → slice_get i.survey.frames 0 ≡ Some first
+    → bytes ≡ info_frame first.header (plain_info i.survey.class frames)
 
 -- this is the plan, and it can be written
-pub record IsPlanOf (ss : List SurveyFields) (placed : List Placed) : Type 0 where
-  pub plan : placed ≡ least_plan_of ss
-  pub fits : FitsAll ss placed
+pub record IsPlanOf (inputs : List InputFields) (placed : List Placed) : Type 0 where
+  pub plan : placed ≡ least_plan_of inputs
+  pub fits : FitsAll inputs placed
 
 -- the inputs can be joined, this is their plan, with the Info
 -- frame before it, and the buffers are for frames of their class
-pub record IsJoinReady (ss : List SurveyFields) (work : JoinWork) : Type 0 where
-  pub joined : CanInputsBeJoined ss
-  pub plan : IsPlanOf ss (entries work.plan)
-  pub info : IsJoinedInfo ss (entries work.plan) work.info.items
-  pub fresh : IfSome (class_of_first ss) (λ class. IsRelayFresh class work.buffers)
+pub record IsJoinReady (inputs : List InputFields) (work : JoinWork) : Type 0 where
+  pub joined : CanInputsBeJoined inputs
+  pub plan : IsPlanOf inputs (entries work.plan)
+  pub info : IsJoinedInfo inputs (entries work.plan) work.info.items
+  pub fresh : IfSome (class_of_first inputs) (λ class. IsRelayFresh class work.buffers)
 
--- ---- the inputs
+-- ---- the frames that are written
+
+-- each input has at least as many frames as are left out at its front
+abbrev pub AreFromsWithin : List InputFields → Type 0
+AreFromsWithin [] = Unit {0}
+AreFromsWithin (i ∷ inputs) = (i.from ≤ length i.survey.frames) × AreFromsWithin inputs
+
+-- the frames of each input that are written
+abbrev pub rest_rows : List InputFields → List (List Row)
+rest_rows inputs =
+    map (λ (i : InputFields). slice_range i.survey.frames i.from (length i.survey.frames)) inputs
+
+-- the frames in the slots of a plan, with the contents that the folder has
+abbrev pub placed_frames : Files → List InputFields → List Placed → List ℕ → List Frame
+placed_frames files inputs placed _ =
+    relaid_frames (flat_map part_frames (parts_of files inputs)) placed
+
+-- the blocks of the first input before its frames
+abbrev pub first_front_bytes : List ℕ → List InputFields → List ℕ
+first_front_bytes file [] = []
+first_front_bytes file (i ∷ inputs) = concat (front_blocks file i.survey)
+
+-- the blocks, the Info frame, and these frames in the slots of the prepared plan
+abbrev pub join_bytes : Files → List InputFields → JoinWork → List ℕ → List ℕ
+join_bytes files inputs work file =
+    (first_front_bytes file inputs ++ work.info.items)
+    ++ bytes_of_frames (placed_frames files inputs (entries work.plan) file)
+
+-- the plan can be written frame by frame, and the buffers are for frames of this class
+pub record FitsWork (class : ClassFields) (inputs : List InputFields)
+    (work : JoinWork) : Type 0 where
+  pub within : AreFromsWithin inputs
+  pub fits : FitsFromReach (window_of class.version) 0 (needs_of_parts (rest_rows inputs))
+      (entries work.plan)
+  pub fresh : IsRelayFresh class work.buffers
+
+-- ---- the inputs beside the output
 
 -- an input with another name than the output is there, and its frames are as the survey says
 pub record IsSource (output : List ℕ) (files : Files) (name : List ℕ)
@@ -64,47 +106,60 @@ pub record IsSource (output : List ℕ) (files : Files) (name : List ℕ)
   pub laid : IsSurveyLaidOut s
 
 -- each of these is such an input, and its frames are of this class
-abbrev pub AreSources : ClassFields → List ℕ → Files → List (List ℕ) → List SurveyFields → Type 0
-AreSources class output files names ss =
-    AllZip (λ name s. IsSource output files name s × (s.class ≡ class)) names ss
+abbrev pub AreSources : ClassFields → List ℕ → Files → List InputFields → Type 0
+AreSources class output files [] = Unit {0}
+AreSources class output files (i ∷ inputs) =
+    (IsSource output files i.name i.survey × (i.survey.class ≡ class))
+    × AreSources class output files inputs
 
--- The inputs are joined: this pass is over the first of them, with the first survey, and writes
--- another file that is there.
-pub record IsJoinPass (first : Relay) (inputs : List (List ℕ)) (surveys : List SurveyFields)
-    (files : Files) : Type 0 where
-  pub names : inputs ≡ first.pass.input.now ∷ drop 1 inputs
-  pub known : surveys ≡ survey_view first.survey.now ∷ drop 1 surveys
+-- the inputs are there, and their frames can be written by the prepared plan
+pub record CanJoinBeWritten (output : List ℕ) (files : Files) (inputs : List InputFields)
+    (work : JoinWork) : Type 0 where
+  pub class : ClassFields
+  pub first : class_of_first inputs ≡ Some class
+  pub sources : AreSources class output files inputs
+  pub fits : FitsWork class inputs work
+
+-- The inputs are joined: this pass is over the first of them, with its survey, and writes another
+-- file that is there.
+pub record IsJoinPass (first : Relay) (inputs : List InputFields) (files : Files) : Type 0 where
+  pub from : ℕ
+  pub later : List InputFields
+  pub are : inputs ≡ record {
+    name = first.pass.input.now;
+    survey = survey_view first.survey.now;
+    from = from;
+  } ∷ later
   pub length : first.pass.length ≡ (survey_view first.survey.now).length
   pub apart : first.pass.input.now ≢ first.pass.output.now
-  pub sources : AreSources
-      (survey_view first.survey.now).class first.pass.output.now files inputs surveys
+  pub sources : AreSources (survey_view first.survey.now).class first.pass.output.now files inputs
   pub target : IsFileThere files first.pass.output.now
 
 -- ---- why the pass ends early
 
 -- the pass over one of these inputs ended early, for this cause
-pub record HasJoinCause (inputs : List (List ℕ)) (output : List ℕ) (files : Files)
+pub record HasJoinCause (names : List (List ℕ)) (output : List ℕ) (files : Files)
     (before after : Counts) (stopped : Stopped) : Type 0 where
-  pub within : stopped.place < length inputs
+  pub within : stopped.place < length names
   pub size : ℕ
   pub cause : HasPassCause
-      (route (slice_index_or inputs stopped.place []) output size) files before after stopped.fault
+      (route (slice_index_or names stopped.place []) output size) files before after stopped.fault
 
 -- ---- what a step returns
 
 -- The bytes made from the inputs were added to what waits for the output, or only a prefix was
 -- appended.
-pub record AddsJoined (first : Relay) (inputs : List (List ℕ)) (made : List ℕ → List ℕ)
+pub record AddsJoined (first : Relay) (names : List (List ℕ)) (made : List ℕ → List ℕ)
     (before after : List ℕ) (old new : Seen) (result : Result (Unit {0}) Stopped) : Type 0 where
   pub written : OnOk result (WritesMadeBytes first.pass made before after old.files new.files)
   pub prefix : IfErr result
       (λ stopped. WritesPrefix first.pass made before old.files new.files stopped.fault)
   pub done : OnOk result (new.counts ≡ old.counts)
   pub cause : IfErr result
-      (HasJoinCause inputs first.pass.output.now old.files old.counts new.counts)
+      (HasJoinCause names first.pass.output.now old.files old.counts new.counts)
 
 -- The bytes made from the inputs were appended to the output, or only a prefix.
-pub record AppendsJoined (first : Relay) (inputs : List (List ℕ)) (made : List ℕ → List ℕ)
+pub record AppendsJoined (first : Relay) (names : List (List ℕ)) (made : List ℕ → List ℕ)
     (old new : Seen) (result : Result (Unit {0}) Stopped) : Type 0 where
   pub written : OnOk result
       (AppendsMadeBytes first.pass.input.now first.pass.output.now made old.files new.files)
@@ -112,4 +167,4 @@ pub record AppendsJoined (first : Relay) (inputs : List (List ℕ)) (made : List
       made old.files new.files stopped.fault)
   pub done : OnOk result (new.counts ≡ old.counts)
   pub cause : IfErr result
-      (HasJoinCause inputs first.pass.output.now old.files old.counts new.counts)
+      (HasJoinCause names first.pass.output.now old.files old.counts new.counts)

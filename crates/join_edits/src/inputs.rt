@@ -1,23 +1,22 @@
-//! The inputs by number.
-ghost use Rattle.std.specs.Prelude.{◌≡◌, ◌+◌, ◌<◌, ◌∷◌, length, map, drop, string_bytes};
-ghost use Rattle.sync_survey.specs.Faults.{survey_view};
+//! The inputs of a join.
+ghost use Rattle.std.specs.Prelude.{◌≡◌, ◌+◌, ◌<◌, ◌∷◌, length, map, drop};
+ghost use Rattle.join_edits.specs.Inputs.{input_view};
 
 use sync_survey::Survey;
 
-/// The name of the input with this number, counted from 0.
-pub(crate) fn name_at(inputs: &[String], place: usize) -> &str
-    requires { place < length inputs.now }
-    ensures { drop place (map string_bytes inputs.now)
-        ≡ result.now ∷ drop (place + 1) (map string_bytes inputs.now) }
-{
-    inputs[place].as_str()
+/// An input: its name, its survey, and the number of the first of its frames that is written, counted from 0.
+#[derive(Drop)]
+pub struct JoinInput<'a> {
+    pub name: &'a str,
+    pub survey: Survey,
+    pub from: u32,
 }
 
-/// The survey of the input with this number, counted from 0.
-pub(crate) fn known_at(surveys: &[Survey], place: usize) -> &Survey
-    requires { place < length surveys.now }
-    ensures { drop place (map survey_view surveys.now)
-        ≡ survey_view result.now ∷ drop (place + 1) (map survey_view surveys.now) }
+/// The input with this number, counted from 0.
+pub fn input_at<'b, 'a>(inputs: &'b [JoinInput<'a>], place: usize) -> &'b JoinInput<'a>
+    requires { place < length inputs.now }
+    ensures { drop place (map input_view inputs.now)
+        ≡ input_view result.now ∷ drop (place + 1) (map input_view inputs.now) }
 {
-    &surveys[place]
+    &inputs[place]
 }

@@ -4,16 +4,15 @@ ghost use Rattle.commands.specs.Command.{clash_from};
 ghost use Rattle.commands.specs.Runs.{IsRunOf};
 ghost use Rattle.join_edits.specs.Join.{join_command};
 
-use crate::inputs::name_at;
 use crate::planned::prepare;
-use crate::surveys::survey_all;
+use crate::surveys::{name_at, survey_all};
 use crate::written::write_joined;
 use commands::EditFault;
 use outside::Folder;
 use std::alloc::Global;
 
 /// The number of the first of these names that equals the output's, counted from 0.
-pub(crate) fn clash(output: &str, inputs: &[String]) -> Option<u32>
+pub fn clash(output: &str, inputs: &[String]) -> Option<u32>
     requires { length inputs.now ≤ 64 }
     ensures { result ≡ clash_from (output.now ∷ []) 0 (map string_bytes inputs.now) }
 {
@@ -61,9 +60,7 @@ pub fn join<D: Folder>(
     if let Some(place) = clash(output, inputs) {
         return Err(EditFault::EqualNames(place));
     }
-    let surveys = survey_all(alloc, folder, inputs)?;
-    let known = surveys.as_slice();
-    let mut work = prepare(alloc, known)?;
-    // No frame is left out.
-    write_joined(folder, inputs, output, known, &[0; 64], &mut work)
+    let sources = survey_all(alloc, folder, inputs)?;
+    let mut work = prepare(alloc, &sources)?;
+    write_joined(folder, output, &sources, &mut work)
 }

@@ -1,20 +1,18 @@
-//! Joining inputs into one file: all their frames, or only those that a join without seams keeps.
+//! Joining inputs into one file of all their frames. The surveys of inputs, and the second pass over them, are public: a
+//! join without seams goes on with them.
 #![tactic(auto)]
 
-mod beginnings;
-mod decided;
 mod inputs;
 mod join_file;
 mod laid;
-mod lines;
-mod main_data;
-mod numbers;
 mod planned;
-mod seamless_file;
-mod sounds;
 mod stopped;
 mod surveys;
 mod written;
 
-pub use join_file::join;
-pub use seamless_file::join_seamless;
+pub use inputs::{JoinInput, input_at};
+pub use join_file::{clash, join};
+pub use planned::JoinWork;
+pub use stopped::Stopped;
+pub use surveys::survey_all;
+pub use written::write_joined;

@@ -8,7 +8,7 @@ use outside::PassFault;
 /// The input whose pass ended early, counted from 0, and why. What is written before and after all
 /// frames belongs to the first.
 #[derive(Clone, Copy)]
-pub(crate) struct Stopped {
+pub struct Stopped {
     pub place: u32,
     pub fault: PassFault,
 }

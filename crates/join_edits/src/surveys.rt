@@ -1,17 +1,26 @@
 //! The surveys of all inputs.
-ghost use Rattle.std.specs.Prelude.{◌≡◌, ◌≤◌, ◌<◌, ◌+◌, true, None, length, map, string_bytes, is_some, IfOk, IfErr, OnOk};
+ghost use Rattle.std.specs.Prelude.{◌≡◌, ◌≤◌, ◌<◌, ◌+◌, ◌∷◌, true, None, length, map, drop, string_bytes, is_some, IfOk, IfErr, OnOk};
 ghost use Rattle.outside.specs.Seen.{OnlyRead};
 ghost use Rattle.sync_survey.specs.Faults.{survey_view};
 ghost use Rattle.commands.specs.SingleOutput.{most_frames, IsEarlyFault};
 ghost use Rattle.join_edits.specs.Join.{may_join, join_task};
-ghost use Rattle.join_edits.specs.Inputs.{IsJoinInput, IsPartFault, HasJoinNumbers, HasClassOfFirst, AreJoinInputs, class_of_first};
+ghost use Rattle.join_edits.specs.Inputs.{input_view, input_names, IsSurveyed, IsPartFault, HasJoinNumbers, HasClassOfFirst, AreJoinInputs, class_of_first};
 
-use crate::inputs::name_at;
+use crate::inputs::JoinInput;
 use commands::{EditFault, MOST_FRAMES, Refusal, survey_at};
 use frame_header::Class;
 use outside::Folder;
 use std::alloc::Global;
 use sync_survey::Survey;
+
+/// The name of the input with this number, counted from 0.
+pub(crate) fn name_at(inputs: &[String], place: usize) -> &str
+    requires { place < length inputs.now }
+    ensures { drop place (map string_bytes inputs.now)
+        ≡ result.now ∷ drop (place + 1) (map string_bytes inputs.now) }
+{
+    inputs[place].as_str()
+}
 
 /// Whether an input of this class may follow: any if there is no input before it, otherwise one of
 /// the first input's class.
@@ -41,7 +50,7 @@ fn survey_part<D: Folder>(
 ) -> Result<Survey, EditFault>
     requires behind { is_some first ≡ true → 0 < place }
     ensures input { OnOk result (IfOk result
-        (λ s. IsJoinInput allowed (D.seen folder.old).files name.now (survey_view s))) }
+        (λ s. IsSurveyed allowed (D.seen folder.old).files name.now (survey_view s))) }
     ensures follows { IfOk result (λ s. HasClassOfFirst first (survey_view s).class) }
     ensures refused { IfErr result (IsPartFault place first allowed name.now
         (D.seen folder.old)
@@ -57,43 +66,49 @@ fn survey_part<D: Folder>(
     }
 }
 
-/// The class of the first of these surveys.
-fn first_class(surveys: &[Survey]) -> Option<Class>
-    ensures { result ≡ class_of_first (map survey_view surveys.now) }
+/// The class of the first of these inputs.
+fn first_class(inputs: &[JoinInput<'_>]) -> Option<Class>
+    ensures { result ≡ class_of_first (map input_view inputs.now) }
 {
-    match surveys {
+    match inputs {
         [] => None,
-        [first, ..] => Some(first.class()),
+        [first, ..] => Some(first.survey.class()),
     }
 }
 
-/// The surveys of all inputs, in order; together they may have 2,900,000 frames.
+/// All inputs with their surveys, in order, so that all their frames are written; together they may have 2,900,000
+/// frames. The files stay.
 ///
 /// # Errors
 /// Those of `survey_part`, for the first input that has one.
-pub(crate) fn survey_all<D: Folder>(
+pub fn survey_all<'a, D: Folder>(
     alloc: Global,
     folder: &mut D,
-    inputs: &[String],
-) -> Result<Vec<Survey>, EditFault>
-    requires few { length inputs.now ≤ 64 }
-    ensures inputs { IfOk result
-        (λ surveys. AreJoinInputs None most_frames (D.seen folder.old).files
-        (map string_bytes inputs.now) (map survey_view surveys.items)) }
-    ensures refused { IfErr result (IsEarlyFault (join_task (map string_bytes inputs.now))
+    names: &'a [String],
+) -> Result<Vec<JoinInput<'a>>, EditFault>
+    requires few { length names.now ≤ 64 }
+    ensures inputs { IfOk result (λ inputs.
+        AreJoinInputs None most_frames (D.seen folder.old).files (map input_view inputs.items)) }
+    ensures names { IfOk result (λ inputs.
+        input_names (map input_view inputs.items) ≡ map string_bytes names.now) }
+    ensures refused { IfErr result (IsEarlyFault (join_task (map string_bytes names.now))
         (D.seen folder.old)
         (D.seen folder.new)) }
-    ensures numbers { IfErr result (HasJoinNumbers (length inputs.now)) }
+    ensures numbers { IfErr result (HasJoinNumbers (length names.now)) }
     ensures reads { OnlyRead result (D.seen folder.old) (D.seen folder.new) }
 {
-    let mut surveys = Vec::new(alloc);
+    let mut inputs = Vec::new(alloc);
     let mut left = MOST_FRAMES;
-    for place in 0..inputs.len() {
-        let first = first_class(&surveys);
-        let name = name_at(inputs, place);
+    for place in 0..names.len() {
+        let first = first_class(&inputs);
+        let name = name_at(names, place);
         let survey = survey_part(alloc, folder, name, place as u32, first, left)?;
         left -= survey.frames().len() as u32;
-        surveys.push(survey)?;
+        inputs.push(JoinInput {
+            name,
+            survey,
+            from: 0,
+        })?;
     }
-    Ok(surveys)
+    Ok(inputs)
 }

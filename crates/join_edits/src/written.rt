@@ -1,5 +1,5 @@
 //! The second pass of a join.
-ghost use Rattle.std.specs.Prelude.{◌≡◌, ◌≤◌, ◌++◌, List, ℕ, [], ◌∷◌, length, map, string_bytes, IfErr, OnOk};
+ghost use Rattle.std.specs.Prelude.{◌≡◌, ◌≤◌, ◌++◌, List, ℕ, [], ◌∷◌, length, map, IfErr, OnOk};
 ghost use Rattle.std.specs.List.{concat};
 ghost use Rattle.outside.specs.Files.{Holds, OnlyTouches};
 ghost use Rattle.outside.specs.Counts.{NoneFell};
@@ -8,19 +8,16 @@ ghost use Rattle.laying.specs.Written.{front_blocks};
 ghost use Rattle.laying.specs.Passing.{IsRelayReady};
 ghost use Rattle.sync_survey.specs.Faults.{survey_view};
 ghost use Rattle.commands.specs.SingleOutput.{files_holding, IsPassFault, first_input};
-ghost use Rattle.join_edits.specs.Inputs.{HasJoinNumbers};
-ghost use Rattle.join_edits.specs.RestOfInputs.{join_bytes, CanJoinBeWritten, FitsWork};
-ghost use Rattle.join_edits.specs.Laying.{IsJoinPass, AppendsJoined};
+ghost use Rattle.join_edits.specs.Inputs.{input_view, input_names, HasJoinNumbers};
+ghost use Rattle.join_edits.specs.Laying.{join_bytes, CanJoinBeWritten, FitsWork, IsJoinPass, AppendsJoined};
 
-use crate::inputs::{known_at, name_at};
-use crate::laid::{LaidFrames, lay_all};
+use crate::inputs::{JoinInput, input_at};
+use crate::laid::lay_all;
 use crate::planned::JoinWork;
-use crate::sounds::Sources;
 use crate::stopped::Stopped;
 use commands::EditFault;
 use laying::{Relay, RelayBuffers};
 use outside::{Folder, Pass, PassFault};
-use sync_survey::Survey;
 
 /// Appends to the output the ID3v2 blocks of an input before its first frame, and an Info frame of these bytes.
 fn append_front<D: Folder>(
@@ -48,27 +45,23 @@ fn append_front<D: Folder>(
 }
 
 /// Appends the joined file to the output: the ID3v2 blocks of the first input, the Info frame, and
-/// the frames of each input from the frame with the given number on. It takes no memory.
+/// the frames of each input. It takes no memory.
 ///
 /// # Errors
 /// Those of `Relay::write`, with the number of the input. Then a prefix of the file was appended,
 /// and with `Write` not all of it.
-fn append_joined<'a, D: Folder>(
-    first: &Relay<'a>,
+fn append_joined<D: Folder>(
+    first: &Relay<'_>,
     folder: &mut D,
-    inputs: &'a [String],
-    surveys: &'a [Survey],
-    froms: &[u32],
+    inputs: &[JoinInput<'_>],
     work: &mut JoinWork,
 ) -> Result<(), Stopped>
     requires few { length inputs.now ≤ 64 }
-    requires join { IsJoinPass first.now (map string_bytes inputs.now) (map survey_view surveys.now)
-        (D.seen folder.old).files }
-    requires fits { FitsWork (survey_view first.now.survey.now).class (map survey_view surveys.now)
-        froms.now work.old }
-    ensures { AppendsJoined first.now (map string_bytes inputs.now)
-        (join_bytes (D.seen folder.old).files (map string_bytes inputs.now)
-        (map survey_view surveys.now) froms.now work.old)
+    requires join { IsJoinPass first.now (map input_view inputs.now) (D.seen folder.old).files }
+    requires fits { FitsWork (survey_view first.now.survey.now).class (map input_view inputs.now)
+        work.old }
+    ensures { AppendsJoined first.now (input_names (map input_view inputs.now))
+        (join_bytes (D.seen folder.old).files (map input_view inputs.now) work.old)
         (D.seen folder.old) (D.seen folder.new) result }
 {
     let JoinWork {
@@ -79,53 +72,45 @@ fn append_joined<'a, D: Folder>(
     if let Err(fault) = append_front(first, folder, info.as_slice(), buffers) {
         return Err(Stopped { place: 0, fault });
     }
-    let sources = Sources { inputs, surveys };
-    let laid = LaidFrames {
-        froms,
-        placed: plan.placed(),
-    };
-    lay_all(first, folder, &sources, &laid, buffers)?;
+    lay_all(first, folder, inputs, plan.placed(), buffers)?;
     match first.pass.finish(folder, &mut buffers.waiting) {
         Ok(()) => Ok(()),
         Err(fault) => Err(Stopped { place: 0, fault }),
     }
 }
 
-/// Creates the output and writes it, with the frames of each input from the frame with the given
-/// number on. It takes no memory.
+/// Creates the output and writes it, with the frames of each input from the one with its number
+/// `from` on. It takes no memory.
 ///
 /// # Errors
 /// `Input` with the number of an input and `Read` or `Shrunk`, and `Write(0)`. Then the output is
 /// as it was or holds a prefix of its bytes, and with `Write` not all of them.
-pub(crate) fn write_joined<D: Folder>(
+pub fn write_joined<D: Folder>(
     folder: &mut D,
-    inputs: &[String],
     output: &str,
-    surveys: &[Survey],
-    froms: &[u32],
+    inputs: &[JoinInput<'_>],
     work: &mut JoinWork,
 ) -> Result<(), EditFault>
     requires some { 1 ≤ length inputs.now }
     requires few { length inputs.now ≤ 64 }
-    requires can { CanJoinBeWritten output.now (D.seen folder.old).files
-        (map string_bytes inputs.now) (map survey_view surveys.now) froms.now work.old }
-    ensures written { OnOk result ((bytes : List ℕ)
-        → Holds (D.seen folder.old).files (first_input (map string_bytes inputs.now)) bytes
+    requires can { CanJoinBeWritten output.now (D.seen folder.old).files (map input_view inputs.now)
+        work.old }
+    ensures written { OnOk result ((bytes : List ℕ) → Holds (D.seen folder.old).files
+        (first_input (input_names (map input_view inputs.now))) bytes
         → (D.seen folder.new).files ≡ files_holding (D.seen folder.old).files output.now
-        (join_bytes (D.seen folder.old).files (map string_bytes inputs.now)
-        (map survey_view surveys.now) froms.now work.old bytes)) }
+        (join_bytes (D.seen folder.old).files (map input_view inputs.now) work.old bytes)) }
     ensures touches { OnlyTouches (output.now ∷ []) (D.seen folder.old).files
         (D.seen folder.new).files }
     ensures done { OnOk result ((D.seen folder.new).counts ≡ (D.seen folder.old).counts) }
     ensures left { IfErr result (IsPassFault (join_bytes (D.seen folder.old).files
-        (map string_bytes inputs.now) (map survey_view surveys.now) froms.now work.old)
-        (map string_bytes inputs.now) output.now (D.seen folder.old) (D.seen folder.new)) }
+        (map input_view inputs.now) work.old) (input_names (map input_view inputs.now))
+        output.now (D.seen folder.old) (D.seen folder.new)) }
     ensures numbers { IfErr result (HasJoinNumbers (length inputs.now)) }
     ensures counts { NoneFell (D.seen folder.old).counts (D.seen folder.new).counts }
 {
-    let survey = known_at(surveys, 0);
+    let JoinInput { name, survey, .. } = input_at(inputs, 0);
     let pass = Pass {
-        input: name_at(inputs, 0),
+        input: name,
         output,
         length: survey.length(),
     };
@@ -133,7 +118,7 @@ pub(crate) fn write_joined<D: Folder>(
     let Ok(()) = folder.create(output) else {
         return Err(EditFault::Write(0));
     };
-    match append_joined(&first, folder, inputs, surveys, froms, work) {
+    match append_joined(&first, folder, inputs, work) {
         Ok(()) => Ok(()),
         Err(stopped) => Err(EditFault::of_pass(stopped.place, 0, stopped.fault)),
     }

@@ -24,8 +24,6 @@ use Rattle.job_words.specs.Request.{Cut, CutExact, Drill, Fade, Gain, Help, Info
 use Rattle.job_words.specs.Request.{ListFile, Pack, Request, SplitAt, SplitBy, SplitExact, Undo}
 use Rattle.job_words.specs.Request.{Version}
 use Rattle.join_edits.specs.Join.{join_command, join_parts, join_task, joined_file}
-use Rattle.join_edits.specs.Seamless.{seamless_command, seamless_file, seamless_task}
-use Rattle.join_edits.specs.Seamless.{seamless_text_or_none}
 use Rattle.laying.specs.{KeptFields.fields_of_head, Relaid.FilePart}
 use Rattle.legality.proofs.FadeLemmas.{fade-legal, legal-fade}
 use Rattle.legality.proofs.GainLemmas.{gain-legal, legal-gain, legal-undo, undo-legal, with-parts}
@@ -53,6 +51,8 @@ use Rattle.pack_edits.specs.Modes.{pack_mode_command, pack_task, survey_fault_or
 use Rattle.requests.specs.{Shifts.steps_of, declared.mode.PackMode.PackMode}
 use Rattle.requests.specs.declared.mode.PackMode.TheVariants.{Best, Constant, Floor, Least}
 use Rattle.requests.specs.declared.shift.Shift.{Shift}
+use Rattle.seamless_edits.specs.Seamless.{seamless_command, seamless_file, seamless_task}
+use Rattle.seamless_edits.specs.Seamless.{seamless_text_or_none}
 use Rattle.split_edits.proofs.PartsLemmas.{cue-parts, parts-cue}
 use Rattle.split_edits.specs.Split.{cue_sheet_places, exact_places_result, given_cutting}
 use Rattle.split_edits.specs.Split.{given_exact_cutting, sheet_cut_refuses, sheet_cutting}

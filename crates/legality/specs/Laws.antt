@@ -8,7 +8,7 @@ use Rattle.exact_span.specs.declared.exact_place.ExactPlace.{ExactPlace}
 use Rattle.gain_edits.specs.{Fade.fade_command, Gain.gain_command, Undo.undo_command}
 use Rattle.job_words.specs.Request.{Cut, CutExact, Fade, Gain, InfoFile, Join, ListFile, Pack}
 use Rattle.job_words.specs.Request.{Salvage, SplitAt, SplitBy, SplitExact, Undo}
-use Rattle.join_edits.specs.{Join.join_command, Seamless.seamless_command}
+use Rattle.join_edits.specs.Join.{join_command}
 use Rattle.legality.specs.Legal.{IsLegalFor, IsUnfitFor}
 use Rattle.list_edits.specs.{InfoText.info_command, Listing.list_command}
 use Rattle.outside.specs.Files.{Contents}
@@ -16,6 +16,7 @@ use Rattle.pack_edits.specs.Modes.{pack_mode_command}
 use Rattle.requests.specs.declared.mode.PackMode.{PackMode, TheVariants.Constant}
 use Rattle.requests.specs.declared.shift.Shift.{Shift}
 use Rattle.salvage_edits.specs.Salvaged.{salvage_command}
+use Rattle.seamless_edits.specs.Seamless.{seamless_command}
 use Rattle.split_edits.specs.Split.{split_at_command, split_by_command, split_exact_at_command}
 use Rattle.split_edits.specs.Split.{split_exact_by_command}
 

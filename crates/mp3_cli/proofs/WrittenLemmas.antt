@@ -19,7 +19,6 @@ use Rattle.job_words.specs.Request.{Cut, CutExact, Drill, Fade, Gain, Help, Info
 use Rattle.job_words.specs.Request.{ListFile, Pack, Request, Salvage, SplitAt, SplitBy, SplitExact}
 use Rattle.job_words.specs.{Request.{Undo, Version}, Words.{IsSoundRequest, job_of}}
 use Rattle.join_edits.specs.Join.{join_parts, join_task}
-use Rattle.join_edits.specs.Seamless.{seamless_task, seamless_text_or_none}
 use Rattle.laying.specs.Laid.{LaidPart}
 use Rattle.mp3_cli.proofs.RunLemmas.{files_where_done, if_told, one_made}
 use Rattle.mp3_cli.specs.Run.{command_of, CommandAnswers, HoldFrames, HoldsAllStreams, HoldsWritten}
@@ -29,6 +28,7 @@ use Rattle.outside.specs.{Files.{Contents, Files, IfTold, with_file}, Seen.{Hear
 use Rattle.pack_edits.specs.Modes.{pack_task}
 use Rattle.requests.specs.Names.{piece_name, piece_names}
 use Rattle.salvage_edits.specs.Salvaged.{input_salvage_text, salvage_task}
+use Rattle.seamless_edits.specs.Seamless.{seamless_task, seamless_text_or_none}
 use Rattle.split_edits.proofs.PartsLemmas.{cue-parts, split-parts}
 use Rattle.split_edits.specs.Cutting.{Cutting, piece_parts, piece_parts_from, pieces_from}
 use Rattle.split_edits.specs.Cutting.{split_command, with_first}

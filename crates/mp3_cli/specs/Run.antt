@@ -12,7 +12,7 @@ use Rattle.gain_edits.specs.{Fade.fade_command, Gain.gain_command, Undo.undo_com
 use Rattle.job_words.specs.Request.{Cut, CutExact, Drill, Fade, Gain, Help, InfoFile, Join}
 use Rattle.job_words.specs.Request.{ListFile, Pack, Request, Salvage, SplitAt, SplitBy, SplitExact}
 use Rattle.job_words.specs.{Request.{Undo, Version}, Words.job_of}
-use Rattle.join_edits.specs.{Join.join_command, Seamless.seamless_command}
+use Rattle.join_edits.specs.Join.{join_command}
 use Rattle.legality.specs.{Laws.AcceptsFiles, Legal.IsLegalFor}
 use Rattle.list_edits.specs.{InfoText.info_command, Listing.list_command}
 use Rattle.outside.specs.Counts.{NoneFell, Rose}
@@ -22,6 +22,7 @@ use Rattle.pack_edits.specs.{Fewest.WritesFewest, Modes.pack_mode_command}
 use Rattle.program_texts.specs.Texts.{bad_word_line, fault_line, fixed_text_command, GotLine}
 use Rattle.program_texts.specs.Texts.{help_text, status_of, version_text}
 use Rattle.salvage_edits.specs.Salvaged.{salvage_command}
+use Rattle.seamless_edits.specs.Seamless.{seamless_command}
 use Rattle.split_edits.specs.Split.{split_at_command, split_by_command, split_exact_at_command}
 use Rattle.split_edits.specs.Split.{split_exact_by_command}
 use Rattle.sync_survey.specs.Faults.{IsWellFormed, stream_of}

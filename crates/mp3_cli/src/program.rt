@@ -17,12 +17,13 @@ use cut_edits::{cut, cut_exact};
 use drill::drill;
 use gain_edits::{fade, gain, undo};
 use job_words::{Job, job};
-use join_edits::{join, join_seamless};
+use join_edits::join;
 use list_edits::{info, list};
 use outside::{Folder, Sink};
 use pack_edits::pack_with;
 use program_texts::{Outputs, say_help, say_version, send_bad_word, send_fault, status};
 use salvage_edits::salvage;
+use seamless_edits::join_seamless;
 use split_edits::{ExactPoints, Points, split, split_exact};
 use std::alloc::Global;
 

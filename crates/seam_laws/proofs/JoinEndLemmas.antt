@@ -21,12 +21,22 @@ use Rattle.exact_span.specs.declared.{extensions.HeadCounts.HeadCounts, played.P
 use Rattle.frame_header.specs.{Fields.ClassFields, Tables.{class_of, length_of, samples_of}}
 use Rattle.frame_header.specs.declared.version.Version.{Version, TheVariants.{One, Two, TwoFive}}
 use Rattle.info_header.specs.{Info.{field_place, flags_in, info_in}, declared.fields.Info.Info}
-use Rattle.join_edits.proofs.{PartLemmas.part-is, RunPartLemmas.run-laid}
+use Rattle.join_edits.proofs.PartLemmas.{part-is}
+use Rattle.seamless_edits.proofs.RunPartLemmas.{run-laid}
 use Rattle.join_edits.specs.Join.{join_part, join_parts_from}
-use Rattle.join_edits.specs.Seamless.{delay_of_run, join_of_parts, last_part, later_parts}
-use Rattle.join_edits.specs.Seamless.{part_brought, part_from, part_head, run_lead_ins, run_parts}
-use Rattle.join_edits.specs.Seamless.{seamless_delay, seamless_file, seamless_frames}
-use Rattle.join_edits.specs.Seamless.{seamless_padding}
+use Rattle.seamless_edits.specs.Seamless.{delay_of_run}
+use Rattle.seamless_edits.specs.Seamless.{join_of_parts}
+use Rattle.seamless_edits.specs.Seamless.{last_part}
+use Rattle.seamless_edits.specs.Seamless.{later_parts}
+use Rattle.seamless_edits.specs.Seamless.{part_brought}
+use Rattle.seamless_edits.specs.Seamless.{part_from}
+use Rattle.seamless_edits.specs.Seamless.{part_head}
+use Rattle.seamless_edits.specs.Seamless.{run_lead_ins}
+use Rattle.seamless_edits.specs.Seamless.{run_parts}
+use Rattle.seamless_edits.specs.Seamless.{seamless_delay}
+use Rattle.seamless_edits.specs.Seamless.{seamless_file}
+use Rattle.seamless_edits.specs.Seamless.{seamless_frames}
+use Rattle.seamless_edits.specs.Seamless.{seamless_padding}
 use Rattle.laying.specs.{KeptFields.fields_of_head, LaidFiles.stream_entry}
 use Rattle.laying.specs.{Relaid.{FilePart, part_stream}, Written.head_info}
 use Rattle.outside.specs.Files.{AreOctets, Contents}

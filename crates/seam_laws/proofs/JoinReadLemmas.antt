@@ -9,10 +9,16 @@ use Rattle.exact_span.specs.{Laws.{AreInfoFields, SaysNumbers}, PlayedPositions.
 use Rattle.frame_header.specs.Fields.{ClassFields, HeaderFields}
 use Rattle.frame_writer.specs.Frames.{Frame}
 use Rattle.info_header.specs.declared.fields.Info.{Info}
-use Rattle.join_edits.proofs.RunPartLemmas.{front-within, run-laid}
-use Rattle.join_edits.specs.Seamless.{delay_of_run, join_of_parts, part_head, run_extension}
-use Rattle.join_edits.specs.Seamless.{seamless_file, seamless_frames, seamless_info}
-use Rattle.join_edits.specs.Seamless.{seamless_row_file}
+use Rattle.seamless_edits.proofs.RunPartLemmas.{front-within}
+use Rattle.seamless_edits.proofs.RunPartLemmas.{run-laid}
+use Rattle.seamless_edits.specs.Seamless.{delay_of_run}
+use Rattle.seamless_edits.specs.Seamless.{join_of_parts}
+use Rattle.seamless_edits.specs.Seamless.{part_head}
+use Rattle.seamless_edits.specs.Seamless.{run_extension}
+use Rattle.seamless_edits.specs.Seamless.{seamless_file}
+use Rattle.seamless_edits.specs.Seamless.{seamless_frames}
+use Rattle.seamless_edits.specs.Seamless.{seamless_info}
+use Rattle.seamless_edits.specs.Seamless.{seamless_row_file}
 use Rattle.laying.proofs.{HoldLemmas.blocks-kept, LaidFileLemmas.laid-survey}
 use Rattle.laying.proofs.{LaidFrameLemmas.rows-length, LaidLemmas.first-there}
 use Rattle.laying.specs.KeptFields.{fields_of_head}

@@ -13,7 +13,10 @@ use Rattle.frame_header.specs.Fields.{ClassFields, HeaderFields, IsClass, SlotFi
 use Rattle.frame_header.specs.{HeaderBits.header_bits, Tables.{class_of, window_of}}
 use Rattle.frame_writer.specs.Frames.{Frame}
 use Rattle.info_header.specs.declared.fields.Info.{Info}
-use Rattle.join_edits.specs.Seamless.{begins_blank, part_brought, run_frame, sound_of}
+use Rattle.seamless_edits.specs.Seamless.{begins_blank}
+use Rattle.seamless_edits.specs.Seamless.{part_brought}
+use Rattle.seamless_edits.specs.Seamless.{run_frame}
+use Rattle.seamless_edits.specs.Seamless.{sound_of}
 use Rattle.laying.proofs.FittingFrameLemmas.{fitting-laid}
 use Rattle.laying.proofs.HoldLemmas.{blocks-kept, part-entries, part-needs, part-stream}
 use Rattle.laying.proofs.LaidFileLemmas.{laid-frames-stay, laid-stream, laid-survey}

@@ -11,9 +11,13 @@ use Rattle.exact_span.specs.declared.overlap.Overlap.{Overlap}
 use Rattle.frame_header.proofs.HeaderLemmas.{IsClass-class_of}
 use Rattle.frame_header.specs.Fields.{ClassFields, HeaderFields, IsClass}
 use Rattle.frame_header.specs.Tables.{class_of, window_of}
-use Rattle.join_edits.proofs.FramePlaceLemmas.{get-some, get-within}
-use Rattle.join_edits.specs.Seamless.{begins_blank, join_of_parts, later_parts, part_brought}
-use Rattle.join_edits.specs.Seamless.{part_from}
+use Rattle.seamless_edits.proofs.FramePlaceLemmas.{get-some}
+use Rattle.seamless_edits.proofs.FramePlaceLemmas.{get-within}
+use Rattle.seamless_edits.specs.Seamless.{begins_blank}
+use Rattle.seamless_edits.specs.Seamless.{join_of_parts}
+use Rattle.seamless_edits.specs.Seamless.{later_parts}
+use Rattle.seamless_edits.specs.Seamless.{part_brought}
+use Rattle.seamless_edits.specs.Seamless.{part_from}
 use Rattle.laying.{proofs.EntryByteLemmas.shaped, specs.Relaid.{FilePart, part_stream}}
 use Rattle.seam_laws.proofs.FollowerLemmas.{followers-on}
 use Rattle.seam_laws.proofs.SeamlessFrontLemmas.{begins-first, empty-frame, no-parts, none-zero}

@@ -12,7 +12,9 @@ use Rattle.exact_span.specs.PlayedPositions.{counted_positions}
 use Rattle.frame_header.specs.{Fields.ClassFields, Tables.window_of}
 use Rattle.frame_writer.specs.Frames.{Frame}
 use Rattle.info_header.specs.declared.fields.Info.{Info}
-use Rattle.join_edits.specs.Seamless.{part_brought, part_from, run_frame}
+use Rattle.seamless_edits.specs.Seamless.{part_brought}
+use Rattle.seamless_edits.specs.Seamless.{part_from}
+use Rattle.seamless_edits.specs.Seamless.{run_frame}
 use Rattle.laying.proofs.{HoldLemmas.blocks-kept, LaidLemmas.first-there, RelayLemmas.range-next}
 use Rattle.laying.specs.{Fits.IsFittingPlan, KeptFields.fields_of_head}
 use Rattle.laying.specs.Laid.{file_laid, file_with_first, frames_laid, info_laid, LaidPart}

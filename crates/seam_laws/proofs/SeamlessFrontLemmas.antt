@@ -10,7 +10,10 @@ use Rattle.cut_edits.specs.Exact.{survey_without_head}
 use Rattle.frame_header.proofs.HeaderLemmas.{header_in-header_bits, IsClass-class_of}
 use Rattle.frame_header.specs.Fields.{ClassFields, HeaderFields, IsClass, IsHeader, SlotFields}
 use Rattle.frame_header.specs.{HeaderBits.header_bits, Slots.all_slots, Tables.{area_of, class_of}}
-use Rattle.join_edits.specs.Seamless.{begins_blank, is_side_blank, sound_of, without_gains}
+use Rattle.seamless_edits.specs.Seamless.{begins_blank}
+use Rattle.seamless_edits.specs.Seamless.{is_side_blank}
+use Rattle.seamless_edits.specs.Seamless.{sound_of}
+use Rattle.seamless_edits.specs.Seamless.{without_gains}
 use Rattle.laying.proofs.{EntryByteLemmas.shaped, LaidLemmas.first-there}
 use Rattle.laying.{proofs.PlannedFrameLemmas.slot_among, specs.Needs.need_of}
 use Rattle.laying.specs.{Relaid.{FilePart, silent_lead_in}, Surveys.{AreWholeRows, IsWholeRow}}

@@ -11,11 +11,17 @@ use Rattle.exact_span.specs.PlayedPositions.{counted_played, counted_positions, 
 use Rattle.exact_span.specs.declared.{extensions.HeadCounts.HeadCounts, played.Played.Played}
 use Rattle.frame_header.specs.Fields.{ClassFields}
 use Rattle.join_edits.proofs.PartLemmas.{part-is}
-use Rattle.join_edits.proofs.RunPartLemmas.{AreWholeFiles, brought-alone, brought-many as file-many}
-use Rattle.join_edits.proofs.RunPartLemmas.{IsWholeFile, needs-are}
+use Rattle.seamless_edits.proofs.RunPartLemmas.{AreWholeFiles}
+use Rattle.seamless_edits.proofs.RunPartLemmas.{brought-alone}
+use Rattle.seamless_edits.proofs.RunPartLemmas.{brought-many as file-many}
+use Rattle.seamless_edits.proofs.RunPartLemmas.{IsWholeFile}
+use Rattle.seamless_edits.proofs.RunPartLemmas.{needs-are}
 use Rattle.join_edits.specs.Join.{join_part, join_parts, join_parts_from}
-use Rattle.join_edits.specs.Seamless.{part_brought, part_from, part_without_head, run_frame}
-use Rattle.join_edits.specs.Seamless.{sound_of}
+use Rattle.seamless_edits.specs.Seamless.{part_brought}
+use Rattle.seamless_edits.specs.Seamless.{part_from}
+use Rattle.seamless_edits.specs.Seamless.{part_without_head}
+use Rattle.seamless_edits.specs.Seamless.{run_frame}
+use Rattle.seamless_edits.specs.Seamless.{sound_of}
 use Rattle.laying.proofs.{HoldLemmas.all-length, NeedsFitLemmas.part-fits, PlacesLemmas.range-whole}
 use Rattle.laying.{proofs.SurveyFrameLemmas.{frames-of, survey-had}, specs.LaidFiles.stream_entry}
 use Rattle.laying.specs.{Needs.need_of, Relaid.{all_frames, FilePart, part_rows, part_stream}}

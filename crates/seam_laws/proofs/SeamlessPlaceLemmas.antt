@@ -7,9 +7,13 @@ use Rattle.std.specs.Prelude.{option_map, slice_get}
 use Rattle.exact_span.specs.PlayedPositions.{rest_of, samples_in}
 use Rattle.frame_header.specs.{Fields.ClassFields, Tables.samples_of}
 use Rattle.frame_header.specs.declared.version.Version.{Version, TheVariants.One}
-use Rattle.join_edits.proofs.FramePlaceLemmas.{get-some}
-use Rattle.join_edits.specs.Seamless.{join_of_parts, part_brought, part_without_head, run_lead_ins}
-use Rattle.join_edits.specs.Seamless.{seamless_stream, sound_of}
+use Rattle.seamless_edits.proofs.FramePlaceLemmas.{get-some}
+use Rattle.seamless_edits.specs.Seamless.{join_of_parts}
+use Rattle.seamless_edits.specs.Seamless.{part_brought}
+use Rattle.seamless_edits.specs.Seamless.{part_without_head}
+use Rattle.seamless_edits.specs.Seamless.{run_lead_ins}
+use Rattle.seamless_edits.specs.Seamless.{seamless_stream}
+use Rattle.seamless_edits.specs.Seamless.{sound_of}
 use Rattle.laying.specs.Relaid.{FilePart, part_stream, silent_lead_in}
 use Rattle.seam_laws.proofs.FollowerLemmas.{followers-on, get-drop}
 use Rattle.seam_laws.proofs.SeamlessFrontLemmas.{front-alike}

@@ -6,9 +6,16 @@ use Rattle.std.proofs.lemmas.List.{drop-append-le, drop-map, length-map, map-app
 use Rattle.chosen_streams.proofs.ExactLemmas.{frames-on, no-frames, one-on}
 use Rattle.cut_edits.proofs.SpanLemmas.{for_length}
 use Rattle.frame_header.specs.{Fields.ClassFields, Tables.window_of}
-use Rattle.join_edits.proofs.RunPartLemmas.{run-planned as files-planned}
-use Rattle.join_edits.specs.Seamless.{join_of_parts, later_parts, part_brought, part_from}
-use Rattle.join_edits.specs.Seamless.{run_lead_ins, run_parts, run_plan, seamless_stream, sound_of}
+use Rattle.seamless_edits.proofs.RunPartLemmas.{run-planned as files-planned}
+use Rattle.seamless_edits.specs.Seamless.{join_of_parts}
+use Rattle.seamless_edits.specs.Seamless.{later_parts}
+use Rattle.seamless_edits.specs.Seamless.{part_brought}
+use Rattle.seamless_edits.specs.Seamless.{part_from}
+use Rattle.seamless_edits.specs.Seamless.{run_lead_ins}
+use Rattle.seamless_edits.specs.Seamless.{run_parts}
+use Rattle.seamless_edits.specs.Seamless.{run_plan}
+use Rattle.seamless_edits.specs.Seamless.{seamless_stream}
+use Rattle.seamless_edits.specs.Seamless.{sound_of}
 use Rattle.laying.specs.NeedsFit.{own_choice}
 use Rattle.laying.specs.Relaid.{FilePart, part_stream, silent_lead_in, stream_with_lead_ins}
 use Rattle.seam_laws.proofs.OwnLeadInLemmas.{lead-where-wanted}

@@ -9,9 +9,17 @@ use Rattle.exact_span.specs.{Laws.last_point, declared.played.Played.Played}
 use Rattle.frame_header.specs.Fields.{ClassFields, HeaderFields, IsClass}
 use Rattle.frame_writer.specs.Frames.{Frame}
 use Rattle.info_header.specs.declared.fields.Info.{Info}
-use Rattle.join_edits.specs.Seamless.{delay_of_run, join_of_parts, later_parts, part_from}
-use Rattle.join_edits.specs.Seamless.{run_parts, run_plan, seamless_delay, seamless_file}
-use Rattle.join_edits.specs.Seamless.{seamless_frames, seamless_info, seamless_row_file}
+use Rattle.seamless_edits.specs.Seamless.{delay_of_run}
+use Rattle.seamless_edits.specs.Seamless.{join_of_parts}
+use Rattle.seamless_edits.specs.Seamless.{later_parts}
+use Rattle.seamless_edits.specs.Seamless.{part_from}
+use Rattle.seamless_edits.specs.Seamless.{run_parts}
+use Rattle.seamless_edits.specs.Seamless.{run_plan}
+use Rattle.seamless_edits.specs.Seamless.{seamless_delay}
+use Rattle.seamless_edits.specs.Seamless.{seamless_file}
+use Rattle.seamless_edits.specs.Seamless.{seamless_frames}
+use Rattle.seamless_edits.specs.Seamless.{seamless_info}
+use Rattle.seamless_edits.specs.Seamless.{seamless_row_file}
 use Rattle.laying.proofs.{HoldLemmas.{part-entries, part-stream}, SurveyFrameLemmas.frames-of}
 use Rattle.laying.specs.Laid.{frames_laid, info_laid, LaidPart, source_part}
 use Rattle.laying.specs.LaidFiles.{AreStreamEntries, laid_file, stream_entry}

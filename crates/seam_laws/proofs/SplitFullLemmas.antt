@@ -6,8 +6,12 @@ use Rattle.std.specs.{List.{enumerate_from, list_all}, Prelude.{slice_get, slice
 use Rattle.cut_edits.specs.Exact.{survey_without_head}
 use Rattle.exact_span.specs.Laws.{last_point}
 use Rattle.frame_header.specs.{Fields.{ClassFields, IsClass}, Tables.window_of}
-use Rattle.join_edits.specs.Seamless.{begins_blank, join_of_parts, later_parts, part_brought}
-use Rattle.join_edits.specs.Seamless.{part_from, seamless_stream}
+use Rattle.seamless_edits.specs.Seamless.{begins_blank}
+use Rattle.seamless_edits.specs.Seamless.{join_of_parts}
+use Rattle.seamless_edits.specs.Seamless.{later_parts}
+use Rattle.seamless_edits.specs.Seamless.{part_brought}
+use Rattle.seamless_edits.specs.Seamless.{part_from}
+use Rattle.seamless_edits.specs.Seamless.{seamless_stream}
 use Rattle.laying.specs.{Relaid.{FilePart, part_stream}, Surveys.CanBeRelaid}
 use Rattle.seam_laws.proofs.PiecePartLemmas.{IsPieceFile, own_leads, piece-stream, uncounted}
 use Rattle.seam_laws.proofs.PieceRunLemmas.{uncounted-joint}

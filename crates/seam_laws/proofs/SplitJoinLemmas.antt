@@ -14,8 +14,15 @@ use Rattle.cut_edits.specs.Chosen.{Chosen, cut_choice, laying_part, own_slots_pa
 use Rattle.exact_span.specs.Laws.{last_point}
 use Rattle.frame_header.specs.{Fields.ClassFields, Tables.window_of}
 use Rattle.join_edits.{proofs.PartLemmas.part-is, specs.Join.{join_part, join_parts_from}}
-use Rattle.join_edits.specs.Seamless.{join_of_parts, later_parts, part_brought, part_from}
-use Rattle.join_edits.specs.Seamless.{run_frame, run_parts, run_plan, seamless_stream, sound_of}
+use Rattle.seamless_edits.specs.Seamless.{join_of_parts}
+use Rattle.seamless_edits.specs.Seamless.{later_parts}
+use Rattle.seamless_edits.specs.Seamless.{part_brought}
+use Rattle.seamless_edits.specs.Seamless.{part_from}
+use Rattle.seamless_edits.specs.Seamless.{run_frame}
+use Rattle.seamless_edits.specs.Seamless.{run_parts}
+use Rattle.seamless_edits.specs.Seamless.{run_plan}
+use Rattle.seamless_edits.specs.Seamless.{seamless_stream}
+use Rattle.seamless_edits.specs.Seamless.{sound_of}
 use Rattle.laying.proofs.{HoldLemmas.all-length, NeedsFitLemmas.{AreKnown, part-fits, part-known}}
 use Rattle.laying.{proofs.SurveyFrameLemmas.frames-of, specs.Laid.{LaidPart, stream_laid}}
 use Rattle.laying.specs.{LaidFiles.stream_entry, Needs.need_of, NeedsFit.own_choice}

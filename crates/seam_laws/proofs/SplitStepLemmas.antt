@@ -9,7 +9,9 @@ use Rattle.chosen_streams.proofs.CaseLemmas.{stream-is}
 use Rattle.commands.specs.SingleOutput.{most_frames}
 use Rattle.exact_span.specs.Laws.{last_point}
 use Rattle.frame_header.specs.{Fields.{ClassFields, IsClass}, Tables.window_of}
-use Rattle.join_edits.specs.Seamless.{begins_blank, part_brought, seamless_file}
+use Rattle.seamless_edits.specs.Seamless.{begins_blank}
+use Rattle.seamless_edits.specs.Seamless.{part_brought}
+use Rattle.seamless_edits.specs.Seamless.{seamless_file}
 use Rattle.laying.proofs.{LaidLemmas.first-there, SurveyFrameLemmas.survey-had}
 use Rattle.laying.specs.{Laid.LaidPart, Needs.need_of, Relaid.FilePart, Surveys.CanBeRelaid}
 use Rattle.seam_laws.proofs.FollowerLemmas.{get-drop}

@@ -6,8 +6,11 @@ use Rattle.cut_edits.specs.Exact.{survey_without_head}
 use Rattle.exact_span.specs.declared.played.Played.{Played}
 use Rattle.frame_header.specs.Fields.{ClassFields}
 use Rattle.join_edits.specs.Join.{join_parts}
-use Rattle.join_edits.specs.Seamless.{delay_of_run, join_of_parts, last_part, run_parts}
-use Rattle.join_edits.specs.Seamless.{seamless_file}
+use Rattle.seamless_edits.specs.Seamless.{delay_of_run}
+use Rattle.seamless_edits.specs.Seamless.{join_of_parts}
+use Rattle.seamless_edits.specs.Seamless.{last_part}
+use Rattle.seamless_edits.specs.Seamless.{run_parts}
+use Rattle.seamless_edits.specs.Seamless.{seamless_file}
 use Rattle.laying.specs.Relaid.{FilePart, part_stream}
 use Rattle.outside.specs.Files.{AreOctets, Contents}
 use Rattle.seam_laws.specs.{PlayedParts.input_played, SeamlessLaws.{is_empty_frame, IsSamePosition}}

@@ -8,8 +8,13 @@ use Rattle.cue_sheet.specs.declared.place.Place.{Place}
 use Rattle.exact_span.specs.{PlayedPositions.samples_in, declared.played.Played.Played}
 use Rattle.frame_header.specs.{Fields.ClassFields, Tables.window_of}
 use Rattle.join_edits.specs.Join.{join_parts}
-use Rattle.join_edits.specs.Seamless.{join_of_parts, part_brought, part_without_head, run_lead_ins}
-use Rattle.join_edits.specs.Seamless.{seamless_file, seamless_stream, sound_of}
+use Rattle.seamless_edits.specs.Seamless.{join_of_parts}
+use Rattle.seamless_edits.specs.Seamless.{part_brought}
+use Rattle.seamless_edits.specs.Seamless.{part_without_head}
+use Rattle.seamless_edits.specs.Seamless.{run_lead_ins}
+use Rattle.seamless_edits.specs.Seamless.{seamless_file}
+use Rattle.seamless_edits.specs.Seamless.{seamless_stream}
+use Rattle.seamless_edits.specs.Seamless.{sound_of}
 use Rattle.laying.specs.Laid.{file_laid, frames_laid, info_laid, LaidPart, stream_laid}
 use Rattle.laying.specs.{LaidFiles.laid_file, Relaid.{FilePart, part_stream}, Written.front_blocks}
 use Rattle.outside.specs.Files.{Contents}

@@ -1,21 +1,19 @@
 -- A clash of names, faults met before the output is created, and the second pass.
-use Rattle.std.proofs.Common.{append-nil, ap₂, arith, length, List, map, None, refl, rules}
-use Rattle.std.proofs.Common.{string_bytes, sym, ℕ, [], ◌∙◌, ◌∷◌, ◌≡◌, ◌≤◌}
-use Rattle.std.{proofs.lemmas.{List.length-map, Result.IfErr-weaker}, specs.Prelude.replicate}
+use Rattle.std.proofs.Common.{ap, append-nil, ap₂, arith, length, List, map, None, refl, rules}
+use Rattle.std.proofs.{Common.{string_bytes, sym, [], ◌∙◌, ◌∷◌, ◌≡◌, ◌≤◌}, lemmas.List.length-map}
+use Rattle.std.proofs.lemmas.Result.{IfErr-weaker}
 use Rattle.commands.proofs.MakeLemmas.{all_left, clash_left, early_left, one_done, one_streams}
 use Rattle.commands.{proofs.RefusingLemmas.err_with, specs.Command.clash_from}
 use Rattle.commands.specs.SingleOutput.{IsMaking, most_frames}
 use Rattle.commands.specs.declared.fault.EditFault.TheVariants.{Memory}
-use Rattle.join_edits.proofs.BehindLemmas.{parts-whole, rows-whole, within-whole}
 use Rattle.join_edits.proofs.InputLemmas.{found-input, inputs-join, join-late}
 use Rattle.join_edits.proofs.SourceLemmas.{inputs-hold, inputs-making, join-numbers, ready-written}
-use Rattle.join_edits.proofs.{SourceLemmas.written-making, join_file.join.Goals.In_ok-surveys}
-use Rattle.join_edits.specs.Inputs.{AreJoinInputs, CanInputsBeJoined, told_contents}
-use Rattle.join_edits.specs.{Join.join_task, Laying.IsJoinReady}
-use Rattle.join_edits.specs.RestOfInputs.{CanJoinBeWritten, join_bytes}
-use Rattle.join_edits.specs.declared.planned.JoinWork.{JoinWork}
+use Rattle.join_edits.proofs.{SourceLemmas.written-making, join_file.join.Goals.In_ok-sources}
+use Rattle.join_edits.specs.Inputs.{AreJoinInputs, CanInputsBeJoined, input_names, input_view}
+use Rattle.join_edits.specs.{Inputs.InputFields, Join.join_task}
+use Rattle.join_edits.specs.Laying.{CanJoinBeWritten, IsJoinReady, join_bytes}
+use Rattle.join_edits.specs.declared.{inputs.JoinInput.JoinInput, planned.JoinWork.JoinWork}
 use Rattle.outside.specs.{Files.Files, Seen.seen_folder}
-use Rattle.sync_survey.specs.{Faults.{survey_view, SurveyFields}, declared.surveys.Survey.Survey}
 use Rattle.join_edits.proofs.join_file.join.Given as given
 use Rattle.join_edits.proofs.join_file.join.Goals as goal
 
@@ -32,13 +30,13 @@ returns-in-Some g c =
       counts = search rules;
     }
 
-pub returns-in_err-surveys : goal.returns-in_err-surveys
-returns-in_err-surveys g c =
+pub returns-in_err-sources : goal.returns-in_err-sources
+returns-in_err-sources g c =
     let names = map string_bytes c.args.inputs.now in
     let many = length c.args.inputs.now in
     let output = c.args.output.now in
     let none = sym c.clash.ensures ∙ c.in_default.is in
-    let met = c.in_err-surveys.ensures in
+    let met = c.in_err-sources.ensures in
     record {
       done = search rules;
       left = err_with _ _ c.from_residual.ensures.1
@@ -49,66 +47,64 @@ returns-in_err-surveys g c =
       counts = search rules;
     }
 
-module _ (g : given.Over) (c : In_ok-surveys g) where
+module _ (g : given.Over) (c : In_ok-sources g) where
   abbrev old : Files
   old = (g.D.Folder.seen c.args.folder.now).files
 
-  abbrev names : List (List ℕ)
-  names = map string_bytes c.args.inputs.now
+  abbrev inputs : List InputFields
+  inputs = map input_view c.in_ok-sources.sources.items
 
-  abbrev ss : List SurveyFields
-  ss = map survey_view c.in_ok-surveys.surveys.items
+  are : AreJoinInputs None most_frames old inputs
+  are = c.in_ok-sources.ensures.inputs
 
-  are : AreJoinInputs None most_frames old names ss
-  are = c.in_ok-surveys.ensures.inputs
+  named : input_names inputs ≡ map string_bytes c.args.inputs.now
+  named = c.in_ok-sources.ensures.names
 
-  some : 1 ≤ length names
-  some = omega (arith, c.requires.some, length-map c.args.inputs.now string_bytes)
+  long : length inputs ≡ length c.args.inputs.now
+  long = omega (
+    arith,
+    ap length named,
+    length-map inputs (λ (i : InputFields). i.name),
+    length-map c.args.inputs.now string_bytes,
+  )
 
-  can : CanInputsBeJoined ss
-  can = grind (arith, inputs-join, are, some, length-map)
+  some : 1 ≤ length inputs
+  some = omega (arith, c.requires.some, long)
+
+  can : CanInputsBeJoined inputs
+  can = inputs-join old inputs are some (omega (arith, c.requires.few, long))
+
+  none : clash_from (c.args.output.now ∷ []) 0 (input_names inputs) ≡ None
+  none = rw named (sym c.clash.ensures ∙ c.in_default.is)
 
   -- what is written from the inputs, given what is known of them after the survey
-  module _ (mid : Files) (known : List Survey) (same : mid ≡ old)
-      (items : known ≡ c.in_ok-surveys.surveys.items) (work : JoinWork)
-      (ready : IsJoinReady (map survey_view known) work) where
-    now-ready : IsJoinReady ss work
-    now-ready = rw items at ready
+  module _ (mid : Files) (known : List JoinInput) (same : mid ≡ old)
+      (items : known ≡ c.in_ok-sources.sources.items) (work : JoinWork)
+      (ready : IsJoinReady inputs work) where
+    writable : CanJoinBeWritten c.args.output.now mid (map input_view known) work
+    writable = rw (same, items) (ready-written c.args.output.now old inputs work none are ready)
 
-    none : clash_from (c.args.output.now ∷ []) 0 names ≡ None
-    none = sym c.clash.ensures ∙ c.in_default.is
-
-    writable : CanJoinBeWritten c.args.output.now mid names (map survey_view known)
-        (replicate 64 0) work
-    writable =
-        rw (same, items)
-        (ready-written c.args.output.now old names ss (replicate 64 0) work none are now-ready
-        (within-whole 64 ss can.few) (rows-whole 64 ss can.few))
-
-    making : IsMaking (join_task names)
-        (join_bytes mid names (map survey_view known) (replicate 64 0) work) old
-    making =
-        rw (same, items)
-        (written-making c.args.output.now old names ss (replicate 64 0) work some none are now-ready
-        (parts-whole 64 (told_contents old) names ss can.few))
+    making : IsMaking (join_task (map string_bytes c.args.inputs.now))
+        (join_bytes mid (map input_view known) work) old
+    making = rw (same, items, ← named)
+        (written-making c.args.output.now old inputs work some none are ready)
 
 pub prepare-requires : goal.prepare-requires
-prepare-requires g c =
-    rw c.as_slice-known.ensures.value (can g (goal.at.prepare-requires g c).In_ok-surveys)
+prepare-requires g c = rw c.deref.ensures.value (can g (goal.at.prepare-requires g c).In_ok-sources)
 
 pub returns-in_err-work : goal.returns-in_err-work
 returns-in_err-work g c =
     let names = map string_bytes c.args.inputs.now in
-    let at = (goal.at.returns-in_err-work g c).In_ok-surveys in
-    let none = sym c.clash.ensures ∙ c.in_default.is in
+    let at = (goal.at.returns-in_err-work g c).In_ok-sources in
     let stays =
-    ap₂ seen_folder c.survey_all.ensures.reads.files c.in_ok-surveys.ensures.reads.done in
-    let found = rw append-nil at
-    (found-input most_frames names [] _ _ _ c.in_ok-surveys.ensures.inputs (some g at) stays) in
+    ap₂ seen_folder c.survey_all.ensures.reads.files c.in_ok-sources.ensures.reads.done in
+    let found = rw (append-nil, named g at) at
+    (found-input most_frames (inputs g at) [] _ _ (are g at) (some g at) stays) in
     record {
       done = search rules;
       left = err_with _ _ c.from_residual-in_err-work.ensures.1
-          (early_left (join_task names) c.args.output.now none (join-late names) _ _ Memory found);
+          (early_left (join_task names) c.args.output.now
+          (sym c.clash.ensures ∙ c.in_default.is) (join-late names) _ _ Memory found);
       numbers = search rules;
       names = search rules;
       streams = search rules;
@@ -117,35 +113,45 @@ returns-in_err-work g c =
 
 pub write_joined-requires-clause-can : goal.write_joined-requires-clause-can
 write_joined-requires-clause-can g c =
-    let at = (goal.at.write_joined-requires-clause-can g c).In_ok-surveys in
-    writable g at _ _ c.survey_all.ensures.reads.files c.as_slice-known.ensures.value _
-    c.in_ok-work.ensures
+    let at = (goal.at.write_joined-requires-clause-can g c).In_ok-sources in
+    writable g at _ _ c.survey_all.ensures.reads.files c.deref-2.ensures.value _
+    (rw c.deref.ensures.value at c.in_ok-work.ensures)
 
 pub returns : goal.returns
 returns g c =
     let names = map string_bytes c.args.inputs.now in
     let output = c.args.output.now in
     let many = length c.args.inputs.now in
-    let at = (goal.at.returns g c).In_ok-surveys in
-    let none = sym c.clash.ensures ∙ c.in_default.is in
+    let at = (goal.at.returns g c).In_ok-sources in
+    let free = sym c.clash.ensures ∙ c.in_default.is in
     let mid = g.D.Folder.seen c.survey_all.new.folder in
     let same =
-    ap₂ seen_folder c.survey_all.ensures.reads.files c.in_ok-surveys.ensures.reads.done in
-    let made = making g at _ _ c.survey_all.ensures.reads.files c.as_slice-known.ensures.value _
-    c.in_ok-work.ensures in
+    ap₂ seen_folder c.survey_all.ensures.reads.files c.in_ok-sources.ensures.reads.done in
+    let made = making g at _ _ c.survey_all.ensures.reads.files c.deref-2.ensures.value _
+    (rw c.deref.ensures.value at c.in_ok-work.ensures) in
     let wrote = c.write_joined.ensures in
     let result = c.write_joined.result in
+    let named-now : input_names (map input_view c.deref-2.result.now) ≡ names =
+    rw c.deref-2.ensures.value (named g at) in
+    let long-now : length c.deref-2.result.now ≡ many =
+    omega (
+      arith,
+      long g at,
+      ap length c.deref-2.ensures.value,
+      length-map c.in_ok-sources.sources.items input_view,
+    ) in
     record {
-      done = one_done (join_task names) output none _ _ mid _ same made wrote.touches result
-          wrote.written wrote.done;
-      left = all_left (join_task names) output none _ _ mid _ same made wrote.touches refl result
-          wrote.left;
+      done = one_done (join_task names) output free _ _ mid _ same made wrote.touches result
+          (rw named-now at wrote.written) wrote.done;
+      left = all_left (join_task names) output free _ _ mid _ same made wrote.touches refl result
+          (rw named-now at wrote.left);
       numbers = IfErr-weaker result _ _
           (λ fault. join-numbers output names many fault
-          (sym (length-map c.args.inputs.now string_bytes))) wrote.numbers;
+          (sym (length-map c.args.inputs.now string_bytes))) (rw long-now at wrote.numbers);
       names = search rules;
-      streams = one_streams (join_task names) output none _ _
-          (inputs-making (old g at) names _ (some g at) (are g at))
-          (inputs-hold output _ names _ none (can g at) (are g at)) result;
+      streams = one_streams (join_task names) output free _ _
+          (rw (named g at) at (inputs-making (old g at) (inputs g at) (some g at) (are g at)))
+          (rw (named g at) at
+          (inputs-hold output (old g at) (inputs g at) (none g at) (can g at) (are g at))) result;
       counts = search rules;
     }

@@ -1,18 +1,15 @@
 -- Input by input.
-use Rattle.std.proofs.Common.{ap, arith, drop, length, List, map, refl, rules, string_bytes, sym}
-use Rattle.std.proofs.Common.{take, ℕ, ◌+◌, ◌-◌, ◌∙◌}
+use Rattle.std.proofs.Common.{ap, arith, drop, length, List, map, refl, rules, sym, take, ℕ, ◌+◌}
+use Rattle.std.proofs.Common.{◌-◌, ◌∙◌}
 use Rattle.std.proofs.lemmas.List.{drop-drop, drop_all, length-drop, length-map, take_rest}
-use Rattle.std.proofs.lemmas.Slice.Zip.{AllZip-long}
 use Rattle.frame_writer.specs.Frames.{Frame}
-use Rattle.join_edits.proofs.StepLemmas.{both-fit, cause-named, laid-all, laid-none, next-class}
-use Rattle.join_edits.proofs.StepLemmas.{next-laid, next-part, next-source, next-within}
-use Rattle.join_edits.proofs.StepLemmas.{source-ready, within-long}
-use Rattle.join_edits.proofs.laid.lay_all.Goals.{After-finish}
-use Rattle.join_edits.specs.RestOfInputs.{placed_rest_frames}
+use Rattle.join_edits.proofs.StepLemmas.{both-fit, cause-named, laid-all, laid-none, named-first}
+use Rattle.join_edits.proofs.StepLemmas.{next-class, next-laid, next-part, next-source, next-within}
+use Rattle.join_edits.proofs.{StepLemmas.source-ready, laid.lay_all.Goals.After-finish}
+use Rattle.join_edits.specs.{Inputs.input_view, Laying.placed_frames}
 use Rattle.laying.proofs.EndLemmas.{lays-prefix, lays-written, new-behind, part-prefix}
 use Rattle.laying.specs.Passing.{LaysFrames, writing_in}
 use Rattle.outside.{proofs.PassLemmas.cause_later, specs.Files.Files}
-use Rattle.sync_survey.specs.Faults.{survey_view}
 use Rattle.join_edits.proofs.laid.lay_all.Given as given
 use Rattle.join_edits.proofs.laid.lay_all.Goals as goal
 
@@ -25,21 +22,15 @@ loop-i-init g c = record {
   counts = refl;
 }
 
-pub known_at-survey-requires : goal.known_at-survey-requires
-known_at-survey-requires g c = grind (arith, AllZip-long, length-map)
-
-pub from_at-requires : goal.from_at-requires
-from_at-requires g c = grind (arith, AllZip-long, within-long, length-map)
-
 pub lay_from-requires-clause-stands : goal.lay_from-requires-clause-stands
 lay_from-requires-clause-stands g c =
-    let left = sym (take_rest c.args.laid.now.placed.now c.loop-i.at) in
+    let left = sym (take_rest c.args.placed.now c.loop-i.at) in
     let laid = c.loop-i.invariant.laid in
     record {
       ready = source-ready _ _ _
-          (next-source c.name_at.ensures c.known_at-survey.ensures c.from_at.ensures left laid)
+          (next-source c.input_at-input.ensures left laid)
           laid.target c.length.ensures (c.clear.ensures.fed _ _);
-      class = next-class c.name_at.ensures c.known_at-survey.ensures c.from_at.ensures left laid;
+      class = next-class c.input_at-input.ensures left laid;
       unsettled = laid.unsettled;
     }
 
@@ -48,8 +39,8 @@ lay_from-requires-clause-within g c = grind (arith, next-within, take_rest)
 
 pub lay_from-requires-clause-fits : goal.lay_from-requires-clause-fits
 lay_from-requires-clause-fits g c =
-    (both-fit c.name_at.ensures c.known_at-survey.ensures c.from_at.ensures
-    (sym (take_rest c.args.laid.now.placed.now c.loop-i.at)) c.loop-i.invariant.laid).0
+    (both-fit c.input_at-input.ensures
+    (sym (take_rest c.args.placed.now c.loop-i.at)) c.loop-i.invariant.laid).0
 
 pub returns-in-Err : goal.returns-in-Err
 returns-in-Err g c =
@@ -57,11 +48,9 @@ returns-in-Err g c =
     let pass = c.args.first.now.pass in
     let seen = g.D.Folder.seen in
     let old = (seen c.args.folder.now).files in
-    let frames = placed_rest_frames old (map string_bytes c.args.sources.now.inputs.now)
-    (map survey_view c.args.sources.now.surveys.now)
-    c.args.laid.now.froms.now c.args.laid.now.placed.now in
-    let part = next-part c.name_at.ensures c.known_at-survey.ensures c.from_at.ensures
-    (sym (take_rest c.args.laid.now.placed.now c.loop-i.at)) c.loop-i.invariant.laid
+    let frames = placed_frames old (map input_view c.args.inputs.now) c.args.placed.now in
+    let part = next-part c.input_at-input.ensures
+    (sym (take_rest c.args.placed.now c.loop-i.at)) c.loop-i.invariant.laid
     c.requires.join.apart (seen c.lay_from.new.folder).files c.in-Err.ensures.gives.part in
     let sofar = c.loop-i.invariant.laid.lays.lays in
     record {
@@ -71,10 +60,10 @@ returns-in-Err g c =
       done = tt;
       cause =
           record {
-            within = omega
-                (arith, c.loop-i-test.true, length-map c.args.sources.now.inputs.now string_bytes);
+            within = grind (arith, c.loop-i-test.true, length-map);
             size = _;
-            cause = cause-named _ c.loop-i.i _ _ _ _ _ _ _ _ c.name_at.ensures
+            cause = cause-named (map input_view c.args.inputs.now) c.loop-i.i _ _ _ _ _ _ _ _
+                c.input_at-input.ensures
                 (cause_later _ _ _ pass.output.now sofar.passed _ _ _ c.in-Err.fault sofar.files
                 c.loop-i.invariant.counts c.in-Err.ensures.gives.cause);
           };
@@ -82,7 +71,7 @@ returns-in-Err g c =
 
 pub loop-i-preserved : goal.loop-i-preserved
 loop-i-preserved g c =
-    let placed = c.args.laid.now.placed.now in
+    let placed = c.args.placed.now in
     let at = c.loop-i.at in
     let count = c.in-Ok.count in
     let left = take_rest placed at in
@@ -96,7 +85,7 @@ loop-i-preserved g c =
         length-drop at placed,
         c.loop-i.invariant.within,
       );
-      laid = next-laid c.name_at.ensures c.known_at-survey.ensures c.from_at.ensures (sym left)
+      laid = next-laid c.input_at-input.ensures (sym left)
           c.loop-i.invariant.laid c.requires.join.apart
           (g.D.Folder.seen c.lay_from.new.folder).files (writing_in c.lay_from.new.buffers)
           (drop (at + count) placed) more c.in-Ok.ensures.gives.lays c.in-Ok.ensures.stands.class
@@ -110,16 +99,14 @@ module _ (g : given.Over) (c : After-finish g) where
   old = (g.D.Folder.seen c.args.folder.now).files
 
   abbrev frames : List ℕ → List Frame
-  frames = placed_rest_frames old (map string_bytes c.args.sources.now.inputs.now)
-      (map survey_view c.args.sources.now.surveys.now)
-      c.args.laid.now.froms.now c.args.laid.now.placed.now
+  frames = placed_frames old (map input_view c.args.inputs.now) c.args.placed.now
 
   laid_all : LaysFrames c.args.first.now.pass.input.now c.args.first.now.pass.output.now frames
       (writing_in c.args.buffers.now) (writing_in c.loop-i.buffers) old
       (g.D.Folder.seen c.loop-i.folder).files
   laid_all =
-      laid-all (drop_all c.loop-i.i (map string_bytes c.args.sources.now.inputs.now)
-      (omega (arith, c.loop-i-test.false, length-map c.args.sources.now.inputs.now string_bytes)))
+      laid-all (drop_all c.loop-i.i (map input_view c.args.inputs.now)
+      (omega (arith, c.loop-i-test.false, length-map c.args.inputs.now input_view)))
       c.loop-i.invariant.laid
 
 pub returns-in-Ok-finish : goal.returns-in-Ok-finish
@@ -153,9 +140,10 @@ returns-in-Err-finish g c =
       done = tt;
       cause =
           record {
-            within = omega (arith, ap length c.requires.join.names);
+            within = named-first c.requires.join.are;
             size = _;
-            cause = cause-named _ 0 _ _ _ _ _ _ _ _ c.requires.join.names
+            cause =
+                cause-named (map input_view c.args.inputs.now) 0 _ _ _ _ _ _ _ _ c.requires.join.are
                 (cause_later _ _ _ pass.output.now sofar.passed _ _ _ c.in-Err-finish.fault
                 sofar.files c.loop-i.invariant.counts c.in-Err-finish.ensures.cause);
           };

@@ -3,13 +3,14 @@ use Rattle.std.proofs.{Common.{ap, arith, map, subst, sym, ◌∙◌, ◌≡◌}
 use Rattle.std.specs.Prelude.{slice_get, Some}
 use Rattle.info_header.specs.InfoFrame.{info_frame}
 use Rattle.join_edits.proofs.PlanLemmas.{alike-first, can-some, plan-few}
+use Rattle.join_edits.specs.Inputs.{input_view, InputFields}
 use Rattle.laying.specs.{Written.{info_for, plain_info}, declared.info.Kept.Kept}
 use Rattle.slot_plan.specs.declared.needs.Placed.{Placed}
-use Rattle.sync_survey.specs.{Faults.{survey_view, SurveyFields}, Row.Row}
+use Rattle.sync_survey.specs.Row.{Row}
 use Rattle.join_edits.proofs.planned.prepare.Goals as goal
 
-pub known_at-first-requires : goal.known_at-first-requires
-known_at-first-requires c = grind (arith, can-some, length-map)
+pub input_at-requires : goal.input_at-requires
+input_at-requires c = grind (arith, can-some, length-map)
 
 pub info_bytes-info-requires-clause-within : goal.info_bytes-info-requires-clause-within
 info_bytes-info-requires-clause-within c = grind (arith, alike-first)
@@ -19,20 +20,22 @@ info_bytes-info-requires-clause-few c = grind (arith, plan-few)
 
 pub returns : goal.returns
 returns c =
-    let s = survey_view c.known_at-first.result.now in
+    let i = input_view c.input_at.result.now in
     record {
       joined = c.requires;
       plan = c.in_ok-plan.ensures;
       info = λ frames slots t is.
-          let found = rw c.known_at-first.ensures at is in
-          let same : s ≡ t = cc in
-          subst (λ (x : SurveyFields). (first : Row) → slice_get x.frames 0 ≡ Some first
-          → c.info_bytes-info.result.items ≡ info_frame first.header (plain_info x.class frames))
+          let found = rw c.input_at.ensures at is in
+          let same : i ≡ t = cc in
+          subst (λ (x : InputFields). (first : Row) → slice_get x.survey.frames 0 ≡ Some first
+          → c.info_bytes-info.result.items
+          ≡ info_frame first.header (plain_info x.survey.class frames))
           same
           (λ first found.
           c.info_bytes-info.ensures first frames found
           (slots ∙ sym (ap (map (λ (p : Placed). p.slot)) c.placed.ensures))
           ∙ ap (λ (n : Kept).
-          info_frame first.header (info_for s.class frames n.quality n.extension)) c.none.ensures);
-      fresh = rw c.known_at-first.ensures (rw c.class.ensures at c.in_ok-buffers.ensures);
+          info_frame first.header (info_for i.survey.class frames n.quality n.extension))
+          c.none.ensures);
+      fresh = rw c.input_at.ensures (rw c.class.ensures at c.in_ok-buffers.ensures);
     }

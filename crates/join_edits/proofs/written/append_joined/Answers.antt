@@ -1,13 +1,13 @@
 -- The ID3v2 blocks of the first input and the Info frame, the frames of all inputs, and then what
 -- waits.
-use Rattle.std.proofs.Common.{ap, append-nil, arith, flat_map, length, List, map, refl, rules}
-use Rattle.std.{proofs.Common.{string_bytes, sym, ℕ, [], ◌++◌, ◌∷◌, ◌≡◌, ◌≢◌}, specs.List.concat}
+use Rattle.std.proofs.Common.{append-nil, arith, flat_map, length, List, map, refl, rules, sym, ℕ}
+use Rattle.std.{proofs.Common.{[], ◌++◌, ◌∷◌, ◌≡◌, ◌≢◌}, specs.List.concat}
 use Rattle.cut_edits.proofs.LaidPassLemmas.{appends-as_prefix}
 use Rattle.frame_writer.specs.Frames.{bytes_of_frames}
 use Rattle.join_edits.proofs.SourceLemmas.{first-source, sources-beside, told-beside}
-use Rattle.join_edits.proofs.StepLemmas.{cause-named, source-ready, told_frames}
+use Rattle.join_edits.proofs.StepLemmas.{cause-named, named-first, source-ready, told_frames}
 use Rattle.join_edits.proofs.written.append_joined.Goals.{After-append_front}
-use Rattle.join_edits.specs.RestOfInputs.{join_bytes}
+use Rattle.join_edits.specs.{Inputs.{input_view, InputFields}, Laying.join_bytes}
 use Rattle.laying.specs.{Relaid.relaid_frames, Written.front_blocks}
 use Rattle.outside.proofs.BufferOutputLemmas.{err_at, passed_there}
 use Rattle.outside.proofs.FilesLemmas.{appended_there, appended_touches, touches_none}
@@ -17,7 +17,7 @@ use Rattle.outside.specs.Files.{Files, Holds, OnlyTouches}
 use Rattle.outside.specs.Pass.{AppendsMadeBytes, WritesMadeBytes, WritesPrefix}
 use Rattle.outside.specs.declared.pass.PassFault.{PassFault}
 use Rattle.slot_plan.specs.{Plans.entries, declared.needs.Placed.Placed}
-use Rattle.sync_survey.specs.Faults.{survey_view, SurveyFields}
+use Rattle.sync_survey.specs.Faults.{survey_view}
 use Rattle.join_edits.proofs.written.append_joined.Given as given
 use Rattle.join_edits.proofs.written.append_joined.Goals as goal
 
@@ -29,22 +29,18 @@ module _ (g : given.Over) (c : After-append_front g) where
   abbrev old : Files
   old = (g.D.Folder.seen c.args.folder.now).files
 
-  abbrev names : List (List ℕ)
-  names = map string_bytes c.args.inputs.now
-
-  abbrev known : List SurveyFields
-  known = map survey_view c.args.surveys.now
+  abbrev inputs : List InputFields
+  inputs = map input_view c.args.inputs.now
 
   abbrev whole : List ℕ → List ℕ
-  whole = join_bytes old names known c.args.froms.now c.args.work.now
+  whole = join_bytes old inputs c.args.work.now
 
   abbrev front : List ℕ → List ℕ
   front file =
       concat (front_blocks file (survey_view c.args.first.now.survey.now)) ++ c.as_slice.result.now
 
   abbrev frames : Files → List Placed → List ℕ
-  frames mid placed =
-      bytes_of_frames (relaid_frames (told_frames mid names known c.args.froms.now) placed)
+  frames mid placed = bytes_of_frames (relaid_frames (told_frames mid inputs) placed)
 
   all : (mid : Files) (placed : List Placed) → placed ≡ entries c.args.work.now.plan
       → OnlyTouches (c.args.first.now.pass.output.now ∷ []) old mid
@@ -102,9 +98,10 @@ returns-in-Err g c =
           (λ file holds. sym (all g at first placed refl none file holds)) c.in-Err.ensures.prefix;
       done = tt;
       cause = record {
-        within = omega (arith, ap length c.requires.join.names);
+        within = named-first c.requires.join.are;
         size = _;
-        cause = cause-named _ 0 _ _ _ _ _ _ _ _ c.requires.join.names c.in-Err.ensures.cause;
+        cause = cause-named (map input_view c.args.inputs.now) 0 _ _ _ _ _ _ _ _
+            c.requires.join.are c.in-Err.ensures.cause;
       };
     }
 
@@ -113,11 +110,12 @@ lay_all-requires-clause-join g c =
     let join = c.requires.join in
     let files = c.in_default.ensures.written.files in
     record {
-      names = join.names;
-      known = join.known;
+      from = join.from;
+      later = join.later;
+      are = join.are;
       length = join.length;
       apart = join.apart;
-      sources = sources-beside _ _ _ _ _ _ (rw files (appended_touches _ _ _)) join.sources;
+      sources = sources-beside _ _ _ _ _ (rw files (appended_touches _ _ _)) join.sources;
       target = rw files (appended_there _ _ _);
     }
 
@@ -165,9 +163,9 @@ returns-in-Err-finish g c =
       prefix = writes_end c.args.first.now.pass (whole g w) rest c.in-Err-finish.ensures.prefix;
       done = tt;
       cause = record {
-        within = omega (arith, ap length c.requires.join.names);
+        within = named-first c.requires.join.are;
         size = _;
-        cause = cause-named _ 0 _ _ _ _ _ _ _ _ c.requires.join.names
+        cause = cause-named (map input_view c.args.inputs.now) 0 _ _ _ _ _ _ _ _ c.requires.join.are
             (cause_later _ _ _ c.args.first.now.pass.output.now front.bytes _ _ _
             c.in-Err-finish.fault front.files c.in_default.ensures.done
             (cause_behind frames.written _ _ _ _ frames.done c.in-Err-finish.fault

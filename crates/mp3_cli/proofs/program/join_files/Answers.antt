@@ -6,10 +6,11 @@ pub returns-then-seamless-clause-ends : goal.returns-then-seamless-clause-ends
 returns-then-seamless-clause-ends g c =
     let is = c.join_seamless.ensures in
     rw c.if-seamless.true
-    (told_ends _ c.join_seamless.result _ _ _ _ is.done is.left is.says is.numbers is.names)
+    (told_ends _ c.join_seamless.result _ _ _ _
+    is.run.done is.run.left is.says is.run.numbers is.run.names)
 
 pub returns-then-seamless-clause-streams : goal.returns-then-seamless-clause-streams
-returns-then-seamless-clause-streams g c = rw c.if-seamless.true c.join_seamless.ensures.streams
+returns-then-seamless-clause-streams g c = rw c.if-seamless.true c.join_seamless.ensures.run.streams
 
 pub returns-else-seamless-clause-ends : goal.returns-else-seamless-clause-ends
 returns-else-seamless-clause-ends g c =

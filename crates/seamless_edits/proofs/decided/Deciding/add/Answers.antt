@@ -1,0 +1,157 @@
+-- What becomes of one more input.
+use Rattle.std.proofs.Common.{ap, arith, drop, false, get_or, IfSome, length, length-append, List}
+use Rattle.std.proofs.Common.{map, None, Some, sym, take, ℕ, ◌++◌, ◌-◌, ◌<◌, ◌∙◌, ◌≡◌}
+use Rattle.std.proofs.lemmas.{List.{drop_at, length-map, take_all, take_at}, Slice.Zip.AllZip-long}
+use Rattle.std.specs.Prelude.{slice_get}
+use Rattle.exact_span.specs.PlayedPositions.{AreCounted, counted_positions}
+use Rattle.join_edits.specs.Inputs.{input_view, InputFields}
+use Rattle.laying.specs.Needs.{need_of}
+use Rattle.seamless_edits.proofs.DecideAllLemmas.{all-of-one, get-here, input-few, input-of}
+use Rattle.seamless_edits.proofs.DecideAllLemmas.{is-next}
+use Rattle.seamless_edits.proofs.{DecideStepLemmas.{decided-step, IsInputOf}, KnownLemmas.get-at}
+use Rattle.seamless_edits.proofs.decided.Deciding.add.Goals.{After-brought-input}
+use Rattle.seamless_edits.specs.Deciding.{input_needs, IsNextInput}
+use Rattle.seamless_edits.specs.declared.beginnings.Beginning.{Beginning}
+use Rattle.slot_plan.specs.declared.needs.Need.{Need}
+use Rattle.sync_survey.specs.Faults.{SurveyFields}
+use Rattle.seamless_edits.proofs.decided.Deciding.add.Given as given
+use Rattle.seamless_edits.proofs.decided.Deciding.add.Goals as goal
+
+pub input_at-requires : goal.input_at-requires
+input_at-requires g c = grind (arith, length-map)
+
+-- the needs up to where those of the input begin
+front-needs : (old all new : List Need) (from : ℕ) → from ≡ length old → all ≡ old ++ new
+    → take from all ≡ old
+front-needs old all new from begins is = grind (arith, begins, take_at)
+
+-- the needs from where those of the input begin
+back-needs : (old all new : List Need) (from : ℕ) → from ≡ length old → all ≡ old ++ new
+    → drop from all ≡ new
+back-needs old all new from begins is = grind (arith, begins, drop_at)
+
+-- what is borrowed of them are the needs of the input
+borrowed-needs : (old all new part : List Need) (from : ℕ) → from ≡ length old → all ≡ old ++ new
+    → part ≡ all → take (length part - from) (drop from part) ≡ new
+borrowed-needs old all new part from begins is here =
+    grind (arith, back-needs, begins, length-append, take_all)
+
+pub brought-input-requires : goal.brought-input-requires
+brought-input-requires g c =
+    let found =
+    get-at (map input_view c.args.inputs.now)
+    c.args.number c.input_at.ensures in
+    let own : c.append_needs.new.needs.items
+    ≡ c.args.self.now.needs.items ++ input_needs (input_view c.input_at.result.now).survey =
+    grind arith in
+    omega (
+      arith,
+      input-few _ _ _ c.args.number _ c.requires.can found,
+      ap length (borrowed-needs c.args.self.now.needs.items c.append_needs.new.needs.items
+          (input_needs (input_view c.input_at.result.now).survey) c.deref.result.now
+          c.len-from.result (c.len-from.ensures ∙ c.args.self.now.needs.ok.0) own
+          c.deref.ensures.value),
+    )
+
+pub alike-requires-clause-one : goal.alike-requires-clause-one
+alike-requires-clause-one g c = all-of-one _ c.requires.can.joined
+
+abbrev no-beginning : Beginning
+no-beginning = record { head = None; blank = false }
+
+-- what the input is
+module _ (g : given.Over) (c : After-brought-input g) where
+  abbrev i : InputFields
+  i = input_view c.input_at.result.now
+
+  abbrev s : SurveyFields
+  s = i.survey
+
+  found : slice_get (map input_view c.args.inputs.now) c.args.number ≡ Some i
+  found = get-at (map input_view c.args.inputs.now)
+      c.args.number c.input_at.ensures
+
+  abbrev old : List Need
+  old = c.args.self.now.needs.items
+
+  abbrev all : List Need
+  all = c.append_needs.new.needs.items
+
+  begins : c.len-from.result ≡ length old
+  begins = c.len-from.ensures ∙ c.args.self.now.needs.ok.0
+
+  own : all ≡ old ++ input_needs s
+  own = grind arith
+
+  abbrev borrowed : List Need
+  borrowed = take (length c.deref.result.now - c.len-from.result)
+      (drop c.len-from.result c.deref.result.now)
+
+  borrowed_is : borrowed ≡ input_needs s
+  borrowed_is = grind (arith, borrowed-needs, begins, own)
+
+  parts : c.brought-input.result.needs.now ≡ input_needs s
+  parts = c.brought-input.ensures.needs ∙ borrowed_is
+
+  long : length borrowed ≡ length s.frames
+  long = ap length borrowed_is ∙ length-map s.frames need_of
+
+  front : take c.len-from.result all ≡ old
+  front = front-needs old all (input_needs s) c.len-from.result begins own
+
+  back : drop c.len-from.result all ≡ c.brought-input.result.needs.now
+  back = back-needs old all (input_needs s) c.len-from.result begins own ∙ sym parts
+
+  begun-within : c.args.number < length c.args.beginnings.now
+  begun-within = grind (arith, AllZip-long, length-map)
+
+  counted : IfSome c.brought-input.result.played (AreCounted s.class (length s.frames))
+  counted = grind (arith, long)
+
+  abbrev beginning : Beginning
+  beginning = get_or c.args.beginnings.now c.args.number no-beginning
+
+  begun-here : slice_get c.args.beginnings.now c.args.number ≡ Some beginning
+  begun-here = get-here c.args.beginnings.now c.args.number _ begun-within
+
+  played : c.brought-input.result.played
+      ≡ counted_positions beginning.head s.class (length s.frames)
+  played = grind (arith, long)
+
+  next-of : IsNextInput (map input_view c.args.inputs.now)
+      c.args.number c.args.self.now.run c.brought-input.result
+  next-of =
+      is-next _ (map input_view c.args.inputs.now)
+      c.args.beginnings.now c.args.number c.args.self.now c.requires.can c.requires.before i found _
+      begun-here c.brought-input.result parts c.brought-input.ensures.blank played counted
+
+  of : IsInputOf (map input_view c.args.inputs.now)
+      c.args.beginnings.now c.args.number c.requires.before.class c.brought-input.result
+  of =
+      input-of _ (map input_view c.args.inputs.now)
+      c.args.beginnings.now c.args.number c.args.self.now c.requires.can c.requires.before i found _
+      begun-here c.brought-input.result parts c.brought-input.ensures.blank played counted
+
+pub alike-requires-clause-next : goal.alike-requires-clause-next
+alike-requires-clause-next g c =
+    next-of g (goal.at.alike-requires-clause-next g c).After-brought-input
+
+pub join-joint-requires-clause-input : goal.join-joint-requires-clause-input
+join-joint-requires-clause-input g c =
+    (next-of g (goal.at.join-joint-requires-clause-input g c).After-brought-input).can
+
+pub returns-clause-decided : goal.returns-clause-decided
+returns-clause-decided g c =
+    let here = (goal.at.returns-clause-decided g c).After-brought-input in
+    decided-step (g.D.Folder.seen c.args.folder.now).files (map input_view c.args.inputs.now)
+    c.args.beginnings.now c.args.number c.brought-input.result c.in_ok-alike.alike
+    c.join-joint.result c.args.self.now _ c.requires.before (of g here)
+    (record {
+      joints = c.in_ok-push.ensures.items;
+      needs = grind (arith, front g here, back g here);
+      out = c.join-joint.ensures.fits.out;
+      sound = c.join-joint.ensures.sound;
+      goes = c.join-joint.ensures.goes_on;
+      joins = c.join-joint.ensures.joint;
+    })
+    c.in_ok-alike.ensures.alike

@@ -1,0 +1,42 @@
+-- The plan of the run.
+use Rattle.std.proofs.{Common.{subst, sym}, lemmas.Result.IfOk-weaker}
+use Rattle.frame_header.proofs.HeaderLemmas.{IsClass-class_of}
+use Rattle.frame_header.specs.Fields.{ClassFields, IsClass, IsHeader}
+use Rattle.seamless_edits.proofs.RunPlanLemmas.{can-plan, fits-in, plan-fits, plan-is}
+use Rattle.seamless_edits.proofs.planned.plan_run.Goals.{After-header}
+use Rattle.slot_plan.{proofs.PartLemmas.same-class, specs.{Parts.AreNeedsOfClass, Plans.entries}}
+use Rattle.slot_plan.specs.declared.needs.Need.{Need}
+use Rattle.seamless_edits.proofs.planned.plan_run.Goals as goal
+
+-- a class that all needs have is one of the standard
+known : (c : After-header) (class : ClassFields) → AreNeedsOfClass class c.args.needs.now
+    → IsClass class
+known c class same =
+    let header = subst (λ (n : Need). IsHeader n.header) (sym c.index-needs-0.is)
+    (subst IsHeader c.header.view_is c.header.invariant) in
+    let of = same-class class c.args.needs.now 0 c.index-needs-0.result same
+    c.requires.some c.index-needs-0.is in
+    subst IsClass (sym of) (IsClass-class_of c.index-needs-0.result.header header)
+
+pub plan-requires-clause-planned : goal.plan-requires-clause-planned
+plan-requires-clause-planned c =
+    let fit = c.requires.fits in
+    can-plan fit.class c.args.needs.now
+    (known (goal.at.plan-requires-clause-planned c).After-header fit.class fit.same)
+    fit.same c.requires.some fit.fits
+
+pub returns-clause-plan : goal.returns-clause-plan
+returns-clause-plan c =
+    IfOk-weaker c.plan.result _ _ (λ plan is class same.
+    plan-is class c.args.needs.now
+    (known (goal.at.returns-clause-plan c).After-header class same) same c.requires.some
+    (fits-in class c.args.needs.now c.requires.some same c.requires.fits) (entries plan) is)
+    c.plan.ensures
+
+pub returns-clause-fits : goal.returns-clause-fits
+returns-clause-fits c =
+    IfOk-weaker c.plan.result _ _ (λ plan is class same.
+    plan-fits class c.args.needs.now
+    (known (goal.at.returns-clause-fits c).After-header class same) same c.requires.some
+    (fits-in class c.args.needs.now c.requires.some same c.requires.fits) (entries plan) is)
+    c.plan.ensures

@@ -1,0 +1,152 @@
+-- The second pass, and the text.
+use Rattle.std.proofs.Common.{ap, arith, length, List, map, refl, sym, ℕ, ◌∙◌, ◌≡◌, ◌≤◌}
+use Rattle.std.proofs.lemmas.List.{length-map, take_at}
+use Rattle.commands.proofs.MakeLemmas.{done-run, refused_run}
+use Rattle.commands.proofs.TellingLemmas.{says-all, says-prefix}
+use Rattle.commands.specs.declared.fault.EditFault.TheVariants.{Sent}
+use Rattle.join_edits.specs.Inputs.{input_names, input_view, InputFields}
+use Rattle.seam_plan.specs.declared.run.Joint.{Joint}
+use Rattle.seamless_edits.proofs.SeamlessCommandLemmas.{joints-many, left-done, left-names}
+use Rattle.seamless_edits.proofs.SeamlessCommandLemmas.{left-part, left-streams, left_inputs}
+use Rattle.seamless_edits.proofs.SeamlessCommandLemmas.{ready-text, ready-writable}
+use Rattle.seamless_edits.proofs.SeamlessCommandLemmas.{seamless-numbers}
+use Rattle.seamless_edits.proofs.seamless_file.write_and_tell.Goals.{After-deref}
+use Rattle.seamless_edits.specs.{Deciding.{from_places, left_out_of}, Seamless.seamless_command}
+use Rattle.seamless_edits.proofs.seamless_file.write_and_tell.Given as given
+use Rattle.seamless_edits.proofs.seamless_file.write_and_tell.Goals as goal
+
+-- the inputs that are written, and their names
+module _ (g : given.Over) (c : After-deref g) where
+  abbrev names : List (List ℕ)
+  names = input_names (map input_view c.args.ready.now.inputs.items)
+
+  abbrev left : List InputFields
+  left = left_inputs names (g.D.Folder.seen c.args.folder.now).files c.args.ready.now
+      c.requires.ready
+
+  named : input_names left ≡ names
+  named = left-names names (g.D.Folder.seen c.args.folder.now).files c.args.ready.now
+      c.requires.ready
+
+  new-is : map input_view c.leave_out.new.inputs ≡ left
+  new-is = c.leave_out.ensures
+      ∙ ap (λ l. from_places (map input_view l) (left_out_of c.args.ready.now.made.decided))
+      c.deref_mut.ensures.value
+
+  names-long : length names ≡ length c.args.ready.now.inputs.items
+  names-long = omega (
+    arith,
+    length-map (map input_view c.args.ready.now.inputs.items) (λ (i : InputFields). i.name),
+    length-map c.args.ready.now.inputs.items input_view,
+  )
+
+  new-long : length c.leave_out.new.inputs ≡ length c.args.ready.now.inputs.items
+  new-long = omega (
+    arith,
+    length-map c.leave_out.new.inputs input_view,
+    ap length new-is,
+    length-map left (λ (i : InputFields). i.name),
+    ap length named,
+    names-long,
+  )
+
+  now : map input_view c.deref.result.now ≡ left
+  now = grind (arith, take_at, new-long, new-is, c.deref.ensures.value)
+
+  some : 1 ≤ length names
+  some = omega (arith, c.requires.some, names-long)
+
+  long-now : length c.deref.result.now ≡ length names
+  long-now = omega (
+    arith,
+    length-map c.deref.result.now input_view,
+    ap length now,
+    length-map left (λ (i : InputFields). i.name),
+    ap length named,
+  )
+
+pub write_joined-requires-clause-can : goal.write_joined-requires-clause-can
+write_joined-requires-clause-can g c =
+    rw (now g c) (ready-writable (names g c) (g.D.Folder.seen c.args.folder.now).files
+    c.args.ready.now c.requires.ready c.args.output.now c.requires.free)
+
+pub returns-in_err-write_joined-clause-run : goal.returns-in_err-write_joined-clause-run
+returns-in_err-write_joined-clause-run g c =
+    let at = (goal.at.returns-in_err-write_joined-clause-run g c).After-deref in
+    let old = g.D.Folder.seen c.args.folder.now in
+    let new = g.D.Folder.seen c.write_joined.new.folder in
+    let output = c.args.output.now in
+    let fault = c.in_err-write_joined.field-0.0 in
+    refused_run (seamless_command output (names g at)) old new _ fault
+    c.requires.free c.from_residual.ensures.1
+    (left-part output (names g at) c.requires.free (some g at) old new c.args.ready.now
+    c.requires.ready c.write_joined.ensures.touches fault
+    (rw (now g at, named g at) at c.in_err-write_joined.ensures.left))
+    (seamless-numbers output (names g at) _ fault (long-now g at)
+    c.in_err-write_joined.ensures.numbers) c.write_joined.ensures.counts
+
+pub send_lines-requires-clause-inputs : goal.send_lines-requires-clause-inputs
+send_lines-requires-clause-inputs g c =
+    let at = (goal.at.send_lines-requires-clause-inputs g c).After-deref in
+    omega (
+      arith,
+      joints-many (names g at) _ c.args.ready.now c.requires.ready,
+      ap (λ (l : List Joint). length l) c.as_slice.ensures.value,
+      ap length c.deref-2.ensures.value,
+      ap length c.deref.ensures.value,
+      long-now g at,
+    )
+
+pub returns-in-Ok-clause-run : goal.returns-in-Ok-clause-run
+returns-in-Ok-clause-run g c =
+    let at = (goal.at.returns-in-Ok-clause-run g c).After-deref in
+    let old = g.D.Folder.seen c.args.folder.now in
+    let new = g.D.Folder.seen c.write_joined.new.folder in
+    let output = c.args.output.now in
+    done-run (seamless_command output (names g at)) old new c.requires.free
+    (left-done output (names g at) c.requires.free (some g at) old new c.args.ready.now
+    c.requires.ready c.write_joined.ensures.touches
+    (rw (now g at, named g at) at c.in_ok-write_joined.ensures.written)
+    c.in_ok-write_joined.ensures.done)
+    (left-streams output (names g at) c.requires.free (some g at) old.files c.args.ready.now
+    c.requires.ready) c.write_joined.ensures.counts
+
+pub returns-in-Ok-clause-says : goal.returns-in-Ok-clause-says
+returns-in-Ok-clause-says g c =
+    let at = (goal.at.returns-in-Ok-clause-says g c).After-deref in
+    let old = (g.D.Folder.seen c.args.folder.now).files in
+    let output = c.args.output.now in
+    let other : map input_view c.deref-2.result.now ≡ map input_view c.deref.result.now =
+    ap (map input_view) (c.deref-2.ensures.value ∙ sym c.deref.ensures.value) in
+    says-all (seamless_command output (names g at)) old
+    (g.T.Sink.heard c.args.out.now) (g.T.Sink.heard c.send_lines.new.out) _
+    (λ all is. rw (other, now g at, named g at, c.as_slice.ensures.value)
+    (ready-text (names g at) (some g at) old c.args.ready.now output all c.requires.ready is))
+    c.in-Ok.ensures.sent c.in-Ok.ensures.cause.done
+
+pub returns-in-Err-clause-run : goal.returns-in-Err-clause-run
+returns-in-Err-clause-run g c =
+    let at = (goal.at.returns-in-Err-clause-run g c).After-deref in
+    let old = g.D.Folder.seen c.args.folder.now in
+    let new = g.D.Folder.seen c.write_joined.new.folder in
+    let output = c.args.output.now in
+    refused_run (seamless_command output (names g at)) old new _ Sent
+    c.requires.free refl
+    (left-done output (names g at) c.requires.free (some g at) old new c.args.ready.now
+    c.requires.ready c.write_joined.ensures.touches
+    (rw (now g at, named g at) at c.in_ok-write_joined.ensures.written)
+    c.in_ok-write_joined.ensures.done)
+    (λ e. absurd cc) c.write_joined.ensures.counts
+
+pub returns-in-Err-clause-says : goal.returns-in-Err-clause-says
+returns-in-Err-clause-says g c =
+    let at = (goal.at.returns-in-Err-clause-says g c).After-deref in
+    let old = (g.D.Folder.seen c.args.folder.now).files in
+    let output = c.args.output.now in
+    let other : map input_view c.deref-2.result.now ≡ map input_view c.deref.result.now =
+    ap (map input_view) (c.deref-2.ensures.value ∙ sym c.deref.ensures.value) in
+    says-prefix (seamless_command output (names g at)) old
+    (g.T.Sink.heard c.args.out.now) (g.T.Sink.heard c.send_lines.new.out) _
+    (λ all is. rw (other, now g at, named g at, c.as_slice.ensures.value)
+    (ready-text (names g at) (some g at) old c.args.ready.now output all c.requires.ready is))
+    c.in-Err.ensures.prefix c.in-Err.ensures.cause.failed

@@ -1,0 +1,10 @@
+-- What the contracts of this crate cite.
+pub mod Seamless
+pub mod Reading
+pub mod Beginnings
+pub mod Sounds
+pub mod Deciding
+pub mod Numbers
+pub mod RunReady
+pub mod SeamlessReady
+pub mod Lines

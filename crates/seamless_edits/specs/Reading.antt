@@ -1,0 +1,96 @@
+-- Inputs that are read before there is an output.
+use Rattle.std.specs.Prelude.{IfErr, length, List, OnOk, Result, slice_get, slice_index_or, Some, ℕ}
+use Rattle.std.specs.Prelude.{[], ◌++◌, ◌<◌, ◌∷◌, ◌≡◌}
+use Rattle.commands.specs.AfterCall.{by_why, no_cause, why_of}
+use Rattle.commands.specs.SingleOutput.{LosesInput, ReadsNothing}
+use Rattle.commands.specs.declared.fault.EditFault.{EditFault}
+use Rattle.frame_header.specs.Fields.{HeaderFields}
+use Rattle.join_edits.specs.{Inputs.InputFields, declared.stopped.Stopped.Stopped}
+use Rattle.laying.specs.{Relaid.payload_of, Surveys.CanBeRelaid}
+use Rattle.outside.specs.{Counts.{Counts, OnlyReads}, Files.{Files, Holds, IsFileThere}}
+use Rattle.outside.specs.{Pass.{HasInputCause, IsReadPassFault}, Seen.Seen}
+use Rattle.outside.specs.declared.pass.PassFault.{PassFault}
+use Rattle.reservoir.specs.Window.{IsWindowOver}
+use Rattle.seamless_edits.specs.declared.main_data.Source.{Source}
+use Rattle.sync_survey.specs.{Faults.{survey_view, SurveyFields}, MainData.{area_bytes, own_area}}
+use Rattle.sync_survey.specs.{Row.Row, Survey.IsSurveyLaidOut}
+
+-- ---- one input
+
+-- the input is there, and this is a survey by which its frames can be read
+pub record IsHeld (files : Files) (name : List ℕ) (s : SurveyFields) : Type 0 where
+  pub there : IsFileThere files name
+  pub exact : (file : List ℕ) → Holds files name file → CanBeRelaid file s
+  pub laid : IsSurveyLaidOut s
+
+-- The input was read, or couldn't be; the files stay.
+pub record ReadsInput {T : Type 0} (source : Source) (old new : Seen)
+    (result : Result T PassFault) : Type 0 where
+  pub files : new.files ≡ old.files
+  pub done : OnOk result (new.counts ≡ old.counts)
+  pub counts : OnlyReads old.counts new.counts
+  pub cause : IfErr result
+      (HasInputCause source.name.now
+      (survey_view source.survey.now).length old.files old.counts new.counts)
+  pub read : IfErr result IsReadPassFault
+
+-- The area of a frame with this header, at this offset, comes after what the window held. If the
+-- input's content is known, it is the area in the input.
+pub record ReadsArea (input : List ℕ) (files : Files) (offset : ℕ) (h : HeaderFields)
+    (old new : List ℕ) : Type 0 where
+  pub area : List ℕ
+  pub long : length area ≡ own_area h
+  pub is : (file : List ℕ) → Holds files input file → area ≡ area_bytes file offset h
+  pub over : (main : List ℕ) → IsWindowOver old main → IsWindowOver new (main ++ area)
+
+-- the main data of frame i, if the input's content is known
+abbrev pub IsMainDataOf : List ℕ → Files → SurveyFields → ℕ → List ℕ → Type 0
+IsMainDataOf input files s i bytes =
+    (file : List ℕ) → Holds files input file → (r : Row) → slice_get s.frames i ≡ Some r
+    → bytes ≡ payload_of file s i r
+
+-- ---- all inputs
+
+-- each of the inputs is there, with a survey by which its frames can be read
+abbrev pub AreHeld : Files → List InputFields → Type 0
+AreHeld files [] = Unit {0}
+AreHeld files (i ∷ inputs) = IsHeld files i.name i.survey × AreHeld files inputs
+
+-- ---- why the inputs can't be read
+
+-- the pass over this input ended early, for this cause
+pub record StopsAtInput (place : ℕ) (name : List ℕ) (files : Files) (before after : Counts)
+    (stopped : Stopped) : Type 0 where
+  pub place_is : stopped.place ≡ place
+  pub size : ℕ
+  pub cause : HasInputCause name size files before after stopped.fault
+  pub read : IsReadPassFault stopped.fault
+
+-- the pass over one of these inputs ended early, for this cause
+pub record StopsAmongInputs (inputs : List (List ℕ)) (files : Files) (before after : Counts)
+    (stopped : Stopped) : Type 0 where
+  pub within : stopped.place < length inputs
+  pub stops : StopsAtInput stopped.place (slice_index_or inputs stopped.place []) files before after
+      stopped
+
+-- one of the inputs could not be read
+pub record ReadsNone (inputs : List (List ℕ)) (old new : Seen) (fault : EditFault) : Type 0 where
+  pub place : ℕ
+  pub within : place < length inputs
+  pub reads : ReadsNothing place (slice_index_or inputs place []) old new fault
+
+-- one of the inputs became shorter
+pub record LosesOne (inputs : List (List ℕ)) (old new : Seen) (fault : EditFault) : Type 0 where
+  pub place : ℕ
+  pub within : place < length inputs
+  pub loses : LosesInput place (slice_index_or inputs place []) old new fault
+
+-- one of the inputs could not be read or became shorter, or memory ran out
+abbrev pub IsInputReadFault : List (List ℕ) → Seen → Seen → EditFault → Type 0
+IsInputReadFault inputs old new fault = by_why
+    (record no_cause {
+      unread = ReadsNone inputs old new fault;
+      shorter = LosesOne inputs old new fault;
+      no_memory = new ≡ old;
+    })
+    (why_of fault)

@@ -1,0 +1,28 @@
+-- What is prepared for a seamless join before its output is created.
+use Rattle.std.specs.Prelude.{List, map, None, ℕ, [], ◌≡◌}
+use Rattle.commands.specs.SingleOutput.{most_frames}
+use Rattle.join_edits.specs.Inputs.{AreJoinInputs, CanInputsBeJoined, input_names, input_view}
+use Rattle.join_edits.specs.Inputs.{InputFields}
+use Rattle.outside.specs.Files.{Files}
+use Rattle.seamless_edits.specs.Beginnings.{AreBeginnings, input_without_head}
+use Rattle.seamless_edits.specs.{Deciding.IsRunDecided, RunReady.IsRunReady}
+use Rattle.seamless_edits.specs.declared.beginnings.Beginning.{Beginning}
+use Rattle.seamless_edits.specs.declared.seamless_file.{MadeRun.MadeRun, Ready.Ready}
+
+-- this was decided about inputs whose heads are set apart, and the run and the text are prepared
+pub record IsRunMade (files : Files) (inputs : List InputFields) (bs : List Beginning)
+    (made : MadeRun) : Type 0 where
+  pub decided : IsRunDecided files inputs bs made.decided
+  pub run : IsRunReady inputs bs made.decided made.work
+  pub unsaid : made.sending ≡ []
+
+-- the inputs are there with their surveys, the heads were set apart, and the run is prepared
+pub record IsSeamlessReady (names : List (List ℕ)) (files : Files) (ready : Ready) : Type 0 where
+  pub found : List InputFields
+  pub bs : List Beginning
+  pub named : input_names found ≡ names
+  pub are : AreJoinInputs None most_frames files found
+  pub joined : CanInputsBeJoined found
+  pub begun : AreBeginnings files found bs
+  pub inputs : map input_view ready.inputs.items ≡ map input_without_head found
+  pub made : IsRunMade files (map input_without_head found) bs ready.made
