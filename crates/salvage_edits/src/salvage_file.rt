@@ -1,8 +1,6 @@
 //! The salvage command over a folder.
-ghost use Rattle.std.specs.Prelude.{◌≡◌, ◌↔◌, ℕ, None, Some, IfErr, OnOk, IsErrOf};
-ghost use Rattle.outside.specs.Counts.{NoneFell};
-ghost use Rattle.commands.specs.Command.{HoldsStreams, clash_of};
-ghost use Rattle.commands.specs.AfterCall.{IsCommandDone, IsCommandFault, HasNumbers};
+ghost use Rattle.std.specs.Prelude.{◌≡◌, None};
+ghost use Rattle.commands.specs.Command.{clash_of};
 ghost use Rattle.commands.specs.Runs.{IsRunOf};
 ghost use Rattle.commands.specs.SentText.{SaysText, answer_fault};
 ghost use Rattle.salvage_edits.specs.Ready.{IsSalvageReady};
@@ -73,24 +71,14 @@ pub fn salvage<D: Folder, T: Sink>(
     output: &str,
     out: &mut T,
 ) -> Result<(), EditFault>
-    ensures done { OnOk result (IsCommandDone (salvage_command input.now output.now)
+    // The output is well-formed, and holds what is left of the input, after at most one lead-in.
+    ensures run { IsRunOf (salvage_command input.now output.now)
         (D.seen folder.old)
-        (D.seen folder.new)) }
-    ensures left { IfErr result (IsCommandFault (salvage_command input.now output.now)
-        (D.seen folder.old)
-        (D.seen folder.new)) }
+        (D.seen folder.new) result }
     // The text; a prefix of it was sent if a write failed.
     ensures says { SaysText (salvage_command input.now output.now) (D.seen folder.old).files
         (T.heard out.old) (T.heard out.new)
         (answer_fault result) }
-    // Also over a folder whose contents aren't known.
-    ensures numbers { IfErr result (HasNumbers (salvage_command input.now output.now)) }
-    ensures names { (place : ℕ) → IsErrOf result (EditFault.EqualNames place)
-        ↔ (clash_of (salvage_command input.now output.now) ≡ Some place) }
-    // The output is well-formed, and holds what is left of the input, after at most one lead-in.
-    ensures streams { OnOk result (HoldsStreams (salvage_command input.now output.now)
-        (D.seen folder.old).files) }
-    ensures counts { NoneFell (D.seen folder.old).counts (D.seen folder.new).counts }
 {
     let inputs = Inputs {
         source: input,

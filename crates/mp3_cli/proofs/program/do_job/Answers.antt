@@ -1,5 +1,5 @@
 -- Commands that send a text, and commands without one.
-use Rattle.std.proofs.Common.{Bool, false, List, rules, Some, true, ℕ, [], ◌≢◌}
+use Rattle.std.proofs.Common.{Bool, false, List, Some, true, ℕ, [], ◌≢◌}
 use Rattle.drill.{proofs.PackedLemmas.drill_text-some, specs.Drilled.drill_text}
 use Rattle.job_words.specs.Request.{SplitBy}
 use Rattle.list_edits.specs.{InfoText.info_of, Listing.listing}
@@ -100,7 +100,11 @@ returns-in-Fade-clause-ends g c =
     rw c.in-Fade.is (run_ends _ (one_silent _ _) c.fade.result _ _ _ c.fade.ensures)
 
 pub returns-in-Salvage-clause-ends : goal.returns-in-Salvage-clause-ends
-returns-in-Salvage-clause-ends g c = rw c.in-Salvage.is (search (rules, told_ends))
+returns-in-Salvage-clause-ends g c =
+    let is = c.salvage.ensures in
+    rw c.in-Salvage.is
+    (told_ends _ c.salvage.result _ _ _ _
+    is.run.done is.run.left is.says is.run.numbers is.run.names)
 
 pub returns-in-List-clause-streams : goal.returns-in-List-clause-streams
 returns-in-List-clause-streams g c = rw c.in-List.is c.list.ensures.streams
@@ -139,6 +143,9 @@ returns-in-CutExact-clause-streams g c = rw c.in-CutExact.is c.cut_exact.ensures
 
 pub returns-in-Join-clause-streams : goal.returns-in-Join-clause-streams
 returns-in-Join-clause-streams g c = rw c.in-Join.is c.join_files.ensures.streams
+
+pub returns-in-Salvage-clause-streams : goal.returns-in-Salvage-clause-streams
+returns-in-Salvage-clause-streams g c = rw c.in-Salvage.is c.salvage.ensures.run.streams
 
 pub returns-in-List-clause-counts : goal.returns-in-List-clause-counts
 returns-in-List-clause-counts g c = none_fell_by_reads _ _ c.list.ensures.counts
