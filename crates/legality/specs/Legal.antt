@@ -42,6 +42,10 @@ others_of (Fade back input output sheet) = sheet ∷ []
 others_of (Salvage input output) = input ∷ []
 others_of _ = []
 
+-- the files that are read
+abbrev pub inputs_of : Request → List (List ℕ)
+inputs_of asked = sources_of asked ++ others_of asked
+
 -- the files that may be written
 abbrev pub outputs_of : Request → List (List ℕ)
 outputs_of Help = []
@@ -102,7 +106,7 @@ AreLegalChoices (Salvage input output) files inputs = IsLegalSalvage input files
 -- No input is an output; each input that is read as a stream is there, no longer than allowed,
 -- and well-formed, and together they have no more frames than allowed; and the choices are legal.
 pub record IsLegalFor (asked : Request) (files : Contents) : Type 0 where
-  pub names : AreNamesApart (sources_of asked ++ others_of asked) (outputs_of asked)
+  pub names : AreNamesApart (inputs_of asked) (outputs_of asked)
   pub inputs : List FileInput
   pub are : AreInputs files (sources_of asked) inputs
   pub few : input_frames inputs ≤ most_frames_of asked

@@ -1,5 +1,6 @@
 -- The lemmas of this crate.
 pub mod LegalLemmas
+pub mod NameLemmas
 pub mod RunLemmas
 pub mod WrittenLemmas
 pub mod FewestLemmas

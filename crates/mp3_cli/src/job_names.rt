@@ -3,7 +3,7 @@ ghost use Rattle.std.specs.Prelude.{◌≡◌, ◌≤◌, length, map, string_by
 ghost use Rattle.job_words.specs.Words.{IsSoundRequest};
 ghost use Rattle.job_words.specs.Code.{job_request};
 ghost use Rattle.program_texts.specs.Names.{names_of_outputs};
-ghost use Rattle.mp3_cli.specs.Run.{command_of};
+ghost use Rattle.legality.specs.Legal.{inputs_of, outputs_of};
 
 use arrayvec::ArrayVec;
 use job_words::Job;
@@ -37,7 +37,7 @@ fn names_of(words: &[String]) -> Names<'_>
 /// The names of the files that a job reads.
 pub(crate) fn inputs_of<'a>(job: &Job<'a>) -> ArrayVec<&'a str, 64>
     requires { IsSoundRequest (job_request job.now) }
-    ensures { map (λ name. name.now) result.items ≡ (command_of (job_request job.now)).inputs }
+    ensures { map (λ name. name.now) result.items ≡ inputs_of (job_request job.now) }
 {
     match *job {
         Job::Help | Job::Version | Job::Drill { .. } => Names::new(),
@@ -60,7 +60,7 @@ pub(crate) fn inputs_of<'a>(job: &Job<'a>) -> ArrayVec<&'a str, 64>
 
 /// The names of the files that a job writes.
 pub(crate) fn outputs_of<'a>(job: &Job<'a>) -> Outputs<'a>
-    ensures { names_of_outputs result ≡ (command_of (job_request job.now)).outputs }
+    ensures { names_of_outputs result ≡ outputs_of (job_request job.now) }
 {
     match *job {
         Job::Help | Job::Version | Job::Drill { .. } | Job::List { .. } | Job::Info { .. } => {

@@ -1,18 +1,21 @@
 -- The line names the files of the job, and the status is the status of the fault.
 use Rattle.std.proofs.Common.{ap, Bor, List, map, sym, ℕ, ◌∙◌}
 use Rattle.commands.specs.SentText.{answer_fault}
-use Rattle.mp3_cli.proofs.RunLemmas.{done_where_zero}
+use Rattle.job_words.specs.Code.{job_request}
+use Rattle.mp3_cli.proofs.{NameLemmas.{inputs-are, outputs-are}, RunLemmas.done_where_zero}
 use Rattle.mp3_cli.proofs.program.run_job.Goals as goal
 
 pub returns-clause-answers : goal.returns-clause-answers
 returns-clause-answers g c =
+    let asked = job_request c.args.job in
     let inputs = ap (map (λ (name : Bor (List ℕ)). name.now)) c.as_slice.ensures.value
-    ∙ c.inputs_of-inputs.ensures in
+    ∙ c.inputs_of-inputs.ensures ∙ sym (inputs-are asked) in
+    let outputs = c.outputs_of-outputs.ensures ∙ sym (outputs-are asked) in
     record {
       fault = answer_fault c.do_job-done.result;
       ends = c.do_job-done.ensures.ends;
       status_is = c.report.ensures.status;
-      line = rw (inputs, c.outputs_of-outputs.ensures) at c.report.ensures.line;
+      line = rw (inputs, outputs) at c.report.ensures.line;
     }
 
 pub returns-clause-streams : goal.returns-clause-streams
