@@ -4,6 +4,7 @@ use Rattle.std.specs.Prelude.{Bool, false, length, List, slice_range, Some, true
 use Rattle.std.specs.Prelude.{◌+◌, ◌<◌, ◌∷◌, ◌≡◌, ◌≤◌}
 use Rattle.exact_span.specs.{PlayedPositions.samples_in, declared.played.Played.Played}
 use Rattle.frame_header.specs.{Fields.ClassFields, Tables.window_of}
+use Rattle.seam_laws.specs.RunLaws.{AreHeadersKnown}
 use Rattle.seam_plan.specs.{Frames.{Brought, needs_of, RunFrame}, Joins.fits_behind}
 use Rattle.seam_plan.specs.{Seams.{JointFrames, joints_of, run_with}, declared.seam.Seam.Seam}
 use Rattle.seam_plan.specs.declared.seam.Seam.TheVariants.{Follows}
