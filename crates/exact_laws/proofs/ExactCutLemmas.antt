@@ -1,90 +1,72 @@
 -- Exact pieces, joined in order, are the file that is cut from the first place to the last, but for
 -- its blocks after the frames, where the first piece doesn't begin with a look-alike.
-use Rattle.std.proofs.Common.{ap, ap₂, arith, Bool, cond, drop, false, find, flat_map, inl, inr}
-use Rattle.std.proofs.Common.{length, List, map, max, None, Ok, Option, refl, replicate, Some}
-use Rattle.std.proofs.Common.{subst, sym, take, true, zero, ℕ, [], ◌++◌, ◌+◌, ◌-◌, ◌∙◌, ◌∷◌, ◌≡◌}
-use Rattle.std.proofs.{Common.◌≤◌, lemmas.{Bool.{and_from, both_ways, cases_lt}, List.length-map}}
-use Rattle.std.proofs.lemmas.{Option.slice_get-map, Slice.Eq.bytes_eq-Decides}
-use Rattle.std.specs.List.{concat, list_all}
+use Rattle.std.proofs.Common.{ap, ap₂, arith, Bool, cond, drop, false, find, inl, inr, length, List}
+use Rattle.std.proofs.Common.{map, max, None, Option, refl, replicate, Some, subst, sym, take, true}
+use Rattle.std.proofs.Common.{zero, ℕ, [], ◌++◌, ◌+◌, ◌-◌, ◌∙◌, ◌∷◌, ◌≡◌, ◌≤◌}
+use Rattle.std.proofs.lemmas.{Bool.{and_from, both_ways, cases_lt}, List.length-map}
+use Rattle.std.{proofs.lemmas.Slice.Eq.bytes_eq-Decides, specs.List.list_all}
 use Rattle.std.specs.Prelude.{bytes_eq, is_some, option_map, slice_get, slice_range}
-use Rattle.commands.specs.SingleOutput.{most_frames}
-use Rattle.cut_edits.proofs.ChosenLemmas.{the-plan}
-use Rattle.cut_edits.proofs.PieceLemmas.{head_long, plain-long, span-survey_without_head}
-use Rattle.cut_edits.{proofs.{PieceLemmas.span_chosen, SpanLemmas.led-is}, specs.Chosen.first_plan}
-use Rattle.cut_edits.specs.Exact.{IsSpanIn, quality_of, span_lead_ins, span_needs, span_piece}
-use Rattle.cut_edits.specs.Exact.{span_plan}
-use Rattle.exact_laws.proofs.ExactFileLemmas.{has-own, head, IsFound, IsLaidLed, IsLaidOwn, laid_by}
-use Rattle.exact_laws.proofs.ExactFileLemmas.{leads, own, own-leads, piece-by, plain, span-fitting}
-use Rattle.exact_laws.proofs.ExactFileLemmas.{span-long, span-ways}
-use Rattle.exact_laws.proofs.ExactNumberLemmas.{delay, delay-is, frames-many}
-use Rattle.exact_laws.proofs.ExactNumberLemmas.{led-same as span-led-same, many, padding-is}
-use Rattle.exact_laws.proofs.ExactNumberLemmas.{whole-file, whole-files, whole-first, whole-found}
-use Rattle.exact_laws.proofs.ExactNumberLemmas.{whole-last, whole_span}
-use Rattle.exact_laws.proofs.ExactRunLemmas.{AreExactFiles, brings, class-is, ends-later}
-use Rattle.exact_laws.proofs.ExactRunLemmas.{first-ends, FirstSpan, high, IsPiece, led-span}
-use Rattle.exact_laws.proofs.ExactRunLemmas.{run-fits, run-frames, run-stream, st, stays-fit}
-use Rattle.exact_laws.proofs.ExactSpanLemmas.{brought-own, has-own-span, has-span, read}
-use Rattle.exact_laws.proofs.ExactSpanLemmas.{read-extension, read-head, read-is, read-quality}
+use Rattle.cut_edits.proofs.{ChosenLemmas.the-plan, PieceLemmas.{head_long, plain-long}}
+use Rattle.cut_edits.{proofs.SpanLemmas.{led-is, with-fitting}, specs.Chosen.first_plan}
+use Rattle.cut_edits.specs.Exact.{IsSpanIn, quality_of, span_needs, span_plan}
+use Rattle.exact_laws.proofs.ExactFileLemmas.{AreExact, choice, has-own, head, inside, IsExact}
+use Rattle.exact_laws.proofs.ExactFileLemmas.{IsFound, laid, own, piece-by, plain, span}
+use Rattle.exact_laws.proofs.ExactNumberLemmas.{delay, delay-is, frames-many, goal, led-same}
+use Rattle.exact_laws.proofs.ExactNumberLemmas.{padding-is, whole-first, whole-found, whole-last}
+use Rattle.exact_laws.proofs.ExactNumberLemmas.{whole_span}
+use Rattle.exact_laws.proofs.ExactRunLemmas.{at, ends-later, first_of, FirstSpan, high, inputs, low}
+use Rattle.exact_laws.proofs.ExactRunLemmas.{mid, run-fits, run-frames, run-stream, run_frames, st}
+use Rattle.exact_laws.proofs.ExactRunLemmas.{stays-fit, whole}
+use Rattle.exact_laws.proofs.ExactSpanLemmas.{counted, has-led-span, has-own-span, has-span}
+use Rattle.exact_laws.proofs.ExactSpanLemmas.{read-head}
 use Rattle.exact_laws.proofs.InfoFieldLemmas.{gain-same, Keeps, keeps-by, made-again, made-front}
 use Rattle.exact_laws.proofs.InfoFieldLemmas.{quality-again, quality_bytes, sealed-front}
 use Rattle.exact_laws.proofs.InfoFieldLemmas.{sealed-same}
-use Rattle.exact_laws.proofs.LedPlanLemmas.{IsLedAs, lead_need, led-as, own-same, OwnBegins}
-use Rattle.exact_laws.proofs.LedPlanLemmas.{plan-begins}
 use Rattle.exact_span.specs.Extensions.{extension_of, kept_extension}
 use Rattle.exact_span.specs.{Spans.{delay_of, padding_of}, TagWord.sealed_info}
 use Rattle.exact_span.specs.declared.{exact_place.ExactPlace.ExactPlace, span.Span.Span}
 use Rattle.frame_header.proofs.HeaderLemmas.{IsClass-class_of}
 use Rattle.frame_header.specs.Fields.{ClassFields, HeaderFields, IsClass, SlotFields}
-use Rattle.frame_header.specs.{Slots.all_slots, Tables.{area_of, class_of, window_of}}
-use Rattle.frame_writer.specs.Frames.{bytes_of_frames, Frame}
+use Rattle.frame_header.specs.{Limits.most_frames, Slots.all_slots}
+use Rattle.frame_header.specs.Tables.{area_of, class_of, window_of}
+use Rattle.frame_writer.specs.Frames.{Frame}
 use Rattle.info_header.specs.{Info.number_or_zero, InfoFrame.{info_frame, info_header_of}}
-use Rattle.info_header.specs.declared.fields.Info.{Info}
-use Rattle.seamless_edits.proofs.RunPartLemmas.{front-within}
-use Rattle.seamless_edits.specs.Seamless.{delay_of_run}
-use Rattle.seamless_edits.specs.Seamless.{gain_of}
-use Rattle.seamless_edits.specs.Seamless.{join_of_parts}
-use Rattle.seamless_edits.specs.Seamless.{part_brought}
-use Rattle.seamless_edits.specs.Seamless.{part_head}
-use Rattle.seamless_edits.specs.Seamless.{part_says_gain}
-use Rattle.seamless_edits.specs.Seamless.{replay_gain}
-use Rattle.seamless_edits.specs.Seamless.{run_extension}
-use Rattle.seamless_edits.specs.Seamless.{run_parts}
-use Rattle.seamless_edits.specs.Seamless.{run_plan}
-use Rattle.seamless_edits.specs.Seamless.{seamless_file}
-use Rattle.seamless_edits.specs.Seamless.{seamless_frames}
-use Rattle.seamless_edits.specs.Seamless.{seamless_info}
-use Rattle.seamless_edits.specs.Seamless.{seamless_padding}
-use Rattle.seamless_edits.specs.Seamless.{seamless_row_file}
-use Rattle.laying.proofs.HoldLemmas.{part-entries, part-stream}
-use Rattle.laying.proofs.LaidLemmas.{first-there, laid-slots}
+use Rattle.laying.proofs.{HoldLemmas.{part-entries, part-stream}, LaidLemmas.laid-slots}
 use Rattle.laying.proofs.PlannedFrameLemmas.{one, one-entry, one-stream, relaid_frames-cons}
 use Rattle.laying.proofs.{PlannedFrameLemmas.slot_among, RelayLemmas.range-next}
 use Rattle.laying.specs.Laid.{frames_laid, info_laid, LaidPart, source_part}
-use Rattle.laying.specs.{LaidFiles.{AreStreamEntries, laid_file, stream_entry}, Needs.need_of}
+use Rattle.laying.specs.{LaidFiles.{AreStreamEntries, stream_entry}, Needs.need_of}
 use Rattle.laying.specs.NeedsFit.{own_choice}
-use Rattle.laying.specs.Relaid.{FilePart, IsPart, lead_in_with_place, part_frames, relaid_frames}
-use Rattle.laying.specs.{Relaid.silent_lead_in, Surveys.CanBeRelaid}
-use Rattle.laying.specs.Written.{front_blocks, info_for, slot_in}
-use Rattle.seam_laws.proofs.BareFrameLemmas.{bare-same, relaid_frames-same}
-use Rattle.seam_laws.proofs.{LaidInputLemmas.{BringsLed, front-same}, LedLemmas.led-needed}
+use Rattle.laying.specs.Relaid.{FilePart, IsPart, lead_in_with_place, part_frames, part_stream}
+use Rattle.laying.specs.{Relaid.{relaid_frames, silent_lead_in}, Written.{info_for, slot_in}}
+use Rattle.seam_laws.proofs.FrameRangeLemmas.{between-append, between-needs, range-append}
+use Rattle.seam_laws.proofs.{FrameRangeLemmas.run_between, LaidInputLemmas.{BringsLed, front-same}}
+use Rattle.seam_laws.proofs.LedLemmas.{led-needed}
+use Rattle.seam_laws.proofs.LedPlanLemmas.{IsLedAs, lead_need, led-as, own-same, OwnBegins}
+use Rattle.seam_laws.proofs.LedPlanLemmas.{plan-begins}
 use Rattle.seam_laws.proofs.OwnLeadInLemmas.{lead-where-wanted, own-none}
-use Rattle.seam_laws.proofs.{PieceRunLemmas.front-fits, SeamlessInputLemmas.{AreInputs, IsInput}}
+use Rattle.seam_laws.proofs.PieceListLemmas.{later-at, no_pieces, piece_then, Recording}
+use Rattle.seam_laws.proofs.PiecePartLemmas.{frames-need, IsLed, IsPiece, IsPlain, IsUnled}
+use Rattle.seam_laws.proofs.PiecePartLemmas.{laid-input, leads, own_frames, own_stream, read}
+use Rattle.seam_laws.proofs.PiecePartLemmas.{read-extension, read-is, read-quality, row-after}
+use Rattle.seam_laws.proofs.{PiecePartLemmas.{row-need, ways}, PieceRunLemmas.front-fits}
 use Rattle.seam_laws.proofs.SeamlessRunLemmas.{front-few, front-parts, run, run-planned, stream}
-use Rattle.seam_laws.proofs.SplitFileLemmas.{AreRead, run-read}
-use Rattle.seam_laws.proofs.SplitJoinLemmas.{between-append, between-needs, range-append}
-use Rattle.seam_laws.proofs.SplitJoinLemmas.{run_between}
-use Rattle.seam_laws.specs.LeadInLaws.{AreInOwnSlots, AreLedInOwnSlots}
-use Rattle.seam_laws.specs.SeamlessLaws.{bare_file, bare_row_file, last_place}
+use Rattle.seam_laws.proofs.SplitFileLemmas.{file-same, frames-by, frames-of-part}
+use Rattle.seam_laws.specs.{LeadInLaws.{AreInOwnSlots, AreLedInOwnSlots}, SeamlessLaws.bare_file}
 use Rattle.seam_plan.proofs.{FitLemmas.fits-tested, LeadInLemmas.lead-in-is}
 use Rattle.seam_plan.specs.Frames.{needs_of, RunFrame}
 use Rattle.seam_plan.specs.Joins.{fits_behind, has_lead_in, lead_in_header}
+use Rattle.seamless_edits.specs.Seamless.{delay_of_run, gain_of, join_of_parts, part_brought}
+use Rattle.seamless_edits.specs.Seamless.{part_head, part_says_gain, replay_gain, run_extension}
+use Rattle.seamless_edits.specs.Seamless.{run_plan, seamless_file, seamless_frames, seamless_info}
+use Rattle.seamless_edits.specs.Seamless.{seamless_padding}
 use Rattle.slot_plan.proofs.FreeByteLemmas.{more-behind}
 use Rattle.slot_plan.specs.{FreeBytes.{FitsBehind, IsLeadInHeader}, Layouts.begins_of}
 use Rattle.slot_plan.specs.{LeastPlan.led_plan, Lists.CanBeLaid}
 use Rattle.slot_plan.specs.Parts.{open_frame, own_frame, part_items}
 use Rattle.slot_plan.specs.{Plans.{AreItemSlots, IsLedPlan, IsPlan}, declared.needs.Need.Need}
 use Rattle.slot_plan.specs.declared.needs.Placed.{Placed}
-use Rattle.sync_survey.specs.{Faults.{survey_fields, SurveyFields}, MainData.StreamFrame, Row.Row}
+use Rattle.sync_survey.specs.{Faults.SurveyFields, MainData.StreamFrame, Row.Row}
 
 -- ---- lists
 
@@ -158,155 +140,115 @@ led-relaid_frames : (lead : Placed) (rest : List Placed) (f : Frame) (fs : List 
     ≡ relaid_frames (f ∷ fs) (lead ∷ rest)
 led-relaid_frames lead rest f fs leads = grind (arith, relaid_frames-cons, lead, one, leads)
 
--- ---- the first frame of the run
-
--- a row needs what the list of needs has at its number
-row-need : (rows : List Row) (i : ℕ) (r : Row) (n : Need) → slice_get rows i ≡ Some r
-    → slice_get (map need_of rows) i ≡ Some n → need_of r ≡ n
-row-need rows i r n found is = grind (arith, slice_get-map, found)
-
 -- ---- what the heads of pieces keep
 
-module _ (file : List ℕ) (s : SurveyFields) (has : CanBeRelaid file s)
-    (few : length s.frames ≤ most_frames) where
-  abbrev read_of : (c : ClassFields) (from to : ExactPlace) (p : FilePart) → IsInput c p
-      → IsPiece file s has few from to p → Info
-  read_of c from to p is piece = read file s has few from to piece.0 piece.1 c p is piece.2
-
+module _ {file : List ℕ} {s : SurveyFields} (r : Recording file s) where
   -- each keeps what a piece keeps of the head of the recording
-  piece-keeps : (c : ClassFields) (from to : ExactPlace) (p : FilePart) (is : IsInput c p)
-      (piece : IsPiece file s has few from to p)
-      → Keeps (head file s has) (read_of c from to p is piece).extension
-  piece-keeps c from to p is piece =
-      let span = piece.0 in
-      let row = piece.2.row in
+  piece-keeps : {from to : ExactPlace} {p : FilePart}
+      (at : IsExact r from to p)
+      → Keeps (head r) (read at.piece).extension
+  piece-keeps {from = from} {to = to} at =
+      let t = span r from to in
+      let made = at.piece.made in
       let long = head_long file s.head in
-      let delay : ℕ = delay_of s.class (leads file s has span) span in
-      let info : Info = info_laid (plain file s has span) file (own file s has) in
-      let there = span-survey_without_head s span piece.1.there in
-      keeps-by (head file s has) long delay (padding_of span)
-      (read_of c from to p is piece).extension
-      (ap (take 28) (read-extension file s has few from to span piece.1 c p is piece.2)
-      ∙ sealed-front row.header info
-      (plain-long (head file s has) long span file (own file s has) (has-own file s has) there))
-      (read-head file s has few from to span piece.1 c p is piece.2).numbers.encoder
+      keeps-by (head r) long (delay_of s.class (leads at.piece) t) (padding_of t)
+      (read at.piece).extension
+      (ap (take 28)
+      (read-extension at.piece
+      ∙ ap (λ (l : LaidPart). l.extension) (piece-by r t at.there.there made.row made.row_is))
+      ∙ sealed-front made.row.header (info_laid (plain r t) file (own r))
+      (plain-long (head r) long t file (own r) (has-own r) (inside r t at.there.there)))
+      (read-head r at).numbers.encoder
 
   -- all pieces have the same peak and gains
-  gains-are : (gain : List ℕ) → gain ≡ replay_gain (kept_extension (head file s has))
-      → (c : ClassFields) (from : ExactPlace) (tos : List ExactPlace) (parts : List FilePart)
-      → AreInputs c parts → AreExactFiles file s has few from tos parts
-      → list_all (part_says_gain gain) parts ≡ true
-  gains-are gain is c from [] [] inputs files = refl
-  gains-are gain is c from [] (p ∷ parts) inputs files = absurd files
-  gains-are gain is c from (to ∷ tos) [] inputs files = refl
-  gains-are gain is c from (to ∷ tos) (p ∷ parts) inputs files =
-      let piece = files.0 in
-      let sp = has-span file s has few from to piece.0 piece.1 c p inputs.0 piece.2 in
-      let keeps = piece-keeps c from to p inputs.0 piece in
+  gains-are : (gain : List ℕ) → gain ≡ replay_gain (kept_extension (head r))
+      → {from : ExactPlace} {tos : List ExactPlace} {parts : List FilePart}
+      → AreExact r from tos parts → list_all (part_says_gain gain) parts ≡ true
+  gains-are gain is no_pieces = refl
+  gains-are gain is (piece_then {p = p} {parts = parts} here more) =
       let own_gain : gain_of (part_head p) ≡ gain =
-      ap gain_of (read-is file s has few from to piece.0 piece.1 c p inputs.0 piece.2)
-      ∙ gain-same (read_of c from to p inputs.0 piece).extension (kept_extension (head file s has))
-      keeps.front
+      ap gain_of (read-is here.piece)
+      ∙ gain-same (read here.piece).extension (kept_extension (head r)) (piece-keeps here).front
       ∙ sym is in
       and_from (part_says_gain gain p) (list_all (part_says_gain gain) parts)
       (and_from (is_some (part_brought p).played) (bytes_eq (gain_of (part_head p)) gain)
-      (ap is_some sp.spans.counted)
+      (ap is_some (has-span r here).spans.counted)
       ((bytes_eq-Decides (gain_of (part_head p)) gain).1 own_gain))
-      (gains-are gain is c to tos parts inputs.1 files.1)
+      (gains-are gain is more)
 
 -- ---- the join
 
-module _ (file : List ℕ) (s : SurveyFields) (has : CanBeRelaid file s)
-    (few : length s.frames ≤ most_frames) (known : IsClass s.class)
-    (place next : ExactPlace) (places : List ExactPlace) (first : FilePart) (parts : List FilePart)
-    (inputs : AreInputs first.survey.class (first ∷ parts))
-    (files : AreExactFiles file s has few place (next ∷ places) (first ∷ parts)) where
+module _ {file : List ℕ} {s : SurveyFields} (r : Recording file s) {place next : ExactPlace}
+    {places : List ExactPlace} {first : FilePart} {parts : List FilePart}
+    (pieces : AreExact r place (next ∷ places) (first ∷ parts)) where
   abbrev t : SurveyFields
-  t = own file s has
+  t = own r
 
   abbrev window : ℕ
   window = window_of s.class.version
 
-  abbrev span : Span
-  span = whole_span file s has few known place next places first parts inputs files
+  abbrev cut_span : Span
+  cut_span = whole_span r pieces
 
-  abbrev piece : IsPiece file s has few place next first
-  piece = files.0
+  abbrev piece : IsPiece (first_of r pieces).led (choice r (first_of r pieces)) file t s.class first
+  piece = (at r pieces).piece
 
   abbrev row : Row
-  row = piece.2.row
+  row = piece.made.row
 
-  first-same : piece.0.first ≡ span.first
-  first-same = whole-first file s has few known place next places first parts inputs files
+  first-same : low r pieces ≡ cut_span.first
+  first-same = whole-first r pieces
 
-  last-same : high file s has few known place next places first parts inputs files ≡ span.last
-  last-same = whole-last file s has few known place next places first parts inputs files
+  last-same : high r pieces ≡ cut_span.last
+  last-same = whole-last r pieces
 
-  class-same : first.survey.class ≡ s.class
-  class-same = class-is file s has few known place next places first parts inputs files
+  found : IsFound r place (goal r pieces)
+  found = whole-found r pieces
 
-  found : IsFound file s has place (last_place next places) span
-  found = whole-found file s has few known place next places first parts inputs files
+  there : IsSpanIn t cut_span
+  there = inside r cut_span found.there
 
-  inside : IsSpanIn t span
-  inside = span-survey_without_head s span found.there
+  row-is : slice_get t.frames cut_span.first ≡ Some row
+  row-is = ap (slice_get t.frames) (sym first-same) ∙ piece.made.row_is
 
-  row-is : slice_get t.frames span.first ≡ Some row
-  row-is = ap (slice_get t.frames) (sym first-same) ∙ piece.2.row_is
-
-  abbrev whole : LaidPart
-  whole = laid_by file s has span row
+  -- what is cut from the first place to the last
+  abbrev pub cut : LaidPart
+  cut = laid r cut_span
 
   abbrev part : FilePart
-  part = source_part whole file t
+  part = source_part cut file t
 
   abbrev needs : List Need
-  needs = span_needs span t
+  needs = span_needs cut_span t
 
   abbrev front : ℕ
   front = (join_of_parts first parts).front
 
   abbrev run_all : List RunFrame
-  run_all =
-      run_between file t piece.0.first
-      (high file s has few known place next places first parts inputs files)
+  run_all = run_frames r pieces
 
   abbrev stream_all : List StreamFrame
-  stream_all =
-      slice_range (st file s has few) piece.0.first
-      (high file s has few known place next places first parts inputs files)
+  stream_all = whole r pieces
 
   run-needs : needs_of run_all ≡ needs
-  run-needs = grind (arith, run_between, first-same, last-same, between-needs, has-own)
+  run-needs =
+      between-needs (has-own r) (low r pieces) (high r pieces)
+      ∙ ap₂ (λ (i j : ℕ). map need_of (slice_range t.frames i j)) first-same last-same
 
   part-is : IsPart s.class part
-  part-is = record {
-    has = has-own file s has;
-    class = refl;
-    some = inside.some;
-    within = inside.within;
-  }
+  part-is = record { has = has-own r; class = refl; some = there.some; within = there.within }
 
-  part-streams : map stream_entry (part_frames part) ≡ stream_all
-  part-streams = grind (arith, part-stream s.class part part-is, part-is, first-same, last-same)
-
-  own_inputs : AreInputs s.class (first ∷ parts)
-  own_inputs = subst (λ d. AreInputs d (first ∷ parts)) class-same inputs
-
-  abbrev run_frames_in : List Frame
-  run_frames_in = flat_map part_frames (run_parts first parts)
-
-  all_read : AreRead s.class run_frames_in (stream first parts inputs)
-  all_read = run-read s.class first parts own_inputs
+  part-streams : stream_all ≡ part_stream part
+  part-streams = ap₂ (λ (i j : ℕ). slice_range (st r) i j) first-same last-same
 
   abbrev placed : List Placed
-  placed = (plain file s has span).placed
+  placed = cut.placed
 
   -- the frames of the join are the frames that are cut, and both Info frames have the same header
   pub record IsSame : Type 0 where
     pub frames : seamless_frames first parts ≡ relaid_frames (part_frames part) placed
-    pub header : (r : Row) → slice_get first.survey.frames front ≡ Some r
-        → info_header_of r.header ≡ info_header_of row.header
+    pub header : (q : Row) → slice_get first.survey.frames front ≡ Some q
+        → info_header_of q.header ≡ info_header_of row.header
 
   -- ---- the plan
 
@@ -322,163 +264,130 @@ module _ (file : List ℕ) (s : SurveyFields) (has : CanBeRelaid file s)
       → span_plan led s.class needs ≡ least
   plan-by false lacks = refl
   plan-by true lacks =
-      let chosen = span_chosen (head file s has) span in
+      let chosen = choice r cut_span in
       let plan =
-      the-plan chosen t (has-own file s has).placed inside.some inside.within own_choice
+      the-plan chosen t (has-own r).placed there.some there.within own_choice
       (inl refl) in
-      sym ((led-is chosen t (has-own file s has).placed inside.some inside.within least).0
+      sym ((led-is chosen t (has-own r).placed there.some there.within least).0
       (led-needed window own_choice needs least (never-laid (lacks refl)) plan))
 
-  run-least : needs_of (run first parts inputs) ≡ needs → run_plan first parts ≡ least
-  run-least same = grind (arith, class-same)
+  run-least : needs_of (run (inputs r pieces)) ≡ needs → run_plan first parts ≡ least
+  run-least same =
+      ap₂ (λ (d : ClassFields) (ns : List Need). first_plan own_choice d ns) piece.is.of_class same
 
   -- if the run has the stream and the plan of the cut,
   -- the frames of the join are the frames that are cut
-  bare-frames : stream first parts inputs ≡ stream_all → run_plan first parts ≡ placed
+  bare-frames : stream (inputs r pieces) ≡ stream_all → run_plan first parts ≡ placed
       → seamless_frames first parts ≡ relaid_frames (part_frames part) placed
   bare-frames streams plans =
-      relaid_frames-same run_frames_in (part_frames part) (run_plan first parts)
-      (bare-same s.class known run_frames_in (part_frames part) all_read.entries
-      (part-entries s.class part part-is)
-      (all_read.is ∙ streams ∙ sym part-streams))
-      ∙ ap (relaid_frames (part_frames part)) plans
+      frames-of-part r.known (inputs r pieces) part part-is (streams ∙ part-streams) placed plans
 
-  -- the needs of the first piece's frames begin with the first need of these frames
-  first-needs : slice_get (needs_of (run_between file t piece.0.first piece.0.last)) 0
-      ≡ Some (need_of row)
-  first-needs = grind (arith, between-needs, has-own, range-next)
+  headers : front ≡ leads piece → (q : Row) → slice_get first.survey.frames front ≡ Some q
+      → info_header_of q.header ≡ info_header_of row.header
+  headers same q found =
+      ap (λ (n : Need). info_header_of n.header) (row-after piece front q same found)
+
+  -- both the cut_span and the first piece must have a lead-in, or neither
+  led-as-first : (first_of r pieces).led ≡ cut_span.led
+  led-as-first = led-same r pieces
 
   -- ---- without a lead-in
 
-  led-same : piece.0.led ≡ span.led
-  led-same = span-led-same file s has few known place next places first parts inputs files
-
-  module _ (ways : IsLaidOwn file s has piece.0 piece.1.there piece.2.row piece.2.row_is)
-      (stays : front ≡ 0) where
-    abbrev own-span : FirstSpan file s has few known place next places first parts inputs files
-    own-span =
-        has-own-span file s has few place next piece.0 piece.1 first.survey.class first inputs.0
-        piece.2 ways
-
-    same-own : IsSame
-    same-own =
-        let run_is : needs_of (run first parts inputs) ≡ needs =
-        grind (
-          arith,
-          run-frames file s has few known place next places first parts inputs files
-              own-span,
-          run-needs,
-        ) in
-        let streams : stream first parts inputs ≡ stream_all =
-        run-stream file s has few known place next places first parts inputs files own-span
-        ∙ ap (λ n. drop n stream_all) stays in
-        let brings =
-        brought-own file s has few place next piece.0 piece.1 first.survey.class first inputs.0
-        piece.2 ways in
-        let plans : span_plan span.led s.class needs ≡ least =
-        ap (λ b. span_plan b s.class needs) (sym led-same ∙ ways.1) in
-        record {
-          frames = bare-frames streams (run-least run_is ∙ sym plans);
-          header = grind (arith, row-need, first-needs, first.survey.frames, brings.rows_need);
-        }
+  same-own : IsUnled piece → front ≡ 0 → IsSame
+  same-own own stays =
+      let sp = has-own-span r (at r pieces) own in
+      let run_is : needs_of (run (inputs r pieces)) ≡ needs =
+      ap needs_of (run-frames r pieces sp ∙ ap (λ n. drop n run_all) stays) ∙ run-needs in
+      let plans : span_plan cut_span.led s.class needs ≡ least =
+      ap (λ b. span_plan b s.class needs) (sym led-as-first ∙ own.unled) in
+      record {
+        frames =
+            bare-frames (run-stream r pieces sp ∙ ap (λ n. drop n stream_all) stays)
+            (run-least run_is ∙ sym plans);
+        header = headers (stays ∙ sym own.none);
+      }
 
   -- ---- after a lead-in
 
-  module _ (ways : IsLaidLed file s has piece.0 piece.1.there piece.2.row piece.2.row_is) where
-    abbrev with_lead : FirstSpan file s has few known place next places first parts inputs files
-    with_lead = led-span file s has few known place next places first parts inputs files ways
+  module _ (led : IsLed piece) where
+    abbrev with_lead : FirstSpan r pieces
+    with_lead = has-led-span r (at r pieces) led
 
-    abbrev brought : BringsLed first.survey.class first inputs.0
-        (run_between file t piece.0.first piece.0.last)
-        (slice_range (st file s has few) piece.0.first piece.0.last)
-    brought = brings file s has few known place next places first parts inputs files ways
+    abbrev brought : BringsLed s.class first piece.is (own_frames piece) (own_stream piece)
+    brought = led.brings
 
     -- where the lead-in leaves the run, the run gets it again
     same-again : front ≡ 1 → IsSame
     same-again out =
-        let run_is : needs_of (run first parts inputs) ≡ needs =
+        let run_is : needs_of (run (inputs r pieces)) ≡ needs =
         ap needs_of
-        (run-frames file s has few known place next places first parts inputs files with_lead
-        ∙ ap (λ n. drop n (brought.lead_in ∷ run_all)) out)
+        (run-frames r pieces with_lead ∙ ap (λ n. drop n (brought.lead_in ∷ run_all)) out)
         ∙ run-needs in
-        let streams : stream first parts inputs ≡ stream_all =
-        run-stream file s has few known place next places first parts inputs files with_lead
+        let streams : stream (inputs r pieces) ≡ stream_all =
+        run-stream r pieces with_lead
         ∙ ap (λ n. drop n (silent_lead_in brought.first ∷ stream_all)) out in
         let lacks : fits_behind window 0 needs ≡ false =
-        ap₂ (λ (d : ClassFields) (ns : List Need). fits_behind (window_of d.version) 0 ns)
-        (sym class-same) (sym run_is)
-        ∙ (front-parts first parts inputs (omega (arith, out))).1 in
+        ap (fits_behind window 0) (sym run_is)
+        ∙ (front-parts (inputs r pieces) (omega (arith, out))).1 in
         record {
-          frames = bare-frames streams (run-least run_is ∙ sym (plan-by span.led (λ led. lacks)));
-          header = λ r there.
-              ap (λ (n : Need). info_header_of n.header)
-              (row-need first.survey.frames front r (need_of row) there
-              (ap₂ (λ (ns : List Need) n. slice_get ns n) brought.rows_need out
-              ∙ first-needs));
+          frames =
+              bare-frames streams (run-least run_is ∙ sym (plan-by cut_span.led (λ led. lacks)));
+          header = headers (out ∙ sym led.one);
         }
 
     -- ---- where the lead-in stays
 
     module _ (stays : front ≡ 0) where
       abbrev begin_at : ℕ
-      begin_at = piece.0.first
+      begin_at = low r pieces
 
-      abbrev mid : ℕ
-      mid = piece.0.last
+      abbrev middle : ℕ
+      middle = mid r pieces
 
       abbrev high_end : ℕ
-      high_end = high file s has few known place next places first parts inputs files
+      high_end = high r pieces
 
       abbrev own_run : List RunFrame
-      own_run = run_between file t begin_at mid
+      own_run = run_between file t begin_at middle
 
       abbrev more : List Need
-      more = map need_of (slice_range t.frames (span.first + 1) span.last)
+      more = map need_of (slice_range t.frames (cut_span.first + 1) cut_span.last)
 
       abbrev own_more : List Need
-      own_more = map need_of (slice_range t.frames (begin_at + 1) mid)
+      own_more = map need_of (slice_range t.frames (begin_at + 1) middle)
 
       needs-cons : needs ≡ need_of row ∷ more
       needs-cons =
-          ap (map need_of) (range-next t.frames span.first span.last row row-is inside.some)
+          ap (map need_of) (range-next t.frames cut_span.first cut_span.last row row-is there.some)
 
       own-cons : needs_of own_run ≡ need_of row ∷ own_more
       own-cons =
-          between-needs file t (has-own file s has) begin_at mid
+          between-needs (has-own r) begin_at middle
           ∙ ap (map need_of)
-          (range-next t.frames begin_at mid row piece.2.row_is piece.1.there.some)
+          (range-next t.frames begin_at middle row piece.made.row_is piece.right.some)
 
-      ends : mid ≤ high_end
-      ends =
-          omega (
-            arith,
-            first-ends file s has few known place next places first parts inputs files,
-            ends-later file s has few known place next places first parts inputs files,
-          )
+      ends : middle ≤ high_end
+      ends = ends-later r pieces
 
       all-fit : fits_behind window 0 needs ≡ true
-      all-fit =
-          ap₂ (λ (d : ClassFields) (ns : List Need). fits_behind (window_of d.version) 0 ns)
-          (sym class-same) (sym run-needs)
-          ∙ stays-fit file s has few known place next places first parts inputs files ways stays
+      all-fit = ap (fits_behind window 0) (sym run-needs) ∙ stays-fit r pieces led stays
 
       own-fit : fits_behind window 0 (needs_of own_run) ≡ true
       own-fit =
-          front-fits window 0 own_run (run_between file t mid high_end)
+          front-fits window 0 own_run (run_between file t middle high_end)
           (ap (λ (l : List RunFrame). fits_behind window 0 (needs_of l))
-          (between-append file t (has-own file s has) begin_at mid high_end
-          (omega (arith, piece.1.there.some)) ends)
+          (between-append (has-own r) begin_at middle high_end
+          (omega (arith, piece.right.some)) ends)
           ∙ ap (fits_behind window 0) run-needs ∙ all-fit)
 
-      is-led : span.led ≡ true
+      is-led : cut_span.led ≡ true
       is-led =
-          sym led-same
-          ∙ elim ways.1 as (λ _. piece.0.led ≡ true) [
-            | inl led ↦ led
+          sym led-as-first
+          ∙ elim led.lacks as (λ _. (first_of r pieces).led ≡ true) [
+            | inl is ↦ is
             | inr lacks ↦
                 absurd (both_ways (fits_behind window 0 (needs_of own_run))
-                (ap (fits_behind window 0)
-                (between-needs file t (has-own file s has) begin_at mid) ∙ lacks.1) own-fit)
+                (ap (fits_behind window 0) (frames-need piece) ∙ lacks) own-fit)
           ]
 
       abbrev led_places : List Placed
@@ -489,9 +398,9 @@ module _ (file : List ℕ) (s : SurveyFields) (has : CanBeRelaid file s)
 
       as-led : IsLedAs window (need_of row) more led_places
       as-led =
-          let chosen = span_chosen (head file s has) span in
+          let chosen = choice r cut_span in
           let plan =
-          (led-is chosen t (has-own file s has).placed inside.some inside.within led_places).1
+          (led-is chosen t (has-own r).placed there.some there.within led_places).1
           refl in
           led-as window (need_of row) more led_places
           (subst (λ (ns : List Need). IsLedPlan window own_choice ns led_places) needs-cons plan)
@@ -500,8 +409,7 @@ module _ (file : List ℕ) (s : SurveyFields) (has : CanBeRelaid file s)
       lead = lead_need row.header as-led.lead.slot
 
       known-class : IsClass (class_of row.header)
-      known-class =
-          IsClass-class_of row.header ((has-own file s has).placed span.first row row-is).known
+      known-class = IsClass-class_of row.header ((has-own r).placed cut_span.first row row-is).known
 
       lead-found : lead_in_header window (need_of row ∷ more) ≡ Some lead.header
       unfolding IsLeadInHeader
@@ -509,10 +417,7 @@ module _ (file : List ℕ) (s : SurveyFields) (has : CanBeRelaid file s)
 
       own-found : lead_in_header window (need_of row ∷ own_more)
           ≡ Some brought.lead_in.need.header
-      own-found =
-          ap₂ (λ (d : ClassFields) (ns : List Need). lead_in_header (window_of d.version) ns)
-          (sym class-same) (sym own-cons)
-          ∙ brought.header
+      own-found = ap (lead_in_header window) (sym own-cons) ∙ brought.header
 
       lead-is : brought.lead_in.need ≡ lead
       lead-is =
@@ -525,30 +430,24 @@ module _ (file : List ℕ) (s : SurveyFields) (has : CanBeRelaid file s)
           let header : brought.lead_in.need.header ≡ lead.header = cc in
           ap₂ (λ (h : HeaderFields) (n : ℕ). record { header = h; bytes = n }) header brought.empty
 
-      run-all : needs_of (run first parts inputs) ≡ lead ∷ need_of row ∷ more
+      run-all : needs_of (run (inputs r pieces)) ≡ lead ∷ need_of row ∷ more
       run-all =
           ap needs_of
-          (run-frames file s has few known place next places first parts inputs files with_lead
+          (run-frames r pieces with_lead
           ∙ ap (λ n. drop n (brought.lead_in ∷ run_all)) stays)
           ∙ ap₂ (λ (n : Need) (ns : List Need). n ∷ ns) lead-is (run-needs ∙ needs-cons)
 
       run-plan : IsPlan window own_choice ((lead ∷ need_of row ∷ more) ∷ [])
           (run_plan first parts)
       run-plan =
-          subst (λ (d : ClassFields).
-          IsPlan (window_of d.version) own_choice ((lead ∷ need_of row ∷ more) ∷ [])
-          (run_plan first parts)) class-same
-          (subst (λ (ns : List Need).
-          IsPlan (window_of first.survey.class.version) own_choice (ns ∷ [])
-          (run_plan first parts)) run-all
-          (run-planned first parts inputs))
+          subst (λ (ns : List Need). IsPlan window own_choice (ns ∷ []) (run_plan first parts))
+          run-all
+          (run-planned (inputs r pieces))
 
       run-fit : FitsBehind window 0 (lead ∷ need_of row ∷ more)
       run-fit =
           (fits-tested window 0 (lead ∷ need_of row ∷ more)).0
-          (ap₂ (λ (d : ClassFields) (ns : List Need). fits_behind (window_of d.version) 0 ns)
-          (sym class-same) (sym run-all)
-          ∙ run-fits file s has few known place next places first parts inputs files ways stays)
+          (ap (fits_behind window 0) (sym run-all) ∙ run-fits r pieces led stays)
 
       as-run : IsLedRun window (need_of row) more led_places (run_plan first parts)
       as-run =
@@ -566,33 +465,36 @@ module _ (file : List ℕ) (s : SurveyFields) (has : CanBeRelaid file s)
           let first : as-led.lead.begin ≡ 0 - max 0 (0 - window) = cc in
           omega (arith, first)
 
-      streams : stream first parts inputs ≡ silent_lead_in brought.first ∷ stream_all
+      part-entry : map stream_entry (part_frames part) ≡ stream_all
+      part-entry = part-stream s.class part part-is ∙ sym part-streams
+
+      streams : stream (inputs r pieces) ≡ silent_lead_in brought.first ∷ stream_all
       streams =
-          run-stream file s has few known place next places first parts inputs files with_lead
+          run-stream r pieces with_lead
           ∙ ap (λ n. drop n (silent_lead_in brought.first ∷ stream_all)) stays
 
       stream-first : stream_all
-          ≡ brought.first ∷ (brought.rest ++ slice_range (st file s has few) mid high_end)
+          ≡ brought.first ∷ (brought.rest ++ slice_range (st r) middle high_end)
       stream-first =
-          sym (range-append (st file s has few) begin_at mid high_end
-          (omega (arith, piece.1.there.some)) ends)
-          ∙ ap (λ (l : List StreamFrame). l ++ slice_range (st file s has few) mid high_end)
+          sym (range-append (st r) begin_at middle high_end
+          (omega (arith, piece.right.some)) ends)
+          ∙ ap (λ (l : List StreamFrame). l ++ slice_range (st r) middle high_end)
           brought.own_is
 
-      frames-by : (all : List Frame) → part_frames part ≡ all
+      frames-led : (all : List Frame) → part_frames part ≡ all
           → seamless_frames first parts ≡ relaid_frames (part_frames part) placed
       unfolding as-run as-led led-run
-      frames-by [] are =
+      frames-led [] are =
           let none : [] ≡ brought.first
-          ∷ (brought.rest ++ slice_range (st file s has few) mid high_end) =
-          sym (ap (map stream_entry) are) ∙ part-streams ∙ stream-first in
+          ∷ (brought.rest ++ slice_range (st r) middle high_end) =
+          sym (ap (map stream_entry) are) ∙ part-entry ∙ stream-first in
           absurd cc
-      frames-by (f ∷ fs) are =
+      frames-led (f ∷ fs) are =
           let entries = subst (AreStreamEntries s.class) are (part-entries s.class part part-is) in
           let all : stream_entry f ∷ map stream_entry fs ≡ stream_all =
-          sym (ap (map stream_entry) are) ∙ part-streams in
+          sym (ap (map stream_entry) are) ∙ part-entry in
           let begins : stream_entry f ∷ map stream_entry fs
-          ≡ brought.first ∷ (brought.rest ++ slice_range (st file s has few) mid high_end) =
+          ≡ brought.first ∷ (brought.rest ++ slice_range (st r) middle high_end) =
           all ∙ stream-first in
           let entry : stream_entry f ≡ brought.first = cc in
           let led_frame : Frame = lead_in_with_place as-run.lead f in
@@ -604,9 +506,8 @@ module _ (file : List ℕ) (s : SurveyFields) (has : CanBeRelaid file s)
           ≡ silent_lead_in brought.first ∷ stream_all =
           ap₂ (λ (x : StreamFrame) (xs : List StreamFrame). x ∷ xs)
           (one-stream true as-run.lead f ∙ ap silent_lead_in entry) all in
-          relaid_frames-same run_frames_in (led_frame ∷ f ∷ fs) (run_plan first parts)
-          (bare-same s.class known run_frames_in (led_frame ∷ f ∷ fs) all_read.entries
-          (own_entry, entries) (all_read.is ∙ streams ∙ sym heard))
+          frames-by r.known (inputs r pieces) (led_frame ∷ f ∷ fs) (own_entry, entries)
+          (streams ∙ sym heard)
           ∙ ap (relaid_frames (led_frame ∷ f ∷ fs)) as-run.run_is
           ∙ led-relaid_frames as-run.lead as-run.rest f fs as-run.leads
           ∙ ap₂ (λ (xs : List Frame) (ps : List Placed). relaid_frames xs ps) (sym are)
@@ -614,148 +515,103 @@ module _ (file : List ℕ) (s : SurveyFields) (has : CanBeRelaid file s)
 
       same-led : IsSame
       same-led = record {
-        frames = frames-by (part_frames part) refl;
-        header = λ r there.
+        frames = frames-led (part_frames part) refl;
+        header = λ q found.
             ap (λ (n : Need). info_header_of n.header)
-            (row-need first.survey.frames front r brought.lead_in.need there
+            (row-need first.survey.frames front q brought.lead_in.need found
             (ap₂ (λ (ns : List Need) n. slice_get ns n) brought.rows_need stays))
             ∙ lead-header window (need_of row) own_more brought.lead_in.need.header own-found;
       }
 
   -- the frames are the frames that are cut, unless the first piece begins with a look-alike
-  pub is-same : (leads file s has piece.0 ≡ 0
-      → has_lead_in (window_of first.survey.class.version) (part_brought first) ≡ false) → IsSame
-  is-same none =
-      elim (span-ways file s has piece.0 piece.1.there piece.2.row piece.2.row_is)
-      as (λ _. IsSame) [
-        | inl ways ↦
+  pub is-same : IsPlain piece → IsSame
+  is-same plain =
+      elim (ways piece) as (λ _. IsSame) [
+        | inl own ↦
             elim (cases_lt 0 front) as (λ _. IsSame) [
               | inl out ↦
-                  absurd (both_ways
-                  (has_lead_in (window_of first.survey.class.version) (part_brought first))
-                  (none
-                  (own-leads file s has piece.0 piece.1.there piece.2.row piece.2.row_is ways))
-                  (front-parts first parts inputs out).0)
-              | inr stays ↦ same-own ways (omega (arith, stays))
+                  absurd (both_ways (has_lead_in window (part_brought first)) (plain own.none)
+                  (front-parts (inputs r pieces) out).0)
+              | inr stays ↦ same-own own (omega (arith, stays))
             ]
-        | inr ways ↦
+        | inr led ↦
             elim (cases_lt 0 front) as (λ _. IsSame) [
-              | inl out ↦
-                  same-again ways (omega (arith, out, front-few first parts inputs))
-              | inr stays ↦ same-led ways (omega (arith, stays))
+              | inl out ↦ same-again led (omega (arith, out, front-few (inputs r pieces)))
+              | inr stays ↦ same-led led (omega (arith, stays))
             ]
       ]
 
   -- ---- the Info frame
 
-  abbrev pieces_delay : ℕ
-  pieces_delay = delay file s has few known place next places first parts inputs files
+  abbrev written : ℕ
+  written = delay r pieces
 
   abbrev cut_frames : List Frame
-  cut_frames = frames_laid whole file t
-
-  abbrev head_here : Option Info
-  head_here = head file s has
-
-  abbrev first_read : Info
-  first_read =
-      read file s has few place next piece.0 piece.1 first.survey.class first inputs.0 piece.2
-
-  first-read : part_head first ≡ Some first_read
-  first-read =
-      read-is file s has few place next piece.0 piece.1 first.survey.class first inputs.0 piece.2
+  cut_frames = frames_laid cut file t
 
   abbrev made : List ℕ
-  made = extension_of (part_head first) pieces_delay (seamless_padding first parts)
+  made = extension_of (part_head first) written (seamless_padding first parts)
 
-  made-is : made ≡ extension_of head_here pieces_delay (padding_of span)
+  made-is : made ≡ extension_of (head r) written (padding_of cut_span)
   made-is =
-      ap₂ (λ o n. extension_of o pieces_delay n) first-read
-      (padding-is file s has few known place next places first parts inputs files)
-      ∙ made-again head_here first_read pieces_delay (padding_of span)
-      (piece-keeps file s has few first.survey.class place next first inputs.0 piece)
+      ap₂ (λ o n. extension_of o written n) (read-is piece) (padding-is r pieces)
+      ∙ made-again (head r) (read piece) written (padding_of cut_span) (piece-keeps r (at r pieces))
 
   -- peak and gains stay as they are
-  run-made : run_extension pieces_delay first parts ≡ made
+  run-made : run_extension written first parts ≡ made
   run-made =
-      let gain : replay_gain made ≡ replay_gain (kept_extension head_here) =
-      gain-same made (kept_extension head_here)
+      let gain : replay_gain made ≡ replay_gain (kept_extension (head r)) =
+      gain-same made (kept_extension (head r))
       (ap (take 21) made-is
-      ∙ made-front head_here (head_long file s.head) pieces_delay (padding_of span)) in
+      ∙ made-front (head r) (head_long file s.head) written (padding_of cut_span)) in
       ap (λ b. cond b made (take 11 made ++ (replicate 8 0 ++ drop 19 made)))
-      (gains-are file s has few (replay_gain made) gain first.survey.class next places parts
-      inputs.1 files.1)
-
-  leads-many : length (seamless_frames first parts) ≡ length placed → span_lead_ins span placed
-      ≡ many file s has few known place next places first parts inputs files
-  leads-many same = grind (arith, frames-many)
+      (gains-are r (replay_gain made) gain
+      (later-at pieces))
 
   placed-many : length cut_frames ≡ length placed
   placed-many =
       sym (length-map cut_frames slot_in)
       ∙ ap (λ (l : List SlotFields). length l)
-      (laid-slots whole file t (has-own file s has) inside.some inside.within
-      (span-fitting file s has span found.there row row-is))
+      (laid-slots cut file t (has-own r) there.some there.within
+      (with-fitting (choice r cut_span) t (has-own r).placed there.some there.within cut_span.led))
       ∙ length-map placed (λ (p : Placed). p.slot)
 
-  quality-same : quality_bytes (quality_of (part_head first)) ≡ quality_bytes (quality_of head_here)
+  quality-same : quality_bytes (quality_of (part_head first)) ≡ quality_bytes (quality_of (head r))
   quality-same =
-      ap (λ o. quality_bytes (quality_of o)) first-read
-      ∙ ap quality_bytes
-      (read-quality file s has few place next piece.0 piece.1 first.survey.class first inputs.0
-      piece.2)
-      ∙ quality-again (number_or_zero (quality_of head_here))
+      ap (λ o. quality_bytes (quality_of o)) (read-is piece)
+      ∙ ap quality_bytes (read-quality piece)
+      ∙ quality-again (number_or_zero (quality_of (head r)))
 
   module _ (is : IsSame) where
-    frames-are : seamless_frames first parts ≡ cut_frames
-    frames-are = is.frames
+    extension-is : run_extension written first parts ≡ (plain r cut_span).extension
+    extension-is =
+        run-made ∙ made-is
+        ∙ ap (λ n. extension_of (head r) (delay_of s.class n cut_span) (padding_of cut_span))
+        (omega (
+          arith,
+          ap (λ (l : List Frame). length l) is.frames,
+          frames-many r pieces,
+          placed-many,
+        ))
 
-    extension-is : run_extension pieces_delay first parts ≡ (plain file s has span).extension
-    extension-is = grind (arith, leads-many, frames-are, placed-many, run-made, made-is)
-
-    info-is : (r : Row) → slice_get first.survey.frames front ≡ Some r
-        → info_frame r.header (seamless_info (delay_of_run first parts) r first parts)
-        ≡ info_frame row.header (info_laid whole file t)
-    info-is r there =
+    info-is : (q : Row) → slice_get first.survey.frames front ≡ Some q
+        → info_frame q.header (seamless_info (delay_of_run first parts) q first parts)
+        ≡ info_frame row.header (info_laid cut file t)
+    info-is q found_row =
         let quality : Option ℕ = quality_of (part_head first) in
-        ap (λ o. info_frame r.header (seamless_info o r first parts))
-        (delay-is file s has few known place next places first parts inputs files)
-        ∙ ap (λ (e : List ℕ). info_frame r.header (sealed_info r.header
+        ap (λ o. info_frame q.header (seamless_info o q first parts)) (delay-is r pieces)
+        ∙ ap (λ (e : List ℕ). info_frame q.header (sealed_info q.header
         (info_for first.survey.class (seamless_frames first parts) quality e))) extension-is
-        ∙ ap₂ (λ (d : ClassFields) (fs : List Frame). info_frame r.header (sealed_info r.header
-        (info_for d fs quality (plain file s has span).extension))) class-same frames-are
-        ∙ sealed-same s.class cut_frames quality (quality_of head_here) quality-same r.header
-        row.header (plain file s has span).extension (is.header r there)
+        ∙ ap₂ (λ (d : ClassFields) (fs : List Frame). info_frame q.header (sealed_info q.header
+        (info_for d fs quality (plain r cut_span).extension))) piece.is.of_class is.frames
+        ∙ sealed-same s.class cut_frames quality (quality_of (head r)) quality-same q.header
+        row.header (plain r cut_span).extension (is.header q found_row)
+        ∙ ap (λ (e : List ℕ).
+        info_frame row.header (info_laid (record (plain r cut_span) { extension = e }) file t))
+        (sym (ap (λ (l : LaidPart). l.extension) (piece-by r cut_span found.there row row-is)))
 
-    -- ---- the file
-
-    module _ (most : ℕ) (e : survey_fields file most ≡ Ok s) where
-      blocks-are : front_blocks first.file first.survey ≡ front_blocks file t
-      blocks-are =
-          let there = span-survey_without_head s piece.0 piece.1.there in
-          front-same (laid_by file s has piece.0 row) file t (has-own file s has) there.some
-          there.within (span-fitting file s has piece.0 piece.1.there row piece.2.row_is)
-          (span-long file s has piece.0 piece.1.there row piece.2.row_is) row piece.2.row_is
-          piece.2.back piece.2.blocks first.survey.class first inputs.0 piece.2.file_is most s e
-          refl
-
-      -- the join is what is cut, without the blocks after the frames
-      pub cut-file : seamless_file (first ∷ parts)
-          ≡ bare_file (span_piece head_here span file t) file t
-      unfolding seamless_file laid_file
-      cut-file =
-          let front_row =
-          first-there first.survey.frames front
-          (front-within first parts (whole-file first.survey.class first inputs.0)
-          (whole-files first.survey.class parts inputs.1)) in
-          let r : Row = front_row.0 in
-          ap (λ o. seamless_row_file o first parts) front_row.1
-          ∙ ap₂ (λ (blocks : List (List ℕ)) (i : List ℕ).
-          concat blocks ++ (i ++ (bytes_of_frames (seamless_frames first parts) ++ [])))
-          blocks-are (info-is r front_row.1)
-          ∙ ap (λ (fs : List Frame).
-          concat (front_blocks file t)
-          ++ (info_frame row.header (info_laid whole file t) ++ (bytes_of_frames fs ++ [])))
-          frames-are
-          ∙ sym (ap (λ (l : LaidPart). bare_file l file t) (piece-by file s has span row row-is)
-          ∙ ap (λ o. bare_row_file o whole file t) row-is)
+    -- the join is what is cut, without the blocks after the frames
+    pub cut-file : seamless_file (first ∷ parts) ≡ bare_file cut file t
+    cut-file =
+        file-same r.known (inputs r pieces) cut file t row row-is is.frames info-is
+        (front-same (laid-input piece) most_frames s r.told refl)

@@ -1,88 +1,83 @@
 -- What is played of the join of exact pieces by the head of its file, as it is read.
-use Rattle.std.proofs.Common.{ap₂, arith, length, List, Ok, Some, subst, sym, ℕ, ◌+◌, ◌-◌, ◌<◌, ◌^◌}
-use Rattle.std.proofs.Common.{◌∙◌, ◌∷◌, ◌≡◌, ◌≤◌}
-use Rattle.commands.specs.SingleOutput.{most_frames}
+use Rattle.std.proofs.Common.{ap₂, arith, List, Ok, Some, subst, sym, ℕ, ◌+◌, ◌-◌, ◌<◌, ◌^◌, ◌∙◌}
+use Rattle.std.proofs.Common.{◌∷◌, ◌≡◌}
 use Rattle.cut_edits.proofs.HeadLemmas.{survey_without_head-length}
-use Rattle.cut_edits.proofs.PieceLemmas.{span-survey_without_head}
-use Rattle.exact_laws.proofs.ExactFileLemmas.{sample}
-use Rattle.exact_laws.proofs.ExactNumberLemmas.{delay, delay-is, frames-many, info-head, many}
+use Rattle.exact_laws.proofs.ExactFileLemmas.{AreExact, inside, sample}
+use Rattle.exact_laws.proofs.ExactNumberLemmas.{delay, delay-is, frames-many, goal, info-head, many}
 use Rattle.exact_laws.proofs.ExactNumberLemmas.{many-leads, whole-found, whole_span}
-use Rattle.exact_laws.proofs.{ExactRunLemmas.{AreExactFiles, class-is}, ExactSpanLemmas.places-of}
+use Rattle.exact_laws.proofs.{ExactRunLemmas.{at, inputs}, ExactSpanLemmas.places-of}
 use Rattle.exact_span.specs.{Laws.{IsPieceHead, KeepsPlaces}, PlayedPositions.played_of}
 use Rattle.exact_span.specs.Spans.{delay_of, padding_of}
 use Rattle.exact_span.specs.declared.{exact_place.ExactPlace.ExactPlace, span.Span.Span}
-use Rattle.frame_header.specs.Fields.{ClassFields, IsClass}
+use Rattle.frame_header.specs.Fields.{ClassFields}
 use Rattle.info_header.specs.declared.fields.Info.{Info}
-use Rattle.seamless_edits.specs.Seamless.{delay_of_run}
-use Rattle.seamless_edits.specs.Seamless.{seamless_file}
-use Rattle.laying.specs.{Relaid.FilePart, Surveys.CanBeRelaid}
+use Rattle.laying.specs.Relaid.{FilePart}
 use Rattle.seam_laws.proofs.JoinReadLemmas.{front-row, read-count, read-played, read-says}
-use Rattle.seam_laws.proofs.JoinReadLemmas.{read_info, written_info}
-use Rattle.seam_laws.{proofs.SeamlessInputLemmas.AreInputs, specs.PlayedParts.input_played}
-use Rattle.seam_laws.specs.SeamlessLaws.{last_place}
+use Rattle.seam_laws.proofs.{JoinReadLemmas.{read_info, written_info}, PieceListLemmas.Recording}
+use Rattle.seam_laws.{proofs.SeamlessInputLemmas.{Joins, own-class}, specs.PlayedParts.input_played}
+use Rattle.seamless_edits.specs.Seamless.{delay_of_run, seamless_file}
 use Rattle.sync_survey.specs.{Faults.SurveyFields, Survey.survey_of}
 
-module _ (file : List ℕ) (s : SurveyFields) (has : CanBeRelaid file s)
-    (few : length s.frames ≤ most_frames) (known : IsClass s.class)
-    (place next : ExactPlace) (places : List ExactPlace) (first : FilePart) (parts : List FilePart)
-    (inputs : AreInputs first.survey.class (first ∷ parts))
-    (files : AreExactFiles file s has few place (next ∷ places) (first ∷ parts)) where
-  abbrev span : Span
-  span = whole_span file s has few known place next places first parts inputs files
+module _ {file : List ℕ} {s : SurveyFields} (r : Recording file s) {place next : ExactPlace}
+    {places : List ExactPlace} {first : FilePart} {parts : List FilePart}
+    (pieces : AreExact r place (next ∷ places) (first ∷ parts)) where
+  abbrev t : Span
+  t = whole_span r pieces
 
   abbrev leads : ℕ
-  leads = many file s has few known place next places first parts inputs files
+  leads = many r pieces
 
   abbrev written : ℕ
-  written = delay file s has few known place next places first parts inputs files
+  written = delay r pieces
 
   written-is : delay_of_run first parts ≡ Some written
-  written-is = delay-is file s has few known place next places first parts inputs files
+  written-is = delay-is r pieces
+
+  raw : Joins first.survey.class first parts
+  raw = own-class (inputs r pieces)
 
   abbrev read : Info
-  read = read_info first parts inputs written written-is
+  read = read_info raw written-is
 
-  says : IsPieceHead s.class leads span (written_info first parts inputs written written-is)
+  says : IsPieceHead s.class leads t (written_info raw written-is)
   says =
-      info-head file s has few known place next places first parts inputs files
-      (front-row first parts inputs written written-is).0
+      info-head r pieces
+      (front-row raw written-is).0
 
-  count-small : leads + (span.last - span.first) < 256 ^ 4
+  count-small : leads + (t.last - t.first) < 256 ^ 4
   count-small =
-      grind (
+      omega (
         arith,
-        whole-found file s has few known place next places first parts inputs files,
-        many-leads file s has few known place next places first parts inputs files,
-        span-survey_without_head,
+        (inside r t (whole-found r pieces).there).within,
+        (many-leads r pieces).one,
         survey_without_head-length s,
+        r.few,
       )
 
   -- the head as it is read describes the span
-  read-head : IsPieceHead s.class leads span read
+  read-head : IsPieceHead s.class leads t read
   read-head = record {
     frames =
-        read-count first parts inputs written written-is (leads + (span.last - span.first))
+        read-count raw written-is (leads + (t.last - t.first))
         says.frames count-small;
     numbers =
-        read-says first parts inputs written written-is (delay_of s.class leads span)
-        (padding_of span) says.numbers;
+        read-says raw written-is (delay_of s.class leads t)
+        (padding_of t) says.numbers;
   }
 
   -- by this head the join plays the samples from the first place to the last
   pub read-plays : (allowed : ℕ) (j : SurveyFields)
       → survey_of (seamless_file (first ∷ parts)) allowed ≡ Ok j
-      → KeepsPlaces s.class leads span.first (sample file s has place)
-      (sample file s has (last_place next places))
+      → KeepsPlaces s.class leads t.first (sample r place) (sample r (goal r pieces))
       (input_played (seamless_file (first ∷ parts)) j) (input_played file s)
   read-plays allowed j e =
       let played : input_played (seamless_file (first ∷ parts)) j
-      ≡ played_of (Some read) s.class (leads + (span.last - span.first)) =
-      read-played first parts inputs written written-is allowed j e
+      ≡ played_of (Some read) s.class (leads + (t.last - t.first)) =
+      read-played raw written-is allowed j e
       ∙ ap₂ (λ (d : ClassFields) (n : ℕ). played_of (Some read) d n)
-      (class-is file s has few known place next places first parts inputs files)
-      (frames-many file s has few known place next places first parts inputs files) in
-      subst (λ t. KeepsPlaces s.class leads span.first (sample file s has place)
-      (sample file s has (last_place next places)) t (input_played file s)) (sym played)
-      (places-of file s has few place (last_place next places) span
-      (whole-found file s has few known place next places first parts inputs files) leads read
-      (many-leads file s has few known place next places first parts inputs files) read-head)
+      (at r pieces).piece.is.of_class
+      (frames-many r pieces) in
+      subst (λ u. KeepsPlaces s.class leads t.first (sample r place) (sample r (goal r pieces)) u
+      (input_played file s)) (sym played)
+      (places-of r (whole-found r pieces) leads read
+      (many-leads r pieces) read-head)

@@ -11,8 +11,8 @@ use Rattle.frame_header.specs.Fields.{ClassFields, HeaderFields}
 use Rattle.frame_writer.specs.Frames.{Frame}
 use Rattle.info_header.specs.Info.{info_bytes, number_or_zero, table_or_zeros, vbr_text}
 use Rattle.info_header.specs.{InfoFrame.{info_frame, info_header_of}, declared.fields.Info.Info}
-use Rattle.seamless_edits.specs.Seamless.{replay_gain}
 use Rattle.laying.specs.Written.{info_for}
+use Rattle.seamless_edits.specs.Seamless.{replay_gain}
 
 -- ---- the bytes of an Info frame
 

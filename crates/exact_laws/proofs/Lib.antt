@@ -2,7 +2,6 @@
 pub mod PlayLemmas
 pub mod RecordingLemmas
 pub mod SpanRunLemmas
-pub mod LedPlanLemmas
 pub mod ExactFileLemmas
 pub mod ExactSpanLemmas
 pub mod ExactRunLemmas

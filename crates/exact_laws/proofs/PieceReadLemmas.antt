@@ -1,22 +1,19 @@
 -- An exact piece is laid by the first of all plans, and plays its samples as it
 -- is read: its file is an input of a join, which is a span of the recording.
 use Rattle.std.proofs.Common.{ap, ap₂, arith, Bool, false, inl, length, List, map, Ok, refl, Some}
-use Rattle.std.proofs.Common.{subst, sym, true, ℕ, [], ◌++◌, ◌+◌, ◌-◌, ◌∙◌, ◌∷◌, ◌≡◌, ◌≤◌}
-use Rattle.std.proofs.lemmas.Bool.{both_ways, lt-ltb, ltb-true}
-use Rattle.std.proofs.lemmas.List.{length-append, length-drop, length-take-le}
-use Rattle.std.specs.{List.range_with_len, Prelude.{drop, nat_lt, slice_get, slice_range}}
+use Rattle.std.proofs.Common.{subst, sym, true, ℕ, [], ◌++◌, ◌+◌, ◌-◌, ◌∙◌, ◌∷◌, ◌≡◌}
+use Rattle.std.{proofs.lemmas.Bool.{both_ways, lt-ltb, ltb-true}, specs.List.range_with_len}
+use Rattle.std.specs.Prelude.{nat_lt}
 use Rattle.commands.proofs.{MadeLemmas.some-frames, RefusingLemmas.then_ok}
-use Rattle.commands.specs.SingleOutput.{most_frames}
-use Rattle.cut_edits.proofs.ChosenLemmas.{the-plan}
-use Rattle.cut_edits.proofs.{PieceLemmas.{span-survey_without_head, span_chosen}, SpanLemmas.led-is}
-use Rattle.cut_edits.specs.Chosen.{Chosen}
-use Rattle.cut_edits.specs.Exact.{exact_part, IsSpanIn, span_lead_ins, span_needs, span_plan}
+use Rattle.cut_edits.proofs.{ChosenLemmas.the-plan, SpanLemmas.led-is}
+use Rattle.cut_edits.specs.Exact.{exact_part, span_lead_ins, span_needs, span_piece, span_plan}
 use Rattle.cut_edits.specs.Exact.{survey_without_head}
-use Rattle.exact_laws.proofs.ExactFileLemmas.{all_run, has-own, IsExactFile, IsFound, laid-exact}
-use Rattle.exact_laws.proofs.ExactFileLemmas.{laid_by, leads, own, piece-by, span-found}
-use Rattle.exact_laws.proofs.ExactSpanLemmas.{has-span, HasSpan, input-class, leads-are, places-of}
-use Rattle.exact_laws.proofs.ExactSpanLemmas.{read, read-head, read-is}
+use Rattle.exact_laws.proofs.ExactFileLemmas.{all_run, choice, has-own, head, inside, IsExact}
+use Rattle.exact_laws.proofs.ExactFileLemmas.{IsFound, laid, own, piece-is, position, span}
+use Rattle.exact_laws.proofs.ExactFileLemmas.{span-found, span-right}
+use Rattle.exact_laws.proofs.{ExactSpanLemmas.{has-span, kept}, PlayLemmas.pieces-play}
 use Rattle.exact_laws.proofs.RecordingLemmas.{between-plays, pieces-recording}
+use Rattle.exact_laws.proofs.SpanRunLemmas.{span-many}
 use Rattle.exact_laws.specs.PieceLaws.{all_read_samples, AreSurveysOf, ExactPiecesPlayAsRead}
 use Rattle.exact_laws.specs.PieceLaws.{ExactPlansAreFirst, first_position, HoldsInTurn, IsExactPlan}
 use Rattle.exact_laws.specs.PieceLaws.{IsPlanFrom, piece_file, PlaysAsRead, read_samples}
@@ -25,16 +22,16 @@ use Rattle.exact_laws.specs.{Recording.{PlayInTurn, PlaysBetween}, SampleLaws.Pl
 use Rattle.exact_span.specs.{Laws.KeepsPlaces, PlayedPositions.played_of, Spans.span_of}
 use Rattle.exact_span.specs.declared.{exact_place.ExactPlace.ExactPlace, span.Span.Span}
 use Rattle.frame_header.specs.{Fields.ClassFields, Tables.window_of}
-use Rattle.info_header.specs.declared.fields.Info.{Info}
-use Rattle.laying.proofs.{LaidLemmas.first-there, SurveyFrameLemmas.survey-had}
-use Rattle.laying.specs.{KeptFields.fields_of_head, Laid.{file_laid, info_laid, LaidPart}}
-use Rattle.laying.specs.{NeedsFit.own_choice, Relaid.FilePart, Surveys.CanBeRelaid}
-use Rattle.seam_laws.proofs.{JoinEndLemmas.frames-few, SeamlessInputLemmas.{brought-many, IsInput}}
+use Rattle.laying.{proofs.SurveyFrameLemmas.survey-had, specs.Laid.{info_laid, LaidPart}}
+use Rattle.laying.specs.{NeedsFit.own_choice, Relaid.FilePart}
+use Rattle.seam_laws.proofs.LaidInputLemmas.{class-same, IsFileOf, laid-whole}
+use Rattle.seam_laws.proofs.PieceListLemmas.{Recording, recording}
+use Rattle.seam_laws.proofs.PiecePartLemmas.{IsPiece, laid-input, leads, read, read-is}
+use Rattle.seam_laws.proofs.SeamlessInputLemmas.{brought-many, IsInput}
 use Rattle.seam_laws.specs.PlayedParts.{input_played, piece_lead_ins, sample_named}
-use Rattle.seam_plan.specs.Frames.{RunFrame}
+use Rattle.seamless_edits.specs.Seamless.{part_brought}
 use Rattle.slot_plan.specs.{LeastPlan.led_plan, declared.needs.Need.Need}
-use Rattle.sync_survey.{proofs.SurveyedFileLemmas.survey_of-parts, specs.Faults.SurveyFields}
-use Rattle.sync_survey.specs.{Row.Row, Survey.survey_of}
+use Rattle.sync_survey.specs.{Faults.SurveyFields, Survey.survey_of}
 
 -- whether a span has to have a lead-in
 led-by : (class : ClassFields) (p q : ℕ) (span : Span) → span_of class p q ≡ span
@@ -42,172 +39,164 @@ led-by : (class : ClassFields) (p q : ℕ) (span : Span) → span_of class p q �
 unfolding span_of
 led-by class p q span is = ap (λ (t : Span). t.led) is
 
-module _ (file : List ℕ) (s : SurveyFields) (surveyed : survey_of file most_frames ≡ Ok s) where
-  has : CanBeRelaid file s
-  has = survey-had file most_frames s surveyed
-
-  few : length s.frames ≤ most_frames
-  few = frames-few file most_frames s (survey_of-parts file most_frames s surveyed).1
-
+module _ {file : List ℕ} {s : SurveyFields} (r : Recording file s) where
   -- ---- one piece
 
-  module _ (from to : ExactPlace) (laid : LaidPart) (is : PlaysBetween file s from to laid) where
-    abbrev span : Span
-    span = is.span
+  module _ (from to : ExactPlace) (laid_is : LaidPart) (is : PlaysBetween file s from to laid_is)
+    where
+      found : IsFound r from to
+      found = (span-found r from to is.span is.found).0
 
-    found : IsFound file s has from to span
-    found = span-found file s has from to span is.found
+      abbrev t : Span
+      t = span r from to
 
-    inside : IsSpanIn (own file s has) span
-    inside = span-survey_without_head s span found.there
+      -- what is laid is the piece of the span
+      abbrev piece : LaidPart
+      piece = laid r t
 
-    row : (r : Row) × (slice_get (own file s has).frames span.first ≡ Some r)
-    row = first-there (own file s has).frames span.first
-        (omega (arith, inside.some, inside.within))
+      span-same : is.span ≡ t
+      span-same = sym (span-found r from to is.span is.found).1
 
-    -- the piece by the row of its first frame
-    abbrev piece : LaidPart
-    piece = laid_by file s has span row.0
+      same : laid_is ≡ piece
+      same =
+          is.is ∙ ap (λ sp. span_piece (head r) sp file (own r)) span-same
+          ∙ piece-is r t found.there
 
-    same : laid ≡ piece
-    same = is.is ∙ piece-by file s has span row.0 row.1
+      abbrev window : ℕ
+      window = window_of s.class.version
 
-    abbrev chosen : Chosen
-    chosen = span_chosen (fields_of_head file s.head) span
+      abbrev needs : List Need
+      needs = span_needs t (own r)
 
-    abbrev window : ℕ
-    window = window_of s.class.version
-
-    abbrev needs : List Need
-    needs = span_needs span (own file s has)
-
-    -- its plan, if its first position is before the 529th or not
-    planned-by : (led : Bool) → nat_lt (first_position file s from) 529 ≡ led
-        → IsPlanFrom (first_position file s from) window needs (span_plan led s.class needs)
-    planned-by true test = record {
-      early = λ near.
-          (led-is chosen (own file s has) (has-own file s has).placed inside.some inside.within
-          (led_plan window own_choice needs)).1
-          refl;
-      late = λ far. absurd (omega (arith, ltb-true (first_position file s from) 529 test, far));
-    }
-    planned-by false test = record {
-      early = λ near.
-          absurd (both_ways (nat_lt (first_position file s from) 529) test
-          (lt-ltb (first_position file s from) 529 near));
-      late = λ far.
-          the-plan chosen (own file s has) (has-own file s has).placed inside.some inside.within
-          own_choice (inl refl);
-    }
-
-    planned : IsExactPlan file s from to laid
-    planned =
-        subst (IsExactPlan file s from to) (sym same)
-        (planned-by span.led
-        (led-by s.class (first_position file s from)
-        ((input_played file s).start + sample_named file s to)
-        span found.is))
-
-    -- ---- its file as it is read
-
-    module _ (allowed : ℕ) (j : SurveyFields)
-        (e : survey_of (piece_file file s piece) allowed ≡ Ok j) where
-      abbrev bytes : List ℕ
-      bytes = piece_file file s piece
-
-      abbrev p : FilePart
-      p = record { file = bytes; survey = j; from = 0; to = length j.frames }
-
-      input : IsInput j.class p
-      input = record {
-        allowed = allowed;
-        surveyed = e;
-        has = survey-had bytes allowed j e;
-        of_class = refl;
-        from = refl;
-        to = refl;
-        some = some-frames bytes allowed j e;
+      -- its plan, if its first position is before the 529th or not
+      planned-by : (led : Bool) → nat_lt (first_position file s from) 529 ≡ led
+          → IsPlanFrom (first_position file s from) window needs (span_plan led s.class needs)
+      planned-by true test = record {
+        early = λ near.
+            (led-is (choice r t) (own r) (has-own r).placed (inside r t found.there).some
+            (inside r t found.there).within (led_plan window own_choice needs)).1
+            refl;
+        late = λ far. absurd (omega (arith, ltb-true (first_position file s from) 529 test, far));
+      }
+      planned-by false test = record {
+        early = λ near.
+            absurd (both_ways (nat_lt (first_position file s from) 529) test
+            (lt-ltb (first_position file s from) 529 near));
+        late = λ far.
+            the-plan (choice r t) (own r) (has-own r).placed (inside r t found.there).some
+            (inside r t found.there).within own_choice (inl refl);
       }
 
-      exact : IsExactFile file s has span bytes
-      exact =
-          subst (λ (l : LaidPart). IsExactFile file s has span (file_laid l file (own file s has)))
-          (piece-by file s has span row.0 row.1) (laid-exact file s has span found.there)
+      planned : IsExactPlan file s from to laid_is
+      planned =
+          subst (IsExactPlan file s from to) (sym same)
+          (planned-by t.led
+          (led-by s.class (first_position file s from)
+          ((input_played file s).start + sample_named file s to)
+          t refl))
 
-      spans : HasSpan file s has few from to span found j.class p input exact
-      spans = has-span file s has few from to span found j.class p input exact
+      -- ---- its file as it is read
 
-      many : length j.frames ≡ leads file s has span + (span.last - span.first)
-      many =
-          let run : List RunFrame = all_run file s has in
-          sym (brought-many j.class p input)
-          ∙ ap (λ (l : List RunFrame). length l) spans.spans.frames_are
-          ∙ length-append spans.spans.lead_ins (slice_range run spans.spans.from spans.spans.to)
-          ∙ ap (λ n. length spans.spans.lead_ins + n)
-          (length-take-le (spans.spans.to - spans.spans.from) (drop spans.spans.from run)
-          (omega (arith, length-drop spans.spans.from run, spans.spans.within)))
-          ∙ ap₂ (λ (m n : ℕ). m + n) spans.many_is
-          (ap₂ (λ (m n : ℕ). n - m) spans.from_is spans.to_is)
+      module _ (allowed : ℕ) (j : SurveyFields)
+          (e : survey_of (piece_file file s piece) allowed ≡ Ok j) where
+        abbrev bytes : List ℕ
+        bytes = piece_file file s piece
 
-      abbrev head : Info
-      head = read file s has few from to span found j.class p input exact
+        abbrev p : FilePart
+        p = record { file = bytes; survey = j; from = 0; to = length j.frames }
 
-      played-is : input_played bytes j
-          ≡ played_of (Some head) s.class (leads file s has span + (span.last - span.first))
-      played-is =
-          ap (λ h. played_of h j.class (length j.frames))
-          (read-is file s has few from to span found j.class p input exact)
-          ∙ ap₂ (λ (c : ClassFields) (n : ℕ). played_of (Some head) c n)
-          (input-class file s has few from to span found j.class p input exact) many
+        made : IsFileOf piece file (own r) bytes
+        made =
+            laid-whole piece (has-own r)
+            (omega (arith, (inside r t found.there).some, (inside r t found.there).within))
 
-      kept : KeepsPlaces s.class (piece_lead_ins piece) piece.from (sample_named file s from)
-          (sample_named file s to) (input_played bytes j) (input_played file s)
-      kept =
-          subst (λ t. KeepsPlaces s.class (leads file s has span) span.first
-          (sample_named file s from) (sample_named file s to) t (input_played file s))
-          (sym played-is)
-          (places-of file s has few from to span found (leads file s has span) head
-          (leads-are file s has few from to span found j.class p input exact)
-          (read-head file s has few from to span found j.class p input exact))
+        input : (c : ClassFields) → j.class ≡ c → IsInput c p
+        input c of_class = record {
+          allowed = allowed;
+          surveyed = e;
+          has = survey-had bytes allowed j e;
+          of_class = of_class;
+          from = refl;
+          to = refl;
+          some = some-frames bytes allowed j e;
+        }
 
-    kept-as-read : PlaysAsRead file s from to laid
-    kept-as-read = subst (PlaysAsRead file s from to) (sym same) kept
+        one : (c : ClassFields) → j.class ≡ c → IsPiece t.led (choice r t) file (own r) c p
+        one c of_class = record {
+          has = has-own r;
+          right = span-right r t found.there;
+          made = made;
+          is = input c of_class;
+        }
 
-    -- its Info frame says the same
-    said : KeepsPlaces s.class (piece_lead_ins piece) piece.from (sample_named file s from)
-        (sample_named file s to) (piece_played file (survey_without_head s) piece)
-        (input_played file s)
-    said =
-        (subst (λ (l : LaidPart).
-        PlaysItsSamples (fields_of_head file s.head) s (sample_named file s from)
-        (sample_named file s to) span (span_lead_ins span l.placed)
-        (info_laid l file (survey_without_head s))) same is.plays).places
+        class : j.class ≡ s.class
+        class = class-same (laid-input (one j.class refl))
 
-    -- what is played of it as it is read is what its Info frame says
-    samples-by : (allowed : ℕ) (j : SurveyFields)
-        → survey_of (piece_file file s piece) allowed ≡ Ok j
-        → read_samples file s piece j ≡ piece_samples file s piece
-    unfolding piece_samples
-    samples-by allowed j e =
-        let reads = kept allowed j e in
-        ap₂ (λ (x n : ℕ).
-        map (piece_sample s.class (input_played file s).start piece) (range_with_len x n))
-        (omega (arith, reads.start, said.start)) (reads.length ∙ sym said.length)
+        at : IsExact r from to p
+        at = record { there = found; piece = one s.class class }
 
-    samples-same : (allowed : ℕ) (j : SurveyFields)
-        → survey_of (piece_file file s laid) allowed ≡ Ok j
-        → read_samples file s laid j ≡ piece_samples file s laid
-    samples-same =
-        subst (λ (l : LaidPart). (allowed : ℕ) (j : SurveyFields)
-        → survey_of (piece_file file s l) allowed ≡ Ok j
-        → read_samples file s l j ≡ piece_samples file s l) (sym same) samples-by
+        many : length j.frames ≡ leads at.piece + (t.last - t.first)
+        many =
+            let sp = has-span r at in
+            sym (brought-many s.class p at.piece.is)
+            ∙ span-many s.class (all_run r) (position r from) (position r to) (part_brought p)
+            sp.spans
+            ∙ ap₂ (λ (m n : ℕ). m + n) sp.many_is
+            (ap₂ (λ (m n : ℕ). n - m) sp.from_is sp.to_is)
+
+        played-is : input_played bytes j
+            ≡ played_of (Some (read at.piece)) s.class (leads at.piece + (t.last - t.first))
+        played-is =
+            ap (λ h. played_of h j.class (length j.frames)) (read-is at.piece)
+            ∙ ap₂ (λ (c : ClassFields) (n : ℕ). played_of (Some (read at.piece)) c n) class many
+
+        piece-kept : KeepsPlaces s.class (piece_lead_ins piece)
+            piece.from (sample_named file s from)
+            (sample_named file s to) (input_played bytes j) (input_played file s)
+        piece-kept =
+            subst (λ u. KeepsPlaces s.class (leads at.piece) t.first
+            (sample_named file s from) (sample_named file s to) u (input_played file s))
+            (sym played-is) (kept r at)
+
+      kept-as-read : PlaysAsRead file s from to laid_is
+      kept-as-read = subst (PlaysAsRead file s from to) (sym same) piece-kept
+
+      -- its Info frame says the same
+      said : KeepsPlaces s.class (piece_lead_ins piece) piece.from (sample_named file s from)
+          (sample_named file s to) (piece_played file (survey_without_head s) piece)
+          (input_played file s)
+      said =
+          (subst (λ (l : LaidPart).
+          PlaysItsSamples (head r) s (sample_named file s from)
+          (sample_named file s to) t (span_lead_ins t l.placed)
+          (info_laid l file (survey_without_head s))) (piece-is r t found.there)
+          (pieces-play file s from to t r.has found.found)).places
+
+      -- what is played of it as it is read is what its Info frame says
+      samples-by : (allowed : ℕ) (j : SurveyFields)
+          → survey_of (piece_file file s piece) allowed ≡ Ok j
+          → read_samples file s piece j ≡ piece_samples file s piece
+      unfolding piece_samples
+      samples-by allowed j e =
+          let reads = piece-kept allowed j e in
+          ap₂ (λ (x n : ℕ).
+          map (piece_sample s.class (input_played file s).start piece) (range_with_len x n))
+          (omega (arith, reads.start, said.start)) (reads.length ∙ sym said.length)
+
+      samples-same : (allowed : ℕ) (j : SurveyFields)
+          → survey_of (piece_file file s laid_is) allowed ≡ Ok j
+          → read_samples file s laid_is j ≡ piece_samples file s laid_is
+      samples-same =
+          subst (λ (l : LaidPart). (allowed : ℕ) (j : SurveyFields)
+          → survey_of (piece_file file s l) allowed ≡ Ok j
+          → read_samples file s l j ≡ piece_samples file s l) (sym same) samples-by
 
   -- ---- pieces in order
 
   cut-plays : (from to : ExactPlace) (laid : LaidPart) → exact_part from to file s ≡ Ok laid
       → PlaysBetween file s from to laid
   unfolding exact_part
-  cut-plays from to laid e = grind (arith, then_ok, between-plays file s has)
+  cut-plays from to laid e = grind (arith, then_ok, between-plays file s r.has)
 
   in-turn : (Holds : ExactPlace → ExactPlace → LaidPart → Type 0)
       → ((from to : ExactPlace) (laid : LaidPart) → PlaysBetween file s from to laid
@@ -237,9 +226,11 @@ module _ (file : List ℕ) (s : SurveyFields) (surveyed : survey_of file most_fr
 pub exact-plans-first : ExactPlansAreFirst
 exact-plans-first = record {
   cut = λ from to file s laid surveyed e.
-      planned file s surveyed from to laid (cut-plays file s surveyed from to laid e);
+      planned (recording file s surveyed) from to laid
+      (cut-plays (recording file s surveyed) from to laid e);
   split = λ points file s place places laid surveyed e.
-      in-turn file s surveyed (IsExactPlan file s) (planned file s surveyed) place places laid
+      in-turn (recording file s surveyed) (IsExactPlan file s)
+      (planned (recording file s surveyed)) place places laid
       (pieces-recording points file s place places laid surveyed e).each;
 }
 
@@ -247,15 +238,17 @@ exact-plans-first = record {
 pub exact-pieces-play : ExactPiecesPlayAsRead
 exact-pieces-play = record {
   cut = λ from to file s laid surveyed e.
-      kept-as-read file s surveyed from to laid (cut-plays file s surveyed from to laid e);
+      kept-as-read (recording file s surveyed) from to laid
+      (cut-plays (recording file s surveyed) from to laid e);
   split = λ points file s place places laid surveyed e.
-      let recording = pieces-recording points file s place places laid surveyed e in
+      let turns = pieces-recording points file s place places laid surveyed e in
       record {
         each =
-            in-turn file s surveyed (PlaysAsRead file s) (kept-as-read file s surveyed) place places
-            laid recording.each;
+            in-turn (recording file s surveyed) (PlaysAsRead file s)
+            (kept-as-read (recording file s surveyed)) place places
+            laid turns.each;
         all = λ surveys read_back.
-            all-same file s surveyed place places laid surveys recording.each read_back
-            ∙ recording.all;
+            all-same (recording file s surveyed) place places laid surveys turns.each read_back
+            ∙ turns.all;
       };
 }

@@ -1,20 +1,22 @@
 -- Spans of one recording whose neighbours share frames
 -- follow each other, and are joined to all their frames.
 use Rattle.std.proofs.Common.{ap, append-nil, append_assoc, ap₂, arith, drop, eqb, length, List}
-use Rattle.std.proofs.Common.{min, None, Option, refl, Some, subst, sym, take, take-add, true, ℕ}
-use Rattle.std.proofs.Common.{[], ◌%◌, ◌*◌, ◌++◌, ◌+◌, ◌-◌, ◌/◌, ◌<◌, ◌∙◌, ◌∷◌, ◌≡◌, ◌≤◌}
+use Rattle.std.proofs.Common.{min, None, Option, refl, Some, subst, sym, take, true, ℕ, [], ◌%◌}
+use Rattle.std.proofs.Common.{◌*◌, ◌++◌, ◌+◌, ◌-◌, ◌/◌, ◌<◌, ◌∙◌, ◌∷◌, ◌≡◌, ◌≤◌}
 use Rattle.std.proofs.{Math.Seq.drop-append-add, lemmas.Bool.{and_from, le-leb}}
-use Rattle.std.proofs.lemmas.List.{drop-drop, drop-map, drop-take, length-append, length-drop}
-use Rattle.std.proofs.lemmas.List.{length-take-le, take-append-drop, take-take}
+use Rattle.std.proofs.lemmas.List.{drop-map, length-append, take-append-drop, take-take}
 use Rattle.std.{proofs.lemmas.Slice.Eq.bytes_eq-Decides, specs.{List.list_all, Option.option_or}}
 use Rattle.std.specs.Prelude.{if◌then◌else◌, nat_le, option_and_then, option_map, slice_range}
 use Rattle.std.specs.Prelude.{unwrap_or, ◌&&◌}
+use Rattle.exact_laws.proofs.ExactSpanLemmas.{counted}
 use Rattle.exact_laws.specs.SpanLaws.{AreEmptyFrames, AreSpansOf, is_following_seam, IsSpanOf}
 use Rattle.exact_laws.specs.SpanLaws.{spans_end, SpansAreOneRun}
 use Rattle.exact_span.specs.{Overlaps.shared_overlap, PlayedPositions.{rest_of, samples_in}}
 use Rattle.exact_span.specs.declared.{overlap.Overlap.Overlap, played.Played.Played}
 use Rattle.frame_header.specs.{Fields.ClassFields, Tables.{samples_of, window_of}}
 use Rattle.frame_header.specs.declared.version.Version.{Version}
+use Rattle.pack_edits.specs.Fewest.{lead_ins}
+use Rattle.seam_laws.proofs.FrameRangeLemmas.{range-append, range-drop, range-length}
 use Rattle.seam_laws.proofs.PieceRunLemmas.{empty-fits, front-fits, joining_frames-own}
 use Rattle.seam_laws.proofs.PieceRunLemmas.{known-behind, known-front}
 use Rattle.seam_laws.specs.RunLaws.{AreHeadersKnown}
@@ -23,36 +25,16 @@ use Rattle.seam_plan.specs.Frames.{Brought, needs_of, RunFrame}
 use Rattle.seam_plan.specs.Joins.{fits_behind, joining_frames}
 use Rattle.seam_plan.specs.Seams.{are_frames_alike, compared_frames, ends_alike, following_joint}
 use Rattle.seam_plan.specs.Seams.{joint_of, joint_with, joint_without_lead_in, JointFrames}
-use Rattle.seam_plan.specs.Seams.{joints_from, overlap_joint, overlap_of, whole_joint}
+use Rattle.seam_plan.specs.Seams.{joints_from, joints_of, overlap_joint, overlap_of, whole_joint}
 use Rattle.seam_plan.specs.declared.seam.Seam.TheVariants.{Follows}
 use Rattle.slot_plan.proofs.FreeByteLemmas.{fits-drop}
 
 -- ---- ranges of frames
 
 module _ (all : List RunFrame) where
-  drop-range : (from to k : ℕ) → k ≤ to - from
-      → drop k (slice_range all from to) ≡ slice_range all (from + k) to
-  drop-range from to k few =
-      let many : to - from ≡ k + (to - (from + k)) = omega (arith, few) in
-      ap (λ n. drop k (take n (drop from all))) many
-      ∙ drop-take k (to - (from + k)) (drop from all)
-      ∙ ap (take (to - (from + k))) (drop-drop k from all)
-
   take-range : (from to k : ℕ) → k ≤ to - from
       → take k (slice_range all from to) ≡ slice_range all from (from + k)
   take-range from to k few = grind (arith, take-take)
-
-  length-range : (from to : ℕ) → to ≤ length all → length (slice_range all from to) ≡ to - from
-  length-range from to within = grind (arith, length-take-le, length-drop)
-
-  range-append : (a b c : ℕ) → a ≤ b → b ≤ c
-      → slice_range all a b ++ slice_range all b c ≡ slice_range all a c
-  range-append a b c first second =
-      let there : a + (b - a) ≡ b = omega (arith, first) in
-      let many : (b - a) + (c - b) ≡ c - a = omega (arith, first, second) in
-      ap (λ l. take (b - a) (drop a all) ++ take (c - b) l)
-      (ap (λ n. drop n all) (sym there) ∙ sym (drop-drop (b - a) a all))
-      ∙ sym (take-add (b - a) (c - b) (drop a all)) ∙ ap (λ n. take n (drop a all)) many
 
   range-known : (from to : ℕ) → AreHeadersKnown all → AreHeadersKnown (slice_range all from to)
   range-known from to known =
@@ -114,9 +96,52 @@ first-late : (v : Version) (start leads from mid : ℕ)
     → leads ≤ start / samples_of v
 first-late v start leads from mid starts before = grind arith
 
-below-last : (v : Version) (from last mid : ℕ) → from * samples_of v < mid
+-- a span whose first frame begins before a position begins before the frame after it
+pub below-last : (v : Version) (from last mid : ℕ) → from * samples_of v < mid
     → mid ≤ last * samples_of v → from < last
 below-last v from last mid early most = grind arith
+
+-- the frames of a span are its lead-ins and those of the recording
+pub span-many : (class : ClassFields) (all : List RunFrame) (begin end : ℕ) (input : Brought)
+    (is : IsSpanOf class all begin end input)
+    → length input.frames ≡ length is.lead_ins + (is.to - is.from)
+span-many class all begin end input is =
+    ap (λ (l : List RunFrame). length l) is.frames_are
+    ∙ length-append is.lead_ins (slice_range all is.from is.to)
+    ∙ ap (λ n. length is.lead_ins + n) (range-length all is.from is.to is.within)
+
+-- ---- what becomes of spans
+
+module _ (class : ClassFields) (all : List RunFrame) (low : ℕ) where
+  -- each follows the one before it, without its frames up to the last frame of that one
+  abbrev pub spans_joints : (last begin : ℕ) (inputs : List Brought) (points : List ℕ)
+      → AreSpansOf class all low last begin inputs points → List JointFrames
+  spans_joints last begin (input ∷ inputs) (end ∷ points) are =
+      joint_with (Follows (length are.0.lead_ins + last - are.0.from))
+      (slice_range all last are.0.to)
+      ∷ spans_joints are.0.to end inputs points are.4
+  spans_joints last begin _ _ are = []
+
+  spans-follow : (last begin : ℕ) (inputs : List Brought) (points : List ℕ)
+      (are : AreSpansOf class all low last begin inputs points)
+      → list_all (λ (j : JointFrames). is_following_seam j.seam)
+      (spans_joints last begin inputs points are) ≡ true
+  spans-follow last begin (input ∷ inputs) (end ∷ points) are =
+      spans-follow are.0.to end inputs points are.4
+  spans-follow last begin _ _ are = refl
+
+  spans-added : (last begin : ℕ) (inputs : List Brought) (points : List ℕ)
+      (are : AreSpansOf class all low last begin inputs points) → low ≤ last
+      → slice_range all low last ++ added (spans_joints last begin inputs points are)
+      ≡ slice_range all low (spans_end class all low last begin inputs points are)
+  spans-added last begin (input ∷ inputs) (end ∷ points) are late =
+      let later = added (spans_joints are.0.to end inputs points are.4) in
+      sym (append_assoc (slice_range all low last) (slice_range all last are.0.to) later)
+      ∙ ap (λ (l : List RunFrame). l ++ later) (range-append all low last are.0.to late are.3)
+      ∙ spans-added are.0.to end inputs points are.4 (omega (arith, late, are.3))
+  spans-added last begin [] [] are late = append-nil (slice_range all low last)
+  spans-added last begin [] (end ∷ points) are late = absurd are
+  spans-added last begin (input ∷ inputs) [] are late = absurd are
 
 -- ---- a span after the one before it
 
@@ -157,25 +182,17 @@ module _ (class : ClassFields) (all : List RunFrame) (known : AreHeadersKnown al
       some : is.from < last
       some = below-last class.version is.from last mid early one.behind
 
-      before-many : length before.frames ≡ length one.lead_ins + (last - one.from)
-      before-many =
-          ap (λ (l : List RunFrame). length l) one.frames_are
-          ∙ length-append one.lead_ins (slice_range all one.from last)
-          ∙ ap (λ n. length one.lead_ins + n) (length-range all one.from last one.within)
-
-      input-many : length input.frames ≡ z + (is.to - is.from)
-      input-many =
-          ap (λ (l : List RunFrame). length l) is.frames_are
-          ∙ length-append is.lead_ins (slice_range all is.from is.to)
-          ∙ ap (λ n. z + n) (length-range all is.from is.to is.within)
-
       sum : is.played.start + rest_of class (length before.frames) one.played
           ≡ shared * samples_in class
       sum =
-          ap (λ n. is.played.start + rest_of class n one.played) before-many
+          ap (λ n. is.played.start + rest_of class n one.played)
+          (span-many class all begin mid before one)
           ∙ sum-is class.version is.played.start one.played.end z (length one.lead_ins) is.from
           one.from
           last mid is.start one.ended one.behind some (omega (arith, one.some))
+
+      input-many : length input.frames ≡ z + (is.to - is.from)
+      input-many = span-many class all mid end input is
 
       within : shared ≤ length input.frames
       within = omega (arith, input-many, on, some)
@@ -211,7 +228,7 @@ module _ (class : ClassFields) (all : List RunFrame) (known : AreHeadersKnown al
           let there : k ≡ z + (k - z) = omega (arith, behind) in
           ap₂ (λ (n : ℕ) (l : List RunFrame). drop n l) there is.frames_are
           ∙ drop-append-add is.lead_ins (slice_range all is.from is.to) (k - z)
-          ∙ drop-range all is.from is.to (k - z) (omega (arith, few, input-many))
+          ∙ range-drop all is.from is.to (k - z) (omega (arith, few, input-many))
 
       abbrev alike_from : ℕ
       alike_from = is.from + (first - z)
@@ -226,12 +243,12 @@ module _ (class : ClassFields) (all : List RunFrame) (known : AreHeadersKnown al
       compared_frames-many : length (compared_frames overlap input) ≡ last - alike_from
       compared_frames-many =
           ap (λ (l : List RunFrame). length l) compared_frames-is
-          ∙ length-range all alike_from last one.within
+          ∙ range-length all alike_from last one.within
 
       run-many : length run ≡ length leads + (last - low)
       run-many =
           length-append leads (slice_range all low last)
-          ∙ ap (λ n. length leads + n) (length-range all low last one.within)
+          ∙ ap (λ n. length leads + n) (range-length all low last one.within)
 
       run-drop : drop (length run - length (compared_frames overlap input)) run
           ≡ slice_range all alike_from last
@@ -242,7 +259,7 @@ module _ (class : ClassFields) (all : List RunFrame) (known : AreHeadersKnown al
           let from_is : low + (alike_from - low) ≡ alike_from = omega (arith, late) in
           ap (λ n. drop n run) there
           ∙ drop-append-add leads (slice_range all low last) (alike_from - low)
-          ∙ drop-range all low last (alike_from - low) (omega (arith, leads-before, some, late))
+          ∙ range-drop all low last (alike_from - low) (omega (arith, leads-before, some, late))
           ∙ ap (λ n. slice_range all n last) from_is
 
       alike : ends_alike run (compared_frames overlap input) ≡ true
@@ -295,57 +312,49 @@ module _ (class : ClassFields) (all : List RunFrame) (known : AreHeadersKnown al
 
     -- ---- all spans
 
-    spans-joints : (leads : List RunFrame) → AreEmptyFrames leads
-        → (low begin mid : ℕ) (before : Brought)
-        (one : IsSpanOf class all begin mid before) → low ≤ one.to
+    spans-joints : (leads : List RunFrame) → AreEmptyFrames leads → (low begin mid : ℕ)
+        (before : Brought) (one : IsSpanOf class all begin mid before) → low ≤ one.to
         → (inputs : List Brought) (points : List ℕ)
-        (are : AreSpansOf class all low one.to mid inputs points) →
-        let joints = joints_from class (leads ++ slice_range all low one.to) before inputs in
-        (list_all (λ (j : JointFrames). is_following_seam j.seam) joints ≡ true)
-        × ((leads ++ slice_range all low one.to) ++ added joints
-        ≡ leads ++ slice_range all low (spans_end class all low one.to mid inputs points are))
+        (are : AreSpansOf class all low one.to mid inputs points)
+        → joints_from class (leads ++ slice_range all low one.to) before inputs
+        ≡ spans_joints class all low one.to mid inputs points are
     unfolding joints_from
-    spans-joints leads empty low begin mid before one low_last [] [] are = grind (arith, append-nil)
-    spans-joints leads empty low begin mid before one low_last [] (end ∷ points) are = absurd are
-    spans-joints leads empty low begin mid before one low_last (input ∷ inputs) [] are = absurd are
     spans-joints leads empty low begin mid before one low_last (input ∷ inputs) (end ∷ points) are =
         let is = are.0 in
-        let run : List RunFrame = leads ++ slice_range all low one.to in
-        let here = span-joint leads empty low begin mid end before input one is are.1 low_last are.2
-        are.3 in
-        let x : ℕ = length is.lead_ins + one.to - is.from in
-        let made : JointFrames = joint_with (Follows x) (slice_range all one.to is.to) in
-        let more =
-        spans-joints leads empty low mid end input is (omega (arith, low_last, are.3)) inputs
-        points are.4 in
-        let on = run-on leads empty low begin mid end before input one is are.1 low_last are.2
-        are.3 in
-        let later : List RunFrame → List JointFrames = λ l. joints_from class l input inputs in (
-          ap (λ (j : JointFrames). is_following_seam j.seam
-              && list_all (λ (k : JointFrames). is_following_seam k.seam)
-              (joints_from class (run ++ j.frames) input inputs))
-              here
-              ∙ ap (λ (l : List RunFrame). list_all (λ (k : JointFrames). is_following_seam k.seam)
-              (later l)) on
-              ∙ more.0,
-          ap (λ (j : JointFrames).
-              run ++ (j.frames ++ added (joints_from class (run ++ j.frames) input inputs)))
-              here
-              ∙ sym (append_assoc run made.frames (added (later (run ++ made.frames))))
-              ∙ ap (λ (l : List RunFrame). l ++ added (later l)) on
-              ∙ more.1,
-        )
+        let made : JointFrames =
+        joint_with (Follows (length is.lead_ins + one.to - is.from)) (slice_range all one.to is.to)
+        in
+        ap (λ (j : JointFrames).
+        j ∷ joints_from class ((leads ++ slice_range all low one.to) ++ j.frames) input inputs)
+        (span-joint leads empty low begin mid end before input one is are.1 low_last are.2 are.3)
+        ∙ ap (λ (l : List RunFrame). made ∷ joints_from class l input inputs)
+        (run-on leads empty low begin mid end before input one is are.1 low_last are.2 are.3)
+        ∙ ap (λ (js : List JointFrames). made ∷ js)
+        (spans-joints leads empty low mid end input is (omega (arith, low_last, are.3)) inputs
+        points are.4)
+    spans-joints leads empty low begin mid before one low_last (input ∷ inputs) [] are = absurd are
+    spans-joints leads empty low begin mid before one low_last [] points are = refl
+
+    -- what becomes of the spans after the first
+    pub spans-are : (begin end : ℕ) (first : Brought) (inputs : List Brought) (points : List ℕ)
+        (is : IsSpanOf class all begin end first)
+        (are : AreSpansOf class all is.from is.to end inputs points)
+        → joints_of class first inputs ≡ spans_joints class all is.from is.to end inputs points are
+    spans-are begin end first inputs points is are =
+        ap (λ (l : List RunFrame). joints_from class l first inputs) is.frames_are
+        ∙ spans-joints is.lead_ins is.empty is.from begin end first is (omega (arith, is.some))
+        inputs points are
 
 -- each span follows, and the run has all frames once
 pub spans-one-run : SpansAreOneRun
 spans-one-run class all begin end first inputs points is are known fits =
-    let low_to : is.from ≤ is.to = omega (arith, is.some) in
-    let spans =
-    spans-joints class all known fits is.lead_ins is.empty is.from begin end first is low_to
-    inputs points are in (
-      ap (λ (l : List RunFrame). list_all (λ (j : JointFrames). is_following_seam j.seam)
-          (joints_from class l first inputs))
-          is.frames_are ∙ spans.0,
-      ap (λ (l : List RunFrame). l ++ added (joints_from class l first inputs)) is.frames_are
-          ∙ spans.1,
+    let joints = spans-are class all known fits begin end first inputs points is are in
+    let more = spans_joints class all is.from is.to end inputs points are in (
+      ap (λ (js : List JointFrames). list_all (λ (j : JointFrames). is_following_seam j.seam) js)
+          joints
+          ∙ spans-follow class all is.from is.to end inputs points are,
+      ap₂ (λ (l : List RunFrame) (js : List JointFrames). l ++ added js) is.frames_are joints
+          ∙ append_assoc is.lead_ins (slice_range all is.from is.to) (added more)
+          ∙ ap (λ (l : List RunFrame). is.lead_ins ++ l)
+          (spans-added class all is.from is.to end inputs points are (omega (arith, is.some))),
     )

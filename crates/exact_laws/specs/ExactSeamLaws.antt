@@ -7,18 +7,14 @@ use Rattle.cut_edits.specs.Exact.{exact_part, file_span, survey_without_head}
 use Rattle.exact_laws.specs.SpanLaws.{is_following_seam}
 use Rattle.exact_span.specs.{Laws.{IsPieceHead, KeepsPlaces}, PlayedPositions.played_of}
 use Rattle.exact_span.specs.declared.{exact_place.ExactPlace.ExactPlace, span.Span.Span}
-use Rattle.seamless_edits.specs.Seamless.{delay_of_run}
-use Rattle.seamless_edits.specs.Seamless.{join_of_parts}
-use Rattle.seamless_edits.specs.Seamless.{seamless_file}
-use Rattle.seamless_edits.specs.Seamless.{seamless_info}
-use Rattle.seamless_edits.specs.Seamless.{seamless_padding}
-use Rattle.seamless_edits.specs.Seamless.{seamless_stream}
 use Rattle.laying.specs.{KeptFields.fields_of_head, Laid.LaidPart, Relaid.FilePart}
 use Rattle.seam_laws.specs.PlayedParts.{input_played, sample_named}
 use Rattle.seam_laws.specs.SeamlessLaws.{ArePieceInputs, bare_file, has_no_look_alike}
 use Rattle.seam_laws.specs.SeamlessLaws.{HasNoEmptyFrame, is_empty_frame, IsJoinedInSteps}
 use Rattle.seam_laws.specs.SeamlessLaws.{last_place}
 use Rattle.seam_plan.specs.Seams.{JointFrames}
+use Rattle.seamless_edits.specs.Seamless.{delay_of_run, join_of_parts, seamless_file, seamless_info}
+use Rattle.seamless_edits.specs.Seamless.{seamless_padding, seamless_stream}
 use Rattle.split_edits.specs.{Cutting.piece_parts, Split.exact_cutting_of}
 use Rattle.split_edits.specs.declared.exact_points.ExactPoints.{ExactPoints}
 use Rattle.sync_survey.specs.{Faults.{stream_of_survey, SurveyFields}, MainData.StreamFrame}

@@ -11,32 +11,18 @@ use Rattle.std.specs.Prelude.{unwrap_or, ◌&&◌, ◌⊎◌}
 use Rattle.bit_fields.proofs.BitsLemmas.{AreBelow-append, AreBelow-drop, AreBelow-take}
 use Rattle.bit_fields.specs.Bits.{AreBytes}
 use Rattle.chosen_streams.proofs.JoinCaseLemmas.{more-inputs}
-use Rattle.commands.{proofs.RefusingLemmas.then_ok, specs.SingleOutput.most_frames}
+use Rattle.commands.proofs.RefusingLemmas.{then_ok}
 use Rattle.exact_span.proofs.PlayedLemmas.{played-within}
 use Rattle.exact_span.specs.Extensions.{counts_of, counts_with_frames, delay_in, has_encoder}
 use Rattle.exact_span.specs.{Extensions.padding_in, Laws.SaysNumbers}
 use Rattle.exact_span.specs.PlayedPositions.{counted_played, counted_positions, decoder_delay}
 use Rattle.exact_span.specs.PlayedPositions.{played_of, played_or_all, rest_of, samples_in}
 use Rattle.exact_span.specs.declared.{extensions.HeadCounts.HeadCounts, played.Played.Played}
-use Rattle.frame_header.specs.{Fields.ClassFields, Tables.{class_of, length_of, samples_of}}
+use Rattle.frame_header.specs.{Fields.ClassFields, Limits.most_frames}
+use Rattle.frame_header.specs.Tables.{class_of, length_of, samples_of}
 use Rattle.frame_header.specs.declared.version.Version.{Version, TheVariants.{One, Two, TwoFive}}
 use Rattle.info_header.specs.{Info.{field_place, flags_in, info_in}, declared.fields.Info.Info}
-use Rattle.join_edits.proofs.PartLemmas.{part-is}
-use Rattle.seamless_edits.proofs.RunPartLemmas.{run-laid}
-use Rattle.join_edits.specs.Join.{join_part, join_parts_from}
-use Rattle.seamless_edits.specs.Seamless.{delay_of_run}
-use Rattle.seamless_edits.specs.Seamless.{join_of_parts}
-use Rattle.seamless_edits.specs.Seamless.{last_part}
-use Rattle.seamless_edits.specs.Seamless.{later_parts}
-use Rattle.seamless_edits.specs.Seamless.{part_brought}
-use Rattle.seamless_edits.specs.Seamless.{part_from}
-use Rattle.seamless_edits.specs.Seamless.{part_head}
-use Rattle.seamless_edits.specs.Seamless.{run_lead_ins}
-use Rattle.seamless_edits.specs.Seamless.{run_parts}
-use Rattle.seamless_edits.specs.Seamless.{seamless_delay}
-use Rattle.seamless_edits.specs.Seamless.{seamless_file}
-use Rattle.seamless_edits.specs.Seamless.{seamless_frames}
-use Rattle.seamless_edits.specs.Seamless.{seamless_padding}
+use Rattle.join_edits.{proofs.PartLemmas.part-is, specs.Join.{join_part, join_parts_from}}
 use Rattle.laying.specs.{KeptFields.fields_of_head, LaidFiles.stream_entry}
 use Rattle.laying.specs.{Relaid.{FilePart, part_stream}, Written.head_info}
 use Rattle.outside.specs.Files.{AreOctets, Contents}
@@ -46,8 +32,8 @@ use Rattle.seam_laws.proofs.JoinReadLemmas.{read-count, read-played, read-says, 
 use Rattle.seam_laws.proofs.JoinReadLemmas.{written-says}
 use Rattle.seam_laws.proofs.LeftOutLemmas.{follower-at, joints-count, written-at}
 use Rattle.seam_laws.proofs.SeamlessInputLemmas.{AreInputs, brought-many, input-whole, inputs-are}
-use Rattle.seam_laws.proofs.SeamlessInputLemmas.{inputs-whole, IsInput, stream-from, stream-many}
-use Rattle.seam_laws.proofs.SeamlessInputLemmas.{whole_stream}
+use Rattle.seam_laws.proofs.SeamlessInputLemmas.{inputs-whole, IsInput, Joins, stream-from}
+use Rattle.seam_laws.proofs.SeamlessInputLemmas.{stream-many, whole_stream}
 use Rattle.seam_laws.proofs.SeamlessPlaceLemmas.{input-at, leads-enough}
 use Rattle.seam_laws.proofs.SeamlessRunLemmas.{all, front-few, HasLeads, joints-are, leads-many}
 use Rattle.seam_laws.proofs.SeamlessRunLemmas.{run, run-is, run-leads, stream, stream-length}
@@ -57,6 +43,11 @@ use Rattle.seam_laws.specs.{RunLaws.run_after, SeamlessLaws.{IsSamePosition, run
 use Rattle.seam_plan.{proofs.FollowLemmas.added, specs.Frames.{Brought, RunFrame}}
 use Rattle.seam_plan.specs.{Joins.fits_behind, Seams.{JointFrames, joints_of, left_out_count}}
 use Rattle.seam_plan.specs.declared.seam.Seam.{Seam, TheVariants.{Follows, LeadIn, Whole}}
+use Rattle.seamless_edits.proofs.RunPartLemmas.{run-laid}
+use Rattle.seamless_edits.specs.Seamless.{delay_of_run, join_of_parts, last_part, later_parts}
+use Rattle.seamless_edits.specs.Seamless.{part_brought, part_from, part_head, run_lead_ins}
+use Rattle.seamless_edits.specs.Seamless.{run_parts, seamless_delay, seamless_file, seamless_frames}
+use Rattle.seamless_edits.specs.Seamless.{seamless_padding}
 use Rattle.slot_plan.specs.declared.needs.{Need.Need, Placed.Placed}
 use Rattle.sync_survey.proofs.{FaultsLemmas.length-marked_rows, FoldersLemmas.octets_bytes}
 use Rattle.sync_survey.proofs.SurveyPartsLemmas.{all_faults-none_sound, frames_from}
@@ -339,8 +330,8 @@ few-left (Some LeadIn) class file left empty =
     inl (omega (arith, ap (λ (l : List StreamFrame). length l) empty.one))
 few-left (Some (Follows out)) class file left same = inr (out, refl)
 
-module _ (first : FilePart) (parts : List FilePart)
-    (are : AreInputs first.survey.class (first ∷ parts)) where
+module _ {first : FilePart} {parts : List FilePart}
+    (are : Joins first.survey.class first parts) where
   abbrev c : ClassFields
   c = first.survey.class
 
@@ -362,41 +353,43 @@ module _ (first : FilePart) (parts : List FilePart)
   -- the frames of the first input are the front of the run
   zero-end : run_end first parts 0 ≡ length first.survey.frames
   zero-end =
-      ap (λ (l : List RunFrame). length l) (append-nil begins.frames) ∙ brought-many c first are.0
+      ap (λ (l : List RunFrame). length l) (append-nil begins.frames)
+      ∙ brought-many c first are.head
 
   -- all of the run is up to where the last input ends
-  last-end : run_end first parts (length parts) ≡ length (all first parts are)
+  last-end : run_end first parts (length parts) ≡ length (all are)
   last-end =
       ap (λ (js : List JointFrames). length (begins.frames ++ added js))
       (take_all (length parts) (join_of_parts first parts).joints
-      (omega (arith, joints-count first parts are)))
+      (omega (arith, joints-count are)))
       ∙ ap (λ (js : List JointFrames). length (begins.frames ++ added js))
-      (joints-are first parts are)
+      (joints-are are)
 
-  all-some : 1 ≤ length (all first parts are)
+  all-some : 1 ≤ length (all are)
   all-some =
       omega (
         arith,
         length-append begins.frames (added joints),
-        brought-many c first are.0,
-        are.0.some,
+        brought-many c first are.head,
+        are.head.some,
       )
 
-  stream-parts : length (stream first parts are)
+  stream-parts : length (stream are)
       ≡ length (part_stream (part_from front first))
       + length (flat_map part_stream (later_parts (join_of_parts first parts).joints parts))
   stream-parts =
       length-append (part_stream (part_from front first))
       (flat_map part_stream (later_parts (join_of_parts first parts).joints parts))
 
-  stream-is : frames ≡ run_lead_ins first parts + length (stream first parts are)
+  stream-is : frames ≡ run_lead_ins first parts + length (stream are)
   stream-is =
-      let leads = run-leads first parts are in
-      let laid = run-laid first parts (input-whole c first are.0) (inputs-whole c parts are.1) in
+      let leads = run-leads are in
+      let laid =
+      run-laid first parts (input-whole c first are.head) (inputs-whole c parts are.others) in
       sym (length-map (seamless_frames first parts) stream_entry)
       ∙ ap (λ (l : List StreamFrame). length l) (laid.stream_is ∙ leads.is)
-      ∙ length-append leads.leads (stream first parts are)
-      ∙ ap (λ n. n + length (stream first parts are)) (sym (leads-many first parts are))
+      ∙ length-append leads.leads (stream are)
+      ∙ ap (λ n. n + length (stream are)) (sym (leads-many are))
 
   -- the join has the lead-ins of the run, and all of it but for what leaves it
   frames-many : frames + front ≡ run_lead_ins first parts + run_end first parts (length parts)
@@ -404,11 +397,11 @@ module _ (first : FilePart) (parts : List FilePart)
       omega (
         arith,
         stream-is,
-        stream-length first parts are,
-        length-map (run first parts are) (λ (f : RunFrame). f.need),
-        ap (λ (l : List RunFrame). length l) (run-is first parts are),
-        length-drop front (all first parts are),
-        front-few first parts are,
+        stream-length are,
+        length-map (run are) (λ (f : RunFrame). f.need),
+        ap (λ (l : List RunFrame). length l) (run-is are),
+        length-drop front (all are),
+        front-few are,
         all-some,
         last-end,
       )
@@ -419,11 +412,11 @@ module _ (first : FilePart) (parts : List FilePart)
         arith,
         few,
         stream-is,
-        leads-many first parts are,
-        leads-one _ _ _ _ (run-leads first parts are),
+        leads-many are,
+        leads-one _ _ _ _ (run-leads are),
         stream-parts,
-        (part-few c first are.0 front).0,
-        later-few c (join_of_parts first parts).joints parts are.1,
+        (part-few c first are.head front).0,
+        later-few c (join_of_parts first parts).joints parts are.others,
       )
 
   frames-some : 1 ≤ frames
@@ -433,12 +426,13 @@ module _ (first : FilePart) (parts : List FilePart)
         frames-many,
         last-end,
         all-some,
-        leads-enough first parts are,
-        leads-many first parts are,
+        leads-enough are,
+        leads-many are,
       )
 
   last-is : IsInput c last
-  last-is = input-at c (first ∷ parts) (length parts) last are (last-at first parts)
+  last-is =
+      input-at c (first ∷ parts) (length parts) last (are.head, are.others) (last-at first parts)
 
   abbrev ended : Played
   ended = part_played last
@@ -458,10 +452,10 @@ module _ (first : FilePart) (parts : List FilePart)
   -- ---- what is after the last played position of the last input
 
   leads-most : front ≤ run_lead_ins first parts
-  leads-most = omega (arith, leads-enough first parts are, leads-many first parts are)
+  leads-most = omega (arith, leads-enough are, leads-many are)
 
   written : IsInputWritten first parts (length parts) last
-  written = written-at first parts are (length parts) last (last-at first parts)
+  written = written-at are (length parts) last (last-at first parts)
 
   last-many : n ≡ length written.left_out + length (part_stream written.part)
   last-many =
@@ -492,8 +486,8 @@ module _ (first : FilePart) (parts : List FilePart)
         stream-is,
         leads-most,
         stream-parts,
-        (part-few c first are.0 front).1,
-        are.0.some,
+        (part-few c first are.head front).1,
+        are.head.some,
         part-among later m written.part there,
       )
 
@@ -505,14 +499,14 @@ module _ (first : FilePart) (parts : List FilePart)
   follows-by out rises (suc m) same seam =
       let there : slice_get parts m ≡ Some last =
       subst (λ k. slice_get (first ∷ parts) k ≡ Some last) same (last-at first parts) in
-      let goes = (follower-at first parts are m last there out seam).1 in
+      let goes = (follower-at are m last there out seam).1 in
       let played =
       (counted-played (part_head last) last.survey.class n goes.played goes.played_is).0 in
       let next : m + 1 ≡ length parts = omega (arith, same) in
       let many : length (run_after begins joints (m + 1)) ≡ run_end first parts (length parts) =
       ap (λ k. length (run_after begins joints k)) next
       ∙ ap (λ (js : List JointFrames). length (run_after begins js (length parts)))
-      (sym (joints-are first parts are)) in
+      (sym (joints-are are)) in
       rest-played c.version n frames ended.start ended.end rises
       (omega (
         arith,
@@ -560,7 +554,7 @@ module _ (first : FilePart) (parts : List FilePart)
         parts_of.1
 
     abbrev read : Info
-    read = read_info first parts are delay delay_is
+    read = read_info are delay_is
 
     read-is : (allowed : ℕ) (s : SurveyFields)
         → survey_of (seamless_file (first ∷ parts)) allowed ≡ Ok s
@@ -570,12 +564,12 @@ module _ (first : FilePart) (parts : List FilePart)
           end = frames * samples_in c + decoder_delay - seamless_padding first parts;
         }
     read-is allowed s e =
-        read-played first parts are delay delay_is allowed s e
+        read-played are delay_is allowed s e
         ∙ played-by c read frames delay (seamless_padding first parts)
-        (read-count first parts are delay delay_is frames refl (frames-small few)) frames-some
+        (read-count are delay_is frames refl (frames-small few)) frames-some
         padding-least
-        (read-says first parts are delay delay_is delay (seamless_padding first parts)
-        (written-says first parts are delay delay_is delay (seamless_padding first parts)
+        (read-says are delay_is delay (seamless_padding first parts)
+        (written-says are delay_is delay (seamless_padding first parts)
         (run-says first parts delay (omega (arith, parts_of.3)) padding-most)))
 
     abbrev joined : Played
@@ -589,7 +583,7 @@ module _ (first : FilePart) (parts : List FilePart)
         let start : ℕ = parts_of.0.start in
         let many : ℕ = length first.survey.frames in
         begins-at c.version start many front (run_lead_ins first parts) delay counted.1
-        (omega (arith, leads-enough first parts are, leads-many first parts are)) parts_of.2
+        (omega (arith, leads-enough are, leads-many are)) parts_of.2
         ∙ ap₂ (λ (p : Played) (m : ℕ). p.start + (run_lead_ins first parts + m) * samples_in c)
         (sym counted.0) (sym zero-end)
 
@@ -622,6 +616,6 @@ module _ (first : FilePart) (parts : List FilePart)
 -- a join in whose Info frame numbers are written begins and ends where its inputs do
 pub ends-kept : JoinsKeepTheirEnds
 ends-kept files inputs first parts delay allowed s taken delay_is octets e =
-    ends-read first parts (inputs-are files inputs first parts taken)
+    ends-read (inputs-are files inputs first parts taken)
     (parts-few files 0 None most_frames inputs (first ∷ parts) taken) octets delay delay_is allowed
     s e

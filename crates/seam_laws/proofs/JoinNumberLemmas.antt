@@ -8,12 +8,9 @@ use Rattle.cut_edits.proofs.PieceLemmas.{head_long}
 use Rattle.exact_span.proofs.ExtensionLemmas.{extension-length, extension-says}
 use Rattle.exact_span.specs.{Extensions.{extension_of, has_encoder}, Laws.SaysNumbers}
 use Rattle.info_header.specs.declared.fields.Info.{Info}
-use Rattle.seamless_edits.specs.Seamless.{part_head}
-use Rattle.seamless_edits.specs.Seamless.{part_says_gain}
-use Rattle.seamless_edits.specs.Seamless.{replay_gain}
-use Rattle.seamless_edits.specs.Seamless.{run_extension}
-use Rattle.seamless_edits.specs.Seamless.{seamless_padding}
 use Rattle.laying.specs.Relaid.{FilePart}
+use Rattle.seamless_edits.specs.Seamless.{part_head, part_says_gain, replay_gain, run_extension}
+use Rattle.seamless_edits.specs.Seamless.{seamless_padding}
 
 -- ---- an extension without peak and gains
 

@@ -9,16 +9,6 @@ use Rattle.exact_span.specs.{Laws.{AreInfoFields, SaysNumbers}, PlayedPositions.
 use Rattle.frame_header.specs.Fields.{ClassFields, HeaderFields}
 use Rattle.frame_writer.specs.Frames.{Frame}
 use Rattle.info_header.specs.declared.fields.Info.{Info}
-use Rattle.seamless_edits.proofs.RunPartLemmas.{front-within}
-use Rattle.seamless_edits.proofs.RunPartLemmas.{run-laid}
-use Rattle.seamless_edits.specs.Seamless.{delay_of_run}
-use Rattle.seamless_edits.specs.Seamless.{join_of_parts}
-use Rattle.seamless_edits.specs.Seamless.{part_head}
-use Rattle.seamless_edits.specs.Seamless.{run_extension}
-use Rattle.seamless_edits.specs.Seamless.{seamless_file}
-use Rattle.seamless_edits.specs.Seamless.{seamless_frames}
-use Rattle.seamless_edits.specs.Seamless.{seamless_info}
-use Rattle.seamless_edits.specs.Seamless.{seamless_row_file}
 use Rattle.laying.proofs.{HoldLemmas.blocks-kept, LaidFileLemmas.laid-survey}
 use Rattle.laying.proofs.{LaidFrameLemmas.rows-length, LaidLemmas.first-there}
 use Rattle.laying.specs.KeptFields.{fields_of_head}
@@ -26,14 +16,18 @@ use Rattle.laying.specs.LaidFiles.{frames_offset, head_at, IsLaidFile, laid_fiel
 use Rattle.laying.specs.{Relaid.FilePart, Written.{front_blocks, head_info, info_for, table_entry}}
 use Rattle.seam_laws.proofs.JoinNumberLemmas.{run-long}
 use Rattle.seam_laws.proofs.PieceHeadLemmas.{laid-count, laid-extension}
-use Rattle.seam_laws.proofs.SeamlessInputLemmas.{AreInputs, input-whole, inputs-whole}
+use Rattle.seam_laws.proofs.SeamlessInputLemmas.{input-whole, inputs-whole, Joins}
 use Rattle.seam_laws.specs.PlayedParts.{input_played}
+use Rattle.seamless_edits.proofs.RunPartLemmas.{front-within, run-laid}
+use Rattle.seamless_edits.specs.Seamless.{delay_of_run, join_of_parts, part_head, run_extension}
+use Rattle.seamless_edits.specs.Seamless.{seamless_file, seamless_frames, seamless_info}
+use Rattle.seamless_edits.specs.Seamless.{seamless_row_file}
 use Rattle.sync_survey.proofs.SurveyPartsLemmas.{survey_fields-allowed}
 use Rattle.sync_survey.proofs.SurveyedFileLemmas.{survey_of-parts}
 use Rattle.sync_survey.specs.{Faults.{survey_fields, SurveyFields}, Row.Row, Survey.survey_of}
 
-module _ (first : FilePart) (parts : List FilePart)
-    (inputs : AreInputs first.survey.class (first ∷ parts)) (delay : ℕ)
+module _ {first : FilePart} {parts : List FilePart}
+    (inputs : Joins first.survey.class first parts) {delay : ℕ}
     (delay_is : delay_of_run first parts ≡ Some delay) where
   abbrev c : ClassFields
   c = first.survey.class
@@ -80,11 +74,11 @@ module _ (first : FilePart) (parts : List FilePart)
 
   file-is : IsLaidFile c blocks header written_info frames []
   file-is =
-      let row = inputs.0.has.placed (join_of_parts first parts).front front-row.0 front-row.1 in
+      let row = inputs.head.has.placed (join_of_parts first parts).front front-row.0 front-row.1 in
       let are =
-      run-laid first parts (input-whole c first inputs.0) (inputs-whole c parts inputs.1) in
+      run-laid first parts (input-whole c first inputs.head) (inputs-whole c parts inputs.others) in
       record {
-        blocks_before = (blocks-kept first.file first.survey inputs.0.has).0;
+        blocks_before = (blocks-kept first.file first.survey inputs.head.has).0;
         header = row.known;
         class = row.class_is;
         sizes = record {

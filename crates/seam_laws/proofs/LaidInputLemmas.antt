@@ -13,32 +13,31 @@ use Rattle.frame_header.specs.Fields.{ClassFields, HeaderFields, IsClass, SlotFi
 use Rattle.frame_header.specs.{HeaderBits.header_bits, Tables.{class_of, window_of}}
 use Rattle.frame_writer.specs.Frames.{Frame}
 use Rattle.info_header.specs.declared.fields.Info.{Info}
-use Rattle.seamless_edits.specs.Seamless.{begins_blank}
-use Rattle.seamless_edits.specs.Seamless.{part_brought}
-use Rattle.seamless_edits.specs.Seamless.{run_frame}
-use Rattle.seamless_edits.specs.Seamless.{sound_of}
 use Rattle.laying.proofs.FittingFrameLemmas.{fitting-laid}
 use Rattle.laying.proofs.HoldLemmas.{blocks-kept, part-entries, part-needs, part-stream}
 use Rattle.laying.proofs.LaidFileLemmas.{laid-frames-stay, laid-stream, laid-survey}
 use Rattle.laying.proofs.LaidLemmas.{first-there, laid-slots}
 use Rattle.laying.proofs.PlannedFrameLemmas.{AreNeedsOf, one, relaid_frames-cons}
 use Rattle.laying.specs.Fits.{FitsFromReach, IsFittingPlan}
-use Rattle.laying.specs.Laid.{frames_laid, info_laid, LaidPart, needs_laid, source_part}
+use Rattle.laying.specs.Laid.{file_laid, file_with_first, frames_laid, info_laid, LaidPart}
+use Rattle.laying.specs.Laid.{needs_laid, source_part}
 use Rattle.laying.specs.LaidFiles.{AreBlocks, AreStreamEntries, frame_length, frames_offset}
 use Rattle.laying.specs.LaidFiles.{head_at, IsLaidFile, IsStreamEntry, laid_fields, laid_file}
 use Rattle.laying.specs.{LaidFiles.rows_from, LaidLaws.HasNoneLost, Laws.AreFramesOfStream}
 use Rattle.laying.specs.{Needs.need_of, NeedsFit.own_choice}
 use Rattle.laying.specs.Relaid.{FilePart, frame_with_place, IsPart, part_frames, part_stream}
 use Rattle.laying.specs.Relaid.{relaid_frames, rest_behind, silent_lead_in, stream_with_lead_ins}
-use Rattle.laying.specs.{Surveys.CanBeRelaid, Written.{front_blocks, slot_in}}
+use Rattle.laying.specs.{Surveys.CanBeRelaid, Written.{back_blocks, front_blocks, slot_in}}
 use Rattle.seam_laws.proofs.{FrontBlockLemmas.front-stays, SeamlessFrontLemmas.none-zero}
 use Rattle.seam_laws.proofs.SeamlessInputLemmas.{brought-needs, brought-sounds, IsInput, run-needs}
 use Rattle.seam_laws.proofs.SeamlessInputLemmas.{run-sounds, whole_stream}
 use Rattle.seam_laws.proofs.SeamlessRunLemmas.{own-frames, own-many}
 use Rattle.seam_laws.specs.LeadInLaws.{AreInOwnSlots, AreLedInOwnSlots}
+use Rattle.seam_laws.specs.SeamlessLaws.{bare_file, bare_row_file}
 use Rattle.seam_plan.proofs.{FollowLemmas.sounds, LeadInLemmas.lead-in-is}
 use Rattle.seam_plan.specs.Frames.{needs_of, RunFrame}
 use Rattle.seam_plan.specs.Joins.{has_lead_in, lead_in_header, leads_others, matches_header}
+use Rattle.seamless_edits.specs.Seamless.{begins_blank, part_brought, run_frame, sound_of}
 use Rattle.side_info.specs.{Side.{no_side, payload_bits, payload_bytes}, declared.side.Side.Side}
 use Rattle.slot_plan.{proofs.AreaLemmas.only_one, specs.FreeBytes.IsLeadInHeader}
 use Rattle.slot_plan.specs.{Plans.AreItemSlots, declared.needs.{Need.Need, Placed.Placed}}
@@ -199,10 +198,56 @@ pub record BringsLed (class : ClassFields) (p : FilePart) (is : IsInput class p)
   pub own_is : own ≡ first ∷ rest
   pub stream_is : whole_stream class p is ≡ silent_lead_in first ∷ own
 
-module _ (laid : LaidPart) (file : List ℕ) (s : SurveyFields) (has : CanBeRelaid file s)
-    (some : laid.from < laid.to) (within : laid.to ≤ length s.frames)
-    (fitting : IsFittingPlan (window_of s.class.version) (needs_laid laid s) laid.placed)
-    (long : length laid.extension ≡ 36) where
+-- the file of what is laid, with any blocks after its frames
+pub record IsFileOf (laid : LaidPart) (file : List ℕ) (s : SurveyFields) (bytes : List ℕ) : Type 0
+  where
+    pub row : Row
+    pub row_is : slice_get s.frames laid.from ≡ Some row
+    pub back : List (List ℕ)
+    pub blocks : AreBlocks back
+    pub file_is : bytes
+        ≡ laid_file (front_blocks file s) row.header (info_laid laid file s)
+        (frames_laid laid file s) back
+
+module _ (laid : LaidPart) {file : List ℕ} {s : SurveyFields} (has : CanBeRelaid file s)
+    (within : laid.from < length s.frames) where
+  -- a file that was laid is the file of what is laid
+  pub laid-whole : IsFileOf laid file s (file_laid laid file s)
+  laid-whole =
+      let first = first-there s.frames laid.from within in
+      record {
+        row = first.0;
+        row_is = first.1;
+        back = back_blocks file s;
+        blocks = (blocks-kept file s has).1;
+        file_is = ap (λ o. file_with_first o laid file s) first.1;
+      }
+
+  -- so is the file without the blocks after the frames
+  pub laid-bare : IsFileOf laid file s (bare_file laid file s)
+  laid-bare =
+      let first = first-there s.frames laid.from within in
+      record {
+        row = first.0;
+        row_is = first.1;
+        back = [];
+        blocks = tt;
+        file_is = ap (λ o. bare_row_file o laid file s) first.1;
+      }
+
+-- an input that is the file of what is laid, which can be laid
+pub record IsLaidInput (laid : LaidPart) (file : List ℕ) (s : SurveyFields) (c : ClassFields)
+    (p : FilePart) : Type 0 where
+  pub has : CanBeRelaid file s
+  pub some : laid.from < laid.to
+  pub within : laid.to ≤ length s.frames
+  pub fitting : IsFittingPlan (window_of s.class.version) (needs_laid laid s) laid.placed
+  pub long : length laid.extension ≡ 36
+  pub made : IsFileOf laid file s p.file
+  pub is : IsInput c p
+
+module _ {laid : LaidPart} {file : List ℕ} {s : SurveyFields} {c : ClassFields} {p : FilePart}
+    (input : IsLaidInput laid file s c p) where
   abbrev window : ℕ
   window = window_of s.class.version
 
@@ -226,7 +271,7 @@ module _ (laid : LaidPart) (file : List ℕ) (s : SurveyFields) (has : CanBeRela
   info = info_laid laid file s
 
   part-is : IsPart s.class part
-  part-is = record { has = has; class = refl; some = some; within = within }
+  part-is = record { has = input.has; class = refl; some = input.some; within = input.within }
 
   own-length : length own ≡ length needs
   own-length = (part-sized s.class part part-is).same
@@ -239,16 +284,18 @@ module _ (laid : LaidPart) (file : List ℕ) (s : SurveyFields) (has : CanBeRela
   frames-some =
       omega (
         arith,
-        placed-some window 0 needs laid.placed fitting.fits (omega (arith, needs-many, some)),
+        placed-some window 0 needs
+            laid.placed input.fitting.fits (omega (arith, needs-many, input.some)),
         length-map frames slot_in,
-        ap (λ (l : List SlotFields). length l) (laid-slots laid file s has some within fitting),
+        ap (λ (l : List SlotFields). length l)
+            (laid-slots laid file s input.has input.some input.within input.fitting),
         length-map laid.placed (λ (p : Placed). p.slot),
       )
 
   -- the frames can be laid, and are the frames of their stream with the lead-ins of the plan
   pub laid-as : AreFramesOfStream s.class frames (stream_with_lead_ins laid.placed own)
   laid-as =
-      let are = fitting-laid s.class part laid.placed part-is fitting in
+      let are = fitting-laid s.class part laid.placed part-is input.fitting in
       record {
         some = frames-some;
         entries = are.entries;
@@ -258,8 +305,8 @@ module _ (laid : LaidPart) (file : List ℕ) (s : SurveyFields) (has : CanBeRela
 
   class-known : IsClass s.class
   class-known =
-      let first = first-there s.frames laid.from (omega (arith, some, within)) in
-      let row = has.placed laid.from first.0 first.1 in
+      let first = first-there s.frames laid.from (omega (arith, input.some, input.within)) in
+      let row = input.has.placed laid.from first.0 first.1 in
       subst IsClass row.class_is (IsClass-class_of first.0.header row.known)
 
   needs-are : AreNeedsOf needs (part_frames part)
@@ -270,188 +317,185 @@ module _ (laid : LaidPart) (file : List ℕ) (s : SurveyFields) (has : CanBeRela
 
   -- ---- as an input
 
-  -- the file, with any blocks after its frames
-  module _ (row : Row) (row_is : slice_get s.frames laid.from ≡ Some row) (back : List (List ℕ))
-      (behind : AreBlocks back) where
-    abbrev pub made : List ℕ
-    made = laid_file (front_blocks file s) row.header info frames back
+  abbrev bytes : List ℕ
+  bytes = laid_file (front_blocks file s) input.made.row.header info frames input.made.back
 
-    abbrev fields : SurveyFields
-    fields = laid_fields (front_blocks file s) row.header info frames back
+  abbrev fields : SurveyFields
+  fields = laid_fields (front_blocks file s) input.made.row.header info frames input.made.back
 
-    made-laid : IsLaidFile s.class (front_blocks file s) row.header info frames back
-    made-laid =
-        let placed_row = has.placed laid.from row row_is in
-        record {
-          blocks_before = (blocks-kept file s has).0;
-          header = placed_row.known;
-          class = placed_row.class_is;
-          sizes = grind (arith, length-map, length-range_with_len);
-          some = laid-as.some;
-          entries = laid-as.entries;
-          laid = laid-as.fit;
-          blocks_behind = behind;
-        }
+  made-laid : IsLaidFile s.class (front_blocks file s) input.made.row.header info frames
+      input.made.back
+  made-laid =
+      let placed_row = input.has.placed laid.from input.made.row input.made.row_is in
+      record {
+        blocks_before = (blocks-kept file s input.has).0;
+        header = placed_row.known;
+        class = placed_row.class_is;
+        sizes = grind (arith, length-map, length-range_with_len);
+        some = laid-as.some;
+        entries = laid-as.entries;
+        laid = laid-as.fit;
+        blocks_behind = input.made.blocks;
+      }
 
-    module _ (c : ClassFields) (p : FilePart) (is : IsInput c p)
-        (same_file : p.file ≡ made) where
-      told : fields ≡ p.survey
-      told =
-          let many : ℕ = length made + length frames + 1 in
-          let e : survey_fields made is.allowed ≡ Ok p.survey =
-          subst (λ l. survey_fields l is.allowed ≡ Ok p.survey) same_file
-          (survey_of-parts p.file is.allowed p.survey is.surveyed).1 in
-          let one : Ok p.survey ≡ Ok fields =
-          sym (survey_fields-allowed made is.allowed many p.survey (omega arith) e)
-          ∙ laid-survey s.class (front_blocks file s) row.header info frames back
-          many made-laid (omega arith) in
-          cc
+  told : fields ≡ p.survey
+  told =
+      let many : ℕ = length bytes + length frames + 1 in
+      let e : survey_fields bytes input.is.allowed ≡ Ok p.survey =
+      subst (λ l. survey_fields l input.is.allowed ≡ Ok p.survey) input.made.file_is
+      (survey_of-parts p.file input.is.allowed p.survey input.is.surveyed).1 in
+      let one : Ok p.survey ≡ Ok fields =
+      sym (survey_fields-allowed bytes input.is.allowed many p.survey (omega arith) e)
+      ∙ laid-survey s.class (front_blocks file s) input.made.row.header info frames input.made.back
+      many made-laid (omega arith) in
+      cc
 
-      -- the class of the input is the class of the file
-      pub class-same : c ≡ s.class
-      unfolding laid_fields
-      class-same =
-          sym is.of_class ∙ ap (λ (t : SurveyFields). t.class) (sym told)
-          ∙ (has.placed laid.from row row_is).class_is
+  -- the class of the input is the class of the file
+  pub class-same : c ≡ s.class
+  unfolding laid_fields
+  class-same =
+      sym input.is.of_class ∙ ap (λ (t : SurveyFields). t.class) (sym told)
+      ∙ (input.has.placed laid.from input.made.row input.made.row_is).class_is
 
-      none-lost : HasNoneLost p.survey
-      none-lost =
-          (laid-frames-stay s.class (front_blocks file s) row.header info frames back
-          made-laid).none
-          is.allowed p.survey
-          (subst (λ l. survey_fields l is.allowed ≡ Ok p.survey) same_file
-          (survey_of-parts p.file is.allowed p.survey is.surveyed).1)
+  none-lost : HasNoneLost p.survey
+  none-lost =
+      (laid-frames-stay s.class (front_blocks file s) input.made.row.header info frames
+      input.made.back
+      made-laid).none
+      input.is.allowed p.survey
+      (subst (λ l. survey_fields l input.is.allowed ≡ Ok p.survey) input.made.file_is
+      (survey_of-parts p.file input.is.allowed p.survey input.is.surveyed).1)
 
-      survey_without_head-same : survey_without_head p.survey ≡ p.survey
-      survey_without_head-same =
-          ap emptied_survey none-lost.apart
-          ∙ ap (λ (rows : List Row). record p.survey { frames = rows })
-          (none-emptied p.survey.frames none-lost.kept)
+  survey_without_head-same : survey_without_head p.survey ≡ p.survey
+  survey_without_head-same =
+      ap emptied_survey none-lost.apart
+      ∙ ap (λ (rows : List Row). record p.survey { frames = rows })
+      (none-emptied p.survey.frames none-lost.kept)
 
-      -- the stream of the input is the stream of its frames
-      pub input-stream : whole_stream c p is ≡ stream_with_lead_ins laid.placed own
-      input-stream =
-          ap (λ (t : SurveyFields). stream_of_survey p.file t) survey_without_head-same
-          ∙ sym (stream-is p.file is.allowed p.survey is.surveyed)
-          ∙ ap stream_of same_file
-          ∙ (laid-stream s.class (front_blocks file s) row.header info frames back
-          made-laid).stream_is
-          ∙ laid-as.stream_is
+  -- the stream of the input is the stream of its frames
+  pub input-stream : whole_stream c p input.is ≡ stream_with_lead_ins laid.placed own
+  input-stream =
+      ap (λ (t : SurveyFields). stream_of_survey p.file t) survey_without_head-same
+      ∙ sym (stream-is p.file input.is.allowed p.survey input.is.surveyed)
+      ∙ ap stream_of input.made.file_is
+      ∙ (laid-stream s.class (front_blocks file s) input.made.row.header info frames input.made.back
+      made-laid).stream_is
+      ∙ laid-as.stream_is
 
-      abbrev at : ℕ
-      at = frames_offset (front_blocks file s) row.header info
+  abbrev at : ℕ
+  at = frames_offset (front_blocks file s) input.made.row.header info
 
-      rows-are : p.survey.frames ≡ rows_from at frames
-      unfolding laid_fields
-      rows-are = ap (λ (t : SurveyFields). t.frames) (sym told)
+  rows-are : p.survey.frames ≡ rows_from at frames
+  unfolding laid_fields
+  rows-are = ap (λ (t : SurveyFields). t.frames) (sym told)
 
-      -- the rows of the input need what its frames do
-      pub input-rows : map need_of p.survey.frames ≡ map frame_need frames
-      input-rows = ap (map need_of) rows-are ∙ rows-needs at frames
+  -- the rows of the input need what its frames do
+  pub input-rows : map need_of p.survey.frames ≡ map frame_need frames
+  input-rows = ap (map need_of) rows-are ∙ rows-needs at frames
 
-      -- the frames that the input brings need what its frames do
-      pub input-needs : needs_of (part_brought p).frames ≡ map frame_need frames
-      input-needs =
-          brought-needs c p is
-          ∙ ap (λ (t : SurveyFields). map need_of t.frames) survey_without_head-same
-          ∙ input-rows
+  -- the frames that the input brings need what its frames do
+  pub input-needs : needs_of (part_brought p).frames ≡ map frame_need frames
+  input-needs =
+      brought-needs c p input.is
+      ∙ ap (λ (t : SurveyFields). map need_of t.frames) survey_without_head-same
+      ∙ input-rows
 
-      input-sounds : sounds (part_brought p).frames
-          ≡ map (sound_of s.class) (stream_with_lead_ins laid.placed own)
-      input-sounds = brought-sounds c p is ∙ ap (map (sound_of c)) input-stream
-          ∙ ap (λ d. map (sound_of d) (stream_with_lead_ins laid.placed own)) class-same
+  input-sounds : sounds (part_brought p).frames
+      ≡ map (sound_of s.class) (stream_with_lead_ins laid.placed own)
+  input-sounds = brought-sounds c p input.is ∙ ap (map (sound_of c)) input-stream
+      ∙ ap (λ d. map (sound_of d) (stream_with_lead_ins laid.placed own)) class-same
 
-      -- the head of the input is the Info frame
-      pub head-is : p.survey.head
-          ≡ Some (head_at (length (concat (front_blocks file s))) row.header)
-      unfolding laid_fields
-      head-is = ap (λ (t : SurveyFields). t.head) (sym told)
+  -- the head of the input is the Info frame
+  pub head-is : p.survey.head
+      ≡ Some (head_at (length (concat (front_blocks file s))) input.made.row.header)
+  unfolding laid_fields
+  head-is = ap (λ (t : SurveyFields). t.head) (sym told)
 
-      -- the front blocks of the input are the front blocks of the file
-      pub front-same : (many : ℕ) (t : SurveyFields) → survey_fields file many ≡ Ok t
-          → front_blocks file t ≡ front_blocks file s
-          → front_blocks p.file p.survey ≡ front_blocks file s
-      front-same many t e same =
-          ap₂ (λ (f : List ℕ) (t : SurveyFields). front_blocks f t) same_file (sym told)
-          ∙ ap (λ (front : List (List ℕ)).
-          front_blocks (laid_file front row.header info frames back)
-          (laid_fields front row.header info frames back)) (sym same)
-          ∙ front-stays file t many e row.header info frames back
-          ∙ same
+  -- the front blocks of the input are the front blocks of the file
+  pub front-same : (many : ℕ) (t : SurveyFields) → survey_fields file many ≡ Ok t
+      → front_blocks file t ≡ front_blocks file s
+      → front_blocks p.file p.survey ≡ front_blocks file s
+  front-same many t e same =
+      ap₂ (λ (f : List ℕ) (t : SurveyFields). front_blocks f t) input.made.file_is (sym told)
+      ∙ ap (λ (front : List (List ℕ)).
+      front_blocks (laid_file front input.made.row.header info frames input.made.back)
+      (laid_fields front input.made.row.header info frames input.made.back)) (sym same)
+      ∙ front-stays file t many e input.made.row.header info frames input.made.back
+      ∙ same
 
-      own-run-needs : needs_of own_run ≡ needs
-      own-run-needs =
-          let rows : List Row = slice_range s.frames laid.from laid.to in
-          run-needs s.class rows own (own-length ∙ length-map rows need_of)
+  own-run-needs : needs_of own_run ≡ needs
+  own-run-needs =
+      let rows : List Row = slice_range s.frames laid.from laid.to in
+      run-needs s.class rows own (own-length ∙ length-map rows need_of)
 
-      own-run-sounds : sounds own_run ≡ map (sound_of s.class) own
-      own-run-sounds =
-          let rows : List Row = slice_range s.frames laid.from laid.to in
-          run-sounds s.class rows own (own-length ∙ length-map rows need_of)
+  own-run-sounds : sounds own_run ≡ map (sound_of s.class) own
+  own-run-sounds =
+      let rows : List Row = slice_range s.frames laid.from laid.to in
+      run-sounds s.class rows own (own-length ∙ length-map rows need_of)
 
-      -- in their own slots, the input brings the frames alone
-      pub brings-own : AreInOwnSlots needs laid.placed → BringsOwn c p is own_run own
-      brings-own in_own =
-          let all : stream_with_lead_ins laid.placed own ≡ own =
-          own-frames needs own laid.placed own-length in_own in
-          record {
-            frames_are =
-                frames-same (part_brought p).frames own_run
-                (input-needs
-                ∙ own-needs s.class needs
-                (part_frames part) laid.placed entries-are needs-are in_own
-                ∙ sym own-run-needs)
-                (input-sounds ∙ ap (map (sound_of s.class)) all ∙ sym own-run-sounds);
-            rows_need =
-                input-rows
-                ∙ own-needs s.class needs
-                (part_frames part) laid.placed entries-are needs-are in_own
-                ∙ sym own-run-needs;
-            stream_is = input-stream ∙ all;
-          }
+  -- in their own slots, the input brings the frames alone
+  pub brings-own : AreInOwnSlots needs laid.placed → BringsOwn c p input.is own_run own
+  brings-own in_own =
+      let all : stream_with_lead_ins laid.placed own ≡ own =
+      own-frames needs own laid.placed own-length in_own in
+      record {
+        frames_are =
+            frames-same (part_brought p).frames own_run
+            (input-needs
+            ∙ own-needs s.class needs
+            (part_frames part) laid.placed entries-are needs-are in_own
+            ∙ sym own-run-needs)
+            (input-sounds ∙ ap (map (sound_of s.class)) all ∙ sym own-run-sounds);
+        rows_need =
+            input-rows
+            ∙ own-needs s.class needs
+            (part_frames part) laid.placed entries-are needs-are in_own
+            ∙ sym own-run-needs;
+        stream_is = input-stream ∙ all;
+      }
 
-      -- after their lead-in, the input brings the frames after it
-      pub brings-led : AreLedInOwnSlots window needs laid.placed → BringsLed c p is own_run own
-      unfolding has_lead_in
-      brings-led led =
-          let lead_needs =
-          led-needs s.class window at needs (part_frames part) laid.placed class-known entries-are
-          needs-are led fitting.fits in
-          let all = led-frames window needs laid.placed own own-length led in
-          let lead_need : Need = record { header = lead_needs.header; bytes = 0 } in
-          let lead_in : RunFrame =
-          record { need = lead_need; sound = sound_of s.class (silent_lead_in all.0) } in
-          let all_needs : needs_of (part_brought p).frames ≡ lead_need ∷ needs =
-          input-needs ∙ lead_needs.are in
-          let leads : leads_others window (needs_of (part_brought p).frames) ≡ true =
-          ap (leads_others window) all_needs ∙ ap (matches_header lead_needs.header) lead_needs.lead
-          ∙ (bytes_eq-Decides (header_bits lead_needs.header) (header_bits lead_needs.header)).1
-          refl in
-          record {
-            lead_in = lead_in;
-            frames_are =
-                frames-same (part_brought p).frames (lead_in ∷ own_run)
-                (all_needs ∙ ap (λ (l : List Need). lead_need ∷ l) (sym own-run-needs))
-                (input-sounds ∙ ap (map (sound_of s.class)) all.3
-                ∙ ap (λ (l : List (List ℕ)). sound_of s.class (silent_lead_in all.0) ∷ l)
-                (sym own-run-sounds));
-            empty = refl;
-            header =
-                subst (λ (d : ClassFields).
-                lead_in_header (window_of d.version) (needs_of own_run) ≡ Some lead_needs.header)
-                (sym class-same)
-                (ap (lead_in_header window) own-run-needs ∙ lead_needs.lead);
-            rows_need =
-                input-rows ∙ lead_needs.are
-                ∙ ap (λ (l : List Need). lead_need ∷ l) (sym own-run-needs);
-            has = subst
-                (λ (d : ClassFields). has_lead_in (window_of d.version) (part_brought p) ≡ true)
-                (sym class-same)
-                (and_from (part_brought p).blank
-                (leads_others window (needs_of (part_brought p).frames))
-                (ap begins_blank rows-are ∙ lead_needs.blank) leads);
-            first = all.0;
-            rest = all.1;
-            own_is = all.2;
-            stream_is = input-stream ∙ all.3;
-          }
+  -- after their lead-in, the input brings the frames after it
+  pub brings-led : AreLedInOwnSlots window needs laid.placed → BringsLed c p input.is own_run own
+  unfolding has_lead_in
+  brings-led led =
+      let lead_needs =
+      led-needs s.class window at needs (part_frames part) laid.placed class-known entries-are
+      needs-are led input.fitting.fits in
+      let all = led-frames window needs laid.placed own own-length led in
+      let lead_need : Need = record { header = lead_needs.header; bytes = 0 } in
+      let lead_in : RunFrame =
+      record { need = lead_need; sound = sound_of s.class (silent_lead_in all.0) } in
+      let all_needs : needs_of (part_brought p).frames ≡ lead_need ∷ needs =
+      input-needs ∙ lead_needs.are in
+      let leads : leads_others window (needs_of (part_brought p).frames) ≡ true =
+      ap (leads_others window) all_needs ∙ ap (matches_header lead_needs.header) lead_needs.lead
+      ∙ (bytes_eq-Decides (header_bits lead_needs.header) (header_bits lead_needs.header)).1
+      refl in
+      record {
+        lead_in = lead_in;
+        frames_are =
+            frames-same (part_brought p).frames (lead_in ∷ own_run)
+            (all_needs ∙ ap (λ (l : List Need). lead_need ∷ l) (sym own-run-needs))
+            (input-sounds ∙ ap (map (sound_of s.class)) all.3
+            ∙ ap (λ (l : List (List ℕ)). sound_of s.class (silent_lead_in all.0) ∷ l)
+            (sym own-run-sounds));
+        empty = refl;
+        header =
+            subst (λ (d : ClassFields).
+            lead_in_header (window_of d.version) (needs_of own_run) ≡ Some lead_needs.header)
+            (sym class-same)
+            (ap (lead_in_header window) own-run-needs ∙ lead_needs.lead);
+        rows_need =
+            input-rows ∙ lead_needs.are
+            ∙ ap (λ (l : List Need). lead_need ∷ l) (sym own-run-needs);
+        has = subst
+            (λ (d : ClassFields). has_lead_in (window_of d.version) (part_brought p) ≡ true)
+            (sym class-same)
+            (and_from (part_brought p).blank
+            (leads_others window (needs_of (part_brought p).frames))
+            (ap begins_blank rows-are ∙ lead_needs.blank) leads);
+        first = all.0;
+        rest = all.1;
+        own_is = all.2;
+        stream_is = input-stream ∙ all.3;
+      }

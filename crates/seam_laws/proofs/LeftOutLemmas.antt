@@ -11,21 +11,14 @@ use Rattle.exact_span.specs.declared.overlap.Overlap.{Overlap}
 use Rattle.frame_header.proofs.HeaderLemmas.{IsClass-class_of}
 use Rattle.frame_header.specs.Fields.{ClassFields, HeaderFields, IsClass}
 use Rattle.frame_header.specs.Tables.{class_of, window_of}
-use Rattle.seamless_edits.proofs.FramePlaceLemmas.{get-some}
-use Rattle.seamless_edits.proofs.FramePlaceLemmas.{get-within}
-use Rattle.seamless_edits.specs.Seamless.{begins_blank}
-use Rattle.seamless_edits.specs.Seamless.{join_of_parts}
-use Rattle.seamless_edits.specs.Seamless.{later_parts}
-use Rattle.seamless_edits.specs.Seamless.{part_brought}
-use Rattle.seamless_edits.specs.Seamless.{part_from}
 use Rattle.laying.{proofs.EntryByteLemmas.shaped, specs.Relaid.{FilePart, part_stream}}
 use Rattle.seam_laws.proofs.FollowerLemmas.{followers-on}
 use Rattle.seam_laws.proofs.SeamlessFrontLemmas.{begins-first, empty-frame, no-parts, none-zero}
 use Rattle.seam_laws.proofs.SeamlessFrontLemmas.{silent_frame, whole-first, zero-side}
-use Rattle.seam_laws.proofs.SeamlessInputLemmas.{AreInputs, brought-many, inputs-are, IsInput}
+use Rattle.seam_laws.proofs.SeamlessInputLemmas.{brought-many, inputs-are, IsInput, Joins}
 use Rattle.seam_laws.proofs.SeamlessInputLemmas.{stream-from, stream-many, whole_stream}
 use Rattle.seam_laws.proofs.SeamlessPlaceLemmas.{input-at}
-use Rattle.seam_laws.proofs.SeamlessRunLemmas.{front-few, front-parts, joints-are}
+use Rattle.seam_laws.proofs.SeamlessRunLemmas.{all, front-few, front-parts, joints-are}
 use Rattle.seam_laws.specs.JoinLaws.{IsEmptyFront, IsInputWritten, LeftOutIsEmpty, MayBeLeftOut}
 use Rattle.seam_laws.specs.{JoinLaws.seam_at, RunLaws.{InputGoesOn, run_after}}
 use Rattle.seam_plan.proofs.SeamLemmas.{follow-is, follows_with, IfWithout, without-led}
@@ -35,6 +28,9 @@ use Rattle.seam_plan.specs.Seams.{following_joint, joint_of, joint_with, joint_w
 use Rattle.seam_plan.specs.Seams.{JointFrames, joints_from, joints_of, left_out_count, SeamlessJoin}
 use Rattle.seam_plan.specs.{Seams.whole_joint, declared.seam.Seam.Seam}
 use Rattle.seam_plan.specs.declared.seam.Seam.TheVariants.{Follows, LeadIn, Whole}
+use Rattle.seamless_edits.proofs.FramePlaceLemmas.{get-some, get-within}
+use Rattle.seamless_edits.specs.Seamless.{begins_blank, join_of_parts, later_parts, part_brought}
+use Rattle.seamless_edits.specs.Seamless.{part_from}
 use Rattle.side_info.specs.Side.{no_side, SideFits}
 use Rattle.sync_survey.specs.Faults.{stream_of, stream_of_survey, SurveyFields}
 use Rattle.sync_survey.specs.HeadApart.{apart_row, apart_rows, emptied_row, rows_set_apart}
@@ -240,8 +236,8 @@ later-many (j ∷ joints) (p ∷ parts) same =
 
 -- ---- the inputs of a join
 
-module _ (first : FilePart) (parts : List FilePart)
-    (are : AreInputs first.survey.class (first ∷ parts)) where
+module _ {first : FilePart} {parts : List FilePart}
+    (are : Joins first.survey.class first parts) where
   abbrev c : ClassFields
   c = first.survey.class
 
@@ -257,7 +253,7 @@ module _ (first : FilePart) (parts : List FilePart)
   -- something becomes of each input after the first
   pub joints-count : length joined.joints ≡ length parts
   joints-count =
-      ap (λ (js : List JointFrames). length js) (joints-are first parts are)
+      ap (λ (js : List JointFrames). length js) (joints-are are)
       ∙ joints-many c begins.frames begins others ∙ length-map parts part_brought
 
   -- an input without its first k frames, and these
@@ -286,37 +282,37 @@ module _ (first : FilePart) (parts : List FilePart)
   first-written =
       elim (cases_lt 0 joined.front) as (λ _. IsInputWritten first parts 0 first) [
         | inl out ↦
-            let one : joined.front ≡ 1 = omega (arith, out, front-few first parts are) in
+            let one : joined.front ≡ 1 = omega (arith, out, front-few are) in
             record {
               part = part_from joined.front first;
               is = refl;
-              left_out = left first are.0 joined.front;
-              all = both first are.0 joined.front;
+              left_out = left first are.head joined.front;
+              all = both first are.head joined.front;
               may = inr
-                  (subst (λ n. IsEmptyFront c first.file (take n (whole_stream c first are.0)))
-                  (sym one) (led-front first are.0 (front-parts first parts are out).0));
+                  (subst (λ n. IsEmptyFront c first.file (take n (whole_stream c first are.head)))
+                  (sym one) (led-front first are.head (front-parts are out).0));
             }
         | inr none ↦
             let zero_is : joined.front ≡ 0 = omega (arith, none) in
             record {
               part = part_from joined.front first;
               is = refl;
-              left_out = left first are.0 joined.front;
-              all = both first are.0 joined.front;
-              may = inl (ap (λ n. take n (whole_stream c first are.0)) zero_is);
+              left_out = left first are.head joined.front;
+              all = both first are.head joined.front;
+              may = inl (ap (λ n. take n (whole_stream c first are.head)) zero_is);
             }
       ]
 
   module _ (n : ℕ) (p : FilePart) (found : slice_get parts n ≡ Some p) where
     is : IsInput c p
-    is = input-at c parts n p are.1 found
+    is = input-at c parts n p are.others found
 
     later : IsLater joined.joints parts n p
     later = later-at joined.joints parts n p joints-count found
 
     joint_is : slice_get (joints_of c begins others) n ≡ Some later.joint
     joint_is =
-        ap (λ (js : List JointFrames). slice_get js n) (sym (joints-are first parts are))
+        ap (λ (js : List JointFrames). slice_get js n) (sym (joints-are are))
         ∙ later.found
 
     brought_is : slice_get others n ≡ Some (part_brought p)
@@ -387,10 +383,10 @@ pub left-out-empty : LeftOutIsEmpty
 left-out-empty files inputs first parts taken =
     let are = inputs-are files inputs first parts taken in
     record {
-      inputs = written-at first parts are;
+      inputs = written-at are;
       many = grind (
         arith,
         later-many (join_of_parts first parts).joints parts
-            (joints-count first parts are),
+            (joints-count are),
       );
     }

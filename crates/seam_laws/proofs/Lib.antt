@@ -8,7 +8,10 @@ pub mod SeamlessRunLemmas
 pub mod SeamlessFrontLemmas
 pub mod SeamlessPlaceLemmas
 pub mod PieceHeadLemmas
+pub mod LedPlanLemmas
+pub mod FrameRangeLemmas
 pub mod PiecePartLemmas
+pub mod PieceListLemmas
 pub mod SplitJoinLemmas
 pub mod SplitFullLemmas
 pub mod BareFrameLemmas

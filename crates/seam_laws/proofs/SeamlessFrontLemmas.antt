@@ -10,22 +10,19 @@ use Rattle.cut_edits.specs.Exact.{survey_without_head}
 use Rattle.frame_header.proofs.HeaderLemmas.{header_in-header_bits, IsClass-class_of}
 use Rattle.frame_header.specs.Fields.{ClassFields, HeaderFields, IsClass, IsHeader, SlotFields}
 use Rattle.frame_header.specs.{HeaderBits.header_bits, Slots.all_slots, Tables.{area_of, class_of}}
-use Rattle.seamless_edits.specs.Seamless.{begins_blank}
-use Rattle.seamless_edits.specs.Seamless.{is_side_blank}
-use Rattle.seamless_edits.specs.Seamless.{sound_of}
-use Rattle.seamless_edits.specs.Seamless.{without_gains}
 use Rattle.laying.proofs.{EntryByteLemmas.shaped, LaidLemmas.first-there}
 use Rattle.laying.{proofs.PlannedFrameLemmas.slot_among, specs.Needs.need_of}
 use Rattle.laying.specs.{Relaid.{FilePart, silent_lead_in}, Surveys.{AreWholeRows, IsWholeRow}}
-use Rattle.seam_laws.proofs.SeamlessInputLemmas.{AreInputs, brought-fit, brought-needs}
-use Rattle.seam_laws.proofs.SeamlessInputLemmas.{brought-sounds, has-apart, inputs-fit, IsInput}
-use Rattle.seam_laws.proofs.SeamlessInputLemmas.{stream-from, whole_stream}
+use Rattle.seam_laws.proofs.SeamlessInputLemmas.{brought-fit, brought-needs, brought-sounds}
+use Rattle.seam_laws.proofs.SeamlessInputLemmas.{has-apart, inputs-fit, IsInput, Joins, stream-from}
+use Rattle.seam_laws.proofs.SeamlessInputLemmas.{whole_stream}
 use Rattle.seam_laws.proofs.SeamlessRunLemmas.{all, brought, front-few, front-parts, joined, others}
 use Rattle.seam_laws.proofs.SeamlessRunLemmas.{stream, window}
 use Rattle.seam_plan.proofs.{FollowLemmas.sounds, RunSoundLemmas.{run-sounds, sounds_left}}
 use Rattle.seam_plan.specs.Frames.{needs_of, RunFrame}
 use Rattle.seam_plan.specs.Joins.{fits_behind, has_lead_in, lead_in_header, lead_in_slot}
 use Rattle.seam_plan.specs.{Joins.{leads_others, matches_header}, Seams.joints_of}
+use Rattle.seamless_edits.specs.Seamless.{begins_blank, is_side_blank, sound_of, without_gains}
 use Rattle.side_info.proofs.SideLemmas.{each_class, IsShaped, length-side_bits, side_at-side_bits}
 use Rattle.side_info.proofs.SideLemmas.{SideFits-no_side}
 use Rattle.side_info.specs.Granule.{granule_bits, granule_numbers}
@@ -209,33 +206,32 @@ module _ (c : ClassFields) (p : FilePart) (is : IsInput c p)
       (sym (begins-first p.survey.frames q.0 q.1) ∙ blank) in
       apart-side p.survey.head p.survey.frames q.0 r q.1 none found
 
-module _ (first : FilePart) (parts : List FilePart)
-    (are : AreInputs first.survey.class (first ∷ parts))
-    (out : 0 < (joined first parts are).front) where
+module _ {c : ClassFields} {first : FilePart} {parts : List FilePart} (are : Joins c first parts)
+    (out : 0 < (joined are).front) where
   abbrev survey : SurveyFields
   survey = survey_without_head first.survey
 
   abbrev main : List ℕ
   main = main_bytes first.file survey.head survey.frames
 
-  leads : (((brought first parts are).blank) ≡ true)
-      × (leads_others (window first parts are) (needs_of (brought first parts are).frames) ≡ true)
+  leads : (((brought are).blank) ≡ true)
+      × (leads_others (window are) (needs_of (brought are).frames) ≡ true)
   unfolding has_lead_in
   leads =
-      and_parts (brought first parts are).blank
-      (leads_others (window first parts are) (needs_of (brought first parts are).frames))
-      (front-parts first parts are out).0
+      and_parts (brought are).blank
+      (leads_others (window are) (needs_of (brought are).frames))
+      (front-parts are out).0
 
   two : AreLed survey.frames
   two =
-      rows-led (window first parts are) survey.frames
-      (λ i r found. ((has-apart first.survey.class first are.0).placed i r found).known)
-      (subst (λ (l : List Need). leads_others (window first parts are) l ≡ true)
-      (brought-needs first.survey.class first are.0) leads.1)
+      rows-led (window are) survey.frames
+      (λ i r found. ((has-apart c first are.head).placed i r found).known)
+      (subst (λ (l : List Need). leads_others (window are) l ≡ true)
+      (brought-needs c first are.head) leads.1)
 
   first-none : row_side two.first ≡ no_side
   first-none =
-      blank-side first.survey.class first are.0 leads.0 two.first
+      blank-side c first are.head leads.0 two.first
       (ap (λ (l : List Row). slice_get l 0) two.are)
 
   -- the first two frames of the first input
@@ -243,7 +239,7 @@ module _ (first : FilePart) (parts : List FilePart)
   w = stream_frame main survey.head survey.frames 0 two.first
 
   begins-two : (n : ℕ) × (more : List StreamFrame)
-      × (whole_stream first.survey.class first are.0
+      × (whole_stream c first are.head
       ≡ w ∷ stream_frame main survey.head survey.frames n two.second ∷ more)
   unfolding stream_of_survey stream_frames
   begins-two = grind (arith, survey.head, survey.frames, two.rest, two.are)
@@ -252,24 +248,25 @@ module _ (first : FilePart) (parts : List FilePart)
   v = stream_frame main survey.head survey.frames begins-two.0 two.second
 
   -- the stream of the run begins with the second
-  second : (f : StreamFrame) (fs : List StreamFrame) → stream first parts are ≡ f ∷ fs → v ≡ f
-  second f fs streams = grind (arith, joined, are, front-few, flat_map, stream-from, whole_stream)
+  second : (f : StreamFrame) (fs : List StreamFrame) → stream are ≡ f ∷ fs → v ≡ f
+  second f fs streams =
+      let one : (joined are).front ≡ 1 = omega (arith, out, front-few are) in
+      grind (arith, one, flat_map, stream-from c first are.head 1, begins-two.2)
 
   -- what the run begins with, and what its stream begins with
   pub front-alike : (g : RunFrame) (f : StreamFrame) (fs : List StreamFrame)
-      → slice_get (all first parts are) 0 ≡ Some g → stream first parts are ≡ f ∷ fs
-      → sound_of first.survey.class (silent_lead_in f) ≡ g.sound
+      → slice_get (all are) 0 ≡ Some g → stream are ≡ f ∷ fs
+      → sound_of c (silent_lead_in f) ≡ g.sound
   front-alike g f fs begins streams =
-      let c : ClassFields = first.survey.class in
       let others_sounds =
-      sounds_left (joints_of c (brought first parts are) (others first parts are))
-      (others first parts are) in
-      let sounding : sounds (all first parts are)
+      sounds_left (joints_of c (brought are) (others are))
+      (others are) in
+      let sounding : sounds (all are)
       ≡ map (sound_of c) (w ∷ v ∷ begins-two.1) ++ others_sounds =
-      run-sounds c (brought first parts are) (others first parts are) (brought-fit c first are.0)
-      (inputs-fit c parts are.1)
+      run-sounds c (brought are) (others are) (brought-fit c first are.head)
+      (inputs-fit c parts are.others)
       ∙ ap (λ (l : List (List ℕ)). l ++ others_sounds)
-      (brought-sounds c first are.0 ∙ ap (map (sound_of c)) begins-two.2) in
+      (brought-sounds c first are.head ∙ ap (map (sound_of c)) begins-two.2) in
       let own : Some g.sound ≡ Some (sound_of c w) = search (arith, slice_get-map, are) in
       let sound : g.sound ≡ sound_of c w = cc in
       silent-sound c f
@@ -280,7 +277,7 @@ module _ (first : FilePart) (parts : List FilePart)
       ∙ sym sound
 
   -- where the lead-in of the first input leaves the run, it is the one that the run gets again
-  pub front-silent : (f : StreamFrame) (fs : List StreamFrame) → stream first parts are ≡ f ∷ fs
+  pub front-silent : (f : StreamFrame) (fs : List StreamFrame) → stream are ≡ f ∷ fs
       → (more : List StreamFrame)
-      × (whole_stream first.survey.class first are.0 ≡ silent_lead_in f ∷ more)
+      × (whole_stream c first are.head ≡ silent_lead_in f ∷ more)
   front-silent f fs streams = grind (arith, empty-frame, first-none, second)

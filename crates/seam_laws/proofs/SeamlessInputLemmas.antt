@@ -11,17 +11,7 @@ use Rattle.exact_span.specs.PlayedPositions.{counted_played, counted_positions, 
 use Rattle.exact_span.specs.declared.{extensions.HeadCounts.HeadCounts, played.Played.Played}
 use Rattle.frame_header.specs.Fields.{ClassFields}
 use Rattle.join_edits.proofs.PartLemmas.{part-is}
-use Rattle.seamless_edits.proofs.RunPartLemmas.{AreWholeFiles}
-use Rattle.seamless_edits.proofs.RunPartLemmas.{brought-alone}
-use Rattle.seamless_edits.proofs.RunPartLemmas.{brought-many as file-many}
-use Rattle.seamless_edits.proofs.RunPartLemmas.{IsWholeFile}
-use Rattle.seamless_edits.proofs.RunPartLemmas.{needs-are}
 use Rattle.join_edits.specs.Join.{join_part, join_parts, join_parts_from}
-use Rattle.seamless_edits.specs.Seamless.{part_brought}
-use Rattle.seamless_edits.specs.Seamless.{part_from}
-use Rattle.seamless_edits.specs.Seamless.{part_without_head}
-use Rattle.seamless_edits.specs.Seamless.{run_frame}
-use Rattle.seamless_edits.specs.Seamless.{sound_of}
 use Rattle.laying.proofs.{HoldLemmas.all-length, NeedsFitLemmas.part-fits, PlacesLemmas.range-whole}
 use Rattle.laying.{proofs.SurveyFrameLemmas.{frames-of, survey-had}, specs.LaidFiles.stream_entry}
 use Rattle.laying.specs.{Needs.need_of, Relaid.{all_frames, FilePart, part_rows, part_stream}}
@@ -29,6 +19,10 @@ use Rattle.laying.specs.Surveys.{CanBeRelaid}
 use Rattle.outside.specs.Files.{Contents}
 use Rattle.seam_plan.proofs.{FollowLemmas.sounds, RunSoundLemmas.{AreFit, IsFit}}
 use Rattle.seam_plan.specs.Frames.{needs_of}
+use Rattle.seamless_edits.proofs.RunPartLemmas.{AreWholeFiles, brought-alone}
+use Rattle.seamless_edits.proofs.RunPartLemmas.{brought-many as file-many, IsWholeFile, needs-are}
+use Rattle.seamless_edits.specs.Seamless.{part_brought, part_from, part_without_head, run_frame}
+use Rattle.seamless_edits.specs.Seamless.{sound_of}
 use Rattle.slot_plan.specs.Parts.{AreNeedsOfClass}
 use Rattle.sync_survey.specs.{Faults.{stream_of_survey, SurveyFields}, MainData.StreamFrame}
 use Rattle.sync_survey.specs.{Row.Row, Survey.survey_of}
@@ -48,6 +42,11 @@ pub record IsInput (class : ClassFields) (p : FilePart) : Type 0 where
 abbrev pub AreInputs : ClassFields → List FilePart → Type 0
 AreInputs class [] = Unit {0}
 AreInputs class (p ∷ parts) = IsInput class p × AreInputs class parts
+
+-- the inputs of a join, which are of this class
+pub record Joins (class : ClassFields) (first : FilePart) (parts : List FilePart) : Type 0 where
+  pub head : IsInput class first
+  pub others : AreInputs class parts
 
 -- an input is a whole file
 pub input-whole : (class : ClassFields) (p : FilePart) → IsInput class p → IsWholeFile class p
@@ -101,14 +100,26 @@ inputs-behind files class place allowed (name ∷ names) parts e =
           more.1,
     )
 
+are-inputs : (files : Contents) (names : List (List ℕ)) (first : FilePart) (parts : List FilePart)
+    → join_parts files names ≡ Ok (first ∷ parts)
+    → AreInputs first.survey.class (first ∷ parts)
+unfolding join_parts_from
+are-inputs files [] first parts e = absurd cc
+are-inputs files (name ∷ names) first parts e =
+    grind (arith, then_ok, more-inputs, input-is, inputs-behind)
+
 -- the parts that files are read as are inputs of the class of the first one
 pub inputs-are : (files : Contents) (names : List (List ℕ)) (first : FilePart)
     (parts : List FilePart) → join_parts files names ≡ Ok (first ∷ parts)
-    → AreInputs first.survey.class (first ∷ parts)
-unfolding join_parts_from
-inputs-are files [] first parts e = absurd cc
-inputs-are files (name ∷ names) first parts e =
-    grind (arith, then_ok, more-inputs, input-is, inputs-behind)
+    → Joins first.survey.class first parts
+inputs-are files names first parts e =
+    let are = are-inputs files names first parts e in record { head = are.0; others = are.1 }
+
+-- the class of the inputs is that of the first one
+pub own-class : {c : ClassFields} {first : FilePart} {parts : List FilePart} → Joins c first parts
+    → Joins first.survey.class first parts
+own-class {first = first} {parts = parts} are =
+    subst (λ d. Joins d first parts) (sym are.head.of_class) are
 
 -- ---- what they bring
 

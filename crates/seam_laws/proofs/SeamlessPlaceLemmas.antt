@@ -7,25 +7,22 @@ use Rattle.std.specs.Prelude.{option_map, slice_get}
 use Rattle.exact_span.specs.PlayedPositions.{rest_of, samples_in}
 use Rattle.frame_header.specs.{Fields.ClassFields, Tables.samples_of}
 use Rattle.frame_header.specs.declared.version.Version.{Version, TheVariants.One}
-use Rattle.seamless_edits.proofs.FramePlaceLemmas.{get-some}
-use Rattle.seamless_edits.specs.Seamless.{join_of_parts}
-use Rattle.seamless_edits.specs.Seamless.{part_brought}
-use Rattle.seamless_edits.specs.Seamless.{part_without_head}
-use Rattle.seamless_edits.specs.Seamless.{run_lead_ins}
-use Rattle.seamless_edits.specs.Seamless.{seamless_stream}
-use Rattle.seamless_edits.specs.Seamless.{sound_of}
 use Rattle.laying.specs.Relaid.{FilePart, part_stream, silent_lead_in}
 use Rattle.seam_laws.proofs.FollowerLemmas.{followers-on, get-drop}
 use Rattle.seam_laws.proofs.SeamlessFrontLemmas.{front-alike}
 use Rattle.seam_laws.proofs.SeamlessInputLemmas.{AreInputs, brought-many, brought-sounds}
-use Rattle.seam_laws.proofs.SeamlessInputLemmas.{inputs-are, IsInput, played-end, stream-whole}
-use Rattle.seam_laws.proofs.SeamlessRunLemmas.{all, brought, class, front-few, front-parts, joined}
+use Rattle.seam_laws.proofs.SeamlessInputLemmas.{inputs-are, IsInput, Joins, played-end}
+use Rattle.seam_laws.proofs.SeamlessInputLemmas.{stream-whole}
+use Rattle.seam_laws.proofs.SeamlessRunLemmas.{all, brought, front-few, front-parts, joined}
 use Rattle.seam_laws.proofs.SeamlessRunLemmas.{joints-are, leads-many, others, run, run-is}
 use Rattle.seam_laws.proofs.SeamlessRunLemmas.{run-leads, seamless-is, stream, stream-sounds}
 use Rattle.seam_laws.specs.RunLaws.{InputGoesOn, run_after}
 use Rattle.seam_laws.specs.SeamlessLaws.{ComesBehind, FollowingSamplesStay, IsPositionKept, run_end}
 use Rattle.seam_plan.{proofs.FollowLemmas.{added, sounds}, specs.Frames.{Brought, RunFrame}}
 use Rattle.seam_plan.specs.{Seams.{JointFrames, joints_of}, declared.seam.Seam.TheVariants.Follows}
+use Rattle.seamless_edits.proofs.FramePlaceLemmas.{get-some}
+use Rattle.seamless_edits.specs.Seamless.{join_of_parts, part_brought, part_without_head}
+use Rattle.seamless_edits.specs.Seamless.{run_lead_ins, seamless_stream, sound_of}
 use Rattle.sync_survey.specs.MainData.{StreamFrame}
 
 -- ---- lists
@@ -118,46 +115,46 @@ input-at class [] i p are is = absurd cc
 input-at class (q ∷ parts) zero p are is = let same : q ≡ p = cc in subst (IsInput class) same are.0
 input-at class (q ∷ parts) (suc i) p are is = input-at class parts i p are.1 is
 
-module _ (first : FilePart) (parts : List FilePart)
-    (are : AreInputs first.survey.class (first ∷ parts))
+module _ {first : FilePart} {parts : List FilePart}
+    (are : Joins first.survey.class first parts)
   where
     abbrev c : ClassFields
     c = first.survey.class
 
     abbrev front : ℕ
-    front = (joined first parts are).front
+    front = (joined are).front
 
     abbrev whole : List RunFrame
-    whole = all first parts are
+    whole = all are
 
     abbrev heard : List StreamFrame
-    heard = stream first parts are
+    heard = stream are
 
     abbrev leads : List StreamFrame
-    leads = (run-leads first parts are).leads
+    leads = (run-leads are).leads
 
     stays-by : (j i : ℕ) (g : RunFrame) → slice_get whole j ≡ Some g → j ≡ front + i
         → HasSound c (leads ++ heard) (length leads + i) g.sound
     stays-by j i g found is =
-        let there : slice_get (sounds (run first parts are)) i ≡ Some g.sound =
-        ap (λ (l : List RunFrame). slice_get (sounds l) i) (run-is first parts are)
+        let there : slice_get (sounds (run are)) i ≡ Some g.sound =
+        ap (λ (l : List RunFrame). slice_get (sounds l) i) (run-is are)
         ∙ sound-at (drop front whole) i g (get-drop front whole i ∙ ap (slice_get whole) (sym is)
         ∙ found) in
         let own =
         has-sound c heard i g.sound
-        (ap (λ (l : List (List ℕ)). slice_get l i) (stream-sounds first parts are) ∙ there) in
+        (ap (λ (l : List (List ℕ)). slice_get l i) (stream-sounds are) ∙ there) in
         record { frame = own.frame; found = get-behind leads heard i ∙ own.found; is = own.is }
 
     -- the first frame, where it leaves the run
     leaves-by : (g : RunFrame) → slice_get whole 0 ≡ Some g → 0 < front
         → HasSound c (leads ++ heard) 0 g.sound × (length leads ≡ 1)
     leaves-by g found out =
-        let led = (run-leads first parts are).led (front-parts first parts are out).1 in
+        let led = (run-leads are).led (front-parts are out).1 in
         let f : StreamFrame = led.0 in (
           record {
             frame = silent_lead_in f;
             found = ap (λ (l : List StreamFrame). slice_get (l ++ heard) 0) led.3;
-            is = front-alike first parts are out g f led.1 found led.2;
+            is = front-alike are out g f led.1 found led.2;
           },
           ap (λ (l : List StreamFrame). length l) led.3,
         )
@@ -171,12 +168,12 @@ module _ (first : FilePart) (parts : List FilePart)
     run-stays j place g found is =
         elim (cases_lt j front) as (λ _. HasSound c (leads ++ heard) place g.sound) [
           | inl early ↦
-              let none : j ≡ 0 = omega (arith, early, front-few first parts are) in
+              let none : j ≡ 0 = omega (arith, early, front-few are) in
               let left =
               leaves-by g (subst (λ n. slice_get whole n ≡ Some g) none found)
               (omega (arith, early)) in
               let here : 0 ≡ place =
-              omega (arith, early, is, none, left.1, front-few first parts are) in
+              omega (arith, early, is, none, left.1, front-few are) in
               subst (λ n. HasSound c (leads ++ heard) n g.sound) here left.0
           | inr late ↦
               let i : ℕ = j - front in
@@ -188,10 +185,10 @@ module _ (first : FilePart) (parts : List FilePart)
     -- ---- an input that follows
 
     abbrev begin : Brought
-    begin = brought first parts are
+    begin = brought are
 
     abbrev more : List Brought
-    more = others first parts are
+    more = others are
 
     -- the run after some inputs is the front of the whole run
     whole-parts : (number : ℕ)
@@ -211,10 +208,10 @@ module _ (first : FilePart) (parts : List FilePart)
         (is_joint : slice_get (join_of_parts first parts).joints number ≡ Some joint)
         (seam : joint.seam ≡ Follows out) where
       before_is : IsInput c before
-      before_is = input-at c (first ∷ parts) number before are is_before
+      before_is = input-at c (first ∷ parts) number before (are.head, are.others) is_before
 
       input_is : IsInput c input
-      input_is = input-at c parts number input are.1 is_input
+      input_is = input-at c parts number input are.others is_input
 
       abbrev old_run : List RunFrame
       old_run = run_after begin (joints_of c begin more) number
@@ -228,7 +225,7 @@ module _ (first : FilePart) (parts : List FilePart)
           (slice_get-map part_brought (first ∷ parts) number
           ∙ ap (option_map part_brought) is_before)
           (slice_get-map part_brought parts number ∙ ap (option_map part_brought) is_input)
-          (ap (λ (js : List JointFrames). slice_get js number) (sym (joints-are first parts are))
+          (ap (λ (js : List JointFrames). slice_get js number) (sym (joints-are are))
           ∙ is_joint) seam
 
       abbrev n : ℕ
@@ -243,12 +240,12 @@ module _ (first : FilePart) (parts : List FilePart)
       ends-new : run_end first parts (number + 1) ≡ length new_run
       ends-new =
           ap (λ (js : List JointFrames). length (run_after begin js (number + 1)))
-          (joints-are first parts are)
+          (joints-are are)
 
       ends-old : run_end first parts number ≡ length old_run
       ends-old =
           ap (λ (js : List JointFrames). length (run_after begin js number))
-          (joints-are first parts are)
+          (joints-are are)
 
       enough : (x : ℕ) → goes.played.start ≤ x → n + front
           ≤ x / samples_in c + (run_lead_ins first parts + run_end first parts (number + 1))
@@ -259,7 +256,7 @@ module _ (first : FilePart) (parts : List FilePart)
             goes.alike.within,
             many,
             ends-new,
-            leads-many first parts are,
+            leads-many are,
             leads-enough,
           )
 
@@ -311,7 +308,7 @@ module _ (first : FilePart) (parts : List FilePart)
               placed.frame_is,
               ends-new,
               many,
-              leads-many first parts are,
+              leads-many are,
               goes.alike.within,
               later-frame c.version goes.played.start x late,
             )
@@ -330,7 +327,7 @@ module _ (first : FilePart) (parts : List FilePart)
         heard_there : slice_get (seamless_stream (first ∷ parts)) (placed.place / samples_in c)
             ≡ Some heard_frame.frame
         heard_there =
-            ap₂ (λ (l : List StreamFrame) (k : ℕ). slice_get l k) (seamless-is first parts are)
+            ap₂ (λ (l : List StreamFrame) (k : ℕ). slice_get l k) (seamless-is are)
             placed.in_frame
             ∙ heard_frame.found
 
@@ -375,5 +372,5 @@ module _ (first : FilePart) (parts : List FilePart)
 -- an input that follows comes right after the one before it
 pub following : FollowingSamplesStay
 following files inputs first parts number before input joint out taken old new at seam =
-    comes-behind first parts (inputs-are files inputs first parts taken) number out before input
+    comes-behind (inputs-are files inputs first parts taken) number out before input
     joint old new at seam

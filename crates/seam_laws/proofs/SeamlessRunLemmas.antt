@@ -6,28 +6,22 @@ use Rattle.std.proofs.lemmas.List.{drop-append-le, drop-map, length-map, map-app
 use Rattle.chosen_streams.proofs.ExactLemmas.{frames-on, no-frames, one-on}
 use Rattle.cut_edits.proofs.SpanLemmas.{for_length}
 use Rattle.frame_header.specs.{Fields.ClassFields, Tables.window_of}
-use Rattle.seamless_edits.proofs.RunPartLemmas.{run-planned as files-planned}
-use Rattle.seamless_edits.specs.Seamless.{join_of_parts}
-use Rattle.seamless_edits.specs.Seamless.{later_parts}
-use Rattle.seamless_edits.specs.Seamless.{part_brought}
-use Rattle.seamless_edits.specs.Seamless.{part_from}
-use Rattle.seamless_edits.specs.Seamless.{run_lead_ins}
-use Rattle.seamless_edits.specs.Seamless.{run_parts}
-use Rattle.seamless_edits.specs.Seamless.{run_plan}
-use Rattle.seamless_edits.specs.Seamless.{seamless_stream}
-use Rattle.seamless_edits.specs.Seamless.{sound_of}
 use Rattle.laying.specs.NeedsFit.{own_choice}
 use Rattle.laying.specs.Relaid.{FilePart, part_stream, silent_lead_in, stream_with_lead_ins}
 use Rattle.seam_laws.proofs.OwnLeadInLemmas.{lead-where-wanted}
 use Rattle.seam_laws.proofs.SeamlessInputLemmas.{AreInputs, brought-fit, brought-many}
 use Rattle.seam_laws.proofs.SeamlessInputLemmas.{brought-sounds, input-whole, inputs-fit}
-use Rattle.seam_laws.proofs.SeamlessInputLemmas.{inputs-whole, stream-from, whole_stream}
+use Rattle.seam_laws.proofs.SeamlessInputLemmas.{inputs-whole, Joins, stream-from, whole_stream}
 use Rattle.seam_laws.specs.LeadInLaws.{AreInOwnSlots, AreLedInOwnSlots}
 use Rattle.seam_plan.proofs.{FitLemmas.fits-tested, FollowLemmas.sounds}
 use Rattle.seam_plan.proofs.RunSoundLemmas.{run-sounds, sounds_left}
 use Rattle.seam_plan.specs.{Frames.{Brought, needs_of, RunFrame}, Joins.{fits_behind, has_lead_in}}
 use Rattle.seam_plan.specs.Seams.{front_left_out_count, JointFrames, joints_of, left_out_count}
 use Rattle.seam_plan.specs.Seams.{run_of, run_with, seamless_join, SeamlessJoin}
+use Rattle.seamless_edits.proofs.RunPartLemmas.{run-planned as files-planned}
+use Rattle.seamless_edits.specs.Seamless.{join_of_parts, later_parts, part_brought, part_from}
+use Rattle.seamless_edits.specs.Seamless.{run_lead_ins, run_parts, run_plan, seamless_stream}
+use Rattle.seamless_edits.specs.Seamless.{sound_of}
 use Rattle.slot_plan.specs.{Parts.need_item, Plans.{AreItemSlots, IsPlan}, declared.needs.Need.Need}
 use Rattle.slot_plan.specs.declared.needs.Placed.{Placed}
 use Rattle.sync_survey.specs.MainData.{StreamFrame}
@@ -132,102 +126,100 @@ cond-few b = grind arith
 cond-some : (b : Bool) → 0 < cond b 1 0 → b ≡ true
 cond-some b some = grind arith
 
-module _ (first : FilePart) (parts : List FilePart)
-    (are : AreInputs first.survey.class (first ∷ parts))
-  where
-    abbrev pub class : ClassFields
-    class = first.survey.class
+module _ {class : ClassFields} {first : FilePart} {parts : List FilePart}
+    (are : Joins class first parts) where
+  abbrev pub window : ℕ
+  window = window_of class.version
 
-    abbrev pub window : ℕ
-    window = window_of class.version
+  abbrev pub brought : Brought
+  brought = part_brought first
 
-    abbrev pub brought : Brought
-    brought = part_brought first
+  abbrev pub others : List Brought
+  others = map part_brought parts
 
-    abbrev pub others : List Brought
-    others = map part_brought parts
+  abbrev pub joined : SeamlessJoin
+  joined = join_of_parts first parts
 
-    abbrev pub joined : SeamlessJoin
-    joined = join_of_parts first parts
+  -- all frames of the run, with those that leave it at the end
+  abbrev pub all : List RunFrame
+  all = run_with brought (joints_of class brought others)
 
-    -- all frames of the run, with those that leave it at the end
-    abbrev pub all : List RunFrame
-    all = run_with brought (joints_of class brought others)
+  abbrev pub run : List RunFrame
+  run = run_of brought joined
 
-    abbrev pub run : List RunFrame
-    run = run_of brought joined
+  -- its joints are the joints of the inputs after the first
+  pub joints-are : joined.joints ≡ joints_of class brought others
+  unfolding seamless_join
+  joints-are = ap (λ d. joints_of d brought others) are.head.of_class
 
-    -- its joints are the joints of the inputs after the first
-    pub joints-are : joined.joints ≡ joints_of class brought others
-    unfolding seamless_join
-    joints-are = refl
+  -- how many frames leave the run at the end
+  pub front-is : joined.front ≡ front_left_out_count class brought all
+  unfolding seamless_join
+  front-is =
+      ap (λ d. front_left_out_count d brought (run_with brought (joints_of d brought others)))
+      are.head.of_class
 
-    -- how many frames leave the run at the end
-    pub front-is : joined.front ≡ front_left_out_count class brought all
-    unfolding seamless_join
-    front-is = refl
+  -- the run is all of these frames but for those that leave it at the end
+  pub run-is : run ≡ drop joined.front all
+  run-is = grind (arith, joints-are)
 
-    -- the run is all of these frames but for those that leave it at the end
-    pub run-is : run ≡ drop joined.front all
-    run-is = grind (arith, joints-are)
+  -- no more than one frame leaves it
+  pub front-few : joined.front ≤ 1
+  unfolding front_left_out_count
+  front-few = grind (arith, front-is, cond-few)
 
-    -- no more than one frame leaves it
-    pub front-few : joined.front ≤ 1
-    unfolding front_left_out_count
-    front-few = grind (arith, front-is, cond-few)
+  -- where a frame leaves the run, the first input has a
+  -- lead-in at its front, and the frames that stay need one
+  pub front-parts : 0 < joined.front
+      → (has_lead_in window brought ≡ true) × (fits_behind window 0 (needs_of run) ≡ false)
+  unfolding front_left_out_count
+  front-parts some = grind (arith, and_parts, cond-some, front-is, front-few, run-is, not-true)
 
-    -- where a frame leaves the run, the first input has a
-    -- lead-in at its front, and the frames that stay need one
-    pub front-parts : 0 < joined.front
-        → (has_lead_in window brought ≡ true) × (fits_behind window 0 (needs_of run) ≡ false)
-    unfolding front_left_out_count
-    front-parts some = grind (arith, and_parts, cond-some, front-is, front-few, run-is, not-true)
+  -- its plan
+  pub run-planned : IsPlan window own_choice (needs_of run ∷ []) (run_plan first parts)
+  run-planned = grind (arith, files-planned, input-whole, inputs-whole)
 
-    -- its plan
-    pub run-planned : IsPlan window own_choice (needs_of run ∷ []) (run_plan first parts)
-    run-planned = grind (arith, files-planned, input-whole, inputs-whole)
+  abbrev pub stream : List StreamFrame
+  stream = flat_map part_stream (run_parts first parts)
 
-    abbrev pub stream : List StreamFrame
-    stream = flat_map part_stream (run_parts first parts)
+  first-many : 1 ≤ length brought.frames
+  first-many = omega (arith, brought-many class first are.head, are.head.some)
 
-    first-many : 1 ≤ length brought.frames
-    first-many = omega (arith, brought-many class first are.0, are.0.some)
+  -- the stream sounds as the run does
+  pub stream-sounds : map (sound_of class) stream ≡ sounds run
+  stream-sounds =
+      let k : ℕ = joined.front in
+      map-append (sound_of class) (part_stream (part_from k first))
+      (flat_map part_stream (later_parts joined.joints parts))
+      ∙ ap₂ (λ (x y : List (List ℕ)). x ++ y)
+      (ap (map (sound_of class)) (stream-from class first are.head k)
+      ∙ sym (drop-map (sound_of class) k (whole_stream class first are.head))
+      ∙ ap (drop k) (sym (brought-sounds class first are.head)))
+      (left-sounds class joined.joints parts are.others
+      ∙ ap (λ (js : List JointFrames). sounds_left js others) joints-are)
+      ∙ sym (drop-append-le k (sounds brought.frames)
+      (sounds_left (joints_of class brought others) others)
+      (omega
+      (arith, front-few, first-many, length-map brought.frames (λ (f : RunFrame). f.sound))))
+      ∙ ap (drop k)
+      (sym (run-sounds class brought others (brought-fit class first are.head)
+      (inputs-fit class parts are.others)))
+      ∙ drop-map (λ (f : RunFrame). f.sound) k all
+      ∙ ap sounds (sym run-is)
 
-    -- the stream sounds as the run does
-    pub stream-sounds : map (sound_of class) stream ≡ sounds run
-    stream-sounds =
-        let k : ℕ = joined.front in
-        map-append (sound_of class) (part_stream (part_from k first))
-        (flat_map part_stream (later_parts joined.joints parts))
-        ∙ ap₂ (λ (x y : List (List ℕ)). x ++ y)
-        (ap (map (sound_of class)) (stream-from class first are.0 k)
-        ∙ sym (drop-map (sound_of class) k (whole_stream class first are.0))
-        ∙ ap (drop k) (sym (brought-sounds class first are.0)))
-        (left-sounds class joined.joints parts are.1
-        ∙ ap (λ (js : List JointFrames). sounds_left js others) joints-are)
-        ∙ sym (drop-append-le k (sounds brought.frames)
-        (sounds_left (joints_of class brought others) others)
-        (omega
-        (arith, front-few, first-many, length-map brought.frames (λ (f : RunFrame). f.sound))))
-        ∙ ap (drop k)
-        (sym (run-sounds class brought others (brought-fit class first are.0)
-        (inputs-fit class parts are.1)))
-        ∙ drop-map (λ (f : RunFrame). f.sound) k all
-        ∙ ap sounds (sym run-is)
+  -- the stream is as long as the run
+  pub stream-length : length stream ≡ length (needs_of run)
+  stream-length = grind (arith, length-map, stream-sounds)
 
-    -- the stream is as long as the run
-    pub stream-length : length stream ≡ length (needs_of run)
-    stream-length = grind (arith, length-map, stream-sounds)
+  -- the lead-ins that the plan of the run puts before the stream
+  pub run-leads : HasLeads window (needs_of run) (run_plan first parts) stream
+  run-leads = grind (arith, has-leads, run-planned, stream-length)
 
-    -- the lead-ins that the plan of the run puts before the stream
-    pub run-leads : HasLeads window (needs_of run) (run_plan first parts) stream
-    run-leads = grind (arith, has-leads, run-planned, stream-length)
+  -- the stream of the join is these lead-ins, and then the stream of the run
+  pub seamless-is : seamless_stream (first ∷ parts) ≡ run-leads.leads ++ stream
+  unfolding seamless_stream
+  seamless-is = run-leads.is
 
-    -- the stream of the join is these lead-ins, and then the stream of the run
-    pub seamless-is : seamless_stream (first ∷ parts) ≡ run-leads.leads ++ stream
-    unfolding seamless_stream
-    seamless-is = run-leads.is
-
-    -- this is the number of lead-ins of the run
-    pub leads-many : run_lead_ins first parts ≡ length run-leads.leads
-    leads-many = grind (arith, length-map)
+  -- this is the number of lead-ins of the run
+  pub leads-many : run_lead_ins first parts ≡ length run-leads.leads
+  leads-many = grind (arith, length-map)

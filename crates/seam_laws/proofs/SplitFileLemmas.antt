@@ -1,40 +1,38 @@
--- The pieces of a split, joined in order, are the file
--- that was cut, but for its blocks after the frames.
-use Rattle.std.proofs.Common.{ap, ap₂, arith, drop, flat_map, length, List, map, None, Ok, refl}
-use Rattle.std.proofs.Common.{Some, subst, suc, sym, take, zero, ℕ, [], ◌++◌, ◌<◌, ◌∙◌, ◌∷◌, ◌≡◌}
-use Rattle.std.proofs.{Common.◌≤◌, lemmas.List.{drop-map, map-append, take-map}}
-use Rattle.std.specs.Prelude.{if◌then◌else◌, nat_le, option_and_then}
-use Rattle.cut_edits.specs.{Chosen.own_slots_part, Exact.survey_without_head}
-use Rattle.exact_span.specs.{Laws.last_point, declared.played.Played.Played}
-use Rattle.frame_header.specs.Fields.{ClassFields, HeaderFields, IsClass}
-use Rattle.frame_writer.specs.Frames.{Frame}
-use Rattle.info_header.specs.declared.fields.Info.{Info}
-use Rattle.seamless_edits.specs.Seamless.{delay_of_run}
-use Rattle.seamless_edits.specs.Seamless.{join_of_parts}
-use Rattle.seamless_edits.specs.Seamless.{later_parts}
-use Rattle.seamless_edits.specs.Seamless.{part_from}
-use Rattle.seamless_edits.specs.Seamless.{run_parts}
-use Rattle.seamless_edits.specs.Seamless.{run_plan}
-use Rattle.seamless_edits.specs.Seamless.{seamless_delay}
-use Rattle.seamless_edits.specs.Seamless.{seamless_file}
-use Rattle.seamless_edits.specs.Seamless.{seamless_frames}
-use Rattle.seamless_edits.specs.Seamless.{seamless_info}
-use Rattle.seamless_edits.specs.Seamless.{seamless_row_file}
-use Rattle.laying.proofs.{HoldLemmas.{part-entries, part-stream}, SurveyFrameLemmas.frames-of}
+-- The file of a join: the frames of its run, in the slots of its plan, are those of the whole that
+-- was cut, and so are its Info frame and the blocks before it.
+use Rattle.std.proofs.Common.{ap, ap₂, arith, drop, false, flat_map, List, map, None, refl}
+use Rattle.std.proofs.Common.{replicate, slice_get, Some, suc, sym, take, zero, ℕ, [], ◌++◌, ◌∙◌}
+use Rattle.std.proofs.{Common.{◌∷◌, ◌≡◌}, lemmas.List.{drop-map, map-append, take-map}}
+use Rattle.std.specs.{List.concat, Prelude.{if◌then◌else◌, nat_le, option_and_then}}
+use Rattle.cue_sheet.specs.declared.place.Place.{Place}
+use Rattle.cut_edits.specs.Exact.{survey_without_head}
+use Rattle.exact_span.specs.declared.played.Played.{Played}
+use Rattle.frame_header.specs.{Fields.{ClassFields, HeaderFields, IsClass}, Limits.most_frames}
+use Rattle.frame_writer.specs.Frames.{bytes_of_frames, Frame}
+use Rattle.info_header.specs.{InfoFrame.info_frame, declared.fields.Info.Info}
+use Rattle.laying.proofs.{HoldLemmas.{part-entries, part-stream}, LaidLemmas.first-there}
+use Rattle.laying.proofs.SurveyFrameLemmas.{frames-of}
 use Rattle.laying.specs.Laid.{frames_laid, info_laid, LaidPart, source_part}
 use Rattle.laying.specs.LaidFiles.{AreStreamEntries, laid_file, stream_entry}
 use Rattle.laying.specs.Relaid.{all_frames, FilePart, IsPart, part_frames, part_stream}
-use Rattle.laying.specs.{Relaid.relaid_frames, Surveys.CanBeRelaid, Written.front_blocks}
+use Rattle.laying.specs.{Relaid.relaid_frames, Written.{front_blocks, info_for}}
 use Rattle.seam_laws.proofs.BareFrameLemmas.{bare-same, relaid_frames-same}
-use Rattle.seam_laws.proofs.PiecePartLemmas.{front-blocks-same, front-row, FrontRow, IsPieceFile}
-use Rattle.seam_laws.proofs.PiecePartLemmas.{uncounted}
-use Rattle.seam_laws.proofs.SeamlessInputLemmas.{AreInputs, has-apart, IsInput}
-use Rattle.seam_laws.proofs.SplitJoinLemmas.{AreFiles, chosen_between, class-is, cut-last}
-use Rattle.seam_laws.proofs.SplitJoinLemmas.{cut-within, NoneAlike, one-run, plan-is, Rise}
-use Rattle.seam_laws.proofs.SplitJoinLemmas.{run-stream}
+use Rattle.seam_laws.proofs.{LaidInputLemmas.front-same, PieceListLemmas.{pieces-join, Recording}}
+use Rattle.seam_laws.proofs.PiecePartLemmas.{IsPiece, laid-input, row-after}
+use Rattle.seam_laws.proofs.SeamlessInputLemmas.{AreInputs, has-apart, input-whole, inputs-whole}
+use Rattle.seam_laws.proofs.SeamlessInputLemmas.{IsInput, Joins, own-class}
+use Rattle.seam_laws.proofs.SeamlessRunLemmas.{stream}
+use Rattle.seam_laws.proofs.SplitJoinLemmas.{ArePlain, begin, chosen_between, cut_whole, front-is}
+use Rattle.seam_laws.proofs.SplitJoinLemmas.{number, pieces-are, plan-is, run-stream, uncounted}
+use Rattle.seam_laws.proofs.SplitJoinLemmas.{whole-right, whole_cuts}
 use Rattle.seam_laws.specs.SeamlessLaws.{bare_file, bare_row_file}
 use Rattle.seam_plan.specs.Seams.{JointFrames, left_out_count}
-use Rattle.sync_survey.specs.{Faults.{survey_fields, SurveyFields}, MainData.StreamFrame, Row.Row}
+use Rattle.seamless_edits.proofs.RunPartLemmas.{front-within}
+use Rattle.seamless_edits.specs.Seamless.{delay_of_run, join_of_parts, later_parts, part_from}
+use Rattle.seamless_edits.specs.Seamless.{run_parts, run_plan, seamless_delay, seamless_file}
+use Rattle.seamless_edits.specs.Seamless.{seamless_frames, seamless_info, seamless_row_file}
+use Rattle.slot_plan.specs.declared.needs.{Need.Need, Placed.Placed}
+use Rattle.sync_survey.specs.{Faults.SurveyFields, MainData.StreamFrame, Row.Row}
 
 -- ---- the frames of an input as they are read
 
@@ -92,65 +90,90 @@ module _ (c : ClassFields) where
       (parts-read joints parts are.1)
 
   -- the frames of the run are read as its stream
-  pub run-read : (first : FilePart) (parts : List FilePart) → AreInputs c (first ∷ parts)
-      → AreRead c (flat_map part_frames (run_parts first parts))
-      (flat_map part_stream (run_parts first parts))
-  run-read first parts are = search (arith, read-append, flat_map, part-read, parts-read)
+  run-read : {first : FilePart} {parts : List FilePart} (are : Joins c first parts)
+      → AreRead c (flat_map part_frames (run_parts first parts)) (stream are)
+  run-read {first = first} {parts = parts} are =
+      let front : ℕ = (join_of_parts first parts).front in
+      let joints : List JointFrames = (join_of_parts first parts).joints in
+      read-append c (part_frames (part_from front first))
+      (flat_map part_frames (later_parts joints parts)) (part_stream (part_from front first))
+      (flat_map part_stream (later_parts joints parts)) (part-read first are.head front)
+      (parts-read joints parts are.others)
 
 -- ---- the file
 
-module _ (file : List ℕ) (s : SurveyFields) (allowed : ℕ) (e : survey_fields file allowed ≡ Ok s)
-    (has : CanBeRelaid file s) (known : IsClass s.class)
-    (a b : ℕ) (bs : List ℕ) (first : FilePart) (parts : List FilePart)
-    (are : Rise file s a (b ∷ bs))
-    (inputs : AreInputs first.survey.class (first ∷ parts))
-    (files : AreFiles file s a (b ∷ bs) (first ∷ parts))
-    (none : NoneAlike file s has a (b ∷ bs) (first ∷ parts)) where
-  abbrev end : ℕ
-  end = last_point b bs
-
-  abbrev whole : LaidPart
-  whole = own_slots_part (chosen_between a end) s
-
-  abbrev whole_part : FilePart
-  whole_part = source_part whole file s
-
-  some : a < end
-  some = omega (arith, are.0, cut-last file s b bs are.2)
-
-  within : end ≤ length s.frames
-  within = cut-within file s b bs are.1 are.2
-
-  whole-is : IsPart s.class whole_part
-  whole-is = record { has = has; class = refl; some = some; within = within }
-
-  same : first.survey.class ≡ s.class
-  same = class-is file s has a b bs first parts are inputs files
-
-  own_inputs : AreInputs s.class (first ∷ parts)
-  own_inputs = subst (λ d. AreInputs d (first ∷ parts)) same inputs
-
-  abbrev front : ℕ
-  front = (join_of_parts first parts).front
-
+module _ {c : ClassFields} (known : IsClass c) {first : FilePart} {parts : List FilePart}
+    (are : Joins c first parts) where
   abbrev run_frames_in : List Frame
   run_frames_in = flat_map part_frames (run_parts first parts)
 
-  all_read : AreRead s.class run_frames_in (flat_map part_stream (run_parts first parts))
-  all_read = run-read s.class first parts own_inputs
+  -- frames with the stream of the run are laid alike by its plan
+  pub frames-by : (fs : List Frame) → AreStreamEntries c fs → stream are ≡ map stream_entry fs
+      → seamless_frames first parts ≡ relaid_frames fs (run_plan first parts)
+  frames-by fs entries streams =
+      let read = run-read c are in
+      relaid_frames-same run_frames_in fs (run_plan first parts)
+      (bare-same c known run_frames_in fs read.entries entries (read.is ∙ streams))
 
-  frames-are : seamless_frames first parts ≡ frames_laid whole file s
+  -- if the run has the stream and the plan of a part, the frames of the join are those of the part
+  pub frames-of-part : (part : FilePart) → IsPart c part → stream are ≡ part_stream part
+      → (placed : List Placed) → run_plan first parts ≡ placed
+      → seamless_frames first parts ≡ relaid_frames (part_frames part) placed
+  frames-of-part part is streams placed plans =
+      frames-by (part_frames part) (part-entries c part is)
+      (streams ∙ sym (part-stream c part is))
+      ∙ ap (relaid_frames (part_frames part)) plans
+
+  -- a row after what leaves the run
+  pub front-row : (r : Row)
+      × (slice_get first.survey.frames (join_of_parts first parts).front ≡ Some r)
+  front-row =
+      let own = own-class are in
+      first-there first.survey.frames (join_of_parts first parts).front
+      (front-within first parts (input-whole first.survey.class first own.head)
+      (inputs-whole first.survey.class parts own.others))
+
+  module _ (whole : LaidPart) (file : List ℕ) (s : SurveyFields) (row : Row)
+      (row_is : slice_get s.frames whole.from ≡ Some row) where
+    -- the join is the file of the whole without the blocks after its frames, if its frames, its
+    -- Info frame and the blocks before it are those of the whole
+    pub file-same : seamless_frames first parts ≡ frames_laid whole file s
+        → ((r : Row) → slice_get first.survey.frames (join_of_parts first parts).front ≡ Some r
+        → info_frame r.header (seamless_info (delay_of_run first parts) r first parts)
+        ≡ info_frame row.header (info_laid whole file s))
+        → front_blocks first.file first.survey ≡ front_blocks file s
+        → seamless_file (first ∷ parts) ≡ bare_file whole file s
+    unfolding seamless_file laid_file
+    file-same frames infos fronts =
+        ap (λ o. seamless_row_file o first parts) front-row.1
+        ∙ ap₂ (λ (blocks : List (List ℕ)) (i : List ℕ).
+        concat blocks ++ (i ++ (bytes_of_frames (seamless_frames first parts) ++ []))) fronts
+        (infos front-row.0 front-row.1)
+        ∙ ap (λ (fs : List Frame).
+        concat (front_blocks file s)
+        ++ (info_frame row.header (info_laid whole file s) ++ (bytes_of_frames fs ++ []))) frames
+        ∙ sym (ap (λ o. bare_row_file o whole file s) row_is)
+
+-- ---- whole pieces
+
+module _ {file : List ℕ} {s : SurveyFields} (r : Recording file s) {from to : Place}
+    {tos : List Place} {first : FilePart} {parts : List FilePart}
+    (plain : ArePlain file s from (to ∷ tos) (first ∷ parts)) where
+  abbrev cut : LaidPart
+  cut = cut_whole r plain
+
+  abbrev one : IsPiece false (chosen_between (number s from) (number s to)) file s s.class first
+  one = (begin r plain).0.piece
+
+  inputs : Joins s.class first parts
+  inputs = pieces-join (whole_cuts s) file s s.class (pieces-are r plain)
+
+  frames-are : seamless_frames first parts ≡ frames_laid cut file s
   frames-are =
-      relaid_frames-same run_frames_in (part_frames whole_part) (run_plan first parts)
-      (bare-same s.class known run_frames_in (part_frames whole_part) all_read.entries
-      (part-entries s.class whole_part whole-is)
-      (all_read.is ∙ run-stream file s has a b bs first parts are inputs files none
-      ∙ sym (part-stream s.class whole_part whole-is)))
-      ∙ ap (relaid_frames (part_frames whole_part))
-      (plan-is file s has a b bs first parts are inputs files none)
-
-  made : IsPieceFile (chosen_between a b) file s first.file
-  made = files.0
+      let right = whole-right r (pieces-are r plain) in
+      frames-of-part r.known inputs (source_part cut file s)
+      (record { has = r.has; class = refl; some = right.some; within = right.within })
+      (run-stream r plain) cut.placed (plan-is r plain)
 
   -- no numbers are written
   none-counted : delay_of_run first parts ≡ None
@@ -159,35 +182,20 @@ module _ (file : List ℕ) (s : SurveyFields) (allowed : ℕ) (e : survey_fields
       (option_and_then (λ (played : Played).
       let delay = seamless_delay played first parts in
       if nat_le delay 4095 then Some delay else None))
-      (uncounted (chosen_between a b) file s has are.0 are.1 refl made.row made.row_is made.back
-      made.blocks s.class first own_inputs.0 made.file_is)
+      (uncounted one refl)
 
-  infos-are : (row : Row)
-      → seamless_info (delay_of_run first parts) row first parts ≡ info_laid whole file s
-  infos-are row = search (arith, none-counted, same, frames-are)
-
-  front_row : FrontRow s first a front
-  front_row =
-      subst (FrontRow s first a)
-      (sym (one-run file s has a b bs first parts are inputs files none).front)
-      (front-row (chosen_between a b) file s has are.0 are.1 refl made.row made.row_is made.back
-      made.blocks s.class first own_inputs.0 made.file_is)
-
-  blocks-are : front_blocks first.file first.survey ≡ front_blocks file s
-  blocks-are = search (arith, front-blocks-same, chosen_between)
+  infos-are : (row : Row) → slice_get first.survey.frames (join_of_parts first parts).front
+      ≡ Some row → info_frame row.header (seamless_info (delay_of_run first parts) row first parts)
+      ≡ info_frame one.made.row.header (info_laid cut file s)
+  infos-are row found =
+      let need = row-after one (join_of_parts first parts).front row (front-is r plain) found in
+      ap₂ (λ (h : HeaderFields) (i : Info). info_frame h i) (ap (λ (n : Need). n.header) need)
+      (ap (λ o. seamless_info o row first parts) none-counted
+      ∙ ap₂ (λ (d : ClassFields) (fs : List Frame). info_for d fs None (replicate 36 0))
+      one.is.of_class frames-are)
 
   -- the join of the pieces is the file of the whole without the blocks after its frames
-  pub seamless-file : seamless_file (first ∷ parts) ≡ bare_file whole file s
-  unfolding seamless_file laid_file
+  pub seamless-file : seamless_file (first ∷ parts) ≡ bare_file cut file s
   seamless-file =
-      ap (λ o. seamless_row_file o first parts) front_row.found
-      ∙ ap (λ (front : List (List ℕ)).
-      laid_file front front_row.row.header
-      (seamless_info (delay_of_run first parts) front_row.row first parts)
-      (seamless_frames first parts) []) blocks-are
-      ∙ ap (λ (i : Info). laid_file (front_blocks file s) front_row.row.header i
-      (seamless_frames first parts) []) (infos-are front_row.row)
-      ∙ ap₂ (λ (h : HeaderFields) (fs : List Frame).
-      laid_file (front_blocks file s) h (info_laid whole file s) fs []) front_row.header
-      frames-are
-      ∙ ap (λ o. bare_row_file o whole file s) (sym front_row.own)
+      file-same r.known inputs cut file s one.made.row one.made.row_is frames-are infos-are
+      (front-same (laid-input one) most_frames s r.told refl)

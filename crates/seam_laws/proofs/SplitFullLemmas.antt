@@ -1,29 +1,27 @@
 -- The pieces of a split, joined in order, have all frames that were cut, but for empty ones.
 use Rattle.std.proofs.Common.{ap, ap₂, arith, Bool, cond, drop, filter, flat_map, inl, inr, length}
-use Rattle.std.proofs.Common.{List, map, None, not, refl, subst, sym, true, ℕ, [], ◌++◌, ◌+◌, ◌<◌}
-use Rattle.std.proofs.{Common.{◌==◌, ◌∙◌, ◌∷◌, ◌≡◌, ◌≤◌}, lemmas.Bool.{and_parts, cases_lt}}
+use Rattle.std.proofs.Common.{List, map, None, not, refl, sym, true, ℕ, [], ◌++◌, ◌+◌, ◌==◌, ◌∙◌}
+use Rattle.std.proofs.{Common.{◌∷◌, ◌≡◌}, lemmas.Bool.{and_parts, cases_lt}}
 use Rattle.std.specs.{List.{enumerate_from, list_all}, Prelude.{slice_get, slice_range}}
-use Rattle.cut_edits.specs.Exact.{survey_without_head}
-use Rattle.exact_span.specs.Laws.{last_point}
+use Rattle.cue_sheet.specs.declared.place.Place.{Place}
+use Rattle.cut_edits.specs.{Chosen.Chosen, Exact.survey_without_head}
 use Rattle.frame_header.specs.{Fields.{ClassFields, IsClass}, Tables.window_of}
-use Rattle.seamless_edits.specs.Seamless.{begins_blank}
-use Rattle.seamless_edits.specs.Seamless.{join_of_parts}
-use Rattle.seamless_edits.specs.Seamless.{later_parts}
-use Rattle.seamless_edits.specs.Seamless.{part_brought}
-use Rattle.seamless_edits.specs.Seamless.{part_from}
-use Rattle.seamless_edits.specs.Seamless.{seamless_stream}
-use Rattle.laying.specs.{Relaid.{FilePart, part_stream}, Surveys.CanBeRelaid}
-use Rattle.seam_laws.proofs.PiecePartLemmas.{IsPieceFile, own_leads, piece-stream, uncounted}
+use Rattle.laying.specs.Relaid.{FilePart, part_stream, silent_lead_in}
+use Rattle.seam_laws.proofs.FrameRangeLemmas.{all_stream, range-append, range-none}
+use Rattle.seam_laws.proofs.PieceListLemmas.{first-at, IsAt, later-at, no_pieces, piece_then}
+use Rattle.seam_laws.proofs.PieceListLemmas.{pieces-join, Recording}
+use Rattle.seam_laws.proofs.PiecePartLemmas.{IsPiece, own_stream, ways}
 use Rattle.seam_laws.proofs.PieceRunLemmas.{uncounted-joint}
 use Rattle.seam_laws.proofs.SeamlessFrontLemmas.{blank-side, none-zero}
-use Rattle.seam_laws.proofs.SeamlessInputLemmas.{AreInputs, IsInput, stream-from, whole_stream}
+use Rattle.seam_laws.proofs.SeamlessInputLemmas.{IsInput, Joins, stream-from, whole_stream}
 use Rattle.seam_laws.proofs.SeamlessRunLemmas.{front-few, front-parts, HasLeads, joints-are}
 use Rattle.seam_laws.proofs.SeamlessRunLemmas.{run-leads, seamless-is, stream}
-use Rattle.seam_laws.proofs.SplitJoinLemmas.{all_stream, AreFiles, chosen_between, cut-last}
-use Rattle.seam_laws.proofs.SplitJoinLemmas.{range-append, range-none, Rise}
-use Rattle.seam_laws.specs.SeamlessLaws.{full_frames, is_empty_frame}
+use Rattle.seam_laws.proofs.SplitJoinLemmas.{AreWhole, number, rise, uncounted, whole_cuts}
+use Rattle.seam_laws.specs.SeamlessLaws.{full_frames, is_empty_frame, last_place}
 use Rattle.seam_plan.specs.{Frames.{Brought, needs_of, RunFrame}, Joins.{has_lead_in, leads_others}}
 use Rattle.seam_plan.specs.Seams.{joint_of, JointFrames, joints_from, left_out_count}
+use Rattle.seamless_edits.specs.Seamless.{begins_blank, join_of_parts, later_parts, part_brought}
+use Rattle.seamless_edits.specs.Seamless.{part_from, seamless_stream}
 use Rattle.side_info.specs.{Side.side_bits, declared.side.Side.Side}
 use Rattle.slot_plan.specs.declared.needs.{Need.Need, Placed.Placed}
 use Rattle.sync_survey.specs.Faults.{stream_of_survey, SurveyFields}
@@ -53,6 +51,10 @@ module _ (c : ClassFields) (known : IsClass c) where
       (leads : HasLeads window needs placed frames)
       → full leads.leads ≡ []
   leads-full window needs placed frames leads = grind (arith, full-empty, none-zero)
+
+  -- a lead-in is empty
+  pub silent-empty : (f : StreamFrame) → is_empty_frame c (silent_lead_in f) ≡ true
+  silent-empty f = grind (arith, none-zero)
 
   -- ---- one input
 
@@ -115,109 +117,108 @@ module _ (c : ClassFields) (known : IsClass c) where
 
 -- ---- the pieces
 
-module _ (file : List ℕ) (s : SurveyFields) (has : CanBeRelaid file s)
-    (known : IsClass s.class) where
+module _ {file : List ℕ} {s : SurveyFields} (r : Recording file s) where
   abbrev filled : List StreamFrame → List StreamFrame
   filled stream = full_frames s.class stream
 
-  module _ (a b : ℕ) (some : a < b) (within : b ≤ length s.frames) (p : FilePart)
-      (is : IsInput s.class p) (made : IsPieceFile (chosen_between a b) file s p.file) where
-    piece-none : (part_brought p).played ≡ None
-    piece-none =
-        uncounted (chosen_between a b) file s has some within refl made.row made.row_is made.back
-        made.blocks s.class p is made.file_is
+  -- a piece has the full frames of its range
+  piece-full : {led : Bool} {chosen : Chosen} {p : FilePart}
+      (piece : IsPiece led chosen file s s.class p)
+      → filled (whole_stream s.class p piece.is) ≡ filled (own_stream piece)
+  piece-full {p = p} piece =
+      elim (ways piece)
+      as (λ _. filled (whole_stream s.class p piece.is) ≡ filled (own_stream piece)) [
+        | inl own ↦ ap filled own.brings.stream_is
+        | inr led ↦
+            ap filled led.brings.stream_is
+            ∙ full-empty s.class r.known (silent_lead_in led.brings.first) (own_stream piece)
+            (silent-empty s.class r.known led.brings.first)
+      ]
 
-    piece-full : filled (whole_stream s.class p is) ≡ filled (slice_range (all_stream file s) a b)
-    piece-full =
-        let leads = own_leads (chosen_between a b) file s has some within refl in
-        ap filled
-        (piece-stream (chosen_between a b) file s has some within refl made.row made.row_is
-        made.back
-        made.blocks s.class p is made.file_is)
-        ∙ full-append s.class known leads.leads (slice_range (all_stream file s) a b)
-        ∙ ap (λ (l : List StreamFrame). l ++ filled (slice_range (all_stream file s) a b))
-        (leads-full s.class known _ _ _ _ leads)
-
-  pieces-full : (run : List RunFrame) (before : Brought) (a : ℕ) (bs : List ℕ)
-      (parts : List FilePart) → Rise file s a bs → AreInputs s.class parts
-      → AreFiles file s a bs parts → filled (flat_map part_stream
+  pieces-full : (run : List RunFrame) (before : Brought) {from : Place} {tos : List Place}
+      {parts : List FilePart} → AreWhole file s from tos parts → filled (flat_map part_stream
       (later_parts (joints_from s.class run before (map part_brought parts)) parts))
-      ≡ filled (slice_range (all_stream file s) a (last_point a bs))
+      ≡ filled
+      (slice_range (all_stream file s) (number s from) (number s (last_place from tos)))
   unfolding joints_from
-  pieces-full run before a [] [] are inputs files = grind (arith, range-none, all_stream)
-  pieces-full run before a [] (p ∷ parts) are inputs files = absurd files
-  pieces-full run before a (b ∷ bs) [] are inputs files = absurd files
-  pieces-full run before a (b ∷ bs) (p ∷ parts) are inputs files =
+  pieces-full run before {from = from} no_pieces =
+      ap filled (sym (range-none (all_stream file s) (number s from)))
+  pieces-full run before {from = from}
+      (piece_then {to = to} {tos = tos} {p = p} {parts = parts} here more) =
       let joint : JointFrames = joint_of s.class run before (part_brought p) in
-      let more =
+      let later =
       later_parts (joints_from s.class (run ++ joint.frames) (part_brought p)
       (map part_brought parts))
       parts in
       let all = all_stream file s in
-      full-append s.class known (part_stream (part_from (left_out_count joint.seam) p))
-      (flat_map part_stream more)
+      let a : ℕ = number s from in
+      let b : ℕ = number s to in
+      let end : ℕ = number s (last_place to tos) in
+      full-append s.class r.known (part_stream (part_from (left_out_count joint.seam) p))
+      (flat_map part_stream later)
       ∙ ap₂ (λ (x y : List StreamFrame). x ++ y)
-      (joint-full s.class known p inputs.0 run before
-      (piece-none a b are.0 are.1 p inputs.0 files.0)
-      ∙ piece-full a b are.0 are.1 p inputs.0 files.0)
-      (pieces-full (run ++ joint.frames) (part_brought p) b bs parts are.2 inputs.1 files.1)
-      ∙ sym (full-append s.class known (slice_range all a b) (slice_range all b (last_point b bs)))
+      (joint-full s.class r.known p here.piece.is run before (uncounted here.piece refl)
+      ∙ piece-full here.piece)
+      (pieces-full (run ++ joint.frames) (part_brought p) more)
+      ∙ sym (full-append s.class r.known (slice_range all a b) (slice_range all b end))
       ∙ ap filled
-      (range-append all a b (last_point b bs) (omega (arith, are.0)) (cut-last file s b bs are.2))
+      (range-append all a b end (omega (arith, here.piece.right.some)) (rise r more))
 
-  module _ (a b : ℕ) (bs : List ℕ) (first : FilePart) (parts : List FilePart)
-      (are : Rise file s a (b ∷ bs)) (inputs : AreInputs first.survey.class (first ∷ parts))
-      (files : AreFiles file s a (b ∷ bs) (first ∷ parts))
-      (same : first.survey.class ≡ s.class) where
-    own_inputs : AreInputs s.class (first ∷ parts)
-    own_inputs = subst (λ d. AreInputs d (first ∷ parts)) same inputs
+  module _ {from to : Place} {tos : List Place} {first : FilePart} {parts : List FilePart}
+      (pieces : AreWhole file s from (to ∷ tos) (first ∷ parts)) where
+    abbrev begin : IsAt (whole_cuts s) file s s.class from to first
+    begin = first-at pieces
+
+    abbrev later : AreWhole file s to tos parts
+    later = later-at pieces
+
+    inputs : Joins s.class first parts
+    inputs = pieces-join (whole_cuts s) file s s.class pieces
 
     abbrev front : ℕ
     front = (join_of_parts first parts).front
 
     first-full : filled (part_stream (part_from front first))
-        ≡ filled (whole_stream s.class first own_inputs.0)
+        ≡ filled (whole_stream s.class first begin.piece.is)
     first-full =
         elim (cases_lt 0 front)
         as (λ _. filled (part_stream (part_from front first))
-        ≡ filled (whole_stream s.class first own_inputs.0)) [
+        ≡ filled (whole_stream s.class first begin.piece.is)) [
           | inl out ↦
-              let one : front ≡ 1 = omega (arith, out, front-few first parts inputs) in
-              let has_one =
-              subst (λ (d : ClassFields). has_lead_in (window_of d.version) (part_brought first)
-              ≡ true) same
-              (front-parts first parts inputs out).0 in
+              let one : front ≡ 1 = omega (arith, out, front-few inputs) in
               ap (λ n. filled (part_stream (part_from n first))) one
-              ∙ without-full s.class known first own_inputs.0 has_one
+              ∙ without-full s.class r.known first begin.piece.is (front-parts inputs out).0
           | inr none ↦
               let zero_is : front ≡ 0 = omega (arith, none) in
               ap (λ n. filled (part_stream (part_from n first))) zero_is
-              ∙ whole-full s.class known first own_inputs.0
+              ∙ whole-full s.class r.known first begin.piece.is
         ]
 
     joints-full : filled
         (flat_map part_stream (later_parts (join_of_parts first parts).joints parts))
-        ≡ filled (slice_range (all_stream file s) b (last_point b bs))
-    joints-full = grind (arith, flat_map, joints-are, pieces-full)
+        ≡ filled
+        (slice_range (all_stream file s) (number s to) (number s (last_place to tos)))
+    joints-full =
+        ap (λ js. filled (flat_map part_stream (later_parts js parts))) (joints-are inputs)
+        ∙ pieces-full (part_brought first).frames (part_brought first) later
 
     -- the join has the full frames of the file from the first number to the last
     pub all-full : filled (seamless_stream (first ∷ parts))
-        ≡ filled (slice_range (all_stream file s) a (last_point b bs))
+        ≡ filled
+        (slice_range (all_stream file s) (number s from) (number s (last_place to tos)))
     all-full =
-        let leads = run-leads first parts inputs in
+        let more = run-leads inputs in
         let all = all_stream file s in
-        let first_stream = part_stream (part_from front first) in
-        let more = flat_map part_stream (later_parts (join_of_parts first parts).joints parts) in
-        ap filled (seamless-is first parts inputs)
-        ∙ full-append s.class known leads.leads (stream first parts inputs)
-        ∙ ap (λ (l : List StreamFrame). l ++ filled (stream first parts inputs))
-        (leads-full s.class known _ _ _ _ leads)
-        ∙ full-append s.class known first_stream more
-        ∙ ap₂ (λ (x y : List StreamFrame). x ++ y)
-        (first-full ∙ piece-full a b are.0 are.1 first own_inputs.0 files.0)
-        joints-full
-        ∙ sym (full-append s.class known (slice_range all a b)
-        (slice_range all b (last_point b bs)))
+        let a : ℕ = number s from in
+        let b : ℕ = number s to in
+        let end : ℕ = number s (last_place to tos) in
+        let behind = flat_map part_stream (later_parts (join_of_parts first parts).joints parts) in
+        ap filled (seamless-is inputs)
+        ∙ full-append s.class r.known more.leads (stream inputs)
+        ∙ ap (λ (l : List StreamFrame). l ++ filled (stream inputs))
+        (leads-full s.class r.known _ _ _ _ more)
+        ∙ full-append s.class r.known (part_stream (part_from front first)) behind
+        ∙ ap₂ (λ (x y : List StreamFrame). x ++ y) (first-full ∙ piece-full begin.piece) joints-full
+        ∙ sym (full-append s.class r.known (slice_range all a b) (slice_range all b end))
         ∙ ap filled
-        (range-append all a b (last_point b bs) (omega (arith, are.0))
-        (cut-last file s b bs are.2))
+        (range-append all a b end (omega (arith, begin.piece.right.some)) (rise r later))

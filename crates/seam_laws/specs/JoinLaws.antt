@@ -6,16 +6,13 @@ use Rattle.cut_edits.specs.Exact.{survey_without_head}
 use Rattle.exact_span.specs.declared.played.Played.{Played}
 use Rattle.frame_header.specs.Fields.{ClassFields}
 use Rattle.join_edits.specs.Join.{join_parts}
-use Rattle.seamless_edits.specs.Seamless.{delay_of_run}
-use Rattle.seamless_edits.specs.Seamless.{join_of_parts}
-use Rattle.seamless_edits.specs.Seamless.{last_part}
-use Rattle.seamless_edits.specs.Seamless.{run_parts}
-use Rattle.seamless_edits.specs.Seamless.{seamless_file}
 use Rattle.laying.specs.Relaid.{FilePart, part_stream}
 use Rattle.outside.specs.Files.{AreOctets, Contents}
 use Rattle.seam_laws.specs.{PlayedParts.input_played, SeamlessLaws.{is_empty_frame, IsSamePosition}}
 use Rattle.seam_plan.specs.{Seams.JointFrames, declared.seam.Seam.Seam}
 use Rattle.seam_plan.specs.declared.seam.Seam.TheVariants.{Follows, LeadIn, Whole}
+use Rattle.seamless_edits.specs.Seamless.{delay_of_run, join_of_parts, last_part, run_parts}
+use Rattle.seamless_edits.specs.Seamless.{seamless_file}
 use Rattle.sync_survey.specs.Faults.{stream_of, stream_of_survey, SurveyFields}
 use Rattle.sync_survey.specs.{MainData.StreamFrame, Survey.survey_of}
 

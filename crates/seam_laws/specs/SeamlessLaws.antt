@@ -8,19 +8,14 @@ use Rattle.cue_sheet.specs.declared.place.Place.{Place}
 use Rattle.exact_span.specs.{PlayedPositions.samples_in, declared.played.Played.Played}
 use Rattle.frame_header.specs.{Fields.ClassFields, Tables.window_of}
 use Rattle.join_edits.specs.Join.{join_parts}
-use Rattle.seamless_edits.specs.Seamless.{join_of_parts}
-use Rattle.seamless_edits.specs.Seamless.{part_brought}
-use Rattle.seamless_edits.specs.Seamless.{part_without_head}
-use Rattle.seamless_edits.specs.Seamless.{run_lead_ins}
-use Rattle.seamless_edits.specs.Seamless.{seamless_file}
-use Rattle.seamless_edits.specs.Seamless.{seamless_stream}
-use Rattle.seamless_edits.specs.Seamless.{sound_of}
 use Rattle.laying.specs.Laid.{file_laid, frames_laid, info_laid, LaidPart, stream_laid}
 use Rattle.laying.specs.{LaidFiles.laid_file, Relaid.{FilePart, part_stream}, Written.front_blocks}
 use Rattle.outside.specs.Files.{Contents}
 use Rattle.seam_laws.specs.{PlayedParts.piece_lead_ins, RunLaws.run_after}
 use Rattle.seam_plan.specs.{Joins.has_lead_in, Seams.JointFrames}
 use Rattle.seam_plan.specs.declared.seam.Seam.TheVariants.{Follows}
+use Rattle.seamless_edits.specs.Seamless.{join_of_parts, part_brought, part_without_head}
+use Rattle.seamless_edits.specs.Seamless.{run_lead_ins, seamless_file, seamless_stream, sound_of}
 use Rattle.side_info.specs.Side.{side_bits}
 use Rattle.split_edits.specs.{Cutting.piece_parts, Split.{cut_part, cutting_of}}
 use Rattle.split_edits.specs.declared.points.Points.{Points}

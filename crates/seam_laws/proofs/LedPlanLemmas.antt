@@ -1,7 +1,7 @@
 -- The plan of a part after an unconditional lead-in, and the plan of a part that needs none: the
 -- lead-in has the least slot whose area the frames fit after.
-use Rattle.std.proofs.Common.{ap, ap₂, arith, Contains, false, List, map, Option, refl, subst, sym}
-use Rattle.std.proofs.{Common.{ℕ, [], ◌∙◌, ◌∷◌, ◌≡◌, ◌≤◌}, lemmas.List.append-nil}
+use Rattle.std.proofs.Common.{ap, append-nil, ap₂, arith, Contains, false, List, map, Option, refl}
+use Rattle.std.proofs.Common.{subst, sym, ℕ, [], ◌∙◌, ◌∷◌, ◌≡◌, ◌≤◌}
 use Rattle.frame_header.specs.{Fields.{ClassFields, HeaderFields, SlotFields}, Slots.all_slots}
 use Rattle.frame_header.specs.Tables.{area_of, class_of}
 use Rattle.laying.specs.NeedsFit.{own_choice}
