@@ -1,10 +1,9 @@
 -- Exact pieces, joined in order, are the file that is cut from the first place to the last, but for
 -- its blocks after the frames, where the first piece doesn't begin with a look-alike.
-use Rattle.std.proofs.Common.{ap, ap₂, arith, Bool, cond, drop, false, find, inl, inr, length, List}
-use Rattle.std.proofs.Common.{map, max, None, Option, refl, replicate, Some, subst, sym, take, true}
-use Rattle.std.proofs.Common.{zero, ℕ, [], ◌++◌, ◌+◌, ◌-◌, ◌∙◌, ◌∷◌, ◌≡◌, ◌≤◌}
-use Rattle.std.proofs.lemmas.{Bool.{and_from, both_ways, cases_lt}, List.length-map}
-use Rattle.std.{proofs.lemmas.Slice.Eq.bytes_eq-Decides, specs.List.list_all}
+use Rattle.std.proofs.Common.{ap, ap₂, arith, Bool, drop, false, find, inl, inr, length, List, map}
+use Rattle.std.proofs.Common.{None, refl, Some, subst, sym, take, true, zero, ℕ, [], ◌++◌, ◌+◌, ◌∙◌}
+use Rattle.std.proofs.{Common.{◌∷◌, ◌≡◌, ◌≤◌}, lemmas.Bool.{and_from, both_ways, cases_lt}}
+use Rattle.std.{proofs.lemmas.{List.length-map, Slice.Eq.bytes_eq-Decides}, specs.List.list_all}
 use Rattle.std.specs.Prelude.{bytes_eq, is_some, option_map, slice_get, slice_range}
 use Rattle.cut_edits.proofs.{ChosenLemmas.the-plan, PieceLemmas.{head_long, plain-long}}
 use Rattle.cut_edits.{proofs.SpanLemmas.{led-is, with-fitting}, specs.Chosen.first_plan}
@@ -26,9 +25,8 @@ use Rattle.exact_span.specs.Extensions.{extension_of, kept_extension}
 use Rattle.exact_span.specs.{Spans.{delay_of, padding_of}, TagWord.sealed_info}
 use Rattle.exact_span.specs.declared.{exact_place.ExactPlace.ExactPlace, span.Span.Span}
 use Rattle.frame_header.proofs.HeaderLemmas.{IsClass-class_of}
-use Rattle.frame_header.specs.Fields.{ClassFields, HeaderFields, IsClass, SlotFields}
-use Rattle.frame_header.specs.{Limits.most_frames, Slots.all_slots}
-use Rattle.frame_header.specs.Tables.{area_of, class_of, window_of}
+use Rattle.frame_header.specs.{Fields.{ClassFields, HeaderFields, IsClass}, Limits.most_frames}
+use Rattle.frame_header.specs.{Slots.all_slots, Tables.{area_of, class_of, window_of}}
 use Rattle.frame_writer.specs.Frames.{Frame}
 use Rattle.info_header.specs.{Info.number_or_zero, InfoFrame.{info_frame, info_header_of}}
 use Rattle.laying.proofs.{HoldLemmas.{part-entries, part-stream}, LaidLemmas.laid-slots}
@@ -62,8 +60,7 @@ use Rattle.seamless_edits.specs.Seamless.{run_plan, seamless_file, seamless_fram
 use Rattle.seamless_edits.specs.Seamless.{seamless_padding}
 use Rattle.slot_plan.proofs.FreeByteLemmas.{more-behind}
 use Rattle.slot_plan.specs.{FreeBytes.{FitsBehind, IsLeadInHeader}, Layouts.begins_of}
-use Rattle.slot_plan.specs.{LeastPlan.led_plan, Lists.CanBeLaid}
-use Rattle.slot_plan.specs.Parts.{open_frame, own_frame, part_items}
+use Rattle.slot_plan.specs.{LeastPlan.led_plan, Lists.CanBeLaid, Parts.{open_frame, part_items}}
 use Rattle.slot_plan.specs.{Plans.{AreItemSlots, IsLedPlan, IsPlan}, declared.needs.Need.Need}
 use Rattle.slot_plan.specs.declared.needs.Placed.{Placed}
 use Rattle.sync_survey.specs.{Faults.SurveyFields, MainData.StreamFrame, Row.Row}
@@ -86,7 +83,7 @@ unfolding lead_in_header
 same-lead window first xs ys one two =
     let all : (needs : List Need) → fits_behind window 0 needs ≡ true → (n : ℕ)
     → fits_behind window n needs ≡ true = grind (arith, fits-tested, more-behind) in
-    let class : ClassFields = class_of first.header in
+    let class = class_of first.header in
     ap (option_map (λ slot. record first.header { protected = false; slot = slot }))
     (find-same
     (λ slot. fits_behind window (area_of class slot false) (first ∷ xs))
@@ -121,7 +118,7 @@ led-run : (window : ℕ) (first : Need) (needs : List Need) (led run : List Plac
 unfolding AreItemSlots AreLedInOwnSlots
 led-run window first needs led run is own begins =
     let lead : Placed = record is.lead { lead_in = false } in
-    let all : List Need = lead_need first.header is.lead.slot ∷ first ∷ needs in
+    let all = lead_need first.header is.lead.slot ∷ first ∷ needs in
     let is_led = subst (AreLedInOwnSlots window (first ∷ needs)) is.are is.led in
     record {
       lead = is.lead;
@@ -166,8 +163,7 @@ module _ {file : List ℕ} {s : SurveyFields} (r : Recording file s) where
       → AreExact r from tos parts → list_all (part_says_gain gain) parts ≡ true
   gains-are gain is no_pieces = refl
   gains-are gain is (piece_then {p = p} {parts = parts} here more) =
-      let own_gain : gain_of (part_head p) ≡ gain =
-      ap gain_of (read-is here.piece)
+      let own_gain = ap gain_of (read-is here.piece)
       ∙ gain-same (read here.piece).extension (kept_extension (head r)) (piece-keeps here).front
       ∙ sym is in
       and_from (part_says_gain gain p) (list_all (part_says_gain gain) parts)
@@ -233,13 +229,13 @@ module _ {file : List ℕ} {s : SurveyFields} (r : Recording file s) {place next
   run-needs : needs_of run_all ≡ needs
   run-needs =
       between-needs (has-own r) (low r pieces) (high r pieces)
-      ∙ ap₂ (λ (i j : ℕ). map need_of (slice_range t.frames i j)) first-same last-same
+      ∙ ap₂ (λ i j. map need_of (slice_range t.frames i j)) first-same last-same
 
   part-is : IsPart s.class part
   part-is = record { has = has-own r; class = refl; some = there.some; within = there.within }
 
   part-streams : stream_all ≡ part_stream part
-  part-streams = ap₂ (λ (i j : ℕ). slice_range (st r) i j) first-same last-same
+  part-streams = ap₂ (λ i j. slice_range (st r) i j) first-same last-same
 
   abbrev placed : List Placed
   placed = cut.placed
@@ -296,10 +292,9 @@ module _ {file : List ℕ} {s : SurveyFields} (r : Recording file s) {place next
   same-own : IsUnled piece → front ≡ 0 → IsSame
   same-own own stays =
       let sp = has-own-span r (at r pieces) own in
-      let run_is : needs_of (run (inputs r pieces)) ≡ needs =
+      let run_is =
       ap needs_of (run-frames r pieces sp ∙ ap (λ n. drop n run_all) stays) ∙ run-needs in
-      let plans : span_plan cut_span.led s.class needs ≡ least =
-      ap (λ b. span_plan b s.class needs) (sym led-as-first ∙ own.unled) in
+      let plans = ap (λ b. span_plan b s.class needs) (sym led-as-first ∙ own.unled) in
       record {
         frames =
             bare-frames (run-stream r pieces sp ∙ ap (λ n. drop n stream_all) stays)
@@ -319,15 +314,12 @@ module _ {file : List ℕ} {s : SurveyFields} (r : Recording file s) {place next
     -- where the lead-in leaves the run, the run gets it again
     same-again : front ≡ 1 → IsSame
     same-again out =
-        let run_is : needs_of (run (inputs r pieces)) ≡ needs =
-        ap needs_of
+        let run_is = ap needs_of
         (run-frames r pieces with_lead ∙ ap (λ n. drop n (brought.lead_in ∷ run_all)) out)
         ∙ run-needs in
-        let streams : stream (inputs r pieces) ≡ stream_all =
-        run-stream r pieces with_lead
+        let streams = run-stream r pieces with_lead
         ∙ ap (λ n. drop n (silent_lead_in brought.first ∷ stream_all)) out in
-        let lacks : fits_behind window 0 needs ≡ false =
-        ap (fits_behind window 0) (sym run_is)
+        let lacks = ap (fits_behind window 0) (sym run_is)
         ∙ (front-parts (inputs r pieces) (omega (arith, out))).1 in
         record {
           frames =
@@ -375,7 +367,7 @@ module _ {file : List ℕ} {s : SurveyFields} (r : Recording file s) {place next
       own-fit : fits_behind window 0 (needs_of own_run) ≡ true
       own-fit =
           front-fits window 0 own_run (run_between file t middle high_end)
-          (ap (λ (l : List RunFrame). fits_behind window 0 (needs_of l))
+          (ap (λ l. fits_behind window 0 (needs_of l))
           (between-append (has-own r) begin_at middle high_end
           (omega (arith, piece.right.some)) ends)
           ∙ ap (fits_behind window 0) run-needs ∙ all-fit)
@@ -383,7 +375,7 @@ module _ {file : List ℕ} {s : SurveyFields} (r : Recording file s) {place next
       is-led : cut_span.led ≡ true
       is-led =
           sym led-as-first
-          ∙ elim led.lacks as (λ _. (first_of r pieces).led ≡ true) [
+          ∙ elim led.lacks [
             | inl is ↦ is
             | inr lacks ↦
                 absurd (both_ways (fits_behind window 0 (needs_of own_run))
@@ -403,7 +395,7 @@ module _ {file : List ℕ} {s : SurveyFields} (r : Recording file s) {place next
           (led-is chosen t (has-own r).placed there.some there.within led_places).1
           refl in
           led-as window (need_of row) more led_places
-          (subst (λ (ns : List Need). IsLedPlan window own_choice ns led_places) needs-cons plan)
+          (subst (λ ns. IsLedPlan window own_choice ns led_places) needs-cons plan)
 
       abbrev lead : Need
       lead = lead_need row.header as-led.lead.slot
@@ -421,8 +413,7 @@ module _ {file : List ℕ} {s : SurveyFields} (r : Recording file s) {place next
 
       lead-is : brought.lead_in.need ≡ lead
       lead-is =
-          let both : Some brought.lead_in.need.header ≡ Some lead.header =
-          sym own-found
+          let both = sym own-found
           ∙ same-lead window (need_of row) own_more more
           (ap (fits_behind window 0) (sym own-cons) ∙ own-fit)
           (ap (fits_behind window 0) (sym needs-cons) ∙ all-fit)
@@ -435,12 +426,12 @@ module _ {file : List ℕ} {s : SurveyFields} (r : Recording file s) {place next
           ap needs_of
           (run-frames r pieces with_lead
           ∙ ap (λ n. drop n (brought.lead_in ∷ run_all)) stays)
-          ∙ ap₂ (λ (n : Need) (ns : List Need). n ∷ ns) lead-is (run-needs ∙ needs-cons)
+          ∙ ap₂ ◌∷◌ lead-is (run-needs ∙ needs-cons)
 
       run-plan : IsPlan window own_choice ((lead ∷ need_of row ∷ more) ∷ [])
           (run_plan first parts)
       run-plan =
-          subst (λ (ns : List Need). IsPlan window own_choice (ns ∷ []) (run_plan first parts))
+          subst (λ ns. IsPlan window own_choice (ns ∷ []) (run_plan first parts))
           run-all
           (run-planned (inputs r pieces))
 
@@ -458,12 +449,7 @@ module _ {file : List ℕ} {s : SurveyFields} (r : Recording file s) {place next
 
       lead-begins : as-led.lead.begin ≡ 0
       unfolding begins_of
-      lead-begins =
-          let begins : as-led.lead.begin ∷ map (λ (p : Placed). p.begin) as-led.rest
-          ≡ begins_of window 0 0 (map own_frame (lead ∷ need_of row ∷ more)) =
-          ap (map (λ (p : Placed). p.begin)) (sym as-led.are) ∙ as-led.begins in
-          let first : as-led.lead.begin ≡ 0 - max 0 (0 - window) = cc in
-          omega (arith, first)
+      lead-begins = grind (arith, as-led.lead.begin, as-led.rest, as-led.are, as-led.begins)
 
       part-entry : map stream_entry (part_frames part) ≡ stream_all
       part-entry = part-stream s.class part part-is ∙ sym part-streams
@@ -478,33 +464,26 @@ module _ {file : List ℕ} {s : SurveyFields} (r : Recording file s) {place next
       stream-first =
           sym (range-append (st r) begin_at middle high_end
           (omega (arith, piece.right.some)) ends)
-          ∙ ap (λ (l : List StreamFrame). l ++ slice_range (st r) middle high_end)
+          ∙ ap (λ l. l ++ slice_range (st r) middle high_end)
           brought.own_is
 
       frames-led : (all : List Frame) → part_frames part ≡ all
           → seamless_frames first parts ≡ relaid_frames (part_frames part) placed
       unfolding as-run as-led led-run
       frames-led [] are =
-          let none : [] ≡ brought.first
-          ∷ (brought.rest ++ slice_range (st r) middle high_end) =
-          sym (ap (map stream_entry) are) ∙ part-entry ∙ stream-first in
+          let none = sym (ap (map stream_entry) are) ∙ part-entry ∙ stream-first in
           absurd cc
       frames-led (f ∷ fs) are =
           let entries = subst (AreStreamEntries s.class) are (part-entries s.class part part-is) in
-          let all : stream_entry f ∷ map stream_entry fs ≡ stream_all =
-          sym (ap (map stream_entry) are) ∙ part-entry in
-          let begins : stream_entry f ∷ map stream_entry fs
-          ≡ brought.first ∷ (brought.rest ++ slice_range (st r) middle high_end) =
-          all ∙ stream-first in
+          let all = sym (ap (map stream_entry) are) ∙ part-entry in
+          let begins = all ∙ stream-first in
           let entry : stream_entry f ≡ brought.first = cc in
-          let led_frame : Frame = lead_in_with_place as-run.lead f in
+          let led_frame = lead_in_with_place as-run.lead f in
           let near : as-led.lead.begin ≤ window = omega (arith, lead-begins) in
           let own_entry =
           one-entry s.class as-led.lead f (slot_among as-led.lead.slot as-led.slot.chosen) near
           entries.0 true in
-          let heard : map stream_entry (led_frame ∷ f ∷ fs)
-          ≡ silent_lead_in brought.first ∷ stream_all =
-          ap₂ (λ (x : StreamFrame) (xs : List StreamFrame). x ∷ xs)
+          let heard = ap₂ ◌∷◌
           (one-stream true as-run.lead f ∙ ap silent_lead_in entry) all in
           frames-by r.known (inputs r pieces) (led_frame ∷ f ∷ fs) (own_entry, entries)
           (streams ∙ sym heard)
@@ -526,16 +505,16 @@ module _ {file : List ℕ} {s : SurveyFields} (r : Recording file s) {place next
   -- the frames are the frames that are cut, unless the first piece begins with a look-alike
   pub is-same : IsPlain piece → IsSame
   is-same plain =
-      elim (ways piece) as (λ _. IsSame) [
+      elim (ways piece) [
         | inl own ↦
-            elim (cases_lt 0 front) as (λ _. IsSame) [
+            elim (cases_lt 0 front) [
               | inl out ↦
                   absurd (both_ways (has_lead_in window (part_brought first)) (plain own.none)
                   (front-parts (inputs r pieces) out).0)
               | inr stays ↦ same-own own (omega (arith, stays))
             ]
         | inr led ↦
-            elim (cases_lt 0 front) as (λ _. IsSame) [
+            elim (cases_lt 0 front) [
               | inl out ↦ same-again led (omega (arith, out, front-few (inputs r pieces)))
               | inr stays ↦ same-led led (omega (arith, stays))
             ]
@@ -560,18 +539,15 @@ module _ {file : List ℕ} {s : SurveyFields} (r : Recording file s) {place next
   -- peak and gains stay as they are
   run-made : run_extension written first parts ≡ made
   run-made =
-      let gain : replay_gain made ≡ replay_gain (kept_extension (head r)) =
-      gain-same made (kept_extension (head r))
+      let gain = gain-same made (kept_extension (head r))
       (ap (take 21) made-is
       ∙ made-front (head r) (head_long file s.head) written (padding_of cut_span)) in
-      ap (λ b. cond b made (take 11 made ++ (replicate 8 0 ++ drop 19 made)))
-      (gains-are r (replay_gain made) gain
-      (later-at pieces))
+      grind (arith, gains-are, gain, later-at)
 
   placed-many : length cut_frames ≡ length placed
   placed-many =
       sym (length-map cut_frames slot_in)
-      ∙ ap (λ (l : List SlotFields). length l)
+      ∙ ap length
       (laid-slots cut file t (has-own r) there.some there.within
       (with-fitting (choice r cut_span) t (has-own r).placed there.some there.within cut_span.led))
       ∙ length-map placed (λ (p : Placed). p.slot)
@@ -584,29 +560,21 @@ module _ {file : List ℕ} {s : SurveyFields} (r : Recording file s) {place next
 
   module _ (is : IsSame) where
     extension-is : run_extension written first parts ≡ (plain r cut_span).extension
-    extension-is =
-        run-made ∙ made-is
-        ∙ ap (λ n. extension_of (head r) (delay_of s.class n cut_span) (padding_of cut_span))
-        (omega (
-          arith,
-          ap (λ (l : List Frame). length l) is.frames,
-          frames-many r pieces,
-          placed-many,
-        ))
+    extension-is = grind (arith, run-made, made-is, s.class, is.frames, frames-many, placed-many)
 
     info-is : (q : Row) → slice_get first.survey.frames front ≡ Some q
         → info_frame q.header (seamless_info (delay_of_run first parts) q first parts)
         ≡ info_frame row.header (info_laid cut file t)
     info-is q found_row =
-        let quality : Option ℕ = quality_of (part_head first) in
+        let quality = quality_of (part_head first) in
         ap (λ o. info_frame q.header (seamless_info o q first parts)) (delay-is r pieces)
-        ∙ ap (λ (e : List ℕ). info_frame q.header (sealed_info q.header
+        ∙ ap (λ e. info_frame q.header (sealed_info q.header
         (info_for first.survey.class (seamless_frames first parts) quality e))) extension-is
         ∙ ap₂ (λ (d : ClassFields) (fs : List Frame). info_frame q.header (sealed_info q.header
         (info_for d fs quality (plain r cut_span).extension))) piece.is.of_class is.frames
         ∙ sealed-same s.class cut_frames quality (quality_of (head r)) quality-same q.header
         row.header (plain r cut_span).extension (is.header q found_row)
-        ∙ ap (λ (e : List ℕ).
+        ∙ ap (λ e.
         info_frame row.header (info_laid (record (plain r cut_span) { extension = e }) file t))
         (sym (ap (λ (l : LaidPart). l.extension) (piece-by r cut_span found.there row row-is)))
 

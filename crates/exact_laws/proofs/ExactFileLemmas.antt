@@ -32,7 +32,6 @@ use Rattle.seam_laws.proofs.PiecePartLemmas.{laid_piece}
 use Rattle.seam_laws.specs.PlayedParts.{input_played, sample_named}
 use Rattle.seam_plan.{proofs.FollowLemmas.sounds, specs.Frames.{needs_of, RunFrame}}
 use Rattle.seamless_edits.specs.Seamless.{sound_of}
-use Rattle.slot_plan.specs.declared.needs.Need.{Need}
 use Rattle.sync_survey.specs.{Faults.SurveyFields, Row.Row}
 
 -- ---- heads that count
@@ -177,9 +176,7 @@ module _ {file : List ℕ} {s : SurveyFields} (r : Recording file s) where
     pub piece-is : span_piece head span file own ≡ laid span
     piece-is =
         let by = piece-by first-row.0 first-row.1 in
-        by
-        ∙ ap (λ (e : List ℕ). record (plain span) { extension = e })
-        (sym (ap (λ (l : LaidPart). l.extension) by))
+        grind (arith, by)
 
     -- what is laid of the span can be laid
     pub span-right : IsRight (choice span) own
@@ -240,12 +237,15 @@ module _ {file : List ℕ} {s : SurveyFields} (r : Recording file s) where
   -- a range of these frames is the run between the two numbers
   pub all-range : (i j : ℕ) → slice_range all_run i j ≡ run_between file own i j
   all-range i j =
-      frames-same (slice_range all_run i j) (run_between file own i j)
-      (range-map (λ (f : RunFrame). f.need) i j all_run
-      ∙ ap (λ (l : List Need). slice_range l i j) all-needs
-      ∙ sym (range-map need_of i j own.frames)
-      ∙ sym (between-needs has-own i j))
-      (range-map (λ (f : RunFrame). f.sound) i j all_run
-      ∙ ap (λ (l : List (List ℕ)). slice_range l i j) all-sounds
-      ∙ sym (range-map (sound_of s.class) i j (all_stream file own))
-      ∙ sym (between-sounds has-own i j))
+      grind (
+        arith,
+        frames-same,
+        range-map,
+        all-needs,
+        own.frames,
+        between-needs,
+        has-own,
+        all-sounds,
+        s.class,
+        between-sounds,
+      )

@@ -37,7 +37,7 @@ module _ {file : List ℕ} {s : SurveyFields} (r : Recording file s) {place next
     empty = joined.empty;
     stream =
         joined.stream_is
-        ∙ ap₂ (λ (i j : ℕ). joined.leads ++ slice_range (st r) i j) (whole-first r pieces)
+        ∙ ap₂ (λ i j. joined.leads ++ slice_range (st r) i j) (whole-first r pieces)
         (whole-last r pieces);
   }
 

@@ -1,11 +1,11 @@
 -- The numbers in the Info frame of exact pieces that are joined in
 -- order: the numbers of the span from the first place to the last.
-use Rattle.std.proofs.Common.{ap, ap₂, arith, length, List, refl, Some, subst, sym, ℕ, ◌*◌, ◌+◌}
-use Rattle.std.proofs.{Common.{◌-◌, ◌<◌, ◌∙◌, ◌∷◌, ◌≡◌, ◌≤◌}, lemmas.Bool.le-leb}
-use Rattle.std.{proofs.lemmas.List.{length-append, length-map}, specs.Prelude.{nat_lt, slice_range}}
+use Rattle.std.proofs.Common.{ap, arith, length, List, refl, Some, subst, sym, ℕ, ◌*◌, ◌+◌, ◌-◌}
+use Rattle.std.proofs.{Common.{◌<◌, ◌∙◌, ◌∷◌, ◌≡◌, ◌≤◌}, lemmas.Bool.le-leb}
+use Rattle.std.{proofs.lemmas.List.{length-append, length-map}, specs.Prelude.nat_lt}
 use Rattle.cut_edits.{proofs.SealedLemmas.for-whole, specs.Exact.quality_of}
-use Rattle.exact_laws.proofs.ExactFileLemmas.{all_run, AreExact, has-own, inside, IsExact, IsFound}
-use Rattle.exact_laws.proofs.ExactFileLemmas.{position, sample, span, span-of-places}
+use Rattle.exact_laws.proofs.ExactFileLemmas.{AreExact, has-own, inside, IsExact, IsFound, position}
+use Rattle.exact_laws.proofs.ExactFileLemmas.{sample, span, span-of-places}
 use Rattle.exact_laws.proofs.ExactRunLemmas.{at, begins, ended_at, ends, first_leads, high, inputs}
 use Rattle.exact_laws.proofs.ExactRunLemmas.{IsJoined, joined-is, low, st}
 use Rattle.exact_laws.proofs.ExactSpanLemmas.{counted, first-before, has-span, HasSpan, leads-are}
@@ -19,8 +19,7 @@ use Rattle.exact_span.specs.{Spans.warm_up_frame, declared.exact_place.ExactPlac
 use Rattle.exact_span.specs.declared.{played.Played.Played, span.Span.Span}
 use Rattle.frame_header.specs.{Fields.ClassFields, Tables.samples_of}
 use Rattle.frame_header.specs.declared.version.Version.{Version}
-use Rattle.info_header.specs.declared.fields.Info.{Info}
-use Rattle.laying.specs.{LaidFiles.stream_entry, Relaid.FilePart, Written.info_for}
+use Rattle.laying.specs.{Relaid.FilePart, Written.info_for}
 use Rattle.pack_edits.specs.Fewest.{lead_ins}
 use Rattle.seam_laws.proofs.FrameRangeLemmas.{range-length, stream-many}
 use Rattle.seam_laws.proofs.JoinNumberLemmas.{run-long, run-says}
@@ -28,11 +27,11 @@ use Rattle.seam_laws.proofs.PieceListLemmas.{later-at, no_pieces, piece_then, Re
 use Rattle.seam_laws.proofs.SeamlessInputLemmas.{brought-many, input-whole, inputs-whole, own-class}
 use Rattle.seam_laws.specs.{PlayedParts.input_played, SeamlessLaws.last_place}
 use Rattle.seamless_edits.proofs.{NumberLemmas.rest-counted, RunPartLemmas.run-laid}
-use Rattle.seamless_edits.specs.Seamless.{delay_of_run, join_of_parts, last_part, part_brought}
-use Rattle.seamless_edits.specs.Seamless.{part_head, part_rest, run_extension, run_lead_ins}
-use Rattle.seamless_edits.specs.Seamless.{seamless_delay, seamless_frames, seamless_info}
-use Rattle.seamless_edits.specs.Seamless.{seamless_padding, seamless_stream}
-use Rattle.sync_survey.specs.{Faults.SurveyFields, MainData.StreamFrame, Row.Row}
+use Rattle.seamless_edits.specs.Seamless.{delay_of_run, join_of_parts, last_part, part_head}
+use Rattle.seamless_edits.specs.Seamless.{part_rest, run_extension, run_lead_ins, seamless_delay}
+use Rattle.seamless_edits.specs.Seamless.{seamless_frames, seamless_info, seamless_padding}
+use Rattle.seamless_edits.specs.Seamless.{seamless_stream}
+use Rattle.sync_survey.specs.{Faults.SurveyFields, Row.Row}
 
 -- ---- positions
 
@@ -71,13 +70,12 @@ module _ {file : List ℕ} {s : SurveyFields} (r : Recording file s) where
       → IsExact r from to p
       → part_rest p ≡ ended_at r to * samples_in s.class - position r to
   piece-rest {from = from} {to = to} {p = p} at =
-      let n : ℕ = length p.survey.frames in
+      let n = length p.survey.frames in
       let sp = has-span r at in
-      let many : n ≡ length sp.spans.lead_ins + (sp.spans.to - sp.spans.from) =
-      sym (brought-many s.class p at.piece.is)
-      ∙ span-many s.class (all_run r) (position r from) (position r to) (part_brought p) sp.spans in
+      let many = sym (brought-many at.piece.is)
+      ∙ span-many sp.spans in
       rest-counted (part_head p) p.survey.class n sp.spans.played (sym sp.spans.counted)
-      ∙ ap (λ (d : ClassFields). rest_of d n sp.spans.played) at.piece.is.of_class
+      ∙ ap (λ d. rest_of d n sp.spans.played) at.piece.is.of_class
       ∙ rest-same s.class.version n (length sp.spans.lead_ins) sp.spans.from sp.spans.to
       sp.spans.played.end (position r to) many sp.spans.ended sp.spans.some sp.spans.behind
       ∙ ap (λ k. k * samples_in s.class - position r to) (sp.to_is ∙ ends r from to)
@@ -167,14 +165,12 @@ module _ {file : List ℕ} {s : SurveyFields} (r : Recording file s) {place next
 
   delay-value : seamless_delay played first parts ≡ delay
   delay-value =
-      let v : Version = s.class.version in
-      let starts : played.start + warm_up_frame (samples_in s.class) p * samples_in s.class
-      ≡ p + length first-span.spans.lead_ins * samples_in s.class =
-      ap (λ n. played.start + n * samples_in s.class)
+      let v = s.class.version in
+      let starts = ap (λ n. played.start + n * samples_in s.class)
       (sym (first-span.from_is
       ∙ begins r place next))
       ∙ first-span.spans.start in
-      ap (λ (d : ClassFields).
+      ap (λ d.
       played.start + run_lead_ins first parts * samples_in d
       - (join_of_parts first parts).front * samples_in d - decoder_delay)
       (at r pieces).piece.is.of_class
@@ -217,18 +213,29 @@ module _ {file : List ℕ} {s : SurveyFields} (r : Recording file s) {place next
   frames-many =
       let raw = own-class (inputs r pieces) in
       let laid =
-      run-laid first parts (input-whole first.survey.class first raw.head)
+      run-laid first parts (input-whole raw.head)
       (inputs-whole first.survey.class parts raw.others) in
-      let all : List StreamFrame = st r in
+      let all = st r in
       let there = inside r whole_span whole-found.there in
-      let last : ℕ = high r pieces in
-      sym (length-map (seamless_frames first parts) stream_entry)
-      ∙ ap (λ (l : List StreamFrame). length l) (laid.stream_is ∙ joined.stream_is)
-      ∙ length-append joined.leads (slice_range all (low r pieces) last)
-      ∙ ap (λ n. many + n)
-      (ap₂ (λ i j. length (slice_range all i j)) whole-first whole-last
-      ∙ range-length all whole_span.first whole_span.last
-      (omega (arith, stream-many (has-own r), there.within)))
+      let last = high r pieces in
+      grind (
+        arith,
+        length-map,
+        laid.stream_is,
+        joined.stream_is,
+        length-append,
+        joined.leads,
+        all,
+        last,
+        whole-first,
+        whole-last,
+        range-length,
+        whole_span.first,
+        whole_span.last,
+        stream-many,
+        has-own,
+        there.within,
+      )
 
   run-numbers : SaysNumbers delay (padding_of whole_span) (run_extension delay first parts)
   run-numbers =
@@ -240,7 +247,7 @@ module _ {file : List ℕ} {s : SurveyFields} (r : Recording file s) {place next
   pub info-head : (row : Row)
       → IsPieceHead s.class many whole_span (seamless_info (Some delay) row first parts)
   info-head row =
-      let info : Info = info_for first.survey.class (seamless_frames first parts)
+      let info = info_for first.survey.class (seamless_frames first parts)
       (quality_of (part_head first)) (run_extension delay first parts) in
       let sealed = frames-sealed row.header info
       (for-whole first.survey.class (seamless_frames first parts) (quality_of (part_head first))

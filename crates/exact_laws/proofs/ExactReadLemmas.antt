@@ -71,9 +71,7 @@ module _ {file : List ℕ} {s : SurveyFields} (r : Recording file s) {place next
       → KeepsPlaces s.class leads t.first (sample r place) (sample r (goal r pieces))
       (input_played (seamless_file (first ∷ parts)) j) (input_played file s)
   read-plays allowed j e =
-      let played : input_played (seamless_file (first ∷ parts)) j
-      ≡ played_of (Some read) s.class (leads + (t.last - t.first)) =
-      read-played raw written-is allowed j e
+      let played = read-played raw written-is allowed j e
       ∙ ap₂ (λ (d : ClassFields) (n : ℕ). played_of (Some read) d n)
       (at r pieces).piece.is.of_class
       (frames-many r pieces) in

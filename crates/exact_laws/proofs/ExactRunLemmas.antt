@@ -104,21 +104,19 @@ module _ {file : List ℕ} {s : SurveyFields} (r : Recording file s) where
       is =
       let sp = has-span r here in
       let t = span r from to in
-      let first : sp.spans.from ≡ begun_at from = sp.from_is ∙ begins from to in
-      let to_is : sp.spans.to ≡ ended_at to = sp.to_is ∙ ends from to in
+      let first = sp.from_is ∙ begins from to in
+      let to_is = sp.to_is ∙ ends from to in
       let later : position r from ≤ position r to = omega (arith, here.there.some) in
       let on =
       are-spans low sp.spans.to more
       (omega (arith, late, first-rises v (position r from) (position r to) later))
       (omega (arith, here.there.some)) to_is in
-      let early : sp.spans.from * samples_in s.class < position r from =
-      subst (λ n. n * samples_in s.class < position r from) (sym first)
+      let early = subst (λ n. n * samples_in s.class < position r from) (sym first)
       (first-early v (position r from) some) in
-      let inside : sp.spans.from < last =
-      below-last v sp.spans.from last (position r from) early
+      let inside = below-last v sp.spans.from last (position r from) early
       (subst (λ n. position r from ≤ n * samples_in s.class) (sym is)
       (last-behind v (position r from))) in
-      let out : ℕ = last - sp.spans.from in
+      let out = last - sp.spans.from in
       let on_to : last ≤ ended_at to = omega (arith, is, rises here.there) in
       record {
         are = (
@@ -130,14 +128,14 @@ module _ {file : List ℕ} {s : SurveyFields} (r : Recording file s) where
         );
         to_is = on.to_is;
         left =
-            ap₂ (λ (x y : List StreamFrame). x ++ y)
-            (stream-from s.class p here.piece.is (length sp.spans.lead_ins + last - sp.spans.from)
+            ap₂ ◌++◌
+            (stream-from here.piece.is (length sp.spans.lead_ins + last - sp.spans.from)
             ∙ ap₂ (λ (n : ℕ) (l : List StreamFrame). drop n l)
             (omega (arith, inside, sp.same)) sp.stream_is
             ∙ drop-append-add sp.leads (own_stream here.piece) out
             ∙ range-drop st t.first t.last out
             (omega (arith, inside, on_to, ends from to, sp.from_is))
-            ∙ ap₂ (λ (i j : ℕ). slice_range st i j) (omega (arith, inside, sp.from_is))
+            ∙ ap₂ (λ i j. slice_range st i j) (omega (arith, inside, sp.from_is))
             (ends from to))
             (on.left ∙ ap (λ n. slice_range st n (ended_at (last_place to tos))) to_is)
             ∙ range-append st last (ended_at to) (ended_at (last_place to tos)) on_to
@@ -239,9 +237,9 @@ module _ {file : List ℕ} {s : SurveyFields} (r : Recording file s) {place next
         follow = both.0;
         run_is =
             both.1
-            ∙ ap₂ (λ (i j : ℕ). sp.spans.lead_ins ++ slice_range (all r) i j) sp.from_is
+            ∙ ap₂ (λ i j. sp.spans.lead_ins ++ slice_range (all r) i j) sp.from_is
             (spans sp).to_is
-            ∙ ap (λ (l : List RunFrame). sp.spans.lead_ins ++ l) (all-range r low high);
+            ∙ ap (sp.spans.lead_ins ++◌) (all-range r low high);
       }
 
   -- each later piece follows the one before it
@@ -249,7 +247,7 @@ module _ {file : List ℕ} {s : SurveyFields} (r : Recording file s) {place next
       (join_of_parts first parts).joints
       ≡ true
   all-follow =
-      ap (λ (js : List JointFrames). list_all (λ (j : JointFrames). is_following_seam j.seam) js)
+      ap (λ js. list_all (λ (j : JointFrames). is_following_seam j.seam) js)
       (joints-are inputs)
       ∙ (one-run (has-span r at)).follow
 
@@ -267,7 +265,7 @@ module _ {file : List ℕ} {s : SurveyFields} (r : Recording file s) {place next
       → flat_map part_stream (later_parts (join_of_parts first parts).joints parts)
       ≡ slice_range (st r) mid high
   later-stream sp =
-      ap (λ (js : List JointFrames). flat_map part_stream (later_parts js parts))
+      ap (λ js. flat_map part_stream (later_parts js parts))
       (joints-are inputs
       ∙ spans-are s.class (all r) all-known all-fit (position r place) (position r next)
       (part_brought first) (map part_brought parts) (map (position r) places) sp.spans
@@ -275,28 +273,22 @@ module _ {file : List ℕ} {s : SurveyFields} (r : Recording file s) {place next
       ∙ (spans sp).left ∙ ap (λ n. slice_range (st r) n high) sp.to_is
 
   first-some : 0 < length (slice_range (st r) low mid)
-  first-some =
-      let there = inside r first_of at.there.there in
-      omega (
-        arith,
-        there.some,
-        range-length (st r) low mid (omega (arith, stream-many (has-own r), there.within)),
-      )
+  first-some = grind (arith, at.there.there, range-length, stream-many, has-own)
 
   -- the stream of the run is the lead-ins of the first piece and the
   -- frames of the recording, but for what leaves the run at the end
   pub run-stream : (sp : FirstSpan) → stream inputs ≡ drop front (sp.leads ++ whole)
   run-stream sp =
-      let one_stream : List StreamFrame = slice_range (st r) low mid in
-      let behind : List StreamFrame = slice_range (st r) mid high in
-      ap₂ (λ (x y : List StreamFrame). x ++ y)
-      (stream-from s.class first at.piece.is front ∙ ap (drop front) sp.stream_is)
+      let one_stream = slice_range (st r) low mid in
+      let behind = slice_range (st r) mid high in
+      ap₂ ◌++◌
+      (stream-from at.piece.is front ∙ ap (drop front) sp.stream_is)
       (later-stream sp)
       ∙ sym (drop-append-le front (sp.leads ++ one_stream) behind
       (omega (arith, front-few inputs, first-some, length-append sp.leads one_stream)))
       ∙ ap (drop front)
       (append_assoc sp.leads one_stream behind
-      ∙ ap (λ (l : List StreamFrame). sp.leads ++ l) stream-parts)
+      ∙ ap (sp.leads ++◌) stream-parts)
 
   -- the run itself is these frames too
   pub run-frames : (sp : FirstSpan) → run inputs ≡ drop front (sp.spans.lead_ins ++ run_frames)
@@ -326,7 +318,7 @@ module _ {file : List ℕ} {s : SurveyFields} (r : Recording file s) {place next
     got-left = grind (arith, seamless-is)
 
     many-got : run_lead_ins first parts ≡ length got
-    many-got = leads-many inputs ∙ ap (λ (l : List StreamFrame). length l) got_is
+    many-got = leads-many inputs ∙ ap length got_is
 
     joined-without : got ++ left ≡ whole → front ≡ length got → IsJoined 0
     joined-without same out = record {
@@ -374,15 +366,12 @@ module _ {file : List ℕ} {s : SurveyFields} (r : Recording file s) {place next
       let led = run-lead out in
       let one : front ≡ 1 = omega (arith, out, front-few inputs) in
       let silent = front-silent inputs out led.0 led.1 led.2 in
-      let one_stream : List StreamFrame = slice_range (st r) low mid in
-      let behind : List StreamFrame = slice_range (st r) mid high in
-      let begins : one_stream ≡ silent_lead_in led.0 ∷ silent.0 =
-      sym (sp.stream_is ∙ ap (λ (l : List StreamFrame). l ++ one_stream) none) ∙ silent.1 in
-      let whole_is : whole ≡ silent_lead_in led.0 ∷ (silent.0 ++ behind) =
-      sym stream-parts
-      ∙ ap (λ (l : List StreamFrame). l ++ behind) begins in
-      let here : stream inputs ≡ silent.0 ++ behind =
-      run-stream sp
+      let one_stream = slice_range (st r) low mid in
+      let behind = slice_range (st r) mid high in
+      let begins = sym (sp.stream_is ∙ ap (λ l. l ++ one_stream) none) ∙ silent.1 in
+      let whole_is = sym stream-parts
+      ∙ ap (λ l. l ++ behind) begins in
+      let here = run-stream sp
       ∙ ap₂ (λ (n : ℕ) (l : List StreamFrame). drop n (l ++ whole)) one none
       ∙ ap (drop 1) whole_is in
       joined-without (silent_lead_in led.0 ∷ []) (silent.0 ++ behind) led.3 here (sym whole_is) one
@@ -405,10 +394,10 @@ module _ {file : List ℕ} {s : SurveyFields} (r : Recording file s) {place next
     stays-fit stays =
         let fits : List RunFrame → Bool =
         λ fs. fits_behind window 0 (needs_of (drop 1 fs)) in
-        let leads_here : Bool = has_lead_in window (part_brought first) in
+        let leads_here = has_lead_in window (part_brought first) in
         not-both leads_here (fits all_frames)
         (no-front (leads_here && not (fits all_frames)) front
-        (ap (λ (fs : List RunFrame). cond (leads_here && not (fits fs)) 1 0) (sym all-frames)
+        (ap (λ fs. cond (leads_here && not (fits fs)) 1 0) (sym all-frames)
         ∙ sym (front-is inputs)) stays)
         led.brings.has
 
@@ -419,11 +408,15 @@ module _ {file : List ℕ} {s : SurveyFields} (r : Recording file s) {place next
     pub run-fits : front ≡ 0
         → fits_behind window 0 (needs_of (run inputs)) ≡ true
     run-fits stays =
-        ap (λ (fs : List RunFrame). fits_behind window 0 (needs_of fs))
-        (run-whole stays)
-        ∙ (fits-tested window 0 (needs_of all_frames)).1
-        (empty-before window led.brings.lead_in.need (needs_of run_frames) led.brings.empty
-        ((fits-tested window 0 (needs_of run_frames)).0 (stays-fit stays)))
+        grind (
+          arith,
+          run-whole,
+          fits-tested,
+          empty-before,
+          led.brings.lead_in.need,
+          led.brings.empty,
+          stays-fit,
+        )
 
     after : (n : ℕ) → front ≡ n
         → stream inputs ≡ drop n (silent_lead_in led.brings.first ∷ whole)
@@ -450,17 +443,17 @@ module _ {file : List ℕ} {s : SurveyFields} (r : Recording file s) {place next
   -- the join has the frames of the recording after at most one empty frame
   pub joined-is : IsJoined first_leads
   joined-is =
-      elim (ways at.piece) as (λ _. IsJoined first_leads) [
+      elim (ways at.piece) [
         | inl own ↦
             let sp = has-own-span r at own in
             subst IsJoined (sym own.none)
-            (elim (cases_lt 0 front) as (λ _. IsJoined 0) [
+            (elim (cases_lt 0 front) [
               | inl out ↦ joined-alike sp refl out
               | inr stays ↦ joined-own sp refl (omega (arith, stays))
             ])
         | inr led ↦
             subst IsJoined (sym led.one)
-            (elim (cases_lt 0 front) as (λ _. IsJoined 1) [
+            (elim (cases_lt 0 front) [
               | inl out ↦ joined-again led out
               | inr stays ↦ joined-led led (omega (arith, stays))
             ])

@@ -26,7 +26,6 @@ use Rattle.seam_laws.proofs.SeamlessInputLemmas.{brought-many, whole_stream}
 use Rattle.seam_laws.specs.PlayedParts.{input_played}
 use Rattle.seam_plan.specs.Frames.{RunFrame}
 use Rattle.seamless_edits.specs.Seamless.{part_brought}
-use Rattle.slot_plan.specs.declared.needs.Need.{Need}
 use Rattle.sync_survey.specs.{Faults.SurveyFields, MainData.StreamFrame}
 
 -- ---- the first and the last frame of a span
@@ -72,9 +71,9 @@ module _ {file : List ℕ} {s : SurveyFields} (r : Recording file s) where
   pub run-many : (i j : ℕ) → j ≤ length (own r).frames
       → length (run_between file (own r) i j) ≡ j - i
   run-many i j within =
-      let run : List RunFrame = run_between file (own r) i j in
+      let run = run_between file (own r) i j in
       sym (length-map run (λ (f : RunFrame). f.need))
-      ∙ ap (λ (l : List Need). length l) (between-needs (has-own r) i j)
+      ∙ ap length (between-needs (has-own r) i j)
       ∙ length-map (slice_range (own r).frames i j) need_of
       ∙ range-length (own r).frames i j within
 
@@ -153,7 +152,7 @@ module _ {file : List ℕ} {s : SurveyFields} (r : Recording file s) where
       pub to_is : spans.to ≡ t.last
       pub many_is : length spans.lead_ins ≡ many
       pub leads : List StreamFrame
-      pub stream_is : whole_stream s.class p at.piece.is ≡ leads ++ own_stream at.piece
+      pub stream_is : whole_stream at.piece.is ≡ leads ++ own_stream at.piece
       pub same : length leads ≡ length spans.lead_ins
 
     module _ (lead_ins : List RunFrame)
@@ -163,9 +162,8 @@ module _ {file : List ℕ} {s : SurveyFields} (r : Recording file s) where
       pub counted : (part_brought p).played
           ≡ Some (played_of (Some (read at.piece)) s.class (many + (t.last - t.first)))
       counted =
-          let count : length p.survey.frames ≡ many + (t.last - t.first) =
-          sym (brought-many s.class p at.piece.is)
-          ∙ ap (λ (l : List RunFrame). length l) frames_are
+          let count = sym (brought-many at.piece.is)
+          ∙ ap length frames_are
           ∙ length-append lead_ins (own_frames at.piece)
           ∙ ap₂ (λ m n. m + n) same (run-many t.first t.last (inside r t at.there.there).within) in
           ap (λ h. counted_positions h p.survey.class (length p.survey.frames)) (read-is at.piece)
@@ -178,17 +176,15 @@ module _ {file : List ℕ} {s : SurveyFields} (r : Recording file s) where
       -- an input with these lead-ins is a span of the recording
       abbrev pub span-by : IsSpanOf s.class all start end (part_brought p)
       span-by =
-          let first : t.first ≡ warm_up_frame (samples_in s.class) start =
-          first-is s.class start end t refl in
-          let last : t.last ≡ frames_before (samples_in s.class) end =
-          last-is s.class start end t refl in
+          let first = first-is s.class start end t refl in
+          let last = last-is s.class start end t refl in
           record {
             lead_ins = lead_ins;
             from = t.first;
             to = t.last;
             frames_are =
                 frames_are
-                ∙ ap (λ (l : List RunFrame). lead_ins ++ l) (sym (all-range r t.first t.last));
+                ∙ ap (lead_ins ++◌) (sym (all-range r t.first t.last));
             some = at.there.there.some;
             within = subst (λ n. t.last ≤ n) (sym (all-many r)) (inside r t at.there.there).within;
             empty = empty;
@@ -233,7 +229,7 @@ module _ {file : List ℕ} {s : SurveyFields} (r : Recording file s) where
     -- the input is the span, in both ways
     pub has-span : HasSpan
     has-span =
-        elim (ways at.piece) as (λ _. HasSpan) [
+        elim (ways at.piece) [
           | inl own ↦ has-own-span own
           | inr led ↦ has-led-span led
         ]

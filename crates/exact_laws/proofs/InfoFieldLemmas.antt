@@ -1,6 +1,6 @@
 -- Info frames of the same fields, and what an extension keeps of the head that it is made from.
-use Rattle.std.proofs.Common.{ap, ap₂, arith, drop, length, List, Option, Some, sym, take, ℕ, ◌%◌}
-use Rattle.std.proofs.Common.{◌++◌, ◌^◌, ◌∙◌, ◌≡◌}
+use Rattle.std.proofs.Common.{ap, arith, drop, length, List, Option, Some, sym, take, ℕ, ◌%◌, ◌++◌}
+use Rattle.std.proofs.Common.{◌^◌, ◌∙◌, ◌≡◌}
 use Rattle.std.proofs.lemmas.List.{drop-drop, drop-take, drop_at, length-append, length-drop}
 use Rattle.std.proofs.lemmas.List.{length-take-le, take-append-le, take-take, take_at}
 use Rattle.std.specs.Prelude.{IfSome, IsTrue}
@@ -9,7 +9,7 @@ use Rattle.exact_span.specs.Extensions.{extension_of, has_encoder, kept_extensio
 use Rattle.exact_span.specs.TagWord.{sealed_info, tag_crc_of, with_length_field}
 use Rattle.frame_header.specs.Fields.{ClassFields, HeaderFields}
 use Rattle.frame_writer.specs.Frames.{Frame}
-use Rattle.info_header.specs.Info.{info_bytes, number_or_zero, table_or_zeros, vbr_text}
+use Rattle.info_header.specs.Info.{info_bytes, number_or_zero}
 use Rattle.info_header.specs.{InfoFrame.{info_frame, info_header_of}, declared.fields.Info.Info}
 use Rattle.laying.specs.Written.{info_for}
 use Rattle.seamless_edits.specs.Seamless.{replay_gain}
@@ -35,12 +35,7 @@ module _ (c : ClassFields) (frames : List Frame) (first second : Option ℕ)
       → info_bytes (with_extension (info_for c frames first x) a)
       ≡ info_bytes (with_extension (info_for c frames second x) b)
   unfolding info_bytes
-  fields-same x a b same =
-      let info : Info = info_for c frames first x in
-      ap₂ (λ (q e : List ℕ).
-      vbr_text info.vbr ++ (big_bytes 4 15 ++ (big_bytes 4 (number_or_zero info.frames)
-      ++ (big_bytes 4 (number_or_zero info.bytes) ++ (table_or_zeros info.table ++ (q ++ e))))))
-      quality same
+  fields-same x a b same = grind (arith)
 
   -- sealed Info frames whose qualities are written alike are the same
   pub sealed-same : (g h : HeaderFields) (extension : List ℕ)
@@ -63,10 +58,9 @@ kept_extension-long head long = grind arith
 pub sealed-front : (first : HeaderFields) (info : Info) → length info.extension ≡ 36
     → take 28 (sealed_info first info).extension ≡ take 28 info.extension
 sealed-front first info long =
-    let number : List ℕ = big_bytes 4 (number_or_zero info.bytes) in
-    let extension : List ℕ = (with_length_field info).extension in
-    let few : length (take 28 info.extension) ≡ 28 =
-    length-take-le 28 info.extension (omega (arith, long)) in
+    let number = big_bytes 4 (number_or_zero info.bytes) in
+    let extension = (with_length_field info).extension in
+    let few = length-take-le 28 info.extension (omega (arith, long)) in
     let all : length extension ≡ 36 =
     omega (
       arith,
@@ -76,8 +70,7 @@ sealed-front first info long =
       length-drop 32 info.extension,
       long,
     ) in
-    let most : length (take 34 extension) ≡ 34 =
-    length-take-le 34 extension (omega (arith, all)) in
+    let most = length-take-le 34 extension (omega (arith, all)) in
     take-append-le 28 (take 34 extension) (big_bytes 2 (tag_crc_of first (with_length_field info)))
     (omega (arith, most))
     ∙ take-take 28 34 extension (omega arith)
@@ -138,4 +131,4 @@ pub gain-same : (x y : List ℕ) → take 21 x ≡ take 21 y → replay_gain x �
 gain-same x y same =
     let of : (z : List ℕ) → replay_gain z ≡ take 8 (drop 11 (take 21 z)) =
     λ z. sym (ap (take 8) (drop-take 11 10 z) ∙ take-take 8 10 (drop 11 z) (omega arith)) in
-    of x ∙ ap (λ (l : List ℕ). take 8 (drop 11 l)) same ∙ sym (of y)
+    of x ∙ ap (λ l. take 8 (drop 11 l)) same ∙ sym (of y)

@@ -2,23 +2,21 @@
 -- is read: its file is an input of a join, which is a span of the recording.
 use Rattle.std.proofs.Common.{ap, ap₂, arith, Bool, false, inl, length, List, map, Ok, refl, Some}
 use Rattle.std.proofs.Common.{subst, sym, true, ℕ, [], ◌++◌, ◌+◌, ◌-◌, ◌∙◌, ◌∷◌, ◌≡◌}
-use Rattle.std.{proofs.lemmas.Bool.{both_ways, lt-ltb, ltb-true}, specs.List.range_with_len}
-use Rattle.std.specs.Prelude.{nat_lt}
+use Rattle.std.{proofs.lemmas.Bool.{both_ways, lt-ltb, ltb-true}, specs.Prelude.nat_lt}
 use Rattle.commands.proofs.{MadeLemmas.some-frames, RefusingLemmas.then_ok}
 use Rattle.cut_edits.proofs.{ChosenLemmas.the-plan, SpanLemmas.led-is}
 use Rattle.cut_edits.specs.Exact.{exact_part, span_lead_ins, span_needs, span_piece, span_plan}
 use Rattle.cut_edits.specs.Exact.{survey_without_head}
-use Rattle.exact_laws.proofs.ExactFileLemmas.{all_run, choice, has-own, head, inside, IsExact}
-use Rattle.exact_laws.proofs.ExactFileLemmas.{IsFound, laid, own, piece-is, position, span}
-use Rattle.exact_laws.proofs.ExactFileLemmas.{span-found, span-right}
+use Rattle.exact_laws.proofs.ExactFileLemmas.{choice, has-own, head, inside, IsExact, IsFound, laid}
+use Rattle.exact_laws.proofs.ExactFileLemmas.{own, piece-is, span, span-found, span-right}
 use Rattle.exact_laws.proofs.{ExactSpanLemmas.{has-span, kept}, PlayLemmas.pieces-play}
 use Rattle.exact_laws.proofs.RecordingLemmas.{between-plays, pieces-recording}
 use Rattle.exact_laws.proofs.SpanRunLemmas.{span-many}
 use Rattle.exact_laws.specs.PieceLaws.{all_read_samples, AreSurveysOf, ExactPiecesPlayAsRead}
 use Rattle.exact_laws.specs.PieceLaws.{ExactPlansAreFirst, first_position, HoldsInTurn, IsExactPlan}
 use Rattle.exact_laws.specs.PieceLaws.{IsPlanFrom, piece_file, PlaysAsRead, read_samples}
-use Rattle.exact_laws.specs.Recording.{all_piece_samples, piece_played, piece_sample, piece_samples}
-use Rattle.exact_laws.specs.{Recording.{PlayInTurn, PlaysBetween}, SampleLaws.PlaysItsSamples}
+use Rattle.exact_laws.specs.Recording.{all_piece_samples, piece_played, piece_samples, PlayInTurn}
+use Rattle.exact_laws.specs.{Recording.PlaysBetween, SampleLaws.PlaysItsSamples}
 use Rattle.exact_span.specs.{Laws.KeepsPlaces, PlayedPositions.played_of, Spans.span_of}
 use Rattle.exact_span.specs.declared.{exact_place.ExactPlace.ExactPlace, span.Span.Span}
 use Rattle.frame_header.specs.{Fields.ClassFields, Tables.window_of}
@@ -29,7 +27,6 @@ use Rattle.seam_laws.proofs.PieceListLemmas.{Recording, recording}
 use Rattle.seam_laws.proofs.PiecePartLemmas.{IsPiece, laid-input, leads, read, read-is}
 use Rattle.seam_laws.proofs.SeamlessInputLemmas.{brought-many, IsInput}
 use Rattle.seam_laws.specs.PlayedParts.{input_played, piece_lead_ins, sample_named}
-use Rattle.seamless_edits.specs.Seamless.{part_brought}
 use Rattle.slot_plan.specs.{LeastPlan.led_plan, declared.needs.Need.Need}
 use Rattle.sync_survey.specs.{Faults.SurveyFields, Survey.survey_of}
 
@@ -138,11 +135,10 @@ module _ {file : List ℕ} {s : SurveyFields} (r : Recording file s) where
         many : length j.frames ≡ leads at.piece + (t.last - t.first)
         many =
             let sp = has-span r at in
-            sym (brought-many s.class p at.piece.is)
-            ∙ span-many s.class (all_run r) (position r from) (position r to) (part_brought p)
-            sp.spans
-            ∙ ap₂ (λ (m n : ℕ). m + n) sp.many_is
-            (ap₂ (λ (m n : ℕ). n - m) sp.from_is sp.to_is)
+            sym (brought-many at.piece.is)
+            ∙ span-many sp.spans
+            ∙ ap₂ (λ m n. m + n) sp.many_is
+            (ap₂ (λ m n. n - m) sp.from_is sp.to_is)
 
         played-is : input_played bytes j
             ≡ played_of (Some (read at.piece)) s.class (leads at.piece + (t.last - t.first))
@@ -177,17 +173,13 @@ module _ {file : List ℕ} {s : SurveyFields} (r : Recording file s) where
           → survey_of (piece_file file s piece) allowed ≡ Ok j
           → read_samples file s piece j ≡ piece_samples file s piece
       unfolding piece_samples
-      samples-by allowed j e =
-          let reads = piece-kept allowed j e in
-          ap₂ (λ (x n : ℕ).
-          map (piece_sample s.class (input_played file s).start piece) (range_with_len x n))
-          (omega (arith, reads.start, said.start)) (reads.length ∙ sym said.length)
+      samples-by allowed j e = grind (arith, piece-kept, s.class, said.start, said.length)
 
       samples-same : (allowed : ℕ) (j : SurveyFields)
           → survey_of (piece_file file s laid_is) allowed ≡ Ok j
           → read_samples file s laid_is j ≡ piece_samples file s laid_is
       samples-same =
-          subst (λ (l : LaidPart). (allowed : ℕ) (j : SurveyFields)
+          subst (λ l. (allowed : ℕ) (j : SurveyFields)
           → survey_of (piece_file file s l) allowed ≡ Ok j
           → read_samples file s l j ≡ piece_samples file s l) (sym same) samples-by
 
@@ -218,7 +210,7 @@ module _ {file : List ℕ} {s : SurveyFields} (r : Recording file s) where
   all-same from (to ∷ tos) [] surveys are read_back = absurd are
   all-same from (to ∷ tos) (l ∷ laid) [] are read_back = absurd read_back
   all-same from (to ∷ tos) (l ∷ laid) (j ∷ surveys) are read_back =
-      ap₂ (λ (x y : List ℕ). x ++ y)
+      ap₂ ◌++◌
       (samples-same from to l are.0 read_back.0.0 j read_back.0.1)
       (all-same to tos laid surveys are.1 read_back.1)
 

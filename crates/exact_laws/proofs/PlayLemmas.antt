@@ -31,19 +31,19 @@ use Rattle.sync_survey.specs.{Faults.SurveyFields, Row.Row, declared.places.Head
 
 table_by : (place : ℕ) (bytes : List ℕ) (flagged : Bool) (test : Bool)
     → (flagged && nat_le (place + 100) (length bytes)) ≡ test
-    → IfSome (cond test (Some (take 100 (drop place bytes))) None) (λ (t : List ℕ). length t ≡ 100)
+    → IfSome (cond test (Some (take 100 (drop place bytes))) None) (λ t. length t ≡ 100)
 table_by place bytes flagged false is = tt
 table_by place bytes flagged true is =
     let far = leb-true (place + 100) (length bytes)
     (and_parts flagged (nat_le (place + 100) (length bytes)) is).1 in
     length-take-le 100 (drop place bytes) (omega (arith, far, length-drop place bytes))
 
-table-many : (bytes : List ℕ) → IfSome (info_in bytes).table (λ (t : List ℕ). length t ≡ 100)
+table-many : (bytes : List ℕ) → IfSome (info_in bytes).table (λ t. length t ≡ 100)
 unfolding info_in field_in
 table-many bytes = grind (arith, table_by)
 
 table-of : (file : List ℕ) (head : Head)
-    → IfSome (head_info file (Some head)).table (λ (t : List ℕ). length t ≡ 100)
+    → IfSome (head_info file (Some head)).table (λ t. length t ≡ 100)
 unfolding head_info
 table-of file head = table-many _
 
@@ -143,8 +143,7 @@ pieces-play file s from to span is e =
     let had = survey_without_head-had file s is (survey_without_head-placed s is.placed) in
     let there = span-survey_without_head s span (span-there from to head s span e) in
     let placed = piece_placed head span file (survey_without_head s) in
-    let leads : AreLeads span (span_lead_ins span piece.placed) =
-    subst (λ (p : List Placed). AreLeads span (span_lead_ins span p)) (sym placed) (leads-are head
+    let leads = subst (λ p. AreLeads span (span_lead_ins span p)) (sym placed) (leads-are head
     (head_whole file s.head) (head_long file s.head) span file (survey_without_head s) had there) in
     let of : IsPieceHead s.class (span_lead_ins span piece.placed) span fields =
     grind (

@@ -33,8 +33,8 @@ numbers-moved f x a zero same = refl
 numbers-moved f x a (suc n) same =
     let none : x + 0 ≡ x = omega arith in
     let none_more : a + 0 ≡ a = omega arith in
-    let first : f x ≡ a = ap f (sym none) ∙ same 0 (omega arith) ∙ none_more in
-    ap₂ (λ (m : ℕ) (ms : List ℕ). m ∷ ms) first
+    let first = ap f (sym none) ∙ same 0 (omega arith) ∙ none_more in
+    ap₂ ◌∷◌ first
     (numbers-moved f (x + 1) (a + 1) n (λ k few.
     let there : x + 1 + k ≡ x + suc k = omega arith in
     let next : a + suc k ≡ a + 1 + k = omega arith in

@@ -1,9 +1,9 @@
 -- Spans of one recording whose neighbours share frames
 -- follow each other, and are joined to all their frames.
 use Rattle.std.proofs.Common.{ap, append-nil, append_assoc, ap₂, arith, drop, eqb, length, List}
-use Rattle.std.proofs.Common.{min, None, Option, refl, Some, subst, sym, take, true, ℕ, [], ◌%◌}
-use Rattle.std.proofs.Common.{◌*◌, ◌++◌, ◌+◌, ◌-◌, ◌/◌, ◌<◌, ◌∙◌, ◌∷◌, ◌≡◌, ◌≤◌}
-use Rattle.std.proofs.{Math.Seq.drop-append-add, lemmas.Bool.{and_from, le-leb}}
+use Rattle.std.proofs.Common.{min, None, refl, Some, subst, sym, take, true, ℕ, [], ◌%◌, ◌*◌, ◌++◌}
+use Rattle.std.proofs.{Common.{◌+◌, ◌-◌, ◌/◌, ◌<◌, ◌∙◌, ◌∷◌, ◌≡◌, ◌≤◌}, Math.Seq.drop-append-add}
+use Rattle.std.proofs.lemmas.Bool.{and_from, le-leb}
 use Rattle.std.proofs.lemmas.List.{drop-map, length-append, take-append-drop, take-take}
 use Rattle.std.{proofs.lemmas.Slice.Eq.bytes_eq-Decides, specs.{List.list_all, Option.option_or}}
 use Rattle.std.specs.Prelude.{if◌then◌else◌, nat_le, option_and_then, option_map, slice_range}
@@ -12,7 +12,7 @@ use Rattle.exact_laws.proofs.ExactSpanLemmas.{counted}
 use Rattle.exact_laws.specs.SpanLaws.{AreEmptyFrames, AreSpansOf, is_following_seam, IsSpanOf}
 use Rattle.exact_laws.specs.SpanLaws.{spans_end, SpansAreOneRun}
 use Rattle.exact_span.specs.{Overlaps.shared_overlap, PlayedPositions.{rest_of, samples_in}}
-use Rattle.exact_span.specs.declared.{overlap.Overlap.Overlap, played.Played.Played}
+use Rattle.exact_span.specs.declared.overlap.Overlap.{Overlap}
 use Rattle.frame_header.specs.{Fields.ClassFields, Tables.{samples_of, window_of}}
 use Rattle.frame_header.specs.declared.version.Version.{Version}
 use Rattle.pack_edits.specs.Fewest.{lead_ins}
@@ -52,7 +52,7 @@ module _ (all : List RunFrame) where
       grind (arith, drop-map, fits-tested) in
       front-fits window window (take (to - from) (drop from all))
       (drop (to - from) (drop from all))
-      (ap (λ (l : List RunFrame). fits_behind window window (needs_of l))
+      (ap (λ l. fits_behind window window (needs_of l))
       (take-append-drop (to - from) (drop from all)) ∙ behind_is)
 
 leads-fit : (window : ℕ) (leads xs : List RunFrame) → AreEmptyFrames leads
@@ -102,11 +102,11 @@ pub below-last : (v : Version) (from last mid : ℕ) → from * samples_of v < m
 below-last v from last mid early most = grind arith
 
 -- the frames of a span are its lead-ins and those of the recording
-pub span-many : (class : ClassFields) (all : List RunFrame) (begin end : ℕ) (input : Brought)
+pub span-many : {class : ClassFields} {all : List RunFrame} {begin end : ℕ} {input : Brought}
     (is : IsSpanOf class all begin end input)
     → length input.frames ≡ length is.lead_ins + (is.to - is.from)
-span-many class all begin end input is =
-    ap (λ (l : List RunFrame). length l) is.frames_are
+span-many {all = all} is =
+    ap length is.frames_are
     ∙ length-append is.lead_ins (slice_range all is.from is.to)
     ∙ ap (λ n. length is.lead_ins + n) (range-length all is.from is.to is.within)
 
@@ -137,7 +137,7 @@ module _ (class : ClassFields) (all : List RunFrame) (low : ℕ) where
   spans-added last begin (input ∷ inputs) (end ∷ points) are late =
       let later = added (spans_joints are.0.to end inputs points are.4) in
       sym (append_assoc (slice_range all low last) (slice_range all last are.0.to) later)
-      ∙ ap (λ (l : List RunFrame). l ++ later) (range-append all low last are.0.to late are.3)
+      ∙ ap (λ l. l ++ later) (range-append all low last are.0.to late are.3)
       ∙ spans-added are.0.to end inputs points are.4 (omega (arith, late, are.3))
   spans-added last begin [] [] are late = append-nil (slice_range all low last)
   spans-added last begin [] (end ∷ points) are late = absurd are
@@ -186,13 +186,13 @@ module _ (class : ClassFields) (all : List RunFrame) (known : AreHeadersKnown al
           ≡ shared * samples_in class
       sum =
           ap (λ n. is.played.start + rest_of class n one.played)
-          (span-many class all begin mid before one)
+          (span-many one)
           ∙ sum-is class.version is.played.start one.played.end z (length one.lead_ins) is.from
           one.from
           last mid is.start one.ended one.behind some (omega (arith, one.some))
 
       input-many : length input.frames ≡ z + (is.to - is.from)
-      input-many = span-many class all mid end input is
+      input-many = span-many is
 
       within : shared ≤ length input.frames
       within = omega (arith, input-many, on, some)
@@ -200,18 +200,20 @@ module _ (class : ClassFields) (all : List RunFrame) (known : AreHeadersKnown al
       overlap-is : overlap_of class before input ≡ Some overlap
       unfolding shared_overlap
       overlap-is =
-          let rest : ℕ = rest_of class (length before.frames) one.played in
+          let rest = rest_of class (length before.frames) one.played in
           let are = are-shared is.played.start rest shared (length input.frames) within
           class.version sum in
-          ap₂ (λ (o r : Option Played).
-          option_and_then (λ (p : Played). option_and_then (λ (q : Played).
-          shared_overlap class
-          (rest_of class (length before.frames) p) q.start (length input.frames)) r)
-          o)
-          one.counted is.counted
-          ∙ ap (λ b. if b then Some (made ((is.played.start + rest) / samples_in class)) else None)
-          are.test
-          ∙ ap (λ n. Some (made n)) are.whole
+          grind (
+            arith,
+            before.frames,
+            input.frames,
+            one.counted,
+            is.counted,
+            is.played.start,
+            rest,
+            are.test,
+            are.whole,
+          )
 
       leads-before : z ≤ first
       leads-before =
@@ -226,9 +228,17 @@ module _ (class : ClassFields) (all : List RunFrame) (known : AreHeadersKnown al
           → drop k input.frames ≡ slice_range all (is.from + (k - z)) is.to
       input-drop k behind few =
           let there : k ≡ z + (k - z) = omega (arith, behind) in
-          ap₂ (λ (n : ℕ) (l : List RunFrame). drop n l) there is.frames_are
-          ∙ drop-append-add is.lead_ins (slice_range all is.from is.to) (k - z)
-          ∙ range-drop all is.from is.to (k - z) (omega (arith, few, input-many))
+          grind (
+            arith,
+            there,
+            is.frames_are,
+            drop-append-add,
+            is.lead_ins,
+            is.from,
+            is.to,
+            range-drop,
+            input-many,
+          )
 
       abbrev alike_from : ℕ
       alike_from = is.from + (first - z)
@@ -242,7 +252,7 @@ module _ (class : ClassFields) (all : List RunFrame) (known : AreHeadersKnown al
 
       compared_frames-many : length (compared_frames overlap input) ≡ last - alike_from
       compared_frames-many =
-          ap (λ (l : List RunFrame). length l) compared_frames-is
+          ap length compared_frames-is
           ∙ range-length all alike_from last one.within
 
       run-many : length run ≡ length leads + (last - low)
@@ -264,13 +274,8 @@ module _ (class : ClassFields) (all : List RunFrame) (known : AreHeadersKnown al
 
       alike : ends_alike run (compared_frames overlap input) ≡ true
       alike =
-          and_from (nat_le (length (compared_frames overlap input)) (length run))
-          (are_frames_alike (drop (length run - length (compared_frames overlap input)) run)
-          (compared_frames overlap input))
-          (le-leb (length (compared_frames overlap input)) (length run)
-          (omega (arith, run-many, compared_frames-many, late)))
-          (ap₂ (λ (x y : List RunFrame). are_frames_alike x y) run-drop compared_frames-is
-          ∙ alike-same (slice_range all alike_from last))
+          grind
+          (arith, le-leb, run-many, compared_frames-many, run-drop, compared_frames-is, alike-same)
 
       added-is : drop shared input.frames ≡ slice_range all last is.to
       added-is =
@@ -280,17 +285,13 @@ module _ (class : ClassFields) (all : List RunFrame) (known : AreHeadersKnown al
       run-on : run ++ slice_range all last is.to ≡ leads ++ slice_range all low is.to
       run-on =
           append_assoc leads (slice_range all low last) (slice_range all last is.to)
-          ∙ ap (λ (l : List RunFrame). leads ++ l) (range-append all low last is.to low_last on)
+          ∙ ap (leads ++◌) (range-append all low last is.to low_last on)
 
       joins : joining_frames window run (drop shared input.frames)
           ≡ Some (slice_range all last is.to)
       joins =
-          ap (joining_frames window run) added-is
-          ∙ joining_frames-own window run (slice_range all last is.to)
-          (range-known all last is.to known)
-          (ap (λ (l : List RunFrame). fits_behind window window (needs_of l)) run-on
-          ∙ leads-fit window leads (slice_range all low is.to) empty
-          (range-fits all window low is.to fits))
+          grind
+          (arith, added-is, joining_frames-own, is.to, range-known, run-on, leads-fit, range-fits)
 
       span-joint : joint_of class run before input
           ≡ joint_with (Follows shared) (slice_range all last is.to)
@@ -321,15 +322,15 @@ module _ (class : ClassFields) (all : List RunFrame) (known : AreHeadersKnown al
     unfolding joints_from
     spans-joints leads empty low begin mid before one low_last (input ∷ inputs) (end ∷ points) are =
         let is = are.0 in
-        let made : JointFrames =
+        let made =
         joint_with (Follows (length is.lead_ins + one.to - is.from)) (slice_range all one.to is.to)
         in
         ap (λ (j : JointFrames).
         j ∷ joints_from class ((leads ++ slice_range all low one.to) ++ j.frames) input inputs)
         (span-joint leads empty low begin mid end before input one is are.1 low_last are.2 are.3)
-        ∙ ap (λ (l : List RunFrame). made ∷ joints_from class l input inputs)
+        ∙ ap (λ l. made ∷ joints_from class l input inputs)
         (run-on leads empty low begin mid end before input one is are.1 low_last are.2 are.3)
-        ∙ ap (λ (js : List JointFrames). made ∷ js)
+        ∙ ap (made ∷◌)
         (spans-joints leads empty low mid end input is (omega (arith, low_last, are.3)) inputs
         points are.4)
     spans-joints leads empty low begin mid before one low_last (input ∷ inputs) [] are = absurd are
@@ -341,7 +342,7 @@ module _ (class : ClassFields) (all : List RunFrame) (known : AreHeadersKnown al
         (are : AreSpansOf class all is.from is.to end inputs points)
         → joints_of class first inputs ≡ spans_joints class all is.from is.to end inputs points are
     spans-are begin end first inputs points is are =
-        ap (λ (l : List RunFrame). joints_from class l first inputs) is.frames_are
+        ap (λ l. joints_from class l first inputs) is.frames_are
         ∙ spans-joints is.lead_ins is.empty is.from begin end first is (omega (arith, is.some))
         inputs points are
 
@@ -350,11 +351,11 @@ pub spans-one-run : SpansAreOneRun
 spans-one-run class all begin end first inputs points is are known fits =
     let joints = spans-are class all known fits begin end first inputs points is are in
     let more = spans_joints class all is.from is.to end inputs points are in (
-      ap (λ (js : List JointFrames). list_all (λ (j : JointFrames). is_following_seam j.seam) js)
+      ap (λ js. list_all (λ (j : JointFrames). is_following_seam j.seam) js)
           joints
           ∙ spans-follow class all is.from is.to end inputs points are,
       ap₂ (λ (l : List RunFrame) (js : List JointFrames). l ++ added js) is.frames_are joints
           ∙ append_assoc is.lead_ins (slice_range all is.from is.to) (added more)
-          ∙ ap (λ (l : List RunFrame). is.lead_ins ++ l)
+          ∙ ap (is.lead_ins ++◌)
           (spans-added class all is.from is.to end inputs points are (omega (arith, is.some))),
     )

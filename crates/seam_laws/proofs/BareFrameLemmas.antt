@@ -23,9 +23,9 @@ unfolding split_bits
 concat-parts [] [] same = refl
 concat-parts [] (b ∷ bs) same = absurd (omega (arith, same))
 concat-parts (n ∷ lengths) bs same =
-    ap (λ (l : List ℕ). take n bs ++ l)
+    ap (λ l. take n bs ++ l)
     (concat-parts lengths (drop n bs)
-    (omega (arith, same, length-drop n bs, sum_by-cons (λ (x : ℕ). x) n lengths)))
+    (omega (arith, same, length-drop n bs, sum_by-cons (λ x. x) n lengths)))
     ∙ take-append-drop n bs
 
 -- a granule and channel that the class lacks is all 0
@@ -139,7 +139,7 @@ module _ (c : ClassFields) (known : IsClass c) where
   bare-same (f ∷ fs) (g ∷ gs) first second same =
       let here : stream_entry f ≡ stream_entry g = cc in
       let more : map stream_entry fs ≡ map stream_entry gs = cc in
-      ap₂ (λ (x : Frame) (xs : List Frame). x ∷ xs) (same-bare f g first.0 second.0 here)
+      ap₂ ◌∷◌ (same-bare f g first.0 second.0 here)
       (bare-same fs gs first.1 second.1 more)
 
 -- In the slots of a plan, bare frames are the same as the frames themselves.
@@ -158,4 +158,4 @@ relaid_frames-bare (f ∷ fs) (p ∷ placed) =
 pub relaid_frames-same : (fs gs : List Frame) (placed : List Placed) → map bare fs ≡ map bare gs
     → relaid_frames fs placed ≡ relaid_frames gs placed
 relaid_frames-same fs gs placed same = sym (relaid_frames-bare fs placed)
-    ∙ ap (λ (l : List Frame). relaid_frames l placed) same ∙ relaid_frames-bare gs placed
+    ∙ ap (λ l. relaid_frames l placed) same ∙ relaid_frames-bare gs placed

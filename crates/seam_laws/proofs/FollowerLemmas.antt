@@ -155,7 +155,7 @@ module _ (class : ClassFields) (run : List RunFrame) (before input : Brought) wh
 
     by_ended : (o : Option Played) → before.played ≡ o
         → option_and_then (overlap_joint class run input)
-        (option_and_then (λ (p : Played). option_and_then (shared_by p) input.played) o)
+        (option_and_then (λ p. option_and_then (shared_by p) input.played) o)
         ≡ Some joint
         → IsFollowing class run before input joint
     by_ended o ended_is none = grind (arith, by_played)
@@ -212,7 +212,7 @@ module _ (class : ClassFields) (run : List RunFrame) (before input : Brought) wh
         ≡ drop first input.frames
     input-parts =
         let at : first + (shared - first) ≡ shared = omega (arith, is.shared.within) in
-        ap (λ (l : List RunFrame). compared_frames is.overlap input ++ l)
+        ap (compared_frames is.overlap input ++◌)
         (ap (λ n. drop n input.frames) (sym at)
         ∙ sym (drop-drop (shared - first) first input.frames))
         ∙ take-append-drop (shared - first) (drop first input.frames)
@@ -249,7 +249,7 @@ module _ (class : ClassFields) (run : List RunFrame) (before input : Brought) wh
         grind (arith, slice_get-map, get-drop, found) in
         let there =
         sound-of (drop from_end new) (i - first) f.sound
-        (ap (λ (l : List (List ℕ)). slice_get l (i - first)) new-sounds ∙ own) in (
+        (ap (λ l. slice_get l (i - first)) new-sounds ∙ own) in (
           there.frame,
           sym (get-drop from_end new (i - first) ∙ ap (slice_get new) in_run)
               ∙ there.found,
@@ -258,7 +258,7 @@ module _ (class : ClassFields) (run : List RunFrame) (before input : Brought) wh
 
     goes-on : (out : ℕ) → joint.seam ≡ Follows out → InputGoesOn class before input run new out
     goes-on out seam =
-        let both : Follows shared ≡ Follows out = sym is.seam ∙ seam in
+        let both = sym is.seam ∙ seam in
         let same : shared ≡ out = cc in
         subst (InputGoesOn class before input run new) same
         (record {
@@ -296,24 +296,24 @@ joint-at class run first [] n before input joint is_before is_input is_joint = a
 joint-at class run first (i ∷ inputs) zero before input joint is_before is_input is_joint =
     grind (arith, append-nil)
 joint-at class run first (i ∷ inputs) (suc n) before input joint is_before is_input is_joint =
-    let here : JointFrames = joint_of class run first i in
+    let here = joint_of class run first i in
     joint-at class (run ++ here.frames) i inputs n before input joint is_before is_input is_joint
-    ∙ ap (λ (l : List RunFrame). joint_of class l before input)
+    ∙ ap (λ l. joint_of class l before input)
     (append_assoc run here.frames
     (added (take n (joints_from class (run ++ here.frames) i inputs))))
 
 -- each input that follows continues where the one before it ends
 pub followers-on : FollowersGoOn
 followers-on class first inputs number before input joint out is_before is_input is_joint seam =
-    let joints : List JointFrames = joints_of class first inputs in
-    let run : List RunFrame = run_after first joints number in
+    let joints = joints_of class first inputs in
+    let run = run_after first joints number in
     let here : joint ≡ joint_of class run before input = grind (arith, joint-at) in
     let follows =
     joint-follows class run before input out (sym (ap (λ (j : JointFrames). j.seam) here) ∙ seam) in
     let is = following_joint-is class run before input joint
-    (follows ∙ ap (λ (j : JointFrames). Some j) (sym here)) in
+    (follows ∙ ap (λ j. Some j) (sym here)) in
     let next : number + 1 ≡ suc number = omega arith in
     let after : run ++ joint.frames ≡ run_after first joints (number + 1) =
     grind (arith, append_assoc, added-next) in
-    subst (λ (l : List RunFrame). InputGoesOn class before input run l out) after
+    subst (λ l. InputGoesOn class before input run l out) after
     (goes-on class run before input joint is out seam)

@@ -13,7 +13,7 @@ use Rattle.seam_laws.specs.RunLaws.{AreHeadersKnown}
 use Rattle.seam_plan.proofs.{FitLemmas.fits-tested, FollowLemmas.sounds}
 use Rattle.seam_plan.specs.{Frames.{needs_of, RunFrame}, Joins.fits_behind}
 use Rattle.seamless_edits.specs.Seamless.{run_frame, sound_of}
-use Rattle.slot_plan.specs.{FreeBytes.FitsBehind, declared.needs.Need.Need}
+use Rattle.slot_plan.specs.FreeBytes.{FitsBehind}
 use Rattle.sync_survey.specs.{Faults.{stream_of_survey, SurveyFields}, MainData.StreamFrame}
 use Rattle.sync_survey.specs.Row.{Row}
 
@@ -66,7 +66,7 @@ module _ {file : List ℕ} {s : SurveyFields} (has : CanBeRelaid file s) where
   pub stream-many : length st ≡ length s.frames
   stream-many =
       let are = frames-of file s has in
-      ap (λ (l : List StreamFrame). length l) (sym are.stream_is)
+      ap length (sym are.stream_is)
       ∙ length-map (all_frames file s) stream_entry ∙ all-length file s
 
   -- between two numbers, there are as many frames of the stream as rows
@@ -90,11 +90,11 @@ module _ {file : List ℕ} {s : SurveyFields} (has : CanBeRelaid file s) where
   between-append a b c first second =
       frames-same (run a b ++ run b c) (run a c)
       (map-append (λ (f : RunFrame). f.need) (run a b) (run b c)
-      ∙ ap₂ (λ (x y : List Need). x ++ y) (between-needs a b) (between-needs b c)
+      ∙ ap₂ ◌++◌ (between-needs a b) (between-needs b c)
       ∙ sym (map-append need_of (slice_range s.frames a b) (slice_range s.frames b c))
       ∙ ap (map need_of) (range-append s.frames a b c first second) ∙ sym (between-needs a c))
       (map-append (λ (f : RunFrame). f.sound) (run a b) (run b c)
-      ∙ ap₂ (λ (x y : List (List ℕ)). x ++ y) (between-sounds a b) (between-sounds b c)
+      ∙ ap₂ ◌++◌ (between-sounds a b) (between-sounds b c)
       ∙ sym (map-append (sound_of s.class) (slice_range st a b)
       (slice_range st b c))
       ∙ ap (map (sound_of s.class)) (range-append st a b c first second)

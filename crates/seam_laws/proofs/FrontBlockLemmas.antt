@@ -101,21 +101,20 @@ module _ (file : List ℕ) (t : SurveyFields) (bytes rest : List ℕ) where
       ≡ blocks ps
   front-again [] before are is early = refl
   front-again (p ∷ ps) before are is early =
-      let own : List ℕ = block_bytes file p in
-      let at : ℕ = length before in
+      let own = block_bytes file p in
+      let at = length before in
       let here : Piece = record { offset = at; block = p.block } in
-      let later : List Piece = blocks_from (at + length own) (blocks ps) in
+      let later = blocks_from (at + length own) (blocks ps) in
       let least = block_front-least own p.block are.0.block in
       let many = length-append own (concat (blocks ps)) in
       let goes : goes_in_front t here ≡ true = grind (arith, and_from, lt-ltb) in
-      let bytes_are : bytes ≡ before ++ (own ++ (concat (blocks ps) ++ rest)) =
-      is ∙ ap (λ (l : List ℕ). before ++ l) (append_assoc own (concat (blocks ps)) rest) in
+      let bytes_are = is ∙ ap (before ++◌) (append_assoc own (concat (blocks ps)) rest) in
       let first : block_bytes bytes here ≡ own = grind (arith, drop_at, take_at) in
-      let moved : at + length own ≡ length (before ++ own) = sym (length-append before own) in
-      ap (λ (o : Option TagBlock).
+      let moved = sym (length-append before own) in
+      ap (λ o.
       map (block_bytes bytes)
       (filter (goes_in_front t)
-      (option_to_list (option_map (λ (b : TagBlock). record { offset = at; block = b }) o)
+      (option_to_list (option_map (λ b. record { offset = at; block = b }) o)
       ++ later))) are.0.block
       ∙ ap (λ b.
       map (block_bytes bytes)
@@ -131,7 +130,7 @@ module _ (file : List ℕ) (t : SurveyFields) (bytes rest : List ℕ) where
 -- blocks after the frames aren't front blocks
 one-behind : (t : SurveyFields) (at : ℕ) (o : Option TagBlock) (ps : List Piece) → t.first ≤ at
     → filter (goes_in_front t)
-    (option_to_list (option_map (λ (b : TagBlock). record { offset = at; block = b }) o) ++ ps)
+    (option_to_list (option_map (λ b. record { offset = at; block = b }) o) ++ ps)
     ≡ filter (goes_in_front t) ps
 one-behind t at o ps late = grind arith
 
@@ -163,10 +162,10 @@ module _ (file : List ℕ) (s : SurveyFields) (allowed : ℕ) (e : survey_fields
   pub front-stays : front_blocks made fields ≡ front
   unfolding laid_file laid_fields
   front-stays =
-      let at : ℕ = frames_offset front first info + length (bytes_of_frames frames) in
+      let at = frames_offset front first info + length (bytes_of_frames frames) in
       ap (map (block_bytes made))
       (filter-append fields (blocks_from 0 front) (blocks_from at back)
-      ∙ ap (λ (l : List Piece). filter (goes_in_front fields) (blocks_from 0 front) ++ l)
+      ∙ ap (filter (goes_in_front fields) (blocks_from 0 front) ++◌)
       (none-behind fields at back (omega arith))
       ∙ append-nil (filter (goes_in_front fields) (blocks_from 0 front)))
       ∙ front-again file fields made

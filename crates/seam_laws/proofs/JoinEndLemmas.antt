@@ -1,8 +1,8 @@
 -- A join without seams in whose Info frame numbers are written begins and ends where its inputs do.
 use Rattle.std.proofs.Common.{ap, append-nil, ap₂, arith, Bool, cond, drop, false, flat_map, get_or}
 use Rattle.std.proofs.Common.{inl, inr, length, List, map, min, None, Ok, Option, refl, replicate}
-use Rattle.std.proofs.Common.{Some, subst, suc, sym, take, true, zero, ℕ, [], ◌*◌, ◌++◌, ◌+◌, ◌-◌}
-use Rattle.std.proofs.{Common.{◌/◌, ◌<◌, ◌^◌, ◌∙◌, ◌∷◌, ◌≡◌, ◌≤◌}, Math.Nat.min-eq_right}
+use Rattle.std.proofs.Common.{Some, subst, suc, sym, true, zero, ℕ, [], ◌*◌, ◌++◌, ◌+◌, ◌-◌, ◌/◌}
+use Rattle.std.proofs.{Common.{◌<◌, ◌^◌, ◌∙◌, ◌∷◌, ◌≡◌, ◌≤◌}, Math.Nat.min-eq_right}
 use Rattle.std.proofs.lemmas.Bool.{le-leb, le-ltb, leb-true, ltb-false}
 use Rattle.std.proofs.lemmas.List.{length-append, length-drop, length-map, nil_from_length}
 use Rattle.std.proofs.lemmas.List.{take_all}
@@ -18,13 +18,12 @@ use Rattle.exact_span.specs.{Extensions.padding_in, Laws.SaysNumbers}
 use Rattle.exact_span.specs.PlayedPositions.{counted_played, counted_positions, decoder_delay}
 use Rattle.exact_span.specs.PlayedPositions.{played_of, played_or_all, rest_of, samples_in}
 use Rattle.exact_span.specs.declared.{extensions.HeadCounts.HeadCounts, played.Played.Played}
-use Rattle.frame_header.specs.{Fields.ClassFields, Limits.most_frames}
-use Rattle.frame_header.specs.Tables.{class_of, length_of, samples_of}
+use Rattle.frame_header.specs.{Fields.ClassFields, Limits.most_frames, Tables.samples_of}
 use Rattle.frame_header.specs.declared.version.Version.{Version, TheVariants.{One, Two, TwoFive}}
 use Rattle.info_header.specs.{Info.{field_place, flags_in, info_in}, declared.fields.Info.Info}
 use Rattle.join_edits.{proofs.PartLemmas.part-is, specs.Join.{join_part, join_parts_from}}
-use Rattle.laying.specs.{KeptFields.fields_of_head, LaidFiles.stream_entry}
-use Rattle.laying.specs.{Relaid.{FilePart, part_stream}, Written.head_info}
+use Rattle.laying.specs.{KeptFields.fields_of_head, Relaid.{FilePart, part_stream}}
+use Rattle.laying.specs.Written.{head_info}
 use Rattle.outside.specs.Files.{AreOctets, Contents}
 use Rattle.pack_edits.proofs.LimitLemmas.{few-rows}
 use Rattle.seam_laws.proofs.JoinNumberLemmas.{run-says}
@@ -97,7 +96,7 @@ zeros-small (suc n) = (omega arith, zeros-small n)
 extension-bytes : (bytes : List ℕ) → AreBytes bytes → AreBytes (info_in bytes).extension
 unfolding info_in
 extension-bytes bytes each =
-    let rest : List ℕ = drop (field_place (flags_in bytes) 4) bytes in
+    let rest = drop (field_place (flags_in bytes) 4) bytes in
     AreBelow-take 256 36 (rest ++ replicate 36 0)
     (AreBelow-append 256 rest (replicate 36 0)
     (AreBelow-drop 256 (field_place (flags_in bytes) 4) bytes each) (zeros-small 36))
@@ -106,11 +105,16 @@ head-bytes : (file : List ℕ) (head : Head) → AreBytes file
     → AreBytes (head_info file (Some head)).extension
 unfolding head_info
 head-bytes file head each =
-    let size : ℕ = length_of (class_of head.header) head.header.slot in
-    let rest : List ℕ = drop head.offset file in
-    extension-bytes (drop head.text_at (take size rest))
-    (AreBelow-drop 256 head.text_at (take size rest)
-    (AreBelow-take 256 size rest (AreBelow-drop 256 head.offset file each)))
+    grind (
+      arith,
+      head.header,
+      head.header.slot,
+      head.offset,
+      extension-bytes,
+      head.text_at,
+      AreBelow-drop,
+      AreBelow-take,
+    )
 
 byte-small : (bytes : List ℕ) (i : ℕ) → AreBytes bytes → get_or bytes i 0 < 256
 byte-small [] i each = omega arith
@@ -198,7 +202,7 @@ unfolding join_parts_from
 parts-few files place first allowed [] parts e = grind arith
 parts-few files place first allowed (name ∷ names) parts e =
     let one = then_ok (join_part place first allowed (files name)) _ parts e in
-    let part : FilePart = one.0 in
+    let part = one.0 in
     let rest =
     more-inputs part
     (join_parts_from (place + 1) (Some (unwrap_or first part.survey.class))
@@ -211,7 +215,7 @@ parts-few files place first allowed (name ∷ names) parts e =
     let more =
     parts-few files (place + 1) (Some (unwrap_or first part.survey.class))
     (allowed - length part.survey.frames) names rest.0 rest.1 in
-    subst (λ (l : List FilePart). frames_in l ≤ allowed) rest.2 (omega (arith, few, same, more))
+    subst (λ l. frames_in l ≤ allowed) rest.2 (omega (arith, few, same, more))
 
 -- what is written of an input has no more frames than the input
 part-few : (c : ClassFields) (p : FilePart) (is : IsInput c p) (k : ℕ)
@@ -219,10 +223,9 @@ part-few : (c : ClassFields) (p : FilePart) (is : IsInput c p) (k : ℕ)
     × (length p.survey.frames ≤ length (part_stream (part_from k p)) + k)
 part-few c p is k =
     let own = part_stream (part_from k p) in
-    let same : length own ≡ length p.survey.frames - k =
-    ap (λ (l : List StreamFrame). length l) (stream-from c p is k)
-    ∙ length-drop k (whole_stream c p is)
-    ∙ ap (λ n. n - k) (stream-many c p is) in
+    let same = ap length (stream-from is k)
+    ∙ length-drop k (whole_stream is)
+    ∙ ap (λ n. n - k) (stream-many is) in
     (omega (arith, same), omega (arith, same))
 
 later-few : (c : ClassFields) (joints : List JointFrames) (parts : List FilePart)
@@ -300,7 +303,7 @@ delay-parts first parts delay is = at (part_brought first).played refl is
 
     at : (o : Option Played) → (part_brought first).played ≡ o
         → option_and_then
-        (λ (played : Played). let delay = seamless_delay played first parts in
+        (λ played. let delay = seamless_delay played first parts in
         cond (nat_le delay 4095) (Some delay) None) o ≡ Some delay
         → (played : Played) × ((part_brought first).played ≡ Some played)
         × (seamless_delay played first parts ≡ delay) × (delay ≤ 4095)
@@ -320,14 +323,10 @@ leads-one window needs placed stream leads = at (fits_behind window 0 needs) ref
 few-left : (o : Option Seam) (class : ClassFields) (file : List ℕ) (left : List StreamFrame)
     → MayBeLeftOut o class file left
     → (length left ≤ 1) ⊎ ((out : ℕ) × (o ≡ Some (Follows out)))
-few-left None class file left (inl none) =
-    inl (omega (arith, ap (λ (l : List StreamFrame). length l) none))
-few-left None class file left (inr empty) =
-    inl (omega (arith, ap (λ (l : List StreamFrame). length l) empty.one))
-few-left (Some Whole) class file left none =
-    inl (omega (arith, ap (λ (l : List StreamFrame). length l) none))
-few-left (Some LeadIn) class file left empty =
-    inl (omega (arith, ap (λ (l : List StreamFrame). length l) empty.one))
+few-left None class file left (inl none) = inl (omega (arith, ap length none))
+few-left None class file left (inr empty) = inl (omega (arith, ap length empty.one))
+few-left (Some Whole) class file left none = inl (omega (arith, ap length none))
+few-left (Some LeadIn) class file left empty = inl (omega (arith, ap length empty.one))
 few-left (Some (Follows out)) class file left same = inr (out, refl)
 
 module _ {first : FilePart} {parts : List FilePart}
@@ -353,16 +352,16 @@ module _ {first : FilePart} {parts : List FilePart}
   -- the frames of the first input are the front of the run
   zero-end : run_end first parts 0 ≡ length first.survey.frames
   zero-end =
-      ap (λ (l : List RunFrame). length l) (append-nil begins.frames)
-      ∙ brought-many c first are.head
+      ap length (append-nil begins.frames)
+      ∙ brought-many are.head
 
   -- all of the run is up to where the last input ends
   last-end : run_end first parts (length parts) ≡ length (all are)
   last-end =
-      ap (λ (js : List JointFrames). length (begins.frames ++ added js))
+      ap (λ js. length (begins.frames ++ added js))
       (take_all (length parts) (join_of_parts first parts).joints
       (omega (arith, joints-count are)))
-      ∙ ap (λ (js : List JointFrames). length (begins.frames ++ added js))
+      ∙ ap (λ js. length (begins.frames ++ added js))
       (joints-are are)
 
   all-some : 1 ≤ length (all are)
@@ -370,7 +369,7 @@ module _ {first : FilePart} {parts : List FilePart}
       omega (
         arith,
         length-append begins.frames (added joints),
-        brought-many c first are.head,
+        brought-many are.head,
         are.head.some,
       )
 
@@ -385,11 +384,8 @@ module _ {first : FilePart} {parts : List FilePart}
   stream-is =
       let leads = run-leads are in
       let laid =
-      run-laid first parts (input-whole c first are.head) (inputs-whole c parts are.others) in
-      sym (length-map (seamless_frames first parts) stream_entry)
-      ∙ ap (λ (l : List StreamFrame). length l) (laid.stream_is ∙ leads.is)
-      ∙ length-append leads.leads (stream are)
-      ∙ ap (λ n. n + length (stream are)) (sym (leads-many are))
+      run-laid first parts (input-whole are.head) (inputs-whole c parts are.others) in
+      grind (arith, length-map, laid.stream_is, leads.is, length-append, leads.leads, leads-many)
 
   -- the join has the lead-ins of the run, and all of it but for what leaves it
   frames-many : frames + front ≡ run_lead_ins first parts + run_end first parts (length parts)
@@ -399,7 +395,7 @@ module _ {first : FilePart} {parts : List FilePart}
         stream-is,
         stream-length are,
         length-map (run are) (λ (f : RunFrame). f.need),
-        ap (λ (l : List RunFrame). length l) (run-is are),
+        ap length (run-is are),
         length-drop front (all are),
         front-few are,
         all-some,
@@ -442,12 +438,11 @@ module _ {first : FilePart} {parts : List FilePart}
 
   ended-within : ended.end ≤ n * samples_in c
   ended-within =
-      subst (λ (d : ClassFields). ended.end ≤ n * samples_in d) last-is.of_class
+      subst (λ d. ended.end ≤ n * samples_in d) last-is.of_class
       (played-within (part_head last) last.survey.class n)
 
   padding-is : seamless_padding first parts ≡ n * samples_in c - ended.end + decoder_delay
-  padding-is =
-      ap (λ (d : ClassFields). n * samples_in d - ended.end + decoder_delay) last-is.of_class
+  padding-is = ap (λ d. n * samples_in d - ended.end + decoder_delay) last-is.of_class
 
   -- ---- what is after the last played position of the last input
 
@@ -459,17 +454,17 @@ module _ {first : FilePart} {parts : List FilePart}
 
   last-many : n ≡ length written.left_out + length (part_stream written.part)
   last-many =
-      sym (stream-many c last last-is)
-      ∙ ap (λ (l : List StreamFrame). length l) written.all
+      sym (stream-many last-is)
+      ∙ ap length written.all
       ∙ length-append written.left_out (part_stream written.part)
 
   -- an input that doesn't follow has no more frames than the join
   few-by : length written.left_out ≤ 1 → (number : ℕ) → length parts ≡ number → n ≤ frames
   few-by one zero same =
-      let none : parts ≡ [] = nil_from_length parts same in
+      let none = nil_from_length parts same in
       omega (
         arith,
-        ap (λ (l : List FilePart). length (last_part first l).survey.frames) none,
+        ap (λ l. length (last_part first l).survey.frames) none,
         ap (λ k. run_end first parts k) same,
         zero-end,
         frames-many,
@@ -477,7 +472,7 @@ module _ {first : FilePart} {parts : List FilePart}
       )
   few-by one (suc m) same =
       let later = later_parts (join_of_parts first parts).joints parts in
-      let there : slice_get later m ≡ Some written.part =
+      let there =
       subst (λ k. slice_get (run_parts first parts) k ≡ Some written.part) same written.is in
       omega (
         arith,
@@ -497,22 +492,20 @@ module _ {first : FilePart} {parts : List FilePart}
       → n * samples_in c - ended.end ≤ frames * samples_in c
   follows-by out rises zero same seam = absurd cc
   follows-by out rises (suc m) same seam =
-      let there : slice_get parts m ≡ Some last =
-      subst (λ k. slice_get (first ∷ parts) k ≡ Some last) same (last-at first parts) in
+      let there = subst (λ k. slice_get (first ∷ parts) k ≡ Some last) same (last-at first parts) in
       let goes = (follower-at are m last there out seam).1 in
       let played =
       (counted-played (part_head last) last.survey.class n goes.played goes.played_is).0 in
       let next : m + 1 ≡ length parts = omega (arith, same) in
-      let many : length (run_after begins joints (m + 1)) ≡ run_end first parts (length parts) =
-      ap (λ k. length (run_after begins joints k)) next
-      ∙ ap (λ (js : List JointFrames). length (run_after begins js (length parts)))
+      let many = ap (λ k. length (run_after begins joints k)) next
+      ∙ ap (λ js. length (run_after begins js (length parts)))
       (sym (joints-are are)) in
       rest-played c.version n frames ended.start ended.end rises
       (omega (
         arith,
         ap (λ (p : Played). p.start / samples_in c) played,
         goes.alike.within,
-        brought-many c last last-is,
+        brought-many last-is,
         many,
         frames-many,
         leads-most,
@@ -522,8 +515,7 @@ module _ {first : FilePart} {parts : List FilePart}
   rest-most rises =
       elim (few-left (seam_at (join_of_parts first parts).joints (length parts))
       last.survey.class last.file
-      written.left_out written.may)
-      as (λ _. n * samples_in c - ended.end ≤ frames * samples_in c) [
+      written.left_out written.may) [
         | inl one ↦
             rest-within c.version n frames ended.end (few-by one (length parts) refl)
         | inr follows ↦ follows-by follows.0 rises (length parts) refl follows.1
@@ -580,8 +572,8 @@ module _ {first : FilePart} {parts : List FilePart}
 
     start-same : IsSamePosition first parts 0 first (part_played first).start joined.start
     start-same =
-        let start : ℕ = parts_of.0.start in
-        let many : ℕ = length first.survey.frames in
+        let start = parts_of.0.start in
+        let many = length first.survey.frames in
         begins-at c.version start many front (run_lead_ins first parts) delay counted.1
         (omega (arith, leads-enough are, leads-many are)) parts_of.2
         ∙ ap₂ (λ (p : Played) (m : ℕ). p.start + (run_lead_ins first parts + m) * samples_in c)
@@ -590,16 +582,12 @@ module _ {first : FilePart} {parts : List FilePart}
     end-same : (place : ℕ)
         → IsSamePosition first parts (length parts) last ended.end place → place ≡ joined.end
     end-same place at =
-        ends-at c.version place n front (run_lead_ins first parts)
-        (run_end first parts (length parts)) ended.end frames ended-within frames-many at
-        ∙ ap (λ m. frames * samples_in c + decoder_delay - m) (sym padding-is)
+        grind (arith, ends-at, c.version, ended.end, ended-within, frames-many, padding-is)
 
     there-by : n * samples_in c - ended.end ≤ frames * samples_in c
         → IsSamePosition first parts (length parts) last ended.end joined.end
     there-by enough =
-        ap (λ m. frames * samples_in c + decoder_delay - m + (n + front) * samples_in c) padding-is
-        ∙ there-at c.version n front (run_lead_ins first parts)
-        (run_end first parts (length parts)) ended.end frames ended-within frames-many enough
+        grind (arith, padding-is, there-at, c.version, ended.end, ended-within, frames-many)
 
     -- as the file is read, it begins and ends where its inputs do
     pub ends-read : (allowed : ℕ) (s : SurveyFields)

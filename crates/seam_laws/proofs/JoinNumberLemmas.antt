@@ -25,8 +25,7 @@ cleared extension = take 11 extension ++ (replicate 8 0 ++ drop 19 extension)
 cleared-byte : (extension : List ℕ) (i : ℕ) → length extension ≡ 36
     → get_or (cleared extension) (11 + (8 + i)) 0 ≡ get_or extension (19 + i) 0
 cleared-byte extension i long =
-    let eleven : length (take 11 extension) ≡ 11 =
-    length-take-le 11 extension (omega (arith, long)) in
+    let eleven = length-take-le 11 extension (omega (arith, long)) in
     ap (λ n. get_or (cleared extension) (n + (8 + i)) 0) (sym eleven)
     ∙ get_or-append-add (take 11 extension) (replicate 8 0 ++ drop 19 extension) (8 + i) 0
     ∙ ap (λ n. get_or (replicate 8 0 ++ drop 19 extension) (n + i) 0)

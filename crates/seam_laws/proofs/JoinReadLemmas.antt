@@ -76,7 +76,7 @@ module _ {first : FilePart} {parts : List FilePart}
   file-is =
       let row = inputs.head.has.placed (join_of_parts first parts).front front-row.0 front-row.1 in
       let are =
-      run-laid first parts (input-whole c first inputs.head) (inputs-whole c parts inputs.others) in
+      run-laid first parts (input-whole inputs.head) (inputs-whole c parts inputs.others) in
       record {
         blocks_before = (blocks-kept first.file first.survey inputs.head.has).0;
         header = row.known;
@@ -120,12 +120,10 @@ module _ {first : FilePart} {parts : List FilePart}
       (e : survey_of (seamless_file (first ∷ parts)) allowed ≡ Ok j) where
     told : laid_fields blocks header written_info frames [] ≡ j
     told =
-        let most : ℕ = length laid + length frames + 1 in
-        let is : survey_fields laid allowed ≡ Ok j =
-        subst (λ (l : List ℕ). survey_fields l allowed ≡ Ok j) join-is
+        let most = length laid + length frames + 1 in
+        let is = subst (λ l. survey_fields l allowed ≡ Ok j) join-is
         (survey_of-parts (seamless_file (first ∷ parts)) allowed j e).1 in
-        let both : Ok j ≡ Ok (laid_fields blocks header written_info frames []) =
-        sym (survey_fields-allowed laid allowed most j (omega arith) is)
+        let both = sym (survey_fields-allowed laid allowed most j (omega arith) is)
         ∙ laid-survey c blocks header written_info frames [] most file-is (omega arith) in
         cc
 

@@ -9,8 +9,8 @@ use Rattle.std.specs.{List.concat, Prelude.{slice_get, slice_range}}
 use Rattle.chosen_streams.proofs.{CaseLemmas.stream-is, ExactLemmas.{one-on, part-sized}}
 use Rattle.cut_edits.specs.Exact.{survey_without_head}
 use Rattle.frame_header.proofs.HeaderLemmas.{IsClass-class_of}
-use Rattle.frame_header.specs.Fields.{ClassFields, HeaderFields, IsClass, SlotFields}
-use Rattle.frame_header.specs.{HeaderBits.header_bits, Tables.{class_of, window_of}}
+use Rattle.frame_header.specs.{Fields.{ClassFields, HeaderFields, IsClass}, HeaderBits.header_bits}
+use Rattle.frame_header.specs.Tables.{class_of, window_of}
 use Rattle.frame_writer.specs.Frames.{Frame}
 use Rattle.info_header.specs.declared.fields.Info.{Info}
 use Rattle.laying.proofs.FittingFrameLemmas.{fitting-laid}
@@ -60,7 +60,7 @@ frames-same (x ∷ xs) (y ∷ ys) needs sounding =
     let sound : x.sound ≡ y.sound = cc in
     let more_needs : needs_of xs ≡ needs_of ys = cc in
     let more_sounds : sounds xs ≡ sounds ys = cc in
-    ap₂ (λ (f : RunFrame) (fs : List RunFrame). f ∷ fs)
+    ap₂ ◌∷◌
     (ap₂ (λ (n : Need) (s : List ℕ). record { need = n; sound = s }) need sound)
     (frames-same xs ys more_needs more_sounds)
 
@@ -69,7 +69,7 @@ pub none-emptied : (rows : List Row)
     → ((i : ℕ) (r : Row) → slice_get rows i ≡ Some r → r.lost ≡ false) → map emptied_row rows ≡ rows
 none-emptied [] kept = refl
 none-emptied (r ∷ rows) kept =
-    ap₂ (λ (x : Row) (xs : List Row). x ∷ xs)
+    ap₂ ◌∷◌
     (ap (λ b. cond b (record r { side = no_side; lost = false }) r) (kept 0 r refl))
     (none-emptied rows (λ i q found. kept (suc i) q found))
 
@@ -111,7 +111,7 @@ own-needs class (need ∷ needs) [] placed entries are own = absurd are
 own-needs class (need ∷ needs) (f ∷ fs) [] entries are own = absurd own
 own-needs class (need ∷ needs) (f ∷ fs) (p ∷ placed) entries are own =
     ap (map frame_need) (relaid_frames-cons-by false p placed f fs own.0)
-    ∙ ap₂ (λ (x : Need) (xs : List Need). x ∷ xs)
+    ∙ ap₂ ◌∷◌
     (moved-need class need f p entries.0 are.0 are.1 own.1)
     (own-needs class needs fs placed entries.1 are.2 own.2)
 
@@ -133,20 +133,20 @@ led-needs class window at (need ∷ needs) [] placed known entries are led fits 
 led-needs class window at (need ∷ needs) (f ∷ fs) [] known entries are led fits = absurd led
 led-needs class window at (need ∷ needs) (f ∷ fs) (p ∷ placed) known entries are led fits =
     let header : HeaderFields = record need.header { protected = false; slot = p.slot } in
-    let of_class : IsClass (class_of f.kept.header) = subst IsClass (sym entries.0.class) known in
+    let of_class = subst IsClass (sym entries.0.class) known in
     let cons = relaid_frames-cons-by true p placed f fs led.0 in
     let none : p.begin ≡ 0 = omega (arith, fits.0) in
     record {
       header = header;
       are = ap (map frame_need) cons
-          ∙ ap₂ (λ (x : Need) (xs : List Need). x ∷ xs)
+          ∙ ap₂ ◌∷◌
           (ap₂ (λ (h : HeaderFields) (n : ℕ).
           record { header = record h { protected = false; slot = p.slot }; bytes = n })
           (sym are.0)
           (begun-bytes no_side p.begin ∙ no_bytes))
           (own-needs class (need ∷ needs) (f ∷ fs) placed entries are led.2);
       lead = lead-in-is window need needs header
-          (subst (λ (h : HeaderFields). IsClass (class_of h)) (sym are.0) of_class) (led.1, refl);
+          (subst (λ h. IsClass (class_of h)) (sym are.0) of_class) (led.1, refl);
       blank = grind (arith, none-zero);
     }
 
@@ -181,7 +181,7 @@ pub record BringsOwn (class : ClassFields) (p : FilePart) (is : IsInput class p)
     (frames : List RunFrame) (own : List StreamFrame) : Type 0 where
   pub frames_are : (part_brought p).frames ≡ frames
   pub rows_need : map need_of p.survey.frames ≡ needs_of frames
-  pub stream_is : whole_stream class p is ≡ own
+  pub stream_is : whole_stream is ≡ own
 
 -- these frames after a lead-in, which the input has at its front
 pub record BringsLed (class : ClassFields) (p : FilePart) (is : IsInput class p)
@@ -196,7 +196,7 @@ pub record BringsLed (class : ClassFields) (p : FilePart) (is : IsInput class p)
   pub first : StreamFrame
   pub rest : List StreamFrame
   pub own_is : own ≡ first ∷ rest
-  pub stream_is : whole_stream class p is ≡ silent_lead_in first ∷ own
+  pub stream_is : whole_stream is ≡ silent_lead_in first ∷ own
 
 -- the file of what is laid, with any blocks after its frames
 pub record IsFileOf (laid : LaidPart) (file : List ℕ) (s : SurveyFields) (bytes : List ℕ) : Type 0
@@ -287,7 +287,7 @@ module _ {laid : LaidPart} {file : List ℕ} {s : SurveyFields} {c : ClassFields
         placed-some window 0 needs
             laid.placed input.fitting.fits (omega (arith, needs-many, input.some)),
         length-map frames slot_in,
-        ap (λ (l : List SlotFields). length l)
+        ap length
             (laid-slots laid file s input.has input.some input.within input.fitting),
         length-map laid.placed (λ (p : Placed). p.slot),
       )
@@ -340,12 +340,10 @@ module _ {laid : LaidPart} {file : List ℕ} {s : SurveyFields} {c : ClassFields
 
   told : fields ≡ p.survey
   told =
-      let many : ℕ = length bytes + length frames + 1 in
-      let e : survey_fields bytes input.is.allowed ≡ Ok p.survey =
-      subst (λ l. survey_fields l input.is.allowed ≡ Ok p.survey) input.made.file_is
+      let many = length bytes + length frames + 1 in
+      let e = subst (λ l. survey_fields l input.is.allowed ≡ Ok p.survey) input.made.file_is
       (survey_of-parts p.file input.is.allowed p.survey input.is.surveyed).1 in
-      let one : Ok p.survey ≡ Ok fields =
-      sym (survey_fields-allowed bytes input.is.allowed many p.survey (omega arith) e)
+      let one = sym (survey_fields-allowed bytes input.is.allowed many p.survey (omega arith) e)
       ∙ laid-survey s.class (front_blocks file s) input.made.row.header info frames input.made.back
       many made-laid (omega arith) in
       cc
@@ -369,13 +367,13 @@ module _ {laid : LaidPart} {file : List ℕ} {s : SurveyFields} {c : ClassFields
   survey_without_head-same : survey_without_head p.survey ≡ p.survey
   survey_without_head-same =
       ap emptied_survey none-lost.apart
-      ∙ ap (λ (rows : List Row). record p.survey { frames = rows })
+      ∙ ap (λ rows. record p.survey { frames = rows })
       (none-emptied p.survey.frames none-lost.kept)
 
   -- the stream of the input is the stream of its frames
-  pub input-stream : whole_stream c p input.is ≡ stream_with_lead_ins laid.placed own
+  pub input-stream : whole_stream input.is ≡ stream_with_lead_ins laid.placed own
   input-stream =
-      ap (λ (t : SurveyFields). stream_of_survey p.file t) survey_without_head-same
+      ap (λ t. stream_of_survey p.file t) survey_without_head-same
       ∙ sym (stream-is p.file input.is.allowed p.survey input.is.surveyed)
       ∙ ap stream_of input.made.file_is
       ∙ (laid-stream s.class (front_blocks file s) input.made.row.header info frames input.made.back
@@ -396,13 +394,13 @@ module _ {laid : LaidPart} {file : List ℕ} {s : SurveyFields} {c : ClassFields
   -- the frames that the input brings need what its frames do
   pub input-needs : needs_of (part_brought p).frames ≡ map frame_need frames
   input-needs =
-      brought-needs c p input.is
+      brought-needs input.is
       ∙ ap (λ (t : SurveyFields). map need_of t.frames) survey_without_head-same
       ∙ input-rows
 
   input-sounds : sounds (part_brought p).frames
       ≡ map (sound_of s.class) (stream_with_lead_ins laid.placed own)
-  input-sounds = brought-sounds c p input.is ∙ ap (map (sound_of c)) input-stream
+  input-sounds = brought-sounds input.is ∙ ap (map (sound_of c)) input-stream
       ∙ ap (λ d. map (sound_of d) (stream_with_lead_ins laid.placed own)) class-same
 
   -- the head of the input is the Info frame
@@ -417,7 +415,7 @@ module _ {laid : LaidPart} {file : List ℕ} {s : SurveyFields} {c : ClassFields
       → front_blocks p.file p.survey ≡ front_blocks file s
   front-same many t e same =
       ap₂ (λ (f : List ℕ) (t : SurveyFields). front_blocks f t) input.made.file_is (sym told)
-      ∙ ap (λ (front : List (List ℕ)).
+      ∙ ap (λ front.
       front_blocks (laid_file front input.made.row.header info frames input.made.back)
       (laid_fields front input.made.row.header info frames input.made.back)) (sym same)
       ∙ front-stays file t many e input.made.row.header info frames input.made.back
@@ -425,19 +423,18 @@ module _ {laid : LaidPart} {file : List ℕ} {s : SurveyFields} {c : ClassFields
 
   own-run-needs : needs_of own_run ≡ needs
   own-run-needs =
-      let rows : List Row = slice_range s.frames laid.from laid.to in
+      let rows = slice_range s.frames laid.from laid.to in
       run-needs s.class rows own (own-length ∙ length-map rows need_of)
 
   own-run-sounds : sounds own_run ≡ map (sound_of s.class) own
   own-run-sounds =
-      let rows : List Row = slice_range s.frames laid.from laid.to in
+      let rows = slice_range s.frames laid.from laid.to in
       run-sounds s.class rows own (own-length ∙ length-map rows need_of)
 
   -- in their own slots, the input brings the frames alone
   pub brings-own : AreInOwnSlots needs laid.placed → BringsOwn c p input.is own_run own
   brings-own in_own =
-      let all : stream_with_lead_ins laid.placed own ≡ own =
-      own-frames needs own laid.placed own-length in_own in
+      let all = own-frames needs own laid.placed own-length in_own in
       record {
         frames_are =
             frames-same (part_brought p).frames own_run
@@ -465,9 +462,8 @@ module _ {laid : LaidPart} {file : List ℕ} {s : SurveyFields} {c : ClassFields
       let lead_need : Need = record { header = lead_needs.header; bytes = 0 } in
       let lead_in : RunFrame =
       record { need = lead_need; sound = sound_of s.class (silent_lead_in all.0) } in
-      let all_needs : needs_of (part_brought p).frames ≡ lead_need ∷ needs =
-      input-needs ∙ lead_needs.are in
-      let leads : leads_others window (needs_of (part_brought p).frames) ≡ true =
+      let all_needs = input-needs ∙ lead_needs.are in
+      let leads =
       ap (leads_others window) all_needs ∙ ap (matches_header lead_needs.header) lead_needs.lead
       ∙ (bytes_eq-Decides (header_bits lead_needs.header) (header_bits lead_needs.header)).1
       refl in
@@ -475,9 +471,9 @@ module _ {laid : LaidPart} {file : List ℕ} {s : SurveyFields} {c : ClassFields
         lead_in = lead_in;
         frames_are =
             frames-same (part_brought p).frames (lead_in ∷ own_run)
-            (all_needs ∙ ap (λ (l : List Need). lead_need ∷ l) (sym own-run-needs))
+            (all_needs ∙ ap (lead_need ∷◌) (sym own-run-needs))
             (input-sounds ∙ ap (map (sound_of s.class)) all.3
-            ∙ ap (λ (l : List (List ℕ)). sound_of s.class (silent_lead_in all.0) ∷ l)
+            ∙ ap (sound_of s.class (silent_lead_in all.0) ∷◌)
             (sym own-run-sounds));
         empty = refl;
         header =
@@ -487,7 +483,7 @@ module _ {laid : LaidPart} {file : List ℕ} {s : SurveyFields} {c : ClassFields
             (ap (lead_in_header window) own-run-needs ∙ lead_needs.lead);
         rows_need =
             input-rows ∙ lead_needs.are
-            ∙ ap (λ (l : List Need). lead_need ∷ l) (sym own-run-needs);
+            ∙ ap (lead_need ∷◌) (sym own-run-needs);
         has = subst
             (λ (d : ClassFields). has_lead_in (window_of d.version) (part_brought p) ≡ true)
             (sym class-same)

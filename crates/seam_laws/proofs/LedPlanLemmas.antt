@@ -10,8 +10,7 @@ use Rattle.seam_laws.specs.LeadInLaws.{AreInOwnSlots, AreLedInOwnSlots}
 use Rattle.slot_plan.proofs.AreaLemmas.{Contains-area, only_one}
 use Rattle.slot_plan.proofs.FreeByteLemmas.{chosen-own, cons-fits, fit-feasible, fits-cons}
 use Rattle.slot_plan.proofs.FreeByteLemmas.{more-behind, within-fit}
-use Rattle.slot_plan.specs.FreeBytes.{FitsBehind, IsLeadInSlot}
-use Rattle.slot_plan.specs.Layouts.{begins_of, FrameLengths, HasLayout}
+use Rattle.slot_plan.specs.{FreeBytes.{FitsBehind, IsLeadInSlot}, Layouts.{begins_of, HasLayout}}
 use Rattle.slot_plan.specs.Lists.{AreChosenAreas, frames_with_areas, IsNotBehind}
 use Rattle.slot_plan.specs.Parts.{all_items, AreLeadIns, IsLeadIn, led_items, need_item, open_frame}
 use Rattle.slot_plan.specs.Parts.{own_frame, own_slot_area, part_items}
@@ -33,7 +32,7 @@ own-laid : (needs : List Need) → frames_with_areas (map open_frame
     ≡ map own_frame needs
 unfolding frames_with_areas
 own-laid [] = refl
-own-laid (need ∷ needs) = ap (λ (l : List FrameLengths). own_frame need ∷ l) (own-laid needs)
+own-laid (need ∷ needs) = ap (own_frame need ∷◌) (own-laid needs)
 
 -- where main data begin in the plan of frames in their own slots
 abbrev pub OwnBegins : ℕ → List Need → List Placed → Type 0
@@ -76,12 +75,12 @@ own-same [] (x ∷ xs) ys first second begins = absurd first
 own-same (need ∷ needs) [] ys first second begins = absurd first
 own-same (need ∷ needs) (x ∷ xs) [] first second begins = absurd second
 own-same (need ∷ needs) (x ∷ xs) (y ∷ ys) first second begins =
-    let slot : x.slot ≡ y.slot =
+    let slot =
     sym (only_one need.header.slot x.slot first.1) ∙ only_one need.header.slot y.slot second.1 in
-    let lead : x.lead_in ≡ y.lead_in = first.0 ∙ sym second.0 in
+    let lead = first.0 ∙ sym second.0 in
     let begin : x.begin ≡ y.begin = cc in
     let more : map (λ (p : Placed). p.begin) xs ≡ map (λ (p : Placed). p.begin) ys = cc in
-    ap₂ (λ (p : Placed) (ps : List Placed). p ∷ ps)
+    ap₂ ◌∷◌
     (ap (λ b. record { lead_in = b; slot = x.slot; begin = x.begin }) lead
     ∙ ap (λ t. record { lead_in = y.lead_in; slot = t; begin = x.begin }) slot
     ∙ ap (λ n. record { lead_in = y.lead_in; slot = y.slot; begin = n }) begin)
@@ -98,7 +97,7 @@ pub lead-fits : (window : ℕ) (h : HeaderFields) (slot : SlotFields) (needs : L
     → FitsBehind window 0 (lead_need h slot ∷ needs)
     → FitsBehind window (area_of (class_of h) slot false) needs
 lead-fits window h slot needs fits =
-    let area : ℕ = area_of (class_of h) slot false in
+    let area = area_of (class_of h) slot false in
     let behind = fits-cons window 0 (lead_need h slot) needs (omega arith) fits in
     more-behind window (free_bytes_behind window 0 0 area) area needs (omega arith) behind.1
 
@@ -157,9 +156,8 @@ module _ (window : ℕ) (first : Need) (needs : List Need) where
       let slots = plan.slots in
       let areas = led-areas p placed slots in
       let opens = map open_frame (led_items own_choice all) in
-      let feasible : FitsBehind window 0 (lead_need first.header p.slot ∷ all) =
-      subst (HasLayout window 0) (led-laid p.slot)
-      (subst (λ (l : List ℕ). HasLayout window 0 (frames_with_areas opens l)) areas
+      let feasible = subst (HasLayout window 0) (led-laid p.slot)
+      (subst (λ l. HasLayout window 0 (frames_with_areas opens l)) areas
       plan.least.feasible) in
       let is : IsLeadInSlot window class all p.slot =
       record {
@@ -168,7 +166,7 @@ module _ (window : ℕ) (first : Need) (needs : List Need) where
         least = λ other has fits.
             not-behind (area_of class p.slot false) (area_of class other false)
             (map own_slot_area all) (map own_slot_area all)
-            (subst (λ (l : List ℕ).
+            (subst (λ l.
             IsNotBehind l (area_of class other false ∷ map own_slot_area all)) areas
             (plan.least.least (area_of class other false ∷ map own_slot_area all)
             (led-chosen other has)
@@ -184,7 +182,7 @@ module _ (window : ℕ) (first : Need) (needs : List Need) where
         own = slots.2;
         begins =
             plan.begins
-            ∙ ap (λ (l : List ℕ). begins_of window 0 0 (frames_with_areas opens l)) areas
+            ∙ ap (λ l. begins_of window 0 0 (frames_with_areas opens l)) areas
             ∙ ap (begins_of window 0 0) (led-laid p.slot);
       }
 

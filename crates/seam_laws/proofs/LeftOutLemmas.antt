@@ -9,9 +9,8 @@ use Rattle.chosen_streams.proofs.CaseLemmas.{stream-is}
 use Rattle.cut_edits.specs.Exact.{survey_without_head}
 use Rattle.exact_span.specs.declared.overlap.Overlap.{Overlap}
 use Rattle.frame_header.proofs.HeaderLemmas.{IsClass-class_of}
-use Rattle.frame_header.specs.Fields.{ClassFields, HeaderFields, IsClass}
-use Rattle.frame_header.specs.Tables.{class_of, window_of}
-use Rattle.laying.{proofs.EntryByteLemmas.shaped, specs.Relaid.{FilePart, part_stream}}
+use Rattle.frame_header.specs.{Fields.{ClassFields, HeaderFields, IsClass}, Tables.window_of}
+use Rattle.laying.specs.Relaid.{FilePart, part_stream}
 use Rattle.seam_laws.proofs.FollowerLemmas.{followers-on}
 use Rattle.seam_laws.proofs.SeamlessFrontLemmas.{begins-first, empty-frame, no-parts, none-zero}
 use Rattle.seam_laws.proofs.SeamlessFrontLemmas.{silent_frame, whole-first, zero-side}
@@ -31,7 +30,7 @@ use Rattle.seam_plan.specs.declared.seam.Seam.TheVariants.{Follows, LeadIn, Whol
 use Rattle.seamless_edits.proofs.FramePlaceLemmas.{get-some, get-within}
 use Rattle.seamless_edits.specs.Seamless.{begins_blank, join_of_parts, later_parts, part_brought}
 use Rattle.seamless_edits.specs.Seamless.{part_from}
-use Rattle.side_info.specs.Side.{no_side, SideFits}
+use Rattle.side_info.specs.Side.{no_side}
 use Rattle.sync_survey.specs.Faults.{stream_of, stream_of_survey, SurveyFields}
 use Rattle.sync_survey.specs.HeadApart.{apart_row, apart_rows, emptied_row, rows_set_apart}
 use Rattle.sync_survey.specs.MainData.{granule_lengths, main_bytes, no_slot, row_side, stream_frame}
@@ -50,7 +49,7 @@ stream-first file s r rows are =
     let frame : ℕ × Row → StreamFrame =
     λ p. stream_frame (main_bytes file s.head s.frames) s.head s.frames p.0 p.1 in (
       map frame (enumerate_from (0 + 1) rows),
-      ap (λ (l : List Row). map frame (enumerate_from 0 l)) are,
+      ap (λ l. map frame (enumerate_from 0 l)) are,
     )
 
 own-none : (r : Row) (lost : Bool) → r.lost ≡ lost → r.side ≡ no_side → row_side r ≡ no_side
@@ -69,7 +68,7 @@ apart-first None q rows none =
     let is = emptied-none q q.lost refl none in
     (emptied_row q, map emptied_row rows, refl, is.0, is.1)
 apart-first (Some head) q rows none =
-    let r : Row = apart_row (q ∷ rows) 0 q in
+    let r = apart_row (q ∷ rows) 0 q in
     let is = emptied-none r r.lost refl none in
     (emptied_row r, map emptied_row (drop 1 (apart_rows (q ∷ rows))), refl, is.0, is.1)
 
@@ -83,9 +82,9 @@ silent-first file s r rows h are none same =
     let begins = stream-first file s r rows are in (
       begins.0,
       begins.1
-          ∙ ap (λ (f : StreamFrame). f ∷ begins.0)
+          ∙ ap (λ f. f ∷ begins.0)
           (empty-frame (main_bytes file s.head s.frames) s.head s.frames 0 r none
-          ∙ ap (λ (g : HeaderFields). silent_frame (record g { slot = no_slot })) same),
+          ∙ ap (λ g. silent_frame (record g { slot = no_slot })) same),
     )
 
 module _ (c : ClassFields) (p : FilePart) (is : IsInput c p)
@@ -101,7 +100,7 @@ module _ (c : ClassFields) (p : FilePart) (is : IsInput c p)
   q = begin.0
 
   found : slice_get p.survey.frames 0 ≡ Some q
-  found = ap (λ (l : List Row). slice_get l 0) begin.2
+  found = ap (λ l. slice_get l 0) begin.2
 
   known : IsClass c
   known =
@@ -112,9 +111,19 @@ module _ (c : ClassFields) (p : FilePart) (is : IsInput c p)
   none =
       let placed = is.has.placed 0 q found in
       let pairs = (whole-first p.file p.survey.frames q is.has.rows found).pairs in
-      zero-side (class_of q.header) q.side (IsClass-class_of q.header placed.known)
-      (shaped q.side pairs) (subst (λ d. SideFits d q.side) (sym placed.class_is) placed.fits)
-      (sym (begins-first p.survey.frames q found) ∙ blank)
+      grind (
+        arith,
+        zero-side,
+        q.header,
+        q.side,
+        IsClass-class_of,
+        placed.known,
+        pairs,
+        placed.class_is,
+        placed.fits,
+        begins-first,
+        p.survey.frames,
+      )
 
   abbrev front : StreamFrame
   front = silent_frame (record q.header { slot = no_slot })
@@ -125,19 +134,19 @@ module _ (c : ClassFields) (p : FilePart) (is : IsInput c p)
       silent-first p.file p.survey q begin.1 q.header begin.2 (own-none q q.lost refl none) refl in
       (own.0, stream-is p.file is.allowed p.survey is.surveyed ∙ own.1)
 
-  apart-front : (more : List StreamFrame) × (whole_stream c p is ≡ front ∷ more)
+  apart-front : (more : List StreamFrame) × (whole_stream is ≡ front ∷ more)
   apart-front =
       let apart = apart-first p.survey.head q begin.1 none in
       silent-first p.file (survey_without_head p.survey) apart.0 apart.1 q.header
-      (ap (λ (l : List Row). map emptied_row (rows_set_apart p.survey.head l)) begin.2 ∙ apart.2)
+      (ap (λ l. map emptied_row (rows_set_apart p.survey.head l)) begin.2 ∙ apart.2)
       apart.3 apart.4
 
   -- its first frame is empty
-  pub empty-front : IsEmptyFront c p.file (take 1 (whole_stream c p is))
+  pub empty-front : IsEmptyFront c p.file (take 1 (whole_stream is))
   empty-front = record {
     frame = front;
     one = ap (take 1) apart-front.1;
-    first = ap (λ (l : List StreamFrame). slice_get l 0) own-first.1;
+    first = ap (λ l. slice_get l 0) own-first.1;
     side = none-zero c known;
     main = no-parts (granule_lengths (record q.header { slot = no_slot }) no_side);
   }
@@ -176,7 +185,7 @@ joint-led class run before input is =
         → (unwrap_or (option_or x y) (whole_joint input)).seam ≡ LeadIn
         → has_lead_in (window_of class.version) input ≡ true
     at (Some joint) follows y without seam =
-        let never : Follows follows.0 ≡ LeadIn = sym follows.1 ∙ seam in absurd cc
+        let never = sym follows.1 ∙ seam in absurd cc
     at None follows (Some joint) without seam = without.1
     at None follows None without seam = absurd cc
 
@@ -189,10 +198,10 @@ joints-led class run before [] n input joint there found is = absurd cc
 joints-led class run before (i ∷ inputs) zero input joint there found is =
     let same : i ≡ input = cc in
     let here : joint_of class run before i ≡ joint = cc in
-    subst (λ (b : Brought). has_lead_in (window_of class.version) b ≡ true) same
+    subst (λ b. has_lead_in (window_of class.version) b ≡ true) same
     (joint-led class run before i (ap (λ (j : JointFrames). j.seam) here ∙ is))
 joints-led class run before (i ∷ inputs) (suc n) input joint there found is =
-    let here : JointFrames = joint_of class run before i in
+    let here = joint_of class run before i in
     joints-led class (run ++ here.frames) i inputs n input joint there found is
 
 -- something becomes of each input
@@ -220,7 +229,7 @@ later-at (j ∷ joints) (q ∷ parts) zero p same is =
     record {
       joint = j;
       found = refl;
-      written = ap (λ (r : FilePart). Some (part_from (left_out_count j.seam) r)) own;
+      written = ap (λ r. Some (part_from (left_out_count j.seam) r)) own;
     }
 later-at (j ∷ joints) (q ∷ parts) (suc n) p same is =
     let more = later-at joints parts n p (omega (arith, same)) is in
@@ -253,34 +262,34 @@ module _ {first : FilePart} {parts : List FilePart}
   -- something becomes of each input after the first
   pub joints-count : length joined.joints ≡ length parts
   joints-count =
-      ap (λ (js : List JointFrames). length js) (joints-are are)
+      ap length (joints-are are)
       ∙ joints-many c begins.frames begins others ∙ length-map parts part_brought
 
   -- an input without its first k frames, and these
   module _ (p : FilePart) (is : IsInput c p) (k : ℕ) where
     abbrev left : List StreamFrame
-    left = take k (whole_stream c p is)
+    left = take k (whole_stream is)
 
     both : stream_of_survey p.file (survey_without_head p.survey)
         ≡ left ++ part_stream (part_from k p)
     both =
-        sym (take-append-drop k (whole_stream c p is))
-        ∙ ap (λ (l : List StreamFrame). left ++ l) (sym (stream-from c p is k))
+        sym (take-append-drop k (whole_stream is))
+        ∙ ap (left ++◌) (sym (stream-from is k))
 
   led-front : (p : FilePart) (is : IsInput c p)
       → has_lead_in (window_of c.version) (part_brought p) ≡ true
-      → IsEmptyFront p.survey.class p.file (take 1 (whole_stream c p is))
+      → IsEmptyFront p.survey.class p.file (take 1 (whole_stream is))
   unfolding has_lead_in
   led-front p is has =
       let blank =
       (and_parts (part_brought p).blank
       (leads_others (window_of c.version) (needs_of (part_brought p).frames)) has).0 in
-      subst (λ (d : ClassFields). IsEmptyFront d p.file (take 1 (whole_stream c p is)))
+      subst (λ d. IsEmptyFront d p.file (take 1 (whole_stream is)))
       (sym is.of_class) (empty-front c p is blank)
 
   first-written : IsInputWritten first parts 0 first
   first-written =
-      elim (cases_lt 0 joined.front) as (λ _. IsInputWritten first parts 0 first) [
+      elim (cases_lt 0 joined.front) [
         | inl out ↦
             let one : joined.front ≡ 1 = omega (arith, out, front-few are) in
             record {
@@ -289,7 +298,7 @@ module _ {first : FilePart} {parts : List FilePart}
               left_out = left first are.head joined.front;
               all = both first are.head joined.front;
               may = inr
-                  (subst (λ n. IsEmptyFront c first.file (take n (whole_stream c first are.head)))
+                  (subst (λ n. IsEmptyFront c first.file (take n (whole_stream are.head)))
                   (sym one) (led-front first are.head (front-parts are out).0));
             }
         | inr none ↦
@@ -299,7 +308,7 @@ module _ {first : FilePart} {parts : List FilePart}
               is = refl;
               left_out = left first are.head joined.front;
               all = both first are.head joined.front;
-              may = inl (ap (λ n. take n (whole_stream c first are.head)) zero_is);
+              may = inl (ap (λ n. take n (whole_stream are.head)) zero_is);
             }
       ]
 
@@ -312,7 +321,7 @@ module _ {first : FilePart} {parts : List FilePart}
 
     joint_is : slice_get (joints_of c begins others) n ≡ Some later.joint
     joint_is =
-        ap (λ (js : List JointFrames). slice_get js n) (sym (joints-are are))
+        ap (λ js. slice_get js n) (sym (joints-are are))
         ∙ later.found
 
     brought_is : slice_get others n ≡ Some (part_brought p)
@@ -333,10 +342,10 @@ module _ {first : FilePart} {parts : List FilePart}
 
     -- as many frames are left out as the seam says
     follows-out : (out : ℕ) → later.joint.seam ≡ Follows out
-        → length (take out (whole_stream c p is)) ≡ out
+        → length (take out (whole_stream is)) ≡ out
     follows-out out seam =
-        length-take-le out (whole_stream c p is)
-        (omega (arith, (follower out seam).has, brought-many c p is, stream-many c p is))
+        length-take-le out (whole_stream is)
+        (omega (arith, (follower out seam).has, brought-many is, stream-many is))
 
     -- the input with this number, if its seam says that it follows
     pub follower-at : (out : ℕ) → seam_at joined.joints (suc n) ≡ Some (Follows out)
@@ -344,13 +353,12 @@ module _ {first : FilePart} {parts : List FilePart}
         (run_after begins (joints_of c begins others) n)
         (run_after begins (joints_of c begins others) (n + 1)) out
     follower-at out seam =
-        let own : Some later.joint.seam ≡ Some (Follows out) =
-        sym (ap (option_map (λ (j : JointFrames). j.seam)) later.found) ∙ seam in
+        let own = sym (ap (option_map (λ (j : JointFrames). j.seam)) later.found) ∙ seam in
         (part_brought before.0, follower out cc)
 
     may : (seam : Seam) → later.joint.seam ≡ seam
         → MayBeLeftOut (Some seam) p.survey.class p.file
-        (take (left_out_count seam) (whole_stream c p is))
+        (take (left_out_count seam) (whole_stream is))
     may Whole seam = refl
     may LeadIn seam =
         led-front p is

@@ -1,6 +1,6 @@
 -- The plan of one part whose frames keep their slots has a lead-in exactly
 -- if they want something, in the least slot after whose area they fit.
-use Rattle.std.proofs.Common.{arith, false, inl, inr, List, map, Option, Some, ℕ, [], ◌∷◌, ◌≤◌}
+use Rattle.std.proofs.Common.{arith, false, inl, inr, List, map, Option, Some, ℕ, [], ◌∷◌}
 use Rattle.std.proofs.lemmas.{Bool.cases_lt, List.append-nil}
 use Rattle.frame_header.specs.{Fields.{ClassFields, SlotFields}, Tables.{area_of, class_of}}
 use Rattle.seam_laws.specs.LeadInLaws.{AreInOwnSlots, AreLedInOwnSlots, LeadInWhereWanted}
@@ -67,13 +67,12 @@ led-slot : (window : ℕ) (first : Need) (needs : List Need) (slot : SlotFields)
     → IsLeadInSlot window (class_of first.header) (first ∷ needs) slot
 unfolding IsLeadIn part_items
 led-slot window first needs slot alone =
-    let class : ClassFields = class_of first.header in
+    let class = class_of first.header in
     record {
       chosen = alone.2;
       fits = lead-fits window class slot (first ∷ needs) alone.1;
       least = λ other has fits.
-          elim (cases_lt (area_of class other false) (area_of class slot false))
-          as (λ _. area_of class slot false ≤ area_of class other false) [
+          elim (cases_lt (area_of class other false) (area_of class slot false)) [
             | inl less ↦ grind (arith, fits-lead window class other (first ∷ needs) fits)
             | inr most ↦ most
           ];

@@ -1,12 +1,12 @@
 -- The head of a written file has the extension of its
 -- Info frame. An extension of zeros counts nothing.
-use Rattle.std.proofs.Common.{ap, append_assoc, arith, Bool, cond, drop, false, length, List, None}
-use Rattle.std.proofs.Common.{Option, refl, replicate, Some, sym, take, ℕ, [], ◌%◌, ◌++◌, ◌-◌, ◌<◌}
-use Rattle.std.proofs.{Common.{◌^◌, ◌∙◌, ◌≡◌, ◌≤◌}, lemmas.Bool.le-leb}
+use Rattle.std.proofs.Common.{ap, append_assoc, arith, Bool, drop, false, length, List, None}
+use Rattle.std.proofs.Common.{Option, refl, replicate, Some, sym, take, ℕ, ◌%◌, ◌++◌, ◌-◌, ◌<◌, ◌^◌}
+use Rattle.std.proofs.{Common.{◌∙◌, ◌≡◌, ◌≤◌}, lemmas.Bool.le-leb}
 use Rattle.std.proofs.lemmas.List.{drop-drop, drop_at, length-append, length-replicate, length-take}
 use Rattle.std.{proofs.lemmas.List.{take-append-le, take_at}, specs.{List.concat, Prelude.IfSome}}
 use Rattle.bit_fields.specs.Bits.{bytes}
-use Rattle.byteorder.specs.{Endian.{big_bytes, big_number}, Numbers.big_from-bytes}
+use Rattle.byteorder.specs.{Endian.big_bytes, Numbers.big_from-bytes}
 use Rattle.exact_span.proofs.SealLemmas.{extension-there}
 use Rattle.exact_span.specs.{Extensions.{counts_with_frames, has_encoder}, Laws.AreInfoFields}
 use Rattle.exact_span.specs.PlayedPositions.{counted_positions}
@@ -14,7 +14,7 @@ use Rattle.frame_header.specs.{Fields.{ClassFields, HeaderFields, IsHeader}, Hea
 use Rattle.frame_header.specs.Tables.{area_of, class_of, length_of, side_size_of}
 use Rattle.frame_writer.specs.Frames.{Frame}
 use Rattle.info_header.specs.HeadText.{low_place}
-use Rattle.info_header.specs.Info.{field_in, field_place, flags_in, info_bytes, info_in, number_of}
+use Rattle.info_header.specs.Info.{field_in, field_place, flags_in, info_bytes, info_in}
 use Rattle.info_header.specs.Info.{number_or_zero, padded_bytes, table_or_zeros, vbr_text}
 use Rattle.info_header.specs.InfoFrame.{info_frame, info_header_of, info_slot_of}
 use Rattle.info_header.specs.declared.fields.Info.{Info}
@@ -47,8 +47,8 @@ module _ (first : HeaderFields) (info : Info) (known : IsHeader first)
   fields-there : drop (low_place (info_header_of first)) (info_frame first info) ≡ fields
   unfolding info_frame low_place
   fields-there =
-      let four : List ℕ = bytes (header_bits (info_header_of first)) in
-      let side : List ℕ = replicate (side_size_of c) 0 in
+      let four = bytes (header_bits (info_header_of first)) in
+      let side = replicate (side_size_of c) 0 in
       sym (drop-drop (side_size_of c) 4 (four ++ (side ++ fields)))
       ∙ ap (drop (side_size_of c))
       (drop_at four (side ++ fields) 4 (length-header (info_header_of first)))
@@ -68,18 +68,18 @@ module _ (first : HeaderFields) (info : Info) (known : IsHeader first)
   extension-at : take 36 (drop 120 fields) ≡ info.extension
   unfolding low_place
   extension-at =
-      ap (λ (l : List ℕ). take 36 (drop 120 l)) (sym fields-there)
+      ap (λ l. take 36 (drop 120 l)) (sym fields-there)
       ∙ ap (take 36) (drop-drop 120 (low_place (info_header_of first)) (info_frame first info))
       ∙ extension-there first info whole
 
   extension-in : (info_in fields).extension ≡ info.extension
   unfolding info_in
   extension-in =
-      let rest : List ℕ = drop 120 fields in
+      let rest = drop 120 fields in
       let long : 36 ≤ length rest =
       omega (
         arith,
-        ap (λ (l : List ℕ). length l) extension-at,
+        ap length extension-at,
         length-take 36 rest,
         whole.extension,
       ) in
@@ -130,23 +130,23 @@ module _ (first : HeaderFields) (info : Info) (known : IsHeader first)
       (vbr_text vbr ++ (big_bytes 4 15 ++ (big_bytes 4 m ++ (big_bytes 4 n ++ rest)))) ≡ rest
   behind-by vbr m n rest = grind arith
 
-  table-long : (table : Option (List ℕ)) → IfSome table (λ (t : List ℕ). length t ≡ 100)
+  table-long : (table : Option (List ℕ)) → IfSome table (λ t. length t ≡ 100)
       → length (table_or_zeros table) ≡ 100
   table-long table long = grind arith
 
   quality-at : take 4 (drop 116 fields) ≡ big_bytes 4 (number_or_zero info.quality)
   unfolding info_bytes
   quality-at =
-      let frames : List ℕ = big_bytes 4 (number_or_zero info.frames) in
-      let bytes : List ℕ = big_bytes 4 (number_or_zero info.bytes) in
-      let table : List ℕ = table_or_zeros info.table in
-      let four : List ℕ = big_bytes 4 (number_or_zero info.quality) in
-      let last : List ℕ = table ++ (four ++ info.extension) in
-      let rest : List ℕ = table ++ (four ++ (info.extension ++ zeros)) in
+      let frames = big_bytes 4 (number_or_zero info.frames) in
+      let bytes = big_bytes 4 (number_or_zero info.bytes) in
+      let table = table_or_zeros info.table in
+      let four = big_bytes 4 (number_or_zero info.quality) in
+      let last = table ++ (four ++ info.extension) in
+      let rest = table ++ (four ++ (info.extension ++ zeros)) in
       let assoc : fields
       ≡ vbr_text info.vbr ++ (big_bytes 4 15 ++ (frames ++ (bytes ++ rest))) =
       grind (arith, append_assoc) in
-      ap (λ (l : List ℕ). take 4 (drop 116 l)) assoc
+      ap (λ l. take 4 (drop 116 l)) assoc
       ∙ ap (take 4)
       (sym (drop-drop 100 16 (vbr_text info.vbr ++ (big_bytes 4 15 ++ (frames ++ (bytes ++ rest)))))
       ∙ ap (drop 100)
@@ -161,11 +161,7 @@ module _ (first : HeaderFields) (info : Info) (known : IsHeader first)
   quality-in : (info_in fields).quality ≡ Some (number_or_zero info.quality % 256 ^ 4)
   unfolding info_in field_in field_place
   quality-in =
-      ap (λ flags. number_of (field_in flags 3 fields)) flags-is
-      ∙ ap (λ b. number_of (cond b (Some (take 4 (drop 116 fields))) None))
-      (le-leb 120 (length fields) quality-long)
-      ∙ ap (λ (l : List ℕ). Some (big_number 4 l)) quality-at
-      ∙ ap Some (big_from-bytes 4 (number_or_zero info.quality) [])
+      grind (arith, flags-is, le-leb, quality-long, quality-at, big_from-bytes, info.quality)
 
   -- ---- in a file
 

@@ -108,16 +108,20 @@ module _ {P : Type 0} (IsAt : P → P → FilePart → Type 0) where
 
 -- ---- the inputs of a join
 
+-- the files of these parts
+abbrev pub files_of : List FilePart → List (Option (List ℕ))
+files_of parts = map (λ (p : FilePart). Some p.file) parts
+
 -- the files that are read as parts are the files of these parts
 pub parts-files : (contents : Contents) (place : ℕ) (class : Option ClassFields) (allowed : ℕ)
     (names : List (List ℕ)) (parts : List FilePart)
     → join_parts_from place class allowed contents names ≡ Ok parts
-    → map contents names ≡ map (λ (p : FilePart). Some p.file) parts
+    → map contents names ≡ files_of parts
 unfolding join_parts_from
 parts-files contents place class allowed [] parts e = grind arith
 parts-files contents place class allowed (name ∷ names) parts e =
     let one = then_ok (join_part place class allowed (contents name)) _ parts e in
-    let part : FilePart = one.0 in
+    let part = one.0 in
     let more = more-inputs part
     (join_parts_from (place + 1) (Some (unwrap_or class part.survey.class))
     (allowed - length part.survey.frames) contents names) parts one.2 in
@@ -126,14 +130,14 @@ parts-files contents place class allowed (name ∷ names) parts e =
     (is.there ∙ ap (λ (p : FilePart). Some p.file) is.whole)
     (parts-files contents (place + 1) (Some (unwrap_or class part.survey.class))
     (allowed - length part.survey.frames) names more.0 more.1)
-    ∙ ap (map (λ (p : FilePart). Some p.file)) more.2
+    ∙ ap files_of more.2
 
 -- in a join in two steps, the first file is the join of the first
 -- pieces, and the files after it are those of the other pieces
 step-files : (first : FilePart) (parts others : List FilePart)
     → (steps : IsJoinedInSteps first parts others)
     → (steps.joined.file ≡ seamless_file (first ∷ parts))
-    × (map (λ (p : FilePart). Some p.file) others ≡ map (λ (p : FilePart). Some p.file) steps.more)
+    × (files_of others ≡ files_of steps.more)
 step-files first parts others steps =
     grind (
       arith,
@@ -188,14 +192,14 @@ module _ {P : Type 0} (cuts : Cuts P) (file : List ℕ) (t : SurveyFields) where
   -- the same files are the same pieces
   same-pieces : (c : ClassFields) {from : P} {tos : List P} {xs : List FilePart}
       → AreAt c from tos xs → (ys : List FilePart)
-      → map (λ (p : FilePart). Some p.file) xs ≡ map (λ (p : FilePart). Some p.file) ys
+      → files_of xs ≡ files_of ys
       → AreInputs c ys → AreAt c from tos ys
   same-pieces c no_pieces [] same inputs = no_pieces
   same-pieces c no_pieces (y ∷ ys) same inputs = absurd cc
   same-pieces c (piece_then here more) [] same inputs = absurd cc
   same-pieces c (piece_then {p = x} {parts = xs} here more) (y ∷ ys) same inputs =
       let file_is : x.file ≡ y.file = cc in
-      let rest : map (λ (p : FilePart). Some p.file) xs ≡ map (λ (p : FilePart). Some p.file) ys =
+      let rest : files_of xs ≡ files_of ys =
       cc in
       let piece = here.piece in
       piece_then
@@ -233,20 +237,19 @@ module _ {P : Type 0} (cuts : Cuts P) (file : List ℕ) (t : SurveyFields) where
   two-steps has again {from = from} {to = to} {tos = tos} {first = first} {parts = parts}
       {others = others} pieces steps =
       let cut = cut-pieces (IsAt t.class) to tos parts others (later-at pieces) in
-      let mid : P = last_place to cut.first in
+      let mid = last_place to cut.first in
       let front = again from to cut.first first parts
       (piece_then (first-at pieces) cut.pieces) in
       let right = front.right in
       let stepped = step-files first parts others steps in
       let inputs = inputs-are steps.files steps.names steps.joined steps.more steps.taken in
-      let laid : LaidPart = laid_piece (cuts.led from mid) (cuts.chosen from mid) t in
-      let made : IsFileOf laid file t steps.joined.file =
-      subst (IsFileOf laid file t) (sym (stepped.0 ∙ front.joins))
+      let laid = laid_piece (cuts.led from mid) (cuts.chosen from mid) t in
+      let made = subst (IsFileOf laid file t) (sym (stepped.0 ∙ front.joins))
       (laid-bare laid has (omega (arith, right.some, right.within))) in
       let joined : IsPiece (cuts.led from mid) (cuts.chosen from mid) file t
       steps.joined.survey.class steps.joined =
       record { has = has; right = right; made = made; is = inputs.head } in
-      let all : Joins t.class steps.joined steps.more =
+      let all =
       subst (λ d. Joins d steps.joined steps.more) (class-same (laid-input joined)) inputs in
       let begin : IsAt t.class from mid steps.joined =
       record {
@@ -302,27 +305,27 @@ module _ {P : Type 0} (cut : Cutting P) (cuts : Cuts P) (file : List ℕ) (s : S
         → IsInput c p → p.file ≡ file_laid l file t → (NoneAlike → is_look_alike l p ≡ false)
         → IsPlainAt cuts file t c NoneAlike from to p
     piece-at from to l p how is same none =
-        let laid : LaidPart = laid_piece (cuts.led from to) (cuts.chosen from to) t in
+        let laid = laid_piece (cuts.led from to) (cuts.chosen from to) t in
         let piece : IsPiece (cuts.led from to) (cuts.chosen from to) file t c p =
         record {
           has = has;
           right = how.right;
           made =
               subst (IsFileOf laid file t)
-              (sym (same ∙ ap (λ (l : LaidPart). file_laid l file t) how.is))
+              (sym (same ∙ ap (λ l. file_laid l file t) how.is))
               (laid-whole laid has (omega (arith, how.right.some, how.right.within)));
           is = is;
         } in (
           record { there = how.there; piece = piece },
-          λ n. plain-by piece (ap (λ (l : LaidPart). is_look_alike l p) (sym how.is) ∙ none n),
+          λ n. plain-by piece (ap (λ l. is_look_alike l p) (sym how.is) ∙ none n),
         )
 
     abbrev files : List LaidPart → List (Option (List ℕ))
-    files laid = map (λ (l : LaidPart). Some (file_laid l file t)) laid
+    files laid = map (λ l. Some (file_laid l file t)) laid
 
     pieces-from : (from : P) (tos : List P) (laid : List LaidPart) (parts : List FilePart)
         → piece_parts_from cut file s from tos ≡ Ok laid → AreInputs c parts
-        → map (λ (p : FilePart). Some p.file) parts ≡ files laid
+        → files_of parts ≡ files laid
         → (NoneAlike → has_no_look_alike laid parts ≡ true)
         → ArePieces (IsPlainAt cuts file t c NoneAlike) from tos parts
     pieces-from from [] [] [] e inputs same none = no_pieces
@@ -330,21 +333,19 @@ module _ {P : Type 0} (cut : Cutting P) (cuts : Cuts P) (file : List ℕ) (s : S
     pieces-from from [] (l ∷ laid) parts e inputs same none = absurd cc
     pieces-from from (to ∷ tos) laid [] e inputs same none =
         let first = laid-first from to tos laid e in
-        let never : [] ≡ files (first.first ∷ first.more) = same ∙ ap files (sym first.are) in
+        let never = same ∙ ap files (sym first.are) in
         absurd cc
     pieces-from from (to ∷ tos) laid (p ∷ parts) e inputs same none =
         let first = laid-first from to tos laid e in
-        let l : LaidPart = first.first in
-        let all : Some p.file ∷ map (λ (p : FilePart). Some p.file) parts
-        ≡ files (l ∷ first.more) =
-        same ∙ ap files (sym first.are) in
+        let l = first.first in
+        let all = same ∙ ap files (sym first.are) in
         let here : p.file ≡ file_laid l file t = cc in
-        let more : map (λ (p : FilePart). Some p.file) parts ≡ files first.more = cc in
+        let more : files_of parts ≡ files first.more = cc in
         let tests : NoneAlike
         → (is_look_alike l p ≡ false) × (has_no_look_alike first.more parts ≡ true) =
         λ n.
         alike-first l first.more p parts
-        (ap (λ (ls : List LaidPart). has_no_look_alike ls (p ∷ parts)) first.are ∙ none n) in
+        (ap (λ ls. has_no_look_alike ls (p ∷ parts)) first.are ∙ none n) in
         piece_then
         (piece-at from to l p first.how inputs.0 here (λ n. (tests n).0))
         (pieces-from to tos first.more parts first.later inputs.1 more (λ n. (tests n).1))
@@ -356,7 +357,7 @@ module _ {P : Type 0} (cut : Cutting P) (cuts : Cuts P) (file : List ℕ) (s : S
         → (NoneAlike → has_no_look_alike laid (first ∷ parts) ≡ true)
         → ArePieces (IsPlainAt cuts file t t.class NoneAlike) from (to ∷ tos) (first ∷ parts)
     laid-pieces NoneAlike inputs none =
-        let c : ClassFields = first.survey.class in
+        let c = first.survey.class in
         let are = inputs-are inputs.files inputs.inputs first parts inputs.taken in
         let pieces =
         pieces-from c NoneAlike from (to ∷ tos) laid (first ∷ parts) e (are.head, are.others)
@@ -371,9 +372,4 @@ module _ {P : Type 0} (cut : Cutting P) (cuts : Cuts P) (file : List ℕ) (s : S
     pub first-plain : has_no_look_alike laid (first ∷ []) ≡ true
         → (piece : IsPiece (cuts.led from to) (cuts.chosen from to) file t t.class first)
         → IsPlain piece
-    first-plain none piece =
-        let one = laid-first from to tos laid e in
-        plain-by piece
-        (ap (λ (l : LaidPart). is_look_alike l first) (sym one.how.is)
-        ∙ (alike-first one.first one.more first []
-        (ap (λ (ls : List LaidPart). has_no_look_alike ls (first ∷ [])) one.are ∙ none)).0)
+    first-plain none piece = grind (arith, laid-first, plain-by, alike-first)

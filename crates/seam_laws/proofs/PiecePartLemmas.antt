@@ -20,8 +20,7 @@ use Rattle.seam_laws.proofs.LaidInputLemmas.{brings-led, brings-own, BringsLed, 
 use Rattle.seam_laws.proofs.LaidInputLemmas.{IsFileOf, IsLaidInput, needs-many}
 use Rattle.seam_laws.proofs.{LedPlanLemmas.led-as, OwnLeadInLemmas.lead-where-wanted}
 use Rattle.seam_laws.proofs.PieceHeadLemmas.{laid-count, laid-extension, laid-quality}
-use Rattle.seam_laws.proofs.SeamlessInputLemmas.{IsInput, stream-from, whole_stream}
-use Rattle.seam_laws.proofs.SeamlessRunLemmas.{own-many}
+use Rattle.seam_laws.proofs.{SeamlessInputLemmas.{IsInput, stream-from}, SeamlessRunLemmas.own-many}
 use Rattle.seam_laws.specs.LeadInLaws.{AreInOwnSlots, AreLedInOwnSlots}
 use Rattle.seam_laws.specs.{PlayedParts.piece_lead_ins, SeamlessLaws.is_look_alike}
 use Rattle.seam_plan.{proofs.FitLemmas.fits-tested, specs.Frames.{needs_of, RunFrame}}
@@ -147,7 +146,7 @@ module _ {led : Bool} {chosen : Chosen} {file : List ℕ} {s : SurveyFields} {c 
   -- the piece is laid in one of two ways
   pub ways : IsUnled ⊎ IsLed
   ways =
-      elim (laid-ways led (fits_behind window 0 needs) refl) as (λ _. IsUnled ⊎ IsLed) [
+      elim (laid-ways led (fits_behind window 0 needs) refl) [
         | inl own ↦
             inl (record {
               unled = own.1;
@@ -172,8 +171,8 @@ module _ {led : Bool} {chosen : Chosen} {file : List ℕ} {s : SurveyFields} {c 
   -- without its lead-ins, its stream is the stream of the chosen frames
   pub left-own : part_stream (part_from leads p) ≡ own_stream
   left-own =
-      stream-from c p piece.is leads
-      ∙ elim ways as (λ _. drop leads (whole_stream c p piece.is) ≡ own_stream) [
+      stream-from piece.is leads
+      ∙ elim ways [
         | inl own ↦ ap₂ (λ (n : ℕ) (l : List StreamFrame). drop n l) own.none own.brings.stream_is
         | inr led ↦ ap₂ (λ (n : ℕ) (l : List StreamFrame). drop n l) led.one led.brings.stream_is
       ]
@@ -182,14 +181,12 @@ module _ {led : Bool} {chosen : Chosen} {file : List ℕ} {s : SurveyFields} {c 
   pub row-after : (n : ℕ) (r : Row) → n ≡ leads → slice_get p.survey.frames n ≡ Some r
       → need_of r ≡ need_of piece.made.row
   row-after n r same found =
-      let first : slice_get (needs_of own_frames) 0 ≡ Some (need_of piece.made.row) =
-      ap (λ (l : List Need). slice_get l 0) frames-need
-      ∙ ap (λ (rows : List Row). slice_get (map need_of rows) 0)
+      let first = ap (λ l. slice_get l 0) frames-need
+      ∙ ap (λ rows. slice_get (map need_of rows) 0)
       (range-next s.frames chosen.from chosen.to piece.made.row piece.made.row_is piece.right.some)
       in
       row-need p.survey.frames n r (need_of piece.made.row) found
-      (elim ways
-      as (λ _. slice_get (map need_of p.survey.frames) n ≡ Some (need_of piece.made.row)) [
+      (elim ways [
         | inl own ↦
             ap₂ (λ (l : List Need) (k : ℕ). slice_get l k) own.brings.rows_need (same ∙ own.none)
             ∙ first
@@ -236,20 +233,20 @@ module _ {led : Bool} {chosen : Chosen} {file : List ℕ} {s : SurveyFields} {c 
   -- the extension is read as it was laid
   pub read-extension : read.extension ≡ chosen.extension
   read-extension =
-      ap (λ (l : List ℕ). (head_info l (Some at)).extension) piece.made.file_is
+      ap (λ l. (head_info l (Some at)).extension) piece.made.file_is
       ∙ laid-extension piece.made.row.header info known whole (front_blocks file s) frames
       piece.made.back
 
   -- the number of frames is read as it was laid
   pub read-count : (n : ℕ) → info.frames ≡ Some n → n < 256 ^ 4 → read.frames ≡ Some n
   read-count n is small =
-      ap (λ (l : List ℕ). (head_info l (Some at)).frames) piece.made.file_is
+      ap (λ l. (head_info l (Some at)).frames) piece.made.file_is
       ∙ laid-count piece.made.row.header info known whole (front_blocks file s) frames
       piece.made.back n is small
 
   -- the quality is read as it was written
   pub read-quality : read.quality ≡ Some (number_or_zero chosen.quality % 256 ^ 4)
   read-quality =
-      ap (λ (l : List ℕ). (head_info l (Some at)).quality) piece.made.file_is
+      ap (λ l. (head_info l (Some at)).quality) piece.made.file_is
       ∙ laid-quality piece.made.row.header info known whole (front_blocks file s) frames
       piece.made.back

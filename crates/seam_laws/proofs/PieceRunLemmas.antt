@@ -67,8 +67,8 @@ own-slot : (window : ℕ) (run : List Need) (first : Need) (needs : List Need) �
     → fits_behind window window (run ++ first ∷ needs) ≡ true
     → join_slot window run first needs ≡ Some first.header.slot
 own-slot window run first needs known fits =
-    let c : ClassFields = class_of first.header in
-    let p : Bool = first.header.protected in
+    let c = class_of first.header in
+    let p = first.header.protected in
     let test : SlotFields → Bool =
     λ slot. is_area_no_less first slot && fits_behind window window
     (run ++ need_in_slot slot first ∷ needs) in
@@ -134,20 +134,20 @@ module _ (class : ClassFields) where
   pieces-joints run before (frames ∷ more) [] are known fits = absurd are
   pieces-joints run before (frames ∷ more) (input ∷ inputs) are known fits =
       let fit =
-      subst (λ (l : List RunFrame). fits_behind window window (needs_of l) ≡ true)
+      subst (λ l. fits_behind window window (needs_of l) ≡ true)
       (sym (append_assoc run frames (concat_frames more))) fits in
       let here =
       piece-joint run before input frames are.0 (known-front frames (concat_frames more) known)
       (front-fits window window (run ++ frames) (concat_frames more) fit) in
       ap (λ (j : JointFrames). j ∷ joints_from class (run ++ j.frames) input inputs) here
-      ∙ ap (λ (js : List JointFrames). joint_by frames ∷ js)
+      ∙ ap (joint_by frames ∷◌)
       (pieces-joints (run ++ frames) input more inputs are.1
       (known-behind frames (concat_frames more) known) fit)
 
   joints-frames : (more : List (List RunFrame))
       → flat_map (λ (j : JointFrames). j.frames) (map joint_by more) ≡ concat_frames more
   joints-frames [] = refl
-  joints-frames (frames ∷ more) = ap (λ (l : List RunFrame). frames ++ l) (joints-frames more)
+  joints-frames (frames ∷ more) = ap (frames ++◌) (joints-frames more)
 
   joints-seams : (more : List (List RunFrame))
       → map (λ (j : JointFrames). j.seam) (map joint_by more) ≡ map (piece_seam window) more
@@ -183,9 +183,8 @@ module _ (class : ClassFields) where
     unled-run : IsUnledPiece window frames first → IsRun true
     unfolding front_left_out_count
     unled-run unled =
-        let all : List RunFrame = frames ++ concat_frames more in
-        let none : front_left_out_count class first all ≡ 0 =
-        ap (λ b. if b then 1 else 0)
+        let all = frames ++ concat_frames more in
+        let none = ap (λ b. if b then 1 else 0)
         (and_left (has_lead_in window first)
         (not (fits_behind window 0 (needs_of (drop 1 all)))) unled.none) in
         let joined =
@@ -193,7 +192,7 @@ module _ (class : ClassFields) where
         (known-behind frames (concat_frames more) known)
         unled.frames_are fits (sym none) in
         subst (IsRunOf frames more first true) (sym joined) (
-          ap₂ (λ (x y : List RunFrame). x ++ y) unled.frames_are (joints-frames more),
+          ap₂ ◌++◌ unled.frames_are (joints-frames more),
           refl,
           joints-seams more,
         )
@@ -202,10 +201,9 @@ module _ (class : ClassFields) where
         → IsRun false
     unfolding front_left_out_count
     led-run lacks led =
-        let all : List RunFrame = frames ++ concat_frames more in
-        let begin : List RunFrame = led.lead_in ∷ frames in
-        let one : front_left_out_count class first (begin ++ concat_frames more) ≡ 1 =
-        ap (λ b. if b then 1 else 0)
+        let all = frames ++ concat_frames more in
+        let begin = led.lead_in ∷ frames in
+        let one = ap (λ b. if b then 1 else 0)
         (and_from (has_lead_in window first) (not (fits_behind window 0 (needs_of all))) led.has
         (ap not (front-lacks window 0 frames (concat_frames more) lacks))) in
         let joined =
@@ -213,7 +211,7 @@ module _ (class : ClassFields) where
         led.frames_are
         (empty-fits window led.lead_in all led.empty fits) (sym one) in
         subst (IsRunOf frames more first false) (sym joined) (
-          ap (drop 1) (ap₂ (λ (x y : List RunFrame). x ++ y) led.frames_are (joints-frames more)),
+          ap (drop 1) (ap₂ ◌++◌ led.frames_are (joints-frames more)),
           refl,
           joints-seams more,
         )

@@ -18,7 +18,7 @@ use Rattle.seam_laws.proofs.SeamlessInputLemmas.{has-apart, inputs-fit, IsInput,
 use Rattle.seam_laws.proofs.SeamlessInputLemmas.{whole_stream}
 use Rattle.seam_laws.proofs.SeamlessRunLemmas.{all, brought, front-few, front-parts, joined, others}
 use Rattle.seam_laws.proofs.SeamlessRunLemmas.{stream, window}
-use Rattle.seam_plan.proofs.{FollowLemmas.sounds, RunSoundLemmas.{run-sounds, sounds_left}}
+use Rattle.seam_plan.proofs.RunSoundLemmas.{run-sounds, sounds_left}
 use Rattle.seam_plan.specs.Frames.{needs_of, RunFrame}
 use Rattle.seam_plan.specs.Joins.{fits_behind, has_lead_in, lead_in_header, lead_in_slot}
 use Rattle.seam_plan.specs.{Joins.{leads_others, matches_header}, Seams.joints_of}
@@ -28,7 +28,6 @@ use Rattle.side_info.proofs.SideLemmas.{SideFits-no_side}
 use Rattle.side_info.specs.Granule.{granule_bits, granule_numbers}
 use Rattle.side_info.specs.Side.{granules_in, no_side, side_at, side_bits, SideFits}
 use Rattle.side_info.specs.declared.side.Side.{Side}
-use Rattle.slot_plan.specs.declared.needs.Need.{Need}
 use Rattle.sync_survey.{proofs.EmptiedLemmas.no_bits, specs.Faults.{stream_of_survey, SurveyFields}}
 use Rattle.sync_survey.specs.HeadApart.{apart_rows, emptied_row, rows_set_apart}
 use Rattle.sync_survey.specs.MainData.{granule_lengths, main_bytes, no_slot, row_side, split_bits}
@@ -48,7 +47,7 @@ zeros-are (x ∷ xs) (y ∷ ys) same first second =
     let one = and_parts (x == 0) (list_all (λ bit. bit == 0) xs) first in
     let two = and_parts (y == 0) (list_all (λ bit. bit == 0) ys) second in
     let here : x ≡ y = omega (arith, eqb-true x 0 one.0, eqb-true y 0 two.0) in
-    ap₂ (λ (z : ℕ) (zs : List ℕ). z ∷ zs) here (zeros-are xs ys (omega (arith, same)) one.1 two.1)
+    ap₂ ◌∷◌ here (zeros-are xs ys (omega (arith, same)) one.1 two.1)
 
 -- side information with nothing in it is spelled in zeros
 pub none-zero : (c : ClassFields) → IsClass c → AllZero (side_bits c no_side)
@@ -144,8 +143,7 @@ rows-led window (r ∷ q ∷ rows) known leads =
         let of = known 1 q refl in
         let lead : HeaderFields = record q.header { protected = false; slot = slot } in
         let lead_known : IsHeader lead = grind arith in
-        let equal : r.header ≡ lead =
-        one-header r.header lead (known 0 r refl) lead_known
+        let equal = one-header r.header lead (known 0 r refl) lead_known
         ((bytes_eq-Decides (header_bits r.header) (header_bits lead)).0 same) in
         record {
           first = r;
@@ -200,7 +198,7 @@ module _ (c : ClassFields) (p : FilePart) (is : IsInput c p)
       let q = first-there p.survey.frames 0 is.some in
       let placed = is.has.placed 0 q.0 q.1 in
       let pairs = (whole-first p.file p.survey.frames q.0 is.has.rows q.1).pairs in
-      let known : IsClass (class_of q.0.header) = IsClass-class_of q.0.header placed.known in
+      let known = IsClass-class_of q.0.header placed.known in
       let none = zero-side (class_of q.0.header) q.0.side known (shaped q.0.side pairs)
       (subst (λ d. SideFits d q.0.side) (sym placed.class_is) placed.fits)
       (sym (begins-first p.survey.frames q.0 q.1) ∙ blank) in
@@ -225,21 +223,21 @@ module _ {c : ClassFields} {first : FilePart} {parts : List FilePart} (are : Joi
   two : AreLed survey.frames
   two =
       rows-led (window are) survey.frames
-      (λ i r found. ((has-apart c first are.head).placed i r found).known)
-      (subst (λ (l : List Need). leads_others (window are) l ≡ true)
-      (brought-needs c first are.head) leads.1)
+      (λ i r found. ((has-apart are.head).placed i r found).known)
+      (subst (λ l. leads_others (window are) l ≡ true)
+      (brought-needs are.head) leads.1)
 
   first-none : row_side two.first ≡ no_side
   first-none =
       blank-side c first are.head leads.0 two.first
-      (ap (λ (l : List Row). slice_get l 0) two.are)
+      (ap (λ l. slice_get l 0) two.are)
 
   -- the first two frames of the first input
   abbrev w : StreamFrame
   w = stream_frame main survey.head survey.frames 0 two.first
 
   begins-two : (n : ℕ) × (more : List StreamFrame)
-      × (whole_stream c first are.head
+      × (whole_stream are.head
       ≡ w ∷ stream_frame main survey.head survey.frames n two.second ∷ more)
   unfolding stream_of_survey stream_frames
   begins-two = grind (arith, survey.head, survey.frames, two.rest, two.are)
@@ -251,7 +249,7 @@ module _ {c : ClassFields} {first : FilePart} {parts : List FilePart} (are : Joi
   second : (f : StreamFrame) (fs : List StreamFrame) → stream are ≡ f ∷ fs → v ≡ f
   second f fs streams =
       let one : (joined are).front ≡ 1 = omega (arith, out, front-few are) in
-      grind (arith, one, flat_map, stream-from c first are.head 1, begins-two.2)
+      grind (arith, one, flat_map, stream-from are.head 1, begins-two.2)
 
   -- what the run begins with, and what its stream begins with
   pub front-alike : (g : RunFrame) (f : StreamFrame) (fs : List StreamFrame)
@@ -261,12 +259,10 @@ module _ {c : ClassFields} {first : FilePart} {parts : List FilePart} (are : Joi
       let others_sounds =
       sounds_left (joints_of c (brought are) (others are))
       (others are) in
-      let sounding : sounds (all are)
-      ≡ map (sound_of c) (w ∷ v ∷ begins-two.1) ++ others_sounds =
-      run-sounds c (brought are) (others are) (brought-fit c first are.head)
+      let sounding = run-sounds c (brought are) (others are) (brought-fit are.head)
       (inputs-fit c parts are.others)
-      ∙ ap (λ (l : List (List ℕ)). l ++ others_sounds)
-      (brought-sounds c first are.head ∙ ap (map (sound_of c)) begins-two.2) in
+      ∙ ap (λ l. l ++ others_sounds)
+      (brought-sounds are.head ∙ ap (map (sound_of c)) begins-two.2) in
       let own : Some g.sound ≡ Some (sound_of c w) = search (arith, slice_get-map, are) in
       let sound : g.sound ≡ sound_of c w = cc in
       silent-sound c f
@@ -279,5 +275,5 @@ module _ {c : ClassFields} {first : FilePart} {parts : List FilePart} (are : Joi
   -- where the lead-in of the first input leaves the run, it is the one that the run gets again
   pub front-silent : (f : StreamFrame) (fs : List StreamFrame) → stream are ≡ f ∷ fs
       → (more : List StreamFrame)
-      × (whole_stream c first are.head ≡ silent_lead_in f ∷ more)
+      × (whole_stream are.head ≡ silent_lead_in f ∷ more)
   front-silent f fs streams = grind (arith, empty-frame, first-none, second)

@@ -49,8 +49,8 @@ pub record Joins (class : ClassFields) (first : FilePart) (parts : List FilePart
   pub others : AreInputs class parts
 
 -- an input is a whole file
-pub input-whole : (class : ClassFields) (p : FilePart) → IsInput class p → IsWholeFile class p
-input-whole class p is = record {
+pub input-whole : {class : ClassFields} {p : FilePart} → IsInput class p → IsWholeFile class p
+input-whole is = record {
   had = is.has;
   same = is.of_class;
   from = is.from;
@@ -62,7 +62,7 @@ input-whole class p is = record {
 pub inputs-whole : (class : ClassFields) (parts : List FilePart) → AreInputs class parts
     → AreWholeFiles class parts
 inputs-whole class [] are = tt
-inputs-whole class (p ∷ parts) are = (input-whole class p are.0, inputs-whole class parts are.1)
+inputs-whole class (p ∷ parts) are = (input-whole are.0, inputs-whole class parts are.1)
 
 input-is : (class : ClassFields) (place : ℕ) (first : Option ClassFields) (allowed : ℕ)
     (o : Option (List ℕ)) (p : FilePart)
@@ -87,7 +87,7 @@ unfolding join_parts_from
 inputs-behind files class place allowed [] parts e = grind arith
 inputs-behind files class place allowed (name ∷ names) parts e =
     let one = then_ok (join_part place (Some class) allowed (files name)) _ parts e in
-    let part : FilePart = one.0 in
+    let part = one.0 in
     let more =
     more-inputs part
     (join_parts_from (place + 1) (Some class) (allowed - length part.survey.frames) files names)
@@ -147,7 +147,7 @@ counted-end : (samples frames : ℕ) (o : Option HeadCounts) (played : Played)
     → played.end ≤ frames * samples
 counted-end samples frames o played e = grind arith
 
-module _ (class : ClassFields) (p : FilePart) (is : IsInput class p) where
+module _ {class : ClassFields} {p : FilePart} (is : IsInput class p) where
   abbrev survey : SurveyFields
   survey = survey_without_head p.survey
 
@@ -163,7 +163,7 @@ module _ (class : ClassFields) (p : FilePart) (is : IsInput class p) where
   stream-length : length whole_stream ≡ length survey.frames
   stream-length =
       let are = frames-of p.file survey has-apart in
-      ap (λ (l : List StreamFrame). length l) (sym are.stream_is)
+      ap length (sym are.stream_is)
       ∙ length-map (all_frames p.file survey) stream_entry ∙ all-length p.file survey
 
   -- the stream is as long as the list of rows of the survey
@@ -190,7 +190,7 @@ module _ (class : ClassFields) (p : FilePart) (is : IsInput class p) where
 
   -- the frames that it brings need what the rows do
   pub brought-needs : needs_of (part_brought p).frames ≡ map need_of survey.frames
-  brought-needs = needs-are class p (input-whole class p is)
+  brought-needs = needs-are class p (input-whole is)
 
   -- the frames that it brings sound as the stream does
   pub brought-sounds : sounds (part_brought p).frames ≡ map (sound_of class) whole_stream
@@ -198,19 +198,18 @@ module _ (class : ClassFields) (p : FilePart) (is : IsInput class p) where
 
   -- the input brings as many frames as the survey has
   pub brought-many : length (part_brought p).frames ≡ length p.survey.frames
-  brought-many = file-many class p (input-whole class p is)
+  brought-many = file-many class p (input-whole is)
 
   -- the frames that it brings are of the class and fit with no free bytes before them
   pub brought-fit : IsFit class (part_brought p)
   brought-fit =
       let fits = part-fits survey 0 (length survey.frames) has-apart.placed in
-      let same : AreNeedsOfClass p.survey.class (map need_of survey.frames) =
-      subst (λ (l : List Row). AreNeedsOfClass p.survey.class (map need_of l))
+      let same = subst (λ l. AreNeedsOfClass p.survey.class (map need_of l))
       (range-whole survey.frames) fits.0 in
       record {
         same = subst (λ c. AreNeedsOfClass c (needs_of (part_brought p).frames)) is.of_class
             (subst (AreNeedsOfClass p.survey.class) (sym brought-needs) same);
-        fits = brought-alone class p (input-whole class p is);
+        fits = brought-alone class p (input-whole is);
       }
 
   -- no played position is after the last frame
@@ -223,4 +222,4 @@ module _ (class : ClassFields) (p : FilePart) (is : IsInput class p) where
 pub inputs-fit : (class : ClassFields) (parts : List FilePart) → AreInputs class parts
     → AreFit class (map part_brought parts)
 inputs-fit class [] are = tt
-inputs-fit class (p ∷ parts) are = (brought-fit class p are.0, inputs-fit class parts are.1)
+inputs-fit class (p ∷ parts) are = (brought-fit are.0, inputs-fit class parts are.1)

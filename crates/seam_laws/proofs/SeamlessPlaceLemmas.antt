@@ -14,8 +14,8 @@ use Rattle.seam_laws.proofs.SeamlessInputLemmas.{AreInputs, brought-many, brough
 use Rattle.seam_laws.proofs.SeamlessInputLemmas.{inputs-are, IsInput, Joins, played-end}
 use Rattle.seam_laws.proofs.SeamlessInputLemmas.{stream-whole}
 use Rattle.seam_laws.proofs.SeamlessRunLemmas.{all, brought, front-few, front-parts, joined}
-use Rattle.seam_laws.proofs.SeamlessRunLemmas.{joints-are, leads-many, others, run, run-is}
-use Rattle.seam_laws.proofs.SeamlessRunLemmas.{run-leads, seamless-is, stream, stream-sounds}
+use Rattle.seam_laws.proofs.SeamlessRunLemmas.{joints-are, leads-many, others, run-is, run-leads}
+use Rattle.seam_laws.proofs.SeamlessRunLemmas.{seamless-is, stream, stream-sounds}
 use Rattle.seam_laws.specs.RunLaws.{InputGoesOn, run_after}
 use Rattle.seam_laws.specs.SeamlessLaws.{ComesBehind, FollowingSamplesStay, IsPositionKept, run_end}
 use Rattle.seam_plan.{proofs.FollowLemmas.{added, sounds}, specs.Frames.{Brought, RunFrame}}
@@ -136,13 +136,12 @@ module _ {first : FilePart} {parts : List FilePart}
     stays-by : (j i : ℕ) (g : RunFrame) → slice_get whole j ≡ Some g → j ≡ front + i
         → HasSound c (leads ++ heard) (length leads + i) g.sound
     stays-by j i g found is =
-        let there : slice_get (sounds (run are)) i ≡ Some g.sound =
-        ap (λ (l : List RunFrame). slice_get (sounds l) i) (run-is are)
+        let there = ap (λ l. slice_get (sounds l) i) (run-is are)
         ∙ sound-at (drop front whole) i g (get-drop front whole i ∙ ap (slice_get whole) (sym is)
         ∙ found) in
         let own =
         has-sound c heard i g.sound
-        (ap (λ (l : List (List ℕ)). slice_get l i) (stream-sounds are) ∙ there) in
+        (ap (λ l. slice_get l i) (stream-sounds are) ∙ there) in
         record { frame = own.frame; found = get-behind leads heard i ∙ own.found; is = own.is }
 
     -- the first frame, where it leaves the run
@@ -150,13 +149,13 @@ module _ {first : FilePart} {parts : List FilePart}
         → HasSound c (leads ++ heard) 0 g.sound × (length leads ≡ 1)
     leaves-by g found out =
         let led = (run-leads are).led (front-parts are out).1 in
-        let f : StreamFrame = led.0 in (
+        let f = led.0 in (
           record {
             frame = silent_lead_in f;
-            found = ap (λ (l : List StreamFrame). slice_get (l ++ heard) 0) led.3;
+            found = ap (λ l. slice_get (l ++ heard) 0) led.3;
             is = front-alike are out g f led.1 found led.2;
           },
-          ap (λ (l : List StreamFrame). length l) led.3,
+          ap length led.3,
         )
 
     -- where a frame leaves the run, the run gets a lead-in
@@ -166,7 +165,7 @@ module _ {first : FilePart} {parts : List FilePart}
     run-stays : (j place : ℕ) (g : RunFrame) → slice_get whole j ≡ Some g
         → place + front ≡ length leads + j → HasSound c (leads ++ heard) place g.sound
     run-stays j place g found is =
-        elim (cases_lt j front) as (λ _. HasSound c (leads ++ heard) place g.sound) [
+        elim (cases_lt j front) [
           | inl early ↦
               let none : j ≡ 0 = omega (arith, early, front-few are) in
               let left =
@@ -176,7 +175,7 @@ module _ {first : FilePart} {parts : List FilePart}
               omega (arith, early, is, none, left.1, front-few are) in
               subst (λ n. HasSound c (leads ++ heard) n g.sound) here left.0
           | inr late ↦
-              let i : ℕ = j - front in
+              let i = j - front in
               let here : length leads + i ≡ place = omega (arith, late, is) in
               subst (λ n. HasSound c (leads ++ heard) n g.sound) here
               (stays-by j i g found (omega (arith, late)))
@@ -197,7 +196,7 @@ module _ {first : FilePart} {parts : List FilePart}
     whole-parts number =
         let joints = joints_of c begin more in
         append_assoc begin.frames (added (take number joints)) (added (drop number joints))
-        ∙ ap (λ (l : List RunFrame). begin.frames ++ l)
+        ∙ ap (begin.frames ++◌)
         (sym (flat_map-append (λ (j : JointFrames). j.frames) (take number joints)
         (drop number joints))
         ∙ ap added (take-append-drop number joints))
@@ -225,7 +224,7 @@ module _ {first : FilePart} {parts : List FilePart}
           (slice_get-map part_brought (first ∷ parts) number
           ∙ ap (option_map part_brought) is_before)
           (slice_get-map part_brought parts number ∙ ap (option_map part_brought) is_input)
-          (ap (λ (js : List JointFrames). slice_get js number) (sym (joints-are are))
+          (ap (λ js. slice_get js number) (sym (joints-are are))
           ∙ is_joint) seam
 
       abbrev n : ℕ
@@ -235,16 +234,16 @@ module _ {first : FilePart} {parts : List FilePart}
       own = (part_brought input).frames
 
       many : length own ≡ n
-      many = brought-many c input input_is
+      many = brought-many input_is
 
       ends-new : run_end first parts (number + 1) ≡ length new_run
       ends-new =
-          ap (λ (js : List JointFrames). length (run_after begin js (number + 1)))
+          ap (λ js. length (run_after begin js (number + 1)))
           (joints-are are)
 
       ends-old : run_end first parts number ≡ length old_run
       ends-old =
-          ap (λ (js : List JointFrames). length (run_after begin js number))
+          ap (λ js. length (run_after begin js number))
           (joints-are are)
 
       enough : (x : ℕ) → goes.played.start ≤ x → n + front
@@ -281,7 +280,7 @@ module _ {first : FilePart} {parts : List FilePart}
         within : i < n
         within =
             within-frames c.version x goes.played.end n early
-            (played-end c input input_is goes.played goes.played_is)
+            (played-end input_is goes.played goes.played_is)
 
         own_frame : (f : RunFrame) × (slice_get own i ≡ Some f)
         own_frame = get-some own i (omega (arith, within, many))
@@ -297,7 +296,7 @@ module _ {first : FilePart} {parts : List FilePart}
 
         in_whole : slice_get whole j ≡ Some run_frame.0
         in_whole =
-            ap (λ (l : List RunFrame). slice_get l j) (sym (whole-parts (number + 1)))
+            ap (λ l. slice_get l j) (sym (whole-parts (number + 1)))
             ∙ get-front new_run (added (drop (number + 1) (joints_of c begin more))) j run_frame.0
             run_frame.1
 
@@ -319,9 +318,9 @@ module _ {first : FilePart} {parts : List FilePart}
         own_stream : HasSound c (part_stream (part_without_head input)) i own_frame.0.sound
         own_stream =
             has-sound c (part_stream (part_without_head input)) i own_frame.0.sound
-            (ap (λ (l : List StreamFrame). slice_get (map (sound_of c) l) i)
-            (stream-whole c input input_is)
-            ∙ ap (λ (l : List (List ℕ)). slice_get l i) (sym (brought-sounds c input input_is))
+            (ap (λ l. slice_get (map (sound_of c) l) i)
+            (stream-whole input_is)
+            ∙ ap (λ l. slice_get l i) (sym (brought-sounds input_is))
             ∙ sound-at own i own_frame.0 own_frame.1)
 
         heard_there : slice_get (seamless_stream (first ∷ parts)) (placed.place / samples_in c)
@@ -362,8 +361,8 @@ module _ {first : FilePart} {parts : List FilePart}
                 (length before.survey.frames) front (run_lead_ins first parts)
                 (run_end first parts number) (run_end first parts (number + 1)) out place.at
                 (ap (λ m. goes.played.start + rest_of c m goes.ended)
-                (sym (brought-many c before before_is)) ∙ goes.meets)
-                (played-end c before before_is goes.ended goes.ended_is)
+                (sym (brought-many before_is)) ∙ goes.meets)
+                (played-end before_is goes.ended goes.ended_is)
                 (omega (arith, goes.longer, ends-new, ends-old, many));
             starts = place.at;
             samples = keeps;

@@ -52,7 +52,7 @@ own-frames needs stream placed same own =
     subst (λ l. AreItemSlots l placed) (sym (append-nil (map (need_item own_choice) needs))) own in
     let on = frames-on own_choice [] needs stream [] placed same for_all in
     ap (stream_with_lead_ins placed) (sym (append-nil stream)) ∙ on.1
-    ∙ ap (λ (l : List StreamFrame). stream ++ l) (no-frames on.0)
+    ∙ ap (stream ++◌) (no-frames on.0)
     ∙ append-nil stream
 
 -- a plan of frames in their own slots has a place for each
@@ -71,7 +71,7 @@ led-leads window (need ∷ needs) (p ∷ placed) [] same lacks led = absurd (ome
 led-leads window (need ∷ needs) (p ∷ placed) (f ∷ stream) same lacks led = record {
   leads = silent_lead_in f ∷ [];
   is = one-on true p placed f stream led.0
-      ∙ ap (λ (l : List StreamFrame). silent_lead_in f ∷ l)
+      ∙ ap (silent_lead_in f ∷◌)
       (own-frames (need ∷ needs) (f ∷ stream) placed same led.2);
   many = omega (arith, own-many (need ∷ needs) placed led.2);
   own = λ fits. absurd (both_ways (fits_behind window 0 (need ∷ needs)) lacks fits);
@@ -110,13 +110,13 @@ left-sounds : (class : ClassFields) (joints : List JointFrames) (parts : List Fi
 left-sounds class [] parts are = refl
 left-sounds class (j ∷ joints) [] are = refl
 left-sounds class (j ∷ joints) (p ∷ parts) are =
-    let k : ℕ = left_out_count j.seam in
+    let k = left_out_count j.seam in
     map-append (sound_of class) (part_stream (part_from k p))
     (flat_map part_stream (later_parts joints parts))
-    ∙ ap₂ (λ (x y : List (List ℕ)). x ++ y)
-    (ap (map (sound_of class)) (stream-from class p are.0 k)
-    ∙ sym (drop-map (sound_of class) k (whole_stream class p are.0))
-    ∙ ap (drop k) (sym (brought-sounds class p are.0))
+    ∙ ap₂ ◌++◌
+    (ap (map (sound_of class)) (stream-from are.0 k)
+    ∙ sym (drop-map (sound_of class) k (whole_stream are.0))
+    ∙ ap (drop k) (sym (brought-sounds are.0))
     ∙ drop-map (λ (f : RunFrame). f.sound) k (part_brought p).frames)
     (left-sounds class joints parts are.1)
 
@@ -183,26 +183,26 @@ module _ {class : ClassFields} {first : FilePart} {parts : List FilePart}
   stream = flat_map part_stream (run_parts first parts)
 
   first-many : 1 ≤ length brought.frames
-  first-many = omega (arith, brought-many class first are.head, are.head.some)
+  first-many = omega (arith, brought-many are.head, are.head.some)
 
   -- the stream sounds as the run does
   pub stream-sounds : map (sound_of class) stream ≡ sounds run
   stream-sounds =
-      let k : ℕ = joined.front in
+      let k = joined.front in
       map-append (sound_of class) (part_stream (part_from k first))
       (flat_map part_stream (later_parts joined.joints parts))
-      ∙ ap₂ (λ (x y : List (List ℕ)). x ++ y)
-      (ap (map (sound_of class)) (stream-from class first are.head k)
-      ∙ sym (drop-map (sound_of class) k (whole_stream class first are.head))
-      ∙ ap (drop k) (sym (brought-sounds class first are.head)))
+      ∙ ap₂ ◌++◌
+      (ap (map (sound_of class)) (stream-from are.head k)
+      ∙ sym (drop-map (sound_of class) k (whole_stream are.head))
+      ∙ ap (drop k) (sym (brought-sounds are.head)))
       (left-sounds class joined.joints parts are.others
-      ∙ ap (λ (js : List JointFrames). sounds_left js others) joints-are)
+      ∙ ap (λ js. sounds_left js others) joints-are)
       ∙ sym (drop-append-le k (sounds brought.frames)
       (sounds_left (joints_of class brought others) others)
       (omega
       (arith, front-few, first-many, length-map brought.frames (λ (f : RunFrame). f.sound))))
       ∙ ap (drop k)
-      (sym (run-sounds class brought others (brought-fit class first are.head)
+      (sym (run-sounds class brought others (brought-fit are.head)
       (inputs-fit class parts are.others)))
       ∙ drop-map (λ (f : RunFrame). f.sound) k all
       ∙ ap sounds (sym run-is)

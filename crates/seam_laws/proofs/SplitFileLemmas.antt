@@ -3,12 +3,11 @@
 use Rattle.std.proofs.Common.{ap, ap₂, arith, drop, false, flat_map, List, map, None, refl}
 use Rattle.std.proofs.Common.{replicate, slice_get, Some, suc, sym, take, zero, ℕ, [], ◌++◌, ◌∙◌}
 use Rattle.std.proofs.{Common.{◌∷◌, ◌≡◌}, lemmas.List.{drop-map, map-append, take-map}}
-use Rattle.std.specs.{List.concat, Prelude.{if◌then◌else◌, nat_le, option_and_then}}
+use Rattle.std.specs.Prelude.{if◌then◌else◌, nat_le, option_and_then}
 use Rattle.cue_sheet.specs.declared.place.Place.{Place}
 use Rattle.cut_edits.specs.Exact.{survey_without_head}
-use Rattle.exact_span.specs.declared.played.Played.{Played}
 use Rattle.frame_header.specs.{Fields.{ClassFields, HeaderFields, IsClass}, Limits.most_frames}
-use Rattle.frame_writer.specs.Frames.{bytes_of_frames, Frame}
+use Rattle.frame_writer.specs.Frames.{Frame}
 use Rattle.info_header.specs.{InfoFrame.info_frame, declared.fields.Info.Info}
 use Rattle.laying.proofs.{HoldLemmas.{part-entries, part-stream}, LaidLemmas.first-there}
 use Rattle.laying.proofs.SurveyFrameLemmas.{frames-of}
@@ -25,12 +24,12 @@ use Rattle.seam_laws.proofs.SeamlessRunLemmas.{stream}
 use Rattle.seam_laws.proofs.SplitJoinLemmas.{ArePlain, begin, chosen_between, cut_whole, front-is}
 use Rattle.seam_laws.proofs.SplitJoinLemmas.{number, pieces-are, plan-is, run-stream, uncounted}
 use Rattle.seam_laws.proofs.SplitJoinLemmas.{whole-right, whole_cuts}
-use Rattle.seam_laws.specs.SeamlessLaws.{bare_file, bare_row_file}
+use Rattle.seam_laws.specs.SeamlessLaws.{bare_file}
 use Rattle.seam_plan.specs.Seams.{JointFrames, left_out_count}
 use Rattle.seamless_edits.proofs.RunPartLemmas.{front-within}
 use Rattle.seamless_edits.specs.Seamless.{delay_of_run, join_of_parts, later_parts, part_from}
 use Rattle.seamless_edits.specs.Seamless.{run_parts, run_plan, seamless_delay, seamless_file}
-use Rattle.seamless_edits.specs.Seamless.{seamless_frames, seamless_info, seamless_row_file}
+use Rattle.seamless_edits.specs.Seamless.{seamless_frames, seamless_info}
 use Rattle.slot_plan.specs.declared.needs.{Need.Need, Placed.Placed}
 use Rattle.sync_survey.specs.{Faults.SurveyFields, MainData.StreamFrame, Row.Row}
 
@@ -59,18 +58,18 @@ pub record AreRead (c : ClassFields) (fs : List Frame) (stream : List StreamFram
     pub entries : AreStreamEntries c fs
     pub is : map stream_entry fs ≡ stream
 
-read-append : (c : ClassFields) (fs gs : List Frame) (xs ys : List StreamFrame)
+read-append : {c : ClassFields} {fs gs : List Frame} {xs ys : List StreamFrame}
     → AreRead c fs xs → AreRead c gs ys → AreRead c (fs ++ gs) (xs ++ ys)
-read-append c fs gs xs ys first second = record {
+read-append {c = c} {fs = fs} {gs = gs} first second = record {
   entries = entries-append c fs gs first.entries second.entries;
-  is = map-append stream_entry fs gs ∙ ap₂ (λ (x y : List StreamFrame). x ++ y) first.is second.is;
+  is = map-append stream_entry fs gs ∙ ap₂ ◌++◌ first.is second.is;
 }
 
 module _ (c : ClassFields) where
   part-read : (p : FilePart) (is : IsInput c p) (k : ℕ)
       → AreRead c (part_frames (part_from k p)) (part_stream (part_from k p))
   part-read p is k =
-      let are = frames-of p.file (survey_without_head p.survey) (has-apart c p is) in
+      let are = frames-of p.file (survey_without_head p.survey) (has-apart is) in
       let all = all_frames p.file (survey_without_head p.survey) in
       record {
         entries = grind (arith, entries-take, entries-drop);
@@ -83,22 +82,14 @@ module _ (c : ClassFields) where
   parts-read [] parts are = record { entries = tt; is = refl }
   parts-read (j ∷ joints) [] are = record { entries = tt; is = refl }
   parts-read (j ∷ joints) (p ∷ parts) are =
-      let k : ℕ = left_out_count j.seam in
-      read-append c (part_frames (part_from k p)) (flat_map part_frames (later_parts joints parts))
-      (part_stream (part_from k p))
-      (flat_map part_stream (later_parts joints parts)) (part-read p are.0 k)
-      (parts-read joints parts are.1)
+      read-append (part-read p are.0 (left_out_count j.seam)) (parts-read joints parts are.1)
 
   -- the frames of the run are read as its stream
   run-read : {first : FilePart} {parts : List FilePart} (are : Joins c first parts)
       → AreRead c (flat_map part_frames (run_parts first parts)) (stream are)
   run-read {first = first} {parts = parts} are =
-      let front : ℕ = (join_of_parts first parts).front in
-      let joints : List JointFrames = (join_of_parts first parts).joints in
-      read-append c (part_frames (part_from front first))
-      (flat_map part_frames (later_parts joints parts)) (part_stream (part_from front first))
-      (flat_map part_stream (later_parts joints parts)) (part-read first are.head front)
-      (parts-read joints parts are.others)
+      read-append (part-read first are.head (join_of_parts first parts).front)
+      (parts-read (join_of_parts first parts).joints parts are.others)
 
 -- ---- the file
 
@@ -130,7 +121,7 @@ module _ {c : ClassFields} (known : IsClass c) {first : FilePart} {parts : List 
   front-row =
       let own = own-class are in
       first-there first.survey.frames (join_of_parts first parts).front
-      (front-within first parts (input-whole first.survey.class first own.head)
+      (front-within first parts (input-whole own.head)
       (inputs-whole first.survey.class parts own.others))
 
   module _ (whole : LaidPart) (file : List ℕ) (s : SurveyFields) (row : Row)
@@ -144,15 +135,7 @@ module _ {c : ClassFields} (known : IsClass c) {first : FilePart} {parts : List 
         → front_blocks first.file first.survey ≡ front_blocks file s
         → seamless_file (first ∷ parts) ≡ bare_file whole file s
     unfolding seamless_file laid_file
-    file-same frames infos fronts =
-        ap (λ o. seamless_row_file o first parts) front-row.1
-        ∙ ap₂ (λ (blocks : List (List ℕ)) (i : List ℕ).
-        concat blocks ++ (i ++ (bytes_of_frames (seamless_frames first parts) ++ []))) fronts
-        (infos front-row.0 front-row.1)
-        ∙ ap (λ (fs : List Frame).
-        concat (front_blocks file s)
-        ++ (info_frame row.header (info_laid whole file s) ++ (bytes_of_frames fs ++ []))) frames
-        ∙ sym (ap (λ o. bare_row_file o whole file s) row_is)
+    file-same frames infos fronts = grind (arith, front-row.1, front-row.0, row.header)
 
 -- ---- whole pieces
 
@@ -179,7 +162,7 @@ module _ {file : List ℕ} {s : SurveyFields} (r : Recording file s) {from to : 
   none-counted : delay_of_run first parts ≡ None
   none-counted =
       ap
-      (option_and_then (λ (played : Played).
+      (option_and_then (λ played.
       let delay = seamless_delay played first parts in
       if nat_le delay 4095 then Some delay else None))
       (uncounted one refl)

@@ -1,8 +1,8 @@
 -- The pieces of a split, joined in order, have all frames that were cut, but for empty ones.
 use Rattle.std.proofs.Common.{ap, ap₂, arith, Bool, cond, drop, filter, flat_map, inl, inr, length}
-use Rattle.std.proofs.Common.{List, map, None, not, refl, sym, true, ℕ, [], ◌++◌, ◌+◌, ◌==◌, ◌∙◌}
-use Rattle.std.proofs.{Common.{◌∷◌, ◌≡◌}, lemmas.Bool.{and_parts, cases_lt}}
-use Rattle.std.specs.{List.{enumerate_from, list_all}, Prelude.{slice_get, slice_range}}
+use Rattle.std.proofs.Common.{List, map, None, not, refl, sym, true, ℕ, [], ◌++◌, ◌∙◌, ◌∷◌, ◌≡◌}
+use Rattle.std.{proofs.lemmas.Bool.{and_parts, cases_lt}, specs.List.enumerate_from}
+use Rattle.std.specs.Prelude.{slice_get, slice_range}
 use Rattle.cue_sheet.specs.declared.place.Place.{Place}
 use Rattle.cut_edits.specs.{Chosen.Chosen, Exact.survey_without_head}
 use Rattle.frame_header.specs.{Fields.{ClassFields, IsClass}, Tables.window_of}
@@ -19,10 +19,9 @@ use Rattle.seam_laws.proofs.SeamlessRunLemmas.{run-leads, seamless-is, stream}
 use Rattle.seam_laws.proofs.SplitJoinLemmas.{AreWhole, number, rise, uncounted, whole_cuts}
 use Rattle.seam_laws.specs.SeamlessLaws.{full_frames, is_empty_frame, last_place}
 use Rattle.seam_plan.specs.{Frames.{Brought, needs_of, RunFrame}, Joins.{has_lead_in, leads_others}}
-use Rattle.seam_plan.specs.Seams.{joint_of, JointFrames, joints_from, left_out_count}
+use Rattle.seam_plan.specs.Seams.{joint_of, joints_from, left_out_count}
 use Rattle.seamless_edits.specs.Seamless.{begins_blank, join_of_parts, later_parts, part_brought}
 use Rattle.seamless_edits.specs.Seamless.{part_from, seamless_stream}
-use Rattle.side_info.specs.{Side.side_bits, declared.side.Side.Side}
 use Rattle.slot_plan.specs.declared.needs.{Need.Need, Placed.Placed}
 use Rattle.sync_survey.specs.Faults.{stream_of_survey, SurveyFields}
 use Rattle.sync_survey.specs.MainData.{main_bytes, stream_frame, stream_frames, StreamFrame}
@@ -47,10 +46,10 @@ module _ (c : ClassFields) (known : IsClass c) where
   full-empty f fs empty = ap (λ b. cond (not b) (f ∷ full fs) (full fs)) empty
 
   -- lead-ins are empty
-  leads-full : (window : ℕ) (needs : List Need) (placed : List Placed) (frames : List StreamFrame)
+  leads-full : {window : ℕ} {needs : List Need} {placed : List Placed} {frames : List StreamFrame}
       (leads : HasLeads window needs placed frames)
       → full leads.leads ≡ []
-  leads-full window needs placed frames leads = grind (arith, full-empty, none-zero)
+  leads-full leads = grind (arith, full-empty, none-zero)
 
   -- a lead-in is empty
   pub silent-empty : (f : StreamFrame) → is_empty_frame c (silent_lead_in f) ≡ true
@@ -62,56 +61,51 @@ module _ (c : ClassFields) (known : IsClass c) where
     -- the first frame of an input that begins blank is empty
     pub first-empty : (f : StreamFrame) (fs : List StreamFrame)
         → begins_blank p.survey.frames ≡ true
-        → whole_stream c p is ≡ f ∷ fs → is_empty_frame c f ≡ true
+        → whole_stream is ≡ f ∷ fs → is_empty_frame c f ≡ true
     unfolding stream_of_survey stream_frames
     first-empty f fs blank begins = at (survey_without_head p.survey).frames refl
       where
         at : (rows : List Row) → (survey_without_head p.survey).frames ≡ rows
             → is_empty_frame c f ≡ true
         at [] are =
-            let none : length (whole_stream c p is) ≡ 0 =
-            ap (λ (l : List Row).
+            let none = ap (λ l.
             length (map
             (λ (q : ℕ × Row).
             stream_frame (main_bytes p.file (survey_without_head p.survey).head
             (survey_without_head p.survey).frames)
             (survey_without_head p.survey).head (survey_without_head p.survey).frames q.0 q.1)
             (enumerate_from 0 l))) are in
-            absurd (omega (arith, none, ap (λ (l : List StreamFrame). length l) begins))
+            absurd (omega (arith, none, ap length begins))
         at (r ∷ rows) are =
             let main = main_bytes p.file (survey_without_head p.survey).head
             (survey_without_head p.survey).frames in
             let g : ℕ × Row → StreamFrame =
             λ q. stream_frame main
             (survey_without_head p.survey).head (survey_without_head p.survey).frames q.0 q.1 in
-            let streams : g (0, r) ∷ map g (enumerate_from (0 + 1) rows) ≡ f ∷ fs =
-            sym (ap (λ (l : List Row). map g (enumerate_from 0 l)) are) ∙ begins in
+            let streams = sym (ap (λ l. map g (enumerate_from 0 l)) are) ∙ begins in
             let same : g (0, r) ≡ f = cc in
-            let none = blank-side c p is blank r (ap (λ (l : List Row). slice_get l 0) are) in
-            ap (is_empty_frame c) (sym same)
-            ∙ ap (λ (s : Side).
-            list_all (λ bit. bit == 0) (side_bits c (record s { main_data_begin = 0 }))) none
-            ∙ none-zero c known
+            let none = blank-side c p is blank r (ap (λ l. slice_get l 0) are) in
+            grind (arith, same, none, none-zero)
 
-    drop-full : (stream : List StreamFrame) → whole_stream c p is ≡ stream
+    drop-full : (stream : List StreamFrame) → whole_stream is ≡ stream
         → begins_blank p.survey.frames ≡ true → full (drop 1 stream) ≡ full stream
     drop-full h begins blank = grind (arith, full-empty, first-empty)
 
     without-full : has_lead_in (window_of c.version) (part_brought p) ≡ true
-        → full (part_stream (part_from 1 p)) ≡ full (whole_stream c p is)
+        → full (part_stream (part_from 1 p)) ≡ full (whole_stream is)
     unfolding has_lead_in
     without-full has =
-        ap full (stream-from c p is 1)
-        ∙ drop-full (whole_stream c p is) refl
+        ap full (stream-from is 1)
+        ∙ drop-full (whole_stream is) refl
         (and_parts (part_brought p).blank
         (leads_others (window_of c.version) (needs_of (part_brought p).frames)) has).0
 
-    whole-full : full (part_stream (part_from 0 p)) ≡ full (whole_stream c p is)
-    whole-full = ap full (stream-from c p is 0)
+    whole-full : full (part_stream (part_from 0 p)) ≡ full (whole_stream is)
+    whole-full = ap full (stream-from is 0)
 
     joint-full : (run : List RunFrame) (before : Brought) → (part_brought p).played ≡ None → full
         (part_stream (part_from (left_out_count (joint_of c run before (part_brought p)).seam) p))
-        ≡ full (whole_stream c p is)
+        ≡ full (whole_stream is)
     joint-full run before none =
         grind (arith, uncounted-joint c run before (part_brought p) none, whole-full, without-full)
 
@@ -124,10 +118,9 @@ module _ {file : List ℕ} {s : SurveyFields} (r : Recording file s) where
   -- a piece has the full frames of its range
   piece-full : {led : Bool} {chosen : Chosen} {p : FilePart}
       (piece : IsPiece led chosen file s s.class p)
-      → filled (whole_stream s.class p piece.is) ≡ filled (own_stream piece)
+      → filled (whole_stream piece.is) ≡ filled (own_stream piece)
   piece-full {p = p} piece =
-      elim (ways piece)
-      as (λ _. filled (whole_stream s.class p piece.is) ≡ filled (own_stream piece)) [
+      elim (ways piece) [
         | inl own ↦ ap filled own.brings.stream_is
         | inr led ↦
             ap filled led.brings.stream_is
@@ -145,18 +138,18 @@ module _ {file : List ℕ} {s : SurveyFields} (r : Recording file s) where
       ap filled (sym (range-none (all_stream file s) (number s from)))
   pieces-full run before {from = from}
       (piece_then {to = to} {tos = tos} {p = p} {parts = parts} here more) =
-      let joint : JointFrames = joint_of s.class run before (part_brought p) in
+      let joint = joint_of s.class run before (part_brought p) in
       let later =
       later_parts (joints_from s.class (run ++ joint.frames) (part_brought p)
       (map part_brought parts))
       parts in
       let all = all_stream file s in
-      let a : ℕ = number s from in
-      let b : ℕ = number s to in
-      let end : ℕ = number s (last_place to tos) in
+      let a = number s from in
+      let b = number s to in
+      let end = number s (last_place to tos) in
       full-append s.class r.known (part_stream (part_from (left_out_count joint.seam) p))
       (flat_map part_stream later)
-      ∙ ap₂ (λ (x y : List StreamFrame). x ++ y)
+      ∙ ap₂ ◌++◌
       (joint-full s.class r.known p here.piece.is run before (uncounted here.piece refl)
       ∙ piece-full here.piece)
       (pieces-full (run ++ joint.frames) (part_brought p) more)
@@ -179,11 +172,9 @@ module _ {file : List ℕ} {s : SurveyFields} (r : Recording file s) where
     front = (join_of_parts first parts).front
 
     first-full : filled (part_stream (part_from front first))
-        ≡ filled (whole_stream s.class first begin.piece.is)
+        ≡ filled (whole_stream begin.piece.is)
     first-full =
-        elim (cases_lt 0 front)
-        as (λ _. filled (part_stream (part_from front first))
-        ≡ filled (whole_stream s.class first begin.piece.is)) [
+        elim (cases_lt 0 front) [
           | inl out ↦
               let one : front ≡ 1 = omega (arith, out, front-few inputs) in
               ap (λ n. filled (part_stream (part_from n first))) one
@@ -209,16 +200,16 @@ module _ {file : List ℕ} {s : SurveyFields} (r : Recording file s) where
     all-full =
         let more = run-leads inputs in
         let all = all_stream file s in
-        let a : ℕ = number s from in
-        let b : ℕ = number s to in
-        let end : ℕ = number s (last_place to tos) in
+        let a = number s from in
+        let b = number s to in
+        let end = number s (last_place to tos) in
         let behind = flat_map part_stream (later_parts (join_of_parts first parts).joints parts) in
         ap filled (seamless-is inputs)
         ∙ full-append s.class r.known more.leads (stream inputs)
-        ∙ ap (λ (l : List StreamFrame). l ++ filled (stream inputs))
-        (leads-full s.class r.known _ _ _ _ more)
+        ∙ ap (λ l. l ++ filled (stream inputs))
+        (leads-full s.class r.known more)
         ∙ full-append s.class r.known (part_stream (part_from front first)) behind
-        ∙ ap₂ (λ (x y : List StreamFrame). x ++ y) (first-full ∙ piece-full begin.piece) joints-full
+        ∙ ap₂ ◌++◌ (first-full ∙ piece-full begin.piece) joints-full
         ∙ sym (full-append s.class r.known (slice_range all a b) (slice_range all b end))
         ∙ ap filled
         (range-append all a b end (omega (arith, begin.piece.right.some)) (rise r later))

@@ -9,8 +9,8 @@ use Rattle.cue_sheet.specs.{Places.frame_at, declared.place.Place.Place}
 use Rattle.cut_edits.proofs.ChosenLemmas.{chosen-within, IsRight}
 use Rattle.cut_edits.specs.Chosen.{Chosen, chosen_needs, cut_choice, laying_part}
 use Rattle.exact_span.specs.PlayedPositions.{counted_positions}
-use Rattle.frame_header.specs.{Fields.ClassFields, Tables.window_of}
-use Rattle.laying.specs.{Laid.{LaidPart, stream_laid}, LaidFiles.head_at, NeedsFit.own_choice}
+use Rattle.frame_header.specs.Tables.{window_of}
+use Rattle.laying.specs.{Laid.{LaidPart, stream_laid}, LaidFiles.head_at}
 use Rattle.laying.specs.{Relaid.{FilePart, part_stream, stream_with_lead_ins}, Written.front_blocks}
 use Rattle.seam_laws.proofs.FrameRangeLemmas.{all_stream, between-append, between-fits}
 use Rattle.seam_laws.proofs.FrameRangeLemmas.{between-known, between-needs, between-none}
@@ -22,16 +22,14 @@ use Rattle.seam_laws.proofs.PiecePartLemmas.{frames-need, IsPiece, IsPlain, laid
 use Rattle.seam_laws.proofs.PiecePartLemmas.{left-own, own_frames, read-extension, read-is, ways}
 use Rattle.seam_laws.proofs.PieceRunLemmas.{pieces-one-run}
 use Rattle.seam_laws.specs.RunLaws.{AreHeadersKnown, AreOneRun, ArePiecesOf, concat_frames}
-use Rattle.seam_laws.specs.RunLaws.{IsLedPiece, IsPieceOf, IsUnledPiece, piece_seam}
-use Rattle.seam_laws.specs.SeamlessLaws.{last_place}
+use Rattle.seam_laws.specs.{RunLaws.{IsPieceOf, piece_seam}, SeamlessLaws.last_place}
 use Rattle.seam_plan.specs.{Frames.{needs_of, RunFrame}, Joins.fits_behind}
 use Rattle.seam_plan.specs.Seams.{JointFrames, left_out_count, seamless_join}
 use Rattle.seam_plan.specs.declared.seam.Seam.TheVariants.{LeadIn, Whole}
 use Rattle.seamless_edits.specs.Seamless.{join_of_parts, later_parts, part_brought, part_from}
 use Rattle.seamless_edits.specs.Seamless.{run_parts, run_plan, seamless_stream}
-use Rattle.slot_plan.specs.{LeastPlan.least_plan, declared.needs.Need.Need}
 use Rattle.split_edits.specs.Split.{cut_part}
-use Rattle.sync_survey.specs.{Faults.SurveyFields, MainData.StreamFrame}
+use Rattle.sync_survey.specs.Faults.{SurveyFields}
 
 -- ---- what is cut
 
@@ -105,7 +103,7 @@ module _ {chosen : Chosen} {file : List ℕ} {s : SurveyFields} {p : FilePart}
     pub by-fit : (f : Bool → ℕ) → f true ≡ 0 → f false ≡ 1
         → f (fits_behind window 0 (needs_of run)) ≡ leads piece
     by-fit f without with =
-        elim (ways piece) as (λ _. f (fits_behind window 0 (needs_of run)) ≡ leads piece) [
+        elim (ways piece) [
           | inl own ↦ ap f (fits-run true own.fits) ∙ without ∙ sym own.none
           | inr led ↦ ap f (lacked led.lacks) ∙ with ∙ sym led.one
         ]
@@ -122,7 +120,7 @@ module _ {chosen : Chosen} {file : List ℕ} {s : SurveyFields} {p : FilePart}
     pub piece-of : IsPlain piece → IsPieceOf window run (part_brought p)
     piece-of plain = record {
       led = λ lacks.
-          elim (ways piece) as (λ _. IsLedPiece window run (part_brought p)) [
+          elim (ways piece) [
             | inl own ↦
                 absurd (both_ways (fits_behind window 0 (needs_of run)) lacks
                 (fits-run true own.fits))
@@ -135,7 +133,7 @@ module _ {chosen : Chosen} {file : List ℕ} {s : SurveyFields} {p : FilePart}
                 }
           ];
       unled = λ fits.
-          elim (ways piece) as (λ _. IsUnledPiece window run (part_brought p)) [
+          elim (ways piece) [
             | inl own ↦ record { frames_are = own.brings.frames_are; none = plain own.none }
             | inr led ↦
                 absurd (both_ways (fits_behind window 0 (needs_of run)) (lacked led.lacks) fits)
@@ -188,7 +186,7 @@ module _ {file : List ℕ} {s : SurveyFields} (r : Recording file s) where
       ≡ run_between file s (number s from) (number s (last_place from tos))
   runs-all {from = from} no_pieces = sym (between-none r.has (number s from))
   runs-all {from = from} (piece_then {to = to} {tos = tos} here more) =
-      ap (λ (l : List RunFrame). run_between file s (number s from) (number s to) ++ l)
+      ap (run_between file s (number s from) (number s to) ++◌)
       (runs-all more)
       ∙ between-append r.has (number s from) (number s to) (number s (last_place to tos))
       (omega (arith, here.piece.right.some)) (rise more)
@@ -211,15 +209,14 @@ module _ {file : List ℕ} {s : SurveyFields} (r : Recording file s) where
   pieces-left (piece_then here more) [] seams = absurd cc
   pieces-left {from = from} (piece_then {to = to} {tos = tos} {p = p} {parts = parts} here more)
       (j ∷ joints) seams =
-      let run : List RunFrame = run_between file s (number s from) (number s to) in
+      let run = run_between file s (number s from) (number s to) in
       let seam : j.seam ≡ piece_seam frames_window run = cc in
       let later : map (λ (j : JointFrames). j.seam) joints
       ≡ map (piece_seam frames_window) (runs_from file s to tos) =
       cc in
-      let out : left_out_count j.seam ≡ leads here.piece =
-      ap left_out_count seam
+      let out = ap left_out_count seam
       ∙ by-fit here.piece refl (λ b. left_out_count (if b then Whole else LeadIn)) refl refl in
-      ap₂ (λ (x y : List StreamFrame). x ++ y)
+      ap₂ ◌++◌
       (ap (λ n. part_stream (part_from n p)) out ∙ left-own here.piece)
       (pieces-left more joints later)
       ∙ range-append (all_stream file s) (number s from) (number s to)
@@ -249,7 +246,7 @@ module _ {file : List ℕ} {s : SurveyFields} (r : Recording file s) where
         (join_of_parts first parts)
     one-run =
         let all = runs-all pieces-are in
-        subst (λ (d : ClassFields). AreOneRun frames_window run_here (runs_from file s to tos)
+        subst (λ d. AreOneRun frames_window run_here (runs_from file s to tos)
         (part_brought first) (seamless_join d (part_brought first) (map part_brought parts)))
         (sym begin.0.piece.is.of_class)
         (pieces-one-run s.class run_here (runs_from file s to tos) (part_brought first)
@@ -257,7 +254,7 @@ module _ {file : List ℕ} {s : SurveyFields} (r : Recording file s) where
         (pieces-of (later-at plain))
         (subst AreHeadersKnown (sym all)
         (between-known r.has (number s from) (number s (last_place to tos))))
-        (subst (λ (l : List RunFrame). fits_behind frames_window frames_window (needs_of l) ≡ true)
+        (subst (λ l. fits_behind frames_window frames_window (needs_of l) ≡ true)
         (sym all) (between-fits r.has (number s from) (number s (last_place to tos)))))
 
     -- exactly the lead-ins of the first piece leave the run at the end
@@ -267,17 +264,15 @@ module _ {file : List ℕ} {s : SurveyFields} (r : Recording file s) where
     -- the plan of the run is the plan of the whole
     pub plan-is : run_plan first parts ≡ cut_whole.placed
     plan-is =
-        ap₂ (λ (d : ClassFields) (needs : List Need).
-        least_plan (window_of d.version) own_choice (needs ∷ [])) begin.0.piece.is.of_class
-        (ap needs_of (one-run.run ∙ runs-all pieces-are)
-        ∙ between-needs r.has (number s from) (number s (last_place to tos)))
+        grind
+        (arith, begin.0.piece.is.of_class, one-run.run, runs-all, pieces-are, between-needs, r.has)
 
     -- the stream of the run is the stream of the file from the first number to the last
     pub run-stream : flat_map part_stream (run_parts first parts)
         ≡ slice_range (all_stream file s) (number s from) (number s (last_place to tos))
     run-stream =
         let later = later-at pieces-are in
-        ap₂ (λ (x y : List StreamFrame). x ++ y)
+        ap₂ ◌++◌
         (ap (λ n. part_stream (part_from n first)) front-is ∙ left-own begin.0.piece)
         (pieces-left later (join_of_parts first parts).joints one-run.seams)
         ∙ range-append (all_stream file s) (number s from) (number s to)

@@ -1,14 +1,12 @@
 -- The law of pieces of a split that are joined in order.
 use Rattle.std.proofs.Common.{ap, false, slice_range, sym, true, ◌∙◌, ◌∷◌, ◌≡◌}
 use Rattle.chosen_streams.proofs.CaseLemmas.{stream-is}
-use Rattle.cue_sheet.specs.declared.place.Place.{Place}
 use Rattle.frame_header.specs.Limits.{most_frames}
 use Rattle.seam_laws.proofs.PieceListLemmas.{laid-pieces, map-pieces, recording}
 use Rattle.seam_laws.proofs.{PiecePartLemmas.laid_piece, SplitFileLemmas.seamless-file}
 use Rattle.seam_laws.proofs.SplitFullLemmas.{all-full}
-use Rattle.seam_laws.proofs.SplitJoinLemmas.{ArePlain, AreWhole, chosen_between, number}
-use Rattle.seam_laws.proofs.SplitJoinLemmas.{seamless-stream, whole-cut, whole-laid, whole-right}
-use Rattle.seam_laws.proofs.SplitJoinLemmas.{whole_cuts}
+use Rattle.seam_laws.proofs.SplitJoinLemmas.{chosen_between, number, seamless-stream, whole-cut}
+use Rattle.seam_laws.proofs.SplitJoinLemmas.{whole-laid, whole-right, whole_cuts}
 use Rattle.seam_laws.specs.SeamlessLaws.{full_frames, has_no_look_alike, last_place}
 use Rattle.seam_laws.specs.SeamlessLaws.{SplitThenSeamlessJoin}
 use Rattle.split_edits.specs.Split.{cutting_of}
@@ -17,21 +15,19 @@ use Rattle.split_edits.specs.Split.{cutting_of}
 pub split-joins : SplitThenSeamlessJoin
 split-joins points file s place next places laid first parts read e inputs =
     let r = recording file s read in
-    let last : Place = last_place next places in
-    let NoneAlike : Type 0 = has_no_look_alike laid (first ∷ parts) ≡ true in
+    let last = last_place next places in
+    let NoneAlike = has_no_look_alike laid (first ∷ parts) ≡ true in
     let pieces =
     laid-pieces (cutting_of points)
     (whole_cuts s) file s r.has (whole-laid file s) place next places laid
     first parts e NoneAlike inputs (λ n. n) in
-    let whole : AreWhole file s place (next ∷ places) (first ∷ parts) =
-    map-pieces (λ a b p at. at.0) pieces in
+    let whole = map-pieces (λ a b p at. at.0) pieces in
     let right = whole-right r whole in
     record {
       whole = laid_piece false (chosen_between (number s place) (number s last)) s;
       is = whole-cut file s place last right.some right.within;
       same = λ no_alike.
-          let plain : ArePlain file s place (next ∷ places) (first ∷ parts) =
-          map-pieces (λ a b p at. (at.0, λ t. at.1 no_alike)) pieces in
+          let plain = map-pieces (λ a b p at. (at.0, λ t. at.1 no_alike)) pieces in
           (seamless-file r plain, seamless-stream r plain);
       full =
           all-full r whole

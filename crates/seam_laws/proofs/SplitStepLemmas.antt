@@ -41,7 +41,7 @@ none-empty c (g ∷ stream) zero f full found empty =
     omega (
       arith,
       filter-few (λ x. not (is_empty_frame c x)) stream,
-      ap (λ (l : List StreamFrame). length l) dropped,
+      ap length dropped,
     )
 none-empty c (g ∷ stream) (suc i) f full found empty =
     at (is_empty_frame c g) full (λ more. none-empty c stream i f more found empty)
@@ -55,7 +55,7 @@ none-empty c (g ∷ stream) (suc i) f full found empty =
         omega (
           arith,
           filter-few (λ x. not (is_empty_frame c x)) stream,
-          ap (λ (l : List StreamFrame). length l) kept,
+          ap length kept,
         )
 
 -- the first frame of a range is the frame at its first number
@@ -89,7 +89,7 @@ module _ {led : Bool} {chosen : Chosen} {file : List ℕ} {s : SurveyFields} {p 
       (leads_others (window_of s.class.version) (needs_of (part_brought p).frames)) has).0
 
   by-stream : (stream : List StreamFrame) → own_stream piece ≡ stream
-      → whole_stream s.class p piece.is ≡ own_stream piece → has_one ≡ true → ⊥
+      → whole_stream piece.is ≡ own_stream piece → has_one ≡ true → ⊥
   by-stream [] is whole alike =
       omega (
         arith,
@@ -97,7 +97,7 @@ module _ {led : Bool} {chosen : Chosen} {file : List ℕ} {s : SurveyFields} {p 
         piece-many piece,
         length-map (slice_range s.frames from chosen.to) need_of,
         same-many piece.has from chosen.to,
-        ap (λ (l : List StreamFrame). length l) is,
+        ap length is,
       )
   by-stream (f ∷ fs) is whole alike =
       none-empty s.class (all_stream file s) from f filled
@@ -106,7 +106,7 @@ module _ {led : Bool} {chosen : Chosen} {file : List ℕ} {s : SurveyFields} {p 
 
   alike-never : leads piece ≡ 0 → has_one ≡ true → ⊥
   alike-never none alike =
-      elim (ways piece) as (λ _. ⊥) [
+      elim (ways piece) [
         | inl own ↦ by-stream (own_stream piece) refl own.brings.stream_is alike
         | inr led ↦ omega (arith, none, led.one)
       ]
@@ -125,8 +125,7 @@ module _ {led : Bool} {chosen : Chosen} {file : List ℕ} {s : SurveyFields} {p 
 pub in-steps : StepsJoinTheSame
 in-steps points file s place next places laid first parts others read e inputs filled steps =
     let r = recording file s read in
-    let full : HasNoEmptyFrame s.class (all_stream file s) =
-    subst (λ l. full_frames s.class l ≡ l) (stream-is file most_frames s read) filled in
+    let full = subst (λ l. full_frames s.class l ≡ l) (stream-is file most_frames s read) filled in
     let pieces =
     laid-pieces (cutting_of points)
     (whole_cuts s) file s r.has (whole-laid file s) place next places laid
