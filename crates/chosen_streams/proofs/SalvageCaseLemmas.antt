@@ -13,7 +13,7 @@ use Rattle.job_words.specs.Request.{Salvage}
 use Rattle.laying.{proofs.PlacesLemmas.range-whole, specs.{Needs.need_of, NeedsFit.own_choice}}
 use Rattle.laying.specs.{Relaid.stream_with_lead_ins, Surveys.CanBeRelaid}
 use Rattle.salvage.proofs.{LaidOutLemmas.{damaged_of-is, read-laid}, MendedLemmas.survey-mended}
-use Rattle.salvage.proofs.StreamLemmas.{payload_none, tells_streams}
+use Rattle.salvage.proofs.StreamLemmas.{payload_none, stream-told}
 use Rattle.salvage.specs.DamagedFiles.{damaged_fields, damaged_of, DamagedFields}
 use Rattle.salvage.specs.{Progress.IsDamagedLaidOut, Stream.salvaged_stream}
 use Rattle.salvage_edits.proofs.{CommandLemmas.read-where, HadLemmas.damaged_fields-relaid}
@@ -96,7 +96,8 @@ frames-left main head rows =
 -- the frames of the output are the frames that are left, and those that aren't sound are empty
 pub salvaged-left : SalvagedFramesAreLeft
 unfolding stream_of_survey
-salvaged-left file d read = subst (AreLeftOf d.survey.frames) (tells_streams file d read)
+salvaged-left file d read = subst (AreLeftOf d.survey.frames)
+    (stream-told file d (damaged_of-is file d read).1 (read-laid file d read))
     (frames-left (main_bytes file d.survey.head d.survey.frames) d.survey.head d.survey.frames)
 
 -- ---- the command

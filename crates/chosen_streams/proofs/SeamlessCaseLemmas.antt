@@ -8,23 +8,15 @@ use Rattle.commands.proofs.{MadeLemmas.makes-parts, RefusingLemmas.then_ok}
 use Rattle.commands.proofs.TellingLemmas.{text-parts}
 use Rattle.frame_header.specs.{Fields.{HeaderFields, SlotFields}, Tables.window_of}
 use Rattle.job_words.specs.Request.{Join}
-use Rattle.seamless_edits.proofs.RunFileLemmas.{parts-whole}
-use Rattle.seamless_edits.proofs.RunPartLemmas.{AreWholeFiles}
-use Rattle.seamless_edits.proofs.RunPartLemmas.{IsWholeFile}
-use Rattle.seamless_edits.proofs.RunPartLemmas.{run-many}
-use Rattle.seamless_edits.proofs.RunPartLemmas.{run-planned}
-use Rattle.seamless_edits.proofs.RunPartLemmas.{run-some}
-use Rattle.join_edits.specs.Join.{join_parts}
-use Rattle.join_edits.specs.Join.{join_parts_from}
-use Rattle.seamless_edits.specs.Seamless.{join_of_parts}
-use Rattle.seamless_edits.specs.Seamless.{part_brought}
-use Rattle.seamless_edits.specs.Seamless.{run_parts}
-use Rattle.seamless_edits.specs.Seamless.{run_plan}
-use Rattle.seamless_edits.specs.Seamless.{seamless_command}
-use Rattle.seamless_edits.specs.Seamless.{seamless_stream}
+use Rattle.join_edits.specs.Join.{join_parts, join_parts_from}
 use Rattle.laying.specs.{NeedsFit.own_choice, Relaid.{FilePart, part_stream, stream_with_lead_ins}}
 use Rattle.outside.specs.Files.{Contents}
 use Rattle.seam_plan.specs.{Frames.needs_of, Seams.run_of}
+use Rattle.seamless_edits.proofs.RunFileLemmas.{parts-whole}
+use Rattle.seamless_edits.proofs.RunPartLemmas.{AreWholeFiles, IsWholeFile, run-many, run-planned}
+use Rattle.seamless_edits.proofs.RunPartLemmas.{run-some}
+use Rattle.seamless_edits.specs.Seamless.{join_of_parts, part_brought, run_parts, run_plan}
+use Rattle.seamless_edits.specs.Seamless.{seamless_command, seamless_stream}
 use Rattle.slot_plan.specs.{Parts.{all_items, AreLeadIns}, Plans.{AreItemSlots, IsPlan}}
 use Rattle.slot_plan.specs.declared.needs.{Need.Need, Placed.Placed}
 use Rattle.sync_survey.specs.MainData.{StreamFrame}

@@ -16,12 +16,12 @@ use Rattle.job_words.specs.Request.{Cut, CutExact, Drill, Fade, Gain, Help, Info
 use Rattle.job_words.specs.Request.{ListFile, Pack, Request, Salvage, SplitAt, SplitBy, SplitExact}
 use Rattle.job_words.specs.Request.{Undo, Version}
 use Rattle.join_edits.specs.Join.{join_parts}
-use Rattle.seamless_edits.specs.Seamless.{run_parts}
 use Rattle.laying.specs.{KeptFields.fields_of_head, Relaid.{FilePart, part_stream}}
 use Rattle.moved_gains.specs.Streams.{moved_stream_frame}
 use Rattle.outside.specs.Files.{Contents}
 use Rattle.requests.specs.Shifts.{steps_of}
 use Rattle.salvage.specs.Stream.{salvaged_stream}
+use Rattle.seamless_edits.specs.Seamless.{run_parts}
 use Rattle.sync_survey.specs.Faults.{stream_of, stream_of_survey, SurveyFields, unbounded_survey}
 use Rattle.sync_survey.specs.{MainData.StreamFrame, declared.survey_fault.SurveyFault.SurveyFault}
 

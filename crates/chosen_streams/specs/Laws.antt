@@ -12,10 +12,6 @@ use Rattle.gain_edits.specs.{Fade.fade_command, Gain.gain_command, Undo.undo_com
 use Rattle.job_words.specs.Request.{Cut, CutExact, Fade, Gain, Join, Pack, Request, Salvage}
 use Rattle.job_words.specs.Request.{SplitAt, SplitBy, SplitExact, Undo}
 use Rattle.join_edits.specs.Join.{join_command, join_parts, joined_plan, joined_stream}
-use Rattle.seamless_edits.specs.Seamless.{join_of_parts}
-use Rattle.seamless_edits.specs.Seamless.{part_brought}
-use Rattle.seamless_edits.specs.Seamless.{run_plan}
-use Rattle.seamless_edits.specs.Seamless.{seamless_command}
 use Rattle.laying.specs.{Laid.stream_laid, Needs.need_of, NeedsFit.own_choice}
 use Rattle.laying.specs.Relaid.{AreParts, FilePart, part_needs, part_stream, stream_with_lead_ins}
 use Rattle.outside.specs.Files.{Contents}
@@ -24,6 +20,7 @@ use Rattle.requests.specs.declared.{mode.PackMode.PackMode, shift.Shift.Shift}
 use Rattle.salvage.specs.{DamagedFiles.{damaged_of, DamagedFields}, Stream.salvaged_stream}
 use Rattle.salvage_edits.specs.Salvaged.{all_chosen, left_stream, salvage_command}
 use Rattle.seam_plan.specs.{Frames.needs_of, Seams.run_of}
+use Rattle.seamless_edits.specs.Seamless.{join_of_parts, part_brought, run_plan, seamless_command}
 use Rattle.side_info.specs.Side.{no_side}
 use Rattle.slot_plan.specs.{Plans.IsPlan, declared.needs.Placed.Placed}
 use Rattle.split_edits.specs.Split.{split_at_command, split_by_command, split_exact_at_command}
