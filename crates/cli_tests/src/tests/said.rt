@@ -101,7 +101,7 @@ fn run_words(alloc: Global, words: &[&str], is_failing: bool) -> Result<Ran, All
     let mut folder = MemFolder::new(alloc);
     let mut out = MemSink::new(alloc);
     let mut err = MemSink::new(alloc);
-    out.reserve(4000)?;
+    out.reserve(USAGE.len() as u64)?;
     err.reserve(100)?;
     if is_failing {
         out.fail(1)?;
