@@ -1,7 +1,7 @@
 //! The program.
 #![tactic(auto)]
 
-ghost use Rattle.std.specs.Prelude.{◌≡◌, [], map, string_bytes, Contains, IfOk, OnErr};
+ghost use Rattle.std.specs.Prelude.{◌≡◌, [], drop, map, string_bytes, Contains, IfOk, OnErr};
 ghost use Rattle.std.specs.Process.{exit_status};
 ghost use Rattle.on_disk.specs.RealFiles.{stream_heard};
 ghost use Rattle.mp3edit.specs.Words.{argument_word, argument_words};
@@ -34,10 +34,10 @@ fn argument<R: Env>(rt: &R, number: usize, alloc: Global) -> Result<Option<Vec<u
     Err(AllocError)
 }
 
-/// The bytes of all arguments but the first, which is the program's name.
+/// The bytes of all arguments, from the program's name on.
 fn arguments<R: Env>(rt: &R, alloc: Global) -> Result<Vec<Vec<u8>>, AllocError> {
     let mut arguments = Vec::new(alloc);
-    for number in 1..usize::MAX {
+    for number in 0..usize::MAX {
         match argument(rt, number, alloc)? {
             Some(bytes) => arguments.push(bytes)?,
             None => break,
@@ -56,7 +56,7 @@ fn word(argument: &[u8], alloc: Global) -> Result<String, AllocError>
     }
 }
 
-/// The words that the arguments are.
+/// The words that these arguments are.
 fn words(arguments: &[Vec<u8>], alloc: Global) -> Result<Vec<String>, AllocError>
     ensures { IfOk result (λ words. map string_bytes words.items
         ≡ argument_words (map (λ argument. argument.items) arguments.now)) }
@@ -68,9 +68,20 @@ fn words(arguments: &[Vec<u8>], alloc: Global) -> Result<Vec<String>, AllocError
     Ok(words)
 }
 
+/// The words that all arguments but the first are, which is the program's name.
+fn words_after_name(arguments: &[Vec<u8>], alloc: Global) -> Result<Vec<String>, AllocError>
+    ensures { IfOk result (λ words. map string_bytes words.items
+        ≡ argument_words (drop 1 (map (λ argument. argument.items) arguments.now))) }
+{
+    match arguments {
+        [_, rest @ ..] => words(rest, alloc),
+        [] => Ok(Vec::new(alloc)),
+    }
+}
+
 /// The words of the program. An error if memory runs out.
 fn all_words<R: Env>(rt: &R, alloc: Global) -> Result<Vec<String>, AllocError> {
-    words(&arguments(rt, alloc)?, alloc)
+    words_after_name(&arguments(rt, alloc)?, alloc)
 }
 
 /// Does what the words ask for, and returns the status. Without words, as memory ran out, nothing is done and nothing is sent. An
