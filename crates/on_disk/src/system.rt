@@ -262,7 +262,8 @@ impl<'n, F: OpenFile + Drop> Described<'n, F> {
         &self.facts
     }
 
-    /// Empties the file, which must be a regular one and none of those that were found.
+    /// Empties the file, which must be a regular one and none of those that were found. These are
+    /// passed for that condition alone: no call is made without them.
     ///
     /// # Errors
     /// If the system gives an error.

@@ -199,6 +199,41 @@ fn a_long_file(rt: HostRuntime) -> Result<(), Fail> {
     Ok(())
 }
 
+// Reads go on, or jump, while somebody else makes the file shorter, longer, and as long as it was.
+fn expect_other_lengths<R: Files + AllocGlobal + Abort>(
+    rt: &R,
+    folder: &mut DiskFolder<R>,
+    name: &str,
+) -> Result<(), Fail> {
+    assert!(rt; is_found(folder, name));
+    assert!(rt; is_read(folder, name, 0, 4, b"0123"));
+    fs::write(rt, name, "abcdefg")?;
+    assert!(rt; is_read(folder, name, 4, 3, b"efg-"));
+    assert!(rt; is_read(folder, name, 7, 0, b"----"));
+    assert!(rt; is_read(folder, name, 9, 0, b"----"));
+    fs::write(rt, name, "ABCDEFGHIJKL")?;
+    assert!(rt; is_read(folder, name, 7, 4, b"HIJK"));
+    assert!(rt; is_read(folder, name, 11, 1, b"L---"));
+    fs::write(rt, name, "9876543210")?;
+    assert!(rt; is_read(folder, name, 8, 2, b"10--"));
+    fs::write(rt, name, "")?;
+    assert!(rt; is_read(folder, name, 2, 0, b"----"));
+    Ok(())
+}
+
+fn expect_over_other_lengths<R: Files + AllocGlobal + Abort>(rt: &R) -> Result<(), Fail> {
+    let mut folder = DiskFolder::new(rt, rt.alloc());
+    expect_other_lengths(rt, &mut folder, "outside_lengths/from")
+}
+
+#[test]
+fn a_file_that_changes_its_length(rt: HostRuntime) -> Result<(), Fail> {
+    prepare(&rt, "outside_lengths", "outside_lengths/from")?;
+    expect_over_other_lengths(&rt)?;
+    fs::remove_dir_all(&rt, "outside_lengths")?;
+    Ok(())
+}
+
 fn is_read_as<R: Files>(folder: &mut DiskFolder<R>, answer: Result<usize, Failed>) -> bool {
     let mut into = [b'-'; 4];
     folder.read("outside_shaky/from", 3, &mut into) == answer

@@ -4,7 +4,7 @@ ghost use Rattle.std.specs.Io.KnownBytes.{WriteAppends};
 ghost use Rattle.on_disk.specs.RealFiles.{open_name, TellsBytes, ReadsFromOffset};
 
 use super::{Described, FileFacts, FileId, Purpose};
-use crate::reading::read_part;
+use crate::reading::put_at;
 use crate::writing::write_some;
 use outside::Failed;
 use std::io;
@@ -61,7 +61,10 @@ impl<F: Write> Opened<F> {
 }
 
 impl<F: Read + Seek> Opened<F> {
-    /// Reads from the offset `at` on, as much as there is and fits.
+    /// Reads from the offset `at` on, as much as there is and fits. The rest of `into` is unchanged.
+    ///
+    /// # Errors
+    /// If the system gives an error, or if the file is cut short meanwhile.
     pub fn read_part(&mut self, at: u64, into: &mut [u8]) -> io::Result<usize>
         ensures name { self.new.name ≡ self.old.name }
         ensures purpose { self.new.purpose ≡ self.old.purpose }
@@ -74,7 +77,12 @@ impl<F: Read + Seek> Opened<F> {
             → TellsBytes F.stream_position F.stream_bytes self.old.file xs
             → IfOk result (λ k. take k into.new ≡ take k (drop at xs)) }
     {
-        read_part(&mut self.file, at, into)
+        let left = put_at(&mut self.file, self.facts.length, at)?;
+        let count = into.len().min(left as usize);
+        // The contract of a read says nothing of the buffer after the bytes that it counts, so the
+        // read gets no more of it than that.
+        self.file.read_exact(&mut into[..count])?;
+        Ok(count)
     }
 }
 

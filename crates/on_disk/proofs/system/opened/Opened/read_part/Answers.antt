@@ -1,6 +1,6 @@
 use Rattle.std.proofs.Common.{ap, arith, drop, length, length-take, sym, ◌++◌, ◌∙◌, ◌≡◌}
 use Rattle.std.proofs.Math.Seq.{drop-append_seam}
-use Rattle.on_disk.proofs.reading.read_part.Goals as goal
+use Rattle.on_disk.proofs.system.opened.Opened.read_part.Goals as goal
 
 pub returns-clause-rest : goal.returns-clause-rest
 returns-clause-rest g c =
