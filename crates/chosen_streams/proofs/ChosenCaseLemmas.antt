@@ -3,16 +3,16 @@ use Rattle.std.proofs.Common.{ap, arith, Bool, length, List, map, Ok, Option, Re
 use Rattle.std.{proofs.Common.{sym, ℕ, [], ◌∙◌, ◌∷◌, ◌≡◌}, specs.List.enumerate_from}
 use Rattle.std.specs.Prelude.{slice_get, slice_range, unwrap_or, ◌<◌, ◌≤◌}
 use Rattle.chosen_streams.proofs.CaseLemmas.{chosen-exact_is, stream-is}
-use Rattle.chosen_streams.proofs.MenuCaseLemmas.{packed-exact}
-use Rattle.chosen_streams.specs.Chosen.{frames_between, named_frames, position_number}
-use Rattle.chosen_streams.specs.{Exact.IsExactly, Laws.HoldsChosen}
+use Rattle.chosen_streams.{proofs.MenuCaseLemmas.packed-exact, specs.Exact.IsExactly}
+use Rattle.chosen_streams.specs.Laws.{HoldsChosen}
+use Rattle.command_table.specs.Chosen.{frames_between, named_frames, position_number}
 use Rattle.commands.proofs.{MadeLemmas.{made-of, makes-parts}, RefusingLemmas.refusal_or-ok}
 use Rattle.commands.specs.SingleOutput.{input_result, most_frames}
 use Rattle.commands.specs.declared.fault.{EditFault.EditFault, Refusal.Refusal}
 use Rattle.cue_sheet.specs.{Places.frame_at, declared.place.Place.Place}
 use Rattle.cut_edits.proofs.ChosenLemmas.{all-whole, all_right, by_usual, chosen-within, laid-parts}
 use Rattle.cut_edits.specs.Chosen.{all_choice, AreUsualChoices, Choosing, Chosen, chosen_needs}
-use Rattle.cut_edits.specs.Chosen.{chosen_range, cut_choice, cut_command, cut_refuses, first_plan}
+use Rattle.cut_edits.specs.Chosen.{chosen_range, cut_choice, cut_refuses, first_plan}
 use Rattle.cut_edits.specs.Chosen.{first_planning, laying_making, laying_task, placed_part}
 use Rattle.cut_edits.specs.Chosen.{Planning, slot_choices}
 use Rattle.frame_header.specs.{Fields.{ClassFields, HeaderFields, SlotFields}, Tables.class_of}
@@ -20,7 +20,7 @@ use Rattle.job_words.specs.Request.{Cut, Pack}
 use Rattle.laying.specs.{Laid.stream_laid, NeedsFit.IsPlacedSurvey}
 use Rattle.outside.specs.Files.{Contents}
 use Rattle.pack_edits.specs.Modes.{limited_result, mode_limit, mode_planning, mode_refuses}
-use Rattle.pack_edits.specs.Modes.{pack_mode_command, pack_task}
+use Rattle.pack_edits.specs.Modes.{pack_task}
 use Rattle.requests.specs.declared.mode.PackMode.{PackMode}
 use Rattle.salvage_edits.proofs.StreamLemmas.{whole-stream}
 use Rattle.slot_plan.specs.declared.needs.Placed.{Placed}
@@ -145,7 +145,7 @@ module _ (choose : Choosing) (plan : Planning) (refuses : Refusal → Bool)
 
 -- a cut holds the frames that its job chooses
 pub cut-holds : (from to : Place) (least : Bool) (input output : List ℕ)
-    → HoldsChosen (Cut from to least input output) (cut_command from to least input output)
+    → HoldsChosen (Cut from to least input output)
 cut-holds from to least input output files made e =
     let plan = first_planning (slot_choices least) in
     let bytes =
@@ -163,7 +163,7 @@ packed-made mode o r new e = grind arith
 
 -- a packing holds the frames that its job chooses
 pub pack-holds : (mode : PackMode) (input output : List ℕ)
-    → HoldsChosen (Pack mode input output) (pack_mode_command mode input output)
+    → HoldsChosen (Pack mode input output)
 pack-holds mode input output files made e =
     let plan = mode_planning mode in
     let bytes = makes-parts (pack_task mode input) output files made e in

@@ -3,15 +3,16 @@ use Rattle.std.proofs.Common.{All, ap, arith, false, length, List, map, None, Ok
 use Rattle.std.proofs.Common.{Some, subst, sym, ℕ, [], ◌+◌, ◌-◌, ◌∙◌, ◌∷◌, ◌≡◌}
 use Rattle.std.{proofs.lemmas.List.{length-map, Elements.All-cons}, specs.Prelude.Result}
 use Rattle.chosen_streams.proofs.{CaseLemmas.stream-is, ExactLemmas.planned-exact}
-use Rattle.chosen_streams.specs.{Chosen.named_frames, Exact.IsExactly}
+use Rattle.chosen_streams.specs.Exact.{IsExactly}
 use Rattle.chosen_streams.specs.Laws.{HoldsChosen, JoinedPlansAreFirst, JoinedStreamsAreExact}
+use Rattle.command_table.specs.Chosen.{named_frames}
 use Rattle.commands.proofs.{MadeLemmas.{makes-parts, some-frames}, RefusingLemmas.then_ok}
 use Rattle.commands.specs.{Refusing.then_made, SingleOutput.most_frames}
 use Rattle.commands.specs.declared.fault.EditFault.{EditFault}
 use Rattle.frame_header.specs.{Fields.ClassFields, Tables.window_of}
 use Rattle.job_words.specs.Request.{Join}
 use Rattle.join_edits.proofs.PartLemmas.{part-is}
-use Rattle.join_edits.specs.Join.{join_command, join_part, join_parts, join_parts_from, joined_plan}
+use Rattle.join_edits.specs.Join.{join_part, join_parts, join_parts_from, joined_plan}
 use Rattle.join_edits.specs.Join.{joined_stream, whole_part}
 use Rattle.laying.proofs.{PartsLemmas.{parts-fit, parts-plan}, SurveyFrameLemmas.survey-had}
 use Rattle.laying.specs.Needs.{need_of, plan_input}
@@ -159,5 +160,5 @@ parts-exact files (name ∷ names) parts e =
 
 -- a join holds the frames that its job chooses
 pub join-holds : (output : List ℕ) (inputs : List (List ℕ))
-    → HoldsChosen (Join false output inputs) (join_command output inputs)
+    → HoldsChosen (Join false output inputs)
 join-holds output inputs files made e = grind (arith, makes-parts, then_ok, parts-exact)

@@ -9,3 +9,4 @@ pub mod ChosenCaseLemmas
 pub mod SpanCaseLemmas
 pub mod SplitCaseLemmas
 pub mod JobLemmas
+pub mod NamedLemmas

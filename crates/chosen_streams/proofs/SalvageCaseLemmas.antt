@@ -17,8 +17,7 @@ use Rattle.salvage.proofs.StreamLemmas.{payload_none, stream-told}
 use Rattle.salvage.specs.DamagedFiles.{damaged_fields, damaged_of, DamagedFields}
 use Rattle.salvage.specs.{Progress.IsDamagedLaidOut, Stream.salvaged_stream}
 use Rattle.salvage_edits.proofs.{CommandLemmas.read-where, HadLemmas.damaged_fields-relaid}
-use Rattle.salvage_edits.proofs.StreamLemmas.{laid-left}
-use Rattle.salvage_edits.specs.Salvaged.{all_chosen, left_stream, salvage_command}
+use Rattle.salvage_edits.{proofs.StreamLemmas.laid-left, specs.Salvaged.{all_chosen, left_stream}}
 use Rattle.slot_plan.specs.Plans.{IsPlan}
 use Rattle.sync_survey.specs.{Faults.{stream_of_survey, SurveyFields}, HeadApart.emptied_survey}
 use Rattle.sync_survey.specs.MainData.{main_bytes, stream_frame, stream_frames, StreamFrame}
@@ -104,6 +103,6 @@ salvaged-left file d read = subst (AreLeftOf d.survey.frames)
 
 -- a salvage holds the frames that its job chooses
 pub salvage-holds : (input output : List ℕ)
-    → HoldsChosen (Salvage input output) (salvage_command input output)
+    → HoldsChosen (Salvage input output)
 salvage-holds input output files made e =
     grind (arith, text-parts, makes-parts, read-where, left-exact)

@@ -1,9 +1,9 @@
 -- The frames of several files without seams, in one file.
 use Rattle.std.proofs.Common.{ap, append-nil, arith, flat_map, List, Ok, Option, sym, true, ℕ, []}
 use Rattle.std.proofs.Common.{◌∙◌, ◌∷◌, ◌≡◌}
-use Rattle.chosen_streams.proofs.ExactLemmas.{IsSized, no-frames, part-on}
-use Rattle.chosen_streams.specs.{Chosen.joined_run_frames, Exact.IsExactly}
+use Rattle.chosen_streams.{proofs.ExactLemmas.{IsSized, no-frames, part-on}, specs.Exact.IsExactly}
 use Rattle.chosen_streams.specs.Laws.{HoldsChosen, SeamlessPlansAreFirst}
+use Rattle.command_table.specs.Chosen.{joined_run_frames}
 use Rattle.commands.proofs.{MadeLemmas.makes-parts, RefusingLemmas.then_ok}
 use Rattle.commands.proofs.TellingLemmas.{text-parts}
 use Rattle.frame_header.specs.{Fields.{HeaderFields, SlotFields}, Tables.window_of}
@@ -16,7 +16,7 @@ use Rattle.seamless_edits.proofs.RunFileLemmas.{parts-whole}
 use Rattle.seamless_edits.proofs.RunPartLemmas.{AreWholeFiles, IsWholeFile, run-many, run-planned}
 use Rattle.seamless_edits.proofs.RunPartLemmas.{run-some}
 use Rattle.seamless_edits.specs.Seamless.{join_of_parts, part_brought, run_parts, run_plan}
-use Rattle.seamless_edits.specs.Seamless.{seamless_command, seamless_stream}
+use Rattle.seamless_edits.specs.Seamless.{seamless_stream}
 use Rattle.slot_plan.specs.{Parts.{all_items, AreLeadIns}, Plans.{AreItemSlots, IsPlan}}
 use Rattle.slot_plan.specs.declared.needs.{Need.Need, Placed.Placed}
 use Rattle.sync_survey.specs.MainData.{StreamFrame}
@@ -60,7 +60,7 @@ parts-exact files (name ∷ names) parts e =
 
 -- a seamless join holds exactly the frames that the job chooses
 pub seamless-chosen : (output : List ℕ) (inputs : List (List ℕ))
-    → HoldsChosen (Join true output inputs) (seamless_command output inputs)
+    → HoldsChosen (Join true output inputs)
 seamless-chosen output inputs files made e =
     grind (arith, text-parts, makes-parts, then_ok, parts-exact)
 

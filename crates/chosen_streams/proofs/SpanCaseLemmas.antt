@@ -3,16 +3,15 @@ use Rattle.std.proofs.Common.{arith, Bool, false, inl, length, List, None, Ok, O
 use Rattle.std.{proofs.Common.{sym, true, ℕ, [], ◌+◌, ◌∷◌, ◌≡◌}, specs.Prelude.slice_range}
 use Rattle.chosen_streams.proofs.CaseLemmas.{had-exact, had-part}
 use Rattle.chosen_streams.proofs.ExactLemmas.{IsSized, led-exact, part-sized}
-use Rattle.chosen_streams.specs.Chosen.{file_bytes_of, frames_needed, span_frames}
 use Rattle.chosen_streams.specs.{Exact.IsExactly, Laws.HoldsChosen}
+use Rattle.command_table.specs.Chosen.{file_bytes_of, frames_needed, span_frames}
 use Rattle.commands.proofs.{MadeLemmas.{made-of, makes-parts}, RefusingLemmas.refusal_or-ok}
 use Rattle.commands.specs.SingleOutput.{most_frames}
 use Rattle.cut_edits.proofs.PieceLemmas.{piece-parts, span-survey_without_head, span-there}
 use Rattle.cut_edits.proofs.{PieceLemmas.survey_without_head-relaid, SpanLemmas.led-is}
 use Rattle.cut_edits.specs.Chosen.{Chosen, chosen_file_part, chosen_needs}
-use Rattle.cut_edits.specs.Exact.{exact_command, exact_making, exact_task, file_span, IsSpanIn}
-use Rattle.cut_edits.specs.Exact.{row_sealed_part, span_needs, span_piece, span_plan}
-use Rattle.cut_edits.specs.Exact.{survey_without_head}
+use Rattle.cut_edits.specs.Exact.{exact_making, exact_task, file_span, IsSpanIn, row_sealed_part}
+use Rattle.cut_edits.specs.Exact.{span_needs, span_piece, span_plan, survey_without_head}
 use Rattle.exact_span.specs.{Places.sample_at, PlayedPositions.{length_of_played, played_of}}
 use Rattle.exact_span.specs.{Spans.span_of, declared.exact_place.ExactPlace.ExactPlace}
 use Rattle.exact_span.specs.declared.{played.Played.Played, span.Span.Span}
@@ -105,7 +104,7 @@ module _ (from to : ExactPlace) (file : List ℕ) (s : SurveyFields) where
 
 -- an exact cut holds the frames of its span
 pub exact-holds : (input : List ℕ) (from to : ExactPlace) (output : List ℕ)
-    → HoldsChosen (CutExact input from to output) (exact_command from to input output)
+    → HoldsChosen (CutExact input from to output)
 exact-holds input from to output files made e =
     let bytes = makes-parts (exact_task from to input) output files made e in
     let is = made-of (exact_making from to) files input bytes.1 bytes.2 in

@@ -3,10 +3,10 @@ use Rattle.std.proofs.Common.{ap, ap₂, false, List, map, Ok, Option, refl, Res
 use Rattle.std.{proofs.Common.{true, ℕ, [], ◌∙◌, ◌∷◌, ◌≡◌}, specs.Prelude.unwrap_or}
 use Rattle.chosen_streams.proofs.ChosenCaseLemmas.{cut-exact, frames-are}
 use Rattle.chosen_streams.proofs.SpanCaseLemmas.{frames-are as span-frames, needed-is, piece-exact}
-use Rattle.chosen_streams.specs.Chosen.{AllConsistOf, cue_positions, file_bytes_of, frames_between}
-use Rattle.chosen_streams.specs.Chosen.{frames_needed, frames_needed_between, named_frames}
-use Rattle.chosen_streams.specs.Chosen.{piece_frames, piece_frames_from, positions_in}
-use Rattle.chosen_streams.specs.{Exact.IsExactly, Laws.HoldsChosen}
+use Rattle.chosen_streams.specs.{Exact.{AllConsistOf, IsExactly}, Laws.HoldsChosen}
+use Rattle.command_table.specs.Chosen.{cue_positions, file_bytes_of, frames_between, frames_needed}
+use Rattle.command_table.specs.Chosen.{frames_needed_between, named_frames, piece_frames}
+use Rattle.command_table.specs.Chosen.{piece_frames_from, positions_in}
 use Rattle.commands.{proofs.RefusingLemmas.then_ok, specs.SingleOutput.most_frames}
 use Rattle.commands.specs.declared.fault.EditFault.{EditFault}
 use Rattle.cue_sheet.specs.declared.place.Place.{Place}
@@ -24,7 +24,7 @@ use Rattle.outside.specs.Files.{Contents}
 use Rattle.split_edits.proofs.CommandLemmas.{first-parts}
 use Rattle.split_edits.proofs.PartsLemmas.{cue-parts, IsSplit, split-parts}
 use Rattle.split_edits.specs.Cutting.{Cutting, input_streams, laid_streams, piece_parts}
-use Rattle.split_edits.specs.Cutting.{piece_parts_from, split_command, surveyed_streams, with_first}
+use Rattle.split_edits.specs.Cutting.{piece_parts_from, surveyed_streams, with_first}
 use Rattle.split_edits.specs.Split.{cue_sheet_places, cut_part, given_cutting, given_exact_cutting}
 use Rattle.split_edits.specs.Split.{sheet_cutting, sheet_exact_cutting}
 use Rattle.sync_survey.specs.{Faults.SurveyFields, MainData.StreamFrame, Survey.survey_of}
@@ -140,7 +140,7 @@ sheet-positions files sheet found e =
 
 -- the pieces at positions hold the frames between these
 pub split_at-holds : (input prefix : List ℕ) (places : List Place)
-    → HoldsChosen (SplitAt input prefix places) (split_command (given_cutting places) input prefix)
+    → HoldsChosen (SplitAt input prefix places)
 split_at-holds input prefix places files made e =
     let is = (split-parts (given_cutting places) files prefix input made e).1.0 in
     pieces-hold (given_cutting places) files input is (frames_between (named_frames files input))
@@ -149,7 +149,6 @@ split_at-holds input prefix places files made e =
 
 -- the pieces at the positions of a sheet hold the frames between these
 pub split_by-holds : (input prefix sheet : List ℕ) → HoldsChosen (SplitBy false input prefix sheet)
-    (split_command (sheet_cutting sheet) input prefix)
 split_by-holds input prefix sheet files made e =
     let is = (split-parts (sheet_cutting sheet) files prefix input made e).1.0 in
     pieces-hold (sheet_cutting sheet) files input is (frames_between (named_frames files input))
@@ -157,8 +156,8 @@ split_by-holds input prefix sheet files made e =
     (positions_in (file_bytes_of files sheet)) (sheet-positions files sheet is.found is.placed)
 
 -- exact pieces hold the frames of their spans
-pub split_exact-holds : (input prefix : List ℕ) (places : List ExactPlace) → HoldsChosen
-    (SplitExact input prefix places) (split_command (given_exact_cutting places) input prefix)
+pub split_exact-holds : (input prefix : List ℕ) (places : List ExactPlace)
+    → HoldsChosen (SplitExact input prefix places)
 split_exact-holds input prefix places files made e =
     let is = (split-parts (given_exact_cutting places) files prefix input made e).1.0 in
     pieces-hold (given_exact_cutting places) files input is
@@ -167,8 +166,8 @@ split_exact-holds input prefix places files made e =
     (sym (same-places places is.found is.placed))
 
 -- exact pieces at the places of a sheet hold the frames of their spans
-pub split_exact_by-holds : (input prefix sheet : List ℕ) → HoldsChosen
-    (SplitBy true input prefix sheet) (split_command (sheet_exact_cutting sheet) input prefix)
+pub split_exact_by-holds : (input prefix sheet : List ℕ)
+    → HoldsChosen (SplitBy true input prefix sheet)
 split_exact_by-holds input prefix sheet files made e =
     let is = (split-parts (sheet_exact_cutting sheet) files prefix input made e).1.0 in
     let one = then_ok (cue_sheet_places (files sheet))

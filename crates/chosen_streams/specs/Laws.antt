@@ -1,30 +1,25 @@
 -- What holds of the streams and plans of the commands that repack main data.
-use Rattle.std.specs.Prelude.{Bool, false, flat_map, length, List, map, Ok, slice_get, slice_range}
-use Rattle.std.specs.Prelude.{Some, true, ℕ, [], ◌<◌, ◌∷◌, ◌≡◌, ◌≤◌}
-use Rattle.chosen_streams.specs.{Chosen.{AllConsistOf, chosen_of}, Exact.IsExactly}
-use Rattle.commands.specs.{Command.{Command, Made}, SingleOutput.most_frames}
-use Rattle.cue_sheet.specs.declared.place.Place.{Place}
-use Rattle.cut_edits.specs.Chosen.{AreUsualChoices, Chosen, chosen_needs, cut_command, first_plan}
-use Rattle.cut_edits.specs.{Chosen.{own_slots_plan, placed_part}, Exact.exact_command}
-use Rattle.exact_span.specs.declared.exact_place.ExactPlace.{ExactPlace}
+use Rattle.std.specs.Prelude.{false, flat_map, length, List, map, Ok, slice_get, slice_range, Some}
+use Rattle.std.specs.Prelude.{true, ℕ, [], ◌<◌, ◌∷◌, ◌≡◌, ◌≢◌, ◌≤◌}
+use Rattle.chosen_streams.specs.Exact.{AllConsistOf, IsExactly}
+use Rattle.command_table.specs.Table.{chosen_of, command_of, outputs_of}
+use Rattle.commands.specs.{Command.{Made, Output}, SingleOutput.most_frames}
+use Rattle.cut_edits.specs.Chosen.{AreUsualChoices, Chosen, chosen_needs, first_plan}
+use Rattle.cut_edits.specs.Chosen.{own_slots_plan, placed_part}
 use Rattle.frame_header.specs.{Fields.{ClassFields, HeaderFields, SlotFields}, Tables.window_of}
-use Rattle.gain_edits.specs.{Fade.fade_command, Gain.gain_command, Undo.undo_command}
-use Rattle.job_words.specs.Request.{Cut, CutExact, Fade, Gain, Join, Pack, Request, Salvage}
-use Rattle.job_words.specs.Request.{SplitAt, SplitBy, SplitExact, Undo}
-use Rattle.join_edits.specs.Join.{join_command, join_parts, joined_plan, joined_stream}
+use Rattle.job_words.specs.Request.{IsSoundRequest, Request}
+use Rattle.join_edits.specs.Join.{join_parts, joined_plan, joined_stream}
 use Rattle.laying.specs.{Laid.stream_laid, Needs.need_of, NeedsFit.own_choice}
 use Rattle.laying.specs.Relaid.{AreParts, FilePart, part_needs, part_stream, stream_with_lead_ins}
 use Rattle.outside.specs.Files.{Contents}
-use Rattle.pack_edits.specs.Modes.{mode_planning, pack_mode_command}
-use Rattle.requests.specs.declared.{mode.PackMode.PackMode, shift.Shift.Shift}
+use Rattle.pack_edits.specs.Modes.{mode_planning}
+use Rattle.requests.specs.declared.mode.PackMode.{PackMode}
 use Rattle.salvage.specs.{DamagedFiles.{damaged_of, DamagedFields}, Stream.salvaged_stream}
-use Rattle.salvage_edits.specs.Salvaged.{all_chosen, left_stream, salvage_command}
+use Rattle.salvage_edits.specs.Salvaged.{all_chosen, left_stream}
 use Rattle.seam_plan.specs.{Frames.needs_of, Seams.run_of}
-use Rattle.seamless_edits.specs.Seamless.{join_of_parts, part_brought, run_plan, seamless_command}
+use Rattle.seamless_edits.specs.Seamless.{join_of_parts, part_brought, run_plan}
 use Rattle.side_info.specs.Side.{no_side}
 use Rattle.slot_plan.specs.{Plans.IsPlan, declared.needs.Placed.Placed}
-use Rattle.split_edits.specs.Split.{split_at_command, split_by_command, split_exact_at_command}
-use Rattle.split_edits.specs.Split.{split_exact_by_command}
 use Rattle.sync_survey.specs.{Faults.{stream_of, SurveyFields}, HeadApart.emptied_survey}
 use Rattle.sync_survey.specs.{MainData.{granule_lengths, no_slot, split_bits, StreamFrame}, Row.Row}
 use Rattle.sync_survey.specs.Survey.{survey_of}
@@ -123,35 +118,29 @@ abbrev pub SalvagedFramesAreLeft : Type 0
 SalvagedFramesAreLeft = (file : List ℕ) (d : DamagedFields) → damaged_of file ≡ Ok d
     → AreLeftOf d.survey.frames (salvaged_stream file)
 
--- What a command writes, where it isn't refused, holds exactly the frames that the job chooses.
-abbrev pub HoldsChosen : Request → Command → Type 0
-HoldsChosen asked command = (files : Contents) (made : Made) → command.makes files ≡ Ok made
-    → AllConsistOf (chosen_of asked files) (command.streams files)
+-- What the command of a job writes, where it isn't
+-- refused, holds exactly the frames that it chooses.
+abbrev pub HoldsChosen : Request → Type 0
+HoldsChosen asked = (files : Contents) (made : Made) → (command_of asked).makes files ≡ Ok made
+    → AllConsistOf (chosen_of asked files) ((command_of asked).streams files)
 
--- what each command writes holds the frames that its job chooses
-pub record StreamsAreChosen : Type 0 where
-  pub gain : (shift : Shift) (tags : Bool) (input output : List ℕ)
-      → HoldsChosen (Gain shift tags input output) (gain_command shift tags input output)
-  pub undo : (input output : List ℕ) → HoldsChosen (Undo input output) (undo_command input output)
-  pub cut : (from to : Place) (least : Bool) (input output : List ℕ)
-      → HoldsChosen (Cut from to least input output) (cut_command from to least input output)
-  pub cut_exact : (input : List ℕ) (from to : ExactPlace) (output : List ℕ)
-      → HoldsChosen (CutExact input from to output) (exact_command from to input output)
-  pub pack : (mode : PackMode) (input output : List ℕ)
-      → HoldsChosen (Pack mode input output) (pack_mode_command mode input output)
-  pub split_at : (input prefix : List ℕ) (places : List Place)
-      → HoldsChosen (SplitAt input prefix places) (split_at_command places input prefix)
-  pub split_by : (input prefix sheet : List ℕ)
-      → HoldsChosen (SplitBy false input prefix sheet) (split_by_command input sheet prefix)
-  pub split_exact : (input prefix : List ℕ) (places : List ExactPlace)
-      → HoldsChosen (SplitExact input prefix places) (split_exact_at_command places input prefix)
-  pub split_exact_by : (input prefix sheet : List ℕ)
-      → HoldsChosen (SplitBy true input prefix sheet) (split_exact_by_command input sheet prefix)
-  pub join : (output : List ℕ) (inputs : List (List ℕ))
-      → HoldsChosen (Join false output inputs) (join_command output inputs)
-  pub join_seamless : (output : List ℕ) (inputs : List (List ℕ))
-      → HoldsChosen (Join true output inputs) (seamless_command output inputs)
-  pub fade : (back : Bool) (input output sheet : List ℕ)
-      → HoldsChosen (Fade back input output sheet) (fade_command sheet back input output)
-  pub salvage : (input output : List ℕ)
-      → HoldsChosen (Salvage input output) (salvage_command input output)
+-- whatever is asked for, what is written holds the frames that are chosen
+abbrev pub StreamsAreChosen : Type 0
+StreamsAreChosen = (asked : Request) → HoldsChosen asked
+
+-- none of these outputs has the name
+abbrev pub HasNone : List ℕ → List Output → Type 0
+HasNone name [] = Unit {0}
+HasNone name (output ∷ outputs) = (name ≢ output.name) × HasNone name outputs
+
+-- the outputs have the first of these names, and no two have the same name
+abbrev pub AreNamed : List (List ℕ) → List Output → Type 0
+AreNamed names [] = Unit {0}
+AreNamed [] (output ∷ outputs) = ⊥
+AreNamed (name ∷ names) (output ∷ outputs) =
+    (output.name ≡ name) × HasNone output.name outputs × AreNamed names outputs
+
+-- whatever is asked for, what is written has the names that are asked for
+abbrev pub OutputsAreNamed : Type 0
+OutputsAreNamed = (asked : Request) → IsSoundRequest asked → (files : Contents) (made : Made)
+    → (command_of asked).makes files ≡ Ok made → AreNamed (outputs_of asked) made.outputs

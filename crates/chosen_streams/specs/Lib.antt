@@ -1,4 +1,3 @@
 -- What the contracts of this crate cite.
 pub mod Exact
-pub mod Chosen
 pub mod Laws

@@ -1,5 +1,5 @@
 //! Laws of the definitions. Each function does nothing: a proof that needs its law calls it.
-ghost use Rattle.chosen_streams.specs.Laws.{PlannedStreamsAreExact, ChosenStreamsAreExact, ChosenPlansAreFirst, PackedStreamsAreExact, JoinedStreamsAreExact, JoinedPlansAreFirst, SeamlessPlansAreFirst, SalvagedStreamsAreExact, SalvagedPlansAreFirst, SalvagedFramesAreLeft, StreamsAreChosen};
+ghost use Rattle.chosen_streams.specs.Laws.{PlannedStreamsAreExact, ChosenStreamsAreExact, ChosenPlansAreFirst, PackedStreamsAreExact, JoinedStreamsAreExact, JoinedPlansAreFirst, SeamlessPlansAreFirst, SalvagedStreamsAreExact, SalvagedPlansAreFirst, SalvagedFramesAreLeft, StreamsAreChosen, OutputsAreNamed};
 
 /// The stream of parts of well-formed files, laid in the slots of their plan, is exactly the frames of each part, in order,
 /// each part after at most one lead-in: a frame without main data, with the header of the part's first frame, but without a
@@ -67,4 +67,9 @@ pub fn salvaged_frames_are_left()
 /// frames of each part, in order, each part after at most one lead-in.
 pub fn streams_are_chosen()
     ensures { StreamsAreChosen }
+{}
+
+/// What each command writes has the names that are asked for, in their order, and no two of its outputs have the same name.
+pub fn outputs_are_named()
+    ensures { OutputsAreNamed }
 {}

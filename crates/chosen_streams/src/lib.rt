@@ -6,7 +6,7 @@ mod laws;
 
 pub use laws::{
     chosen_plans_are_first, chosen_streams_are_exact, joined_plans_are_first,
-    joined_streams_are_exact, packed_streams_are_exact, planned_streams_are_exact,
-    salvaged_frames_are_left, salvaged_plans_are_first, salvaged_streams_are_exact,
-    seamless_plans_are_first, streams_are_chosen,
+    joined_streams_are_exact, outputs_are_named, packed_streams_are_exact,
+    planned_streams_are_exact, salvaged_frames_are_left, salvaged_plans_are_first,
+    salvaged_streams_are_exact, seamless_plans_are_first, streams_are_chosen,
 };

@@ -1,12 +1,13 @@
 -- Each written file is of laid frames behind an Info frame that gives their numbers, so no frame of
 -- it is lost, whether its head is set apart or not.
-use Rattle.std.proofs.Common.{ap, arith, Bool, Err, inl, length, List, None, Ok, Option, refl}
-use Rattle.std.proofs.Common.{Result, Some, subst, sym, ℕ, [], ◌+◌, ◌-◌, ◌<◌, ◌∷◌, ◌≡◌}
-use Rattle.std.proofs.lemmas.List.{length-drop, length-map, length-take-le}
+use Rattle.std.proofs.Common.{ap, append-nil, arith, Bool, Err, false, inl, length, List, None, Ok}
+use Rattle.std.proofs.Common.{Option, refl, Result, Some, subst, sym, true, ℕ, [], ◌+◌, ◌-◌, ◌<◌}
+use Rattle.std.proofs.{Common.{◌∷◌, ◌≡◌}, lemmas.List.{length-drop, length-map, length-take-le}}
 use Rattle.std.{proofs.lemmas.List.FromFn.length-range_with_len, specs.Prelude.◌≤◌}
 use Rattle.chosen_streams.proofs.ChosenCaseLemmas.{packed-made}
-use Rattle.chosen_streams.proofs.JoinCaseLemmas.{join-plan, parts-join}
-use Rattle.chosen_streams.proofs.SalvageCaseLemmas.{left-had, left-some}
+use Rattle.chosen_streams.proofs.{JoinCaseLemmas.{join-plan, parts-join}, NamedLemmas.text-named}
+use Rattle.chosen_streams.{proofs.SalvageCaseLemmas.{left-had, left-some}, specs.Laws.AreNamed}
+use Rattle.command_table.specs.Table.{command_of}
 use Rattle.commands.proofs.{InputLemmas.made_parts, RefusingLemmas.then_ok}
 use Rattle.commands.specs.{Command.{Command, Made, Output}, Refusing.then_made}
 use Rattle.commands.specs.SingleOutput.{clash_or, command_result, input_result, most_frames}
@@ -32,21 +33,11 @@ use Rattle.file_laws.specs.WrittenLaws.{WrittenFilesAreCounted, WrittenFramesSta
 use Rattle.frame_header.specs.{Fields.{ClassFields, SlotFields}, Tables.window_of}
 use Rattle.frame_writer.specs.Frames.{Frame}
 use Rattle.info_header.specs.FileInfo.{all_bytes}
-use Rattle.seamless_edits.proofs.RunFileLemmas.{blocks}
-use Rattle.seamless_edits.proofs.RunFileLemmas.{file-is}
-use Rattle.seamless_edits.proofs.RunFileLemmas.{found}
-use Rattle.seamless_edits.proofs.RunFileLemmas.{info}
-use Rattle.seamless_edits.proofs.RunFileLemmas.{parts-whole}
-use Rattle.seamless_edits.proofs.RunFileLemmas.{seamless-is}
-use Rattle.seamless_edits.proofs.RunPartLemmas.{AreWholeFiles}
-use Rattle.seamless_edits.proofs.RunPartLemmas.{IsWholeFile}
+use Rattle.job_words.specs.Request.{Cut, CutExact, Drill, Fade, Gain, Help, InfoFile, Join}
+use Rattle.job_words.specs.Request.{ListFile, Pack, Salvage, SplitAt, SplitBy, SplitExact, Undo}
+use Rattle.job_words.specs.Request.{Version}
 use Rattle.join_edits.specs.Join.{join_command, join_parts, joined_file, joined_frames, joined_plan}
 use Rattle.join_edits.specs.Join.{joined_row_file}
-use Rattle.seamless_edits.specs.Seamless.{delay_of_run}
-use Rattle.seamless_edits.specs.Seamless.{seamless_command}
-use Rattle.seamless_edits.specs.Seamless.{seamless_file}
-use Rattle.seamless_edits.specs.Seamless.{seamless_frames}
-use Rattle.seamless_edits.specs.Seamless.{seamless_info}
 use Rattle.laying.proofs.{FittingFrameLemmas.{entries-hold, fitting-laid}, HoldLemmas.blocks-kept}
 use Rattle.laying.proofs.{LaidFileLemmas.laid-frames-stay, LaidLemmas.{first-there, laid-slots}}
 use Rattle.laying.{proofs.SurveyFrameLemmas.survey-had, specs.Fits.{FitsFromReach, IsFittingPlan}}
@@ -64,12 +55,17 @@ use Rattle.salvage.specs.DamagedFiles.{damaged_of, DamagedFields}
 use Rattle.salvage_edits.specs.Salvaged.{all_chosen, input_salvage_text, input_salvaged}
 use Rattle.salvage_edits.specs.Salvaged.{salvage_command, salvage_task, salvaged_file}
 use Rattle.salvage_edits.specs.Salvaged.{salvaged_or_fault}
+use Rattle.seamless_edits.proofs.RunFileLemmas.{blocks, file-is, found, info, parts-whole}
+use Rattle.seamless_edits.proofs.RunFileLemmas.{seamless-is}
+use Rattle.seamless_edits.proofs.RunPartLemmas.{AreWholeFiles, IsWholeFile}
+use Rattle.seamless_edits.specs.Seamless.{delay_of_run, seamless_command, seamless_file}
+use Rattle.seamless_edits.specs.Seamless.{seamless_frames, seamless_info}
 use Rattle.slot_plan.specs.declared.needs.{Need.Need, Placed.Placed}
 use Rattle.split_edits.proofs.{CommandLemmas.first-parts, PartsLemmas.split-parts}
 use Rattle.split_edits.specs.Cutting.{Cutting, piece_parts, piece_parts_from, pieces_from}
 use Rattle.split_edits.specs.Cutting.{split_command, with_first}
-use Rattle.split_edits.specs.Split.{cut_part, split_at_command, split_by_command}
-use Rattle.split_edits.specs.Split.{split_exact_at_command, split_exact_by_command}
+use Rattle.split_edits.specs.Split.{cut_part, given_cutting, given_exact_cutting, sheet_cutting}
+use Rattle.split_edits.specs.Split.{sheet_exact_cutting}
 use Rattle.sync_survey.specs.{Faults.SurveyFields, HeadApart.emptied_survey, Row.Row}
 use Rattle.sync_survey.specs.{Survey.survey_of, declared.survey_fault.SurveyFault.SurveyFault}
 
@@ -396,21 +392,39 @@ seamless-stay output inputs some files made e =
 
 -- ---- all commands
 
+-- a command that sends a text writes no file
+none-written : (outputs : List Output) → AreNamed [] outputs → AllOutputs IsCountedFile outputs
+none-written [] named = tt
+none-written (output ∷ outputs) named = absurd named
+
 -- each command writes files of laid frames behind an Info frame that gives their numbers
 pub files-counted : WrittenFilesAreCounted
-files-counted =
-    search (
-      arith,
-      cut-stay,
-      exact-stay,
-      pack-stay,
-      split-stays,
-      range-stays,
-      samples-stay,
-      join-stay,
-      seamless-stay,
-      salvage-stay,
-    )
+files-counted Help moved some = absurd (omega (arith, some))
+files-counted Version moved some = absurd (omega (arith, some))
+files-counted (Drill seed count) moved some = absurd (omega (arith, some))
+files-counted (ListFile input) moved some =
+    λ files made e. none-written made.outputs (text-named _ (files input) made e)
+files-counted (InfoFile input) moved some =
+    λ files made e. none-written made.outputs (text-named _ (files input) made e)
+files-counted (Gain shift tags input output) moved some = absurd cc
+files-counted (Undo input output) moved some = absurd cc
+files-counted (Fade back input output sheet) moved some = absurd cc
+files-counted (Cut from to least input output) moved some = cut-stay from to least input output
+files-counted (CutExact input from to output) moved some = exact-stay input from to output
+files-counted (Pack mode input output) moved some = pack-stay mode input output
+files-counted (SplitAt input prefix places) moved some =
+    split-stays (given_cutting places) prefix range-stays input
+files-counted (SplitExact input prefix places) moved some =
+    split-stays (given_exact_cutting places) prefix samples-stay input
+files-counted (SplitBy false input prefix sheet) moved some =
+    split-stays (sheet_cutting sheet) prefix range-stays input
+files-counted (SplitBy true input prefix sheet) moved some =
+    split-stays (sheet_exact_cutting sheet) prefix samples-stay input
+files-counted (Join false output inputs) moved some =
+    join-stay output inputs (subst (λ names. 1 ≤ length names) (append-nil inputs) some)
+files-counted (Join true output inputs) moved some =
+    seamless-stay output inputs (subst (λ names. 1 ≤ length names) (append-nil inputs) some)
+files-counted (Salvage input output) moved some = salvage-stay input output
 
 -- ---- what holds of such files
 
@@ -424,28 +438,7 @@ module _ (P : List ℕ → Type 0) (each : (bytes : List ℕ) → IsCountedFile 
 
   -- what holds of all such files holds of all files that the commands write
   pub all-written : AllWritten P
-  all-written = record {
-    cut = λ from to least input output. all-made (cut_command from to least input output)
-        (files-counted.cut from to least input output);
-    cut_exact = λ input from to output. all-made (exact_command from to input output)
-        (files-counted.cut_exact input from to output);
-    pack = λ mode input output. all-made (pack_mode_command mode input output)
-        (files-counted.pack mode input output);
-    split_at = λ input prefix places. all-made (split_at_command places input prefix)
-        (files-counted.split_at input prefix places);
-    split_by = λ input prefix sheet. all-made (split_by_command input sheet prefix)
-        (files-counted.split_by input prefix sheet);
-    split_exact = λ input prefix places. all-made (split_exact_at_command places input prefix)
-        (files-counted.split_exact input prefix places);
-    split_exact_by = λ input prefix sheet. all-made (split_exact_by_command input sheet prefix)
-        (files-counted.split_exact_by input prefix sheet);
-    join = λ output inputs some. all-made (join_command output inputs)
-        (files-counted.join output inputs some);
-    join_seamless = λ output inputs some. all-made (seamless_command output inputs)
-        (files-counted.join_seamless output inputs some);
-    salvage = λ input output. all-made (salvage_command input output)
-        (files-counted.salvage input output);
-  }
+  all-written asked moved some = all-made (command_of asked) (files-counted asked moved some)
 
 counted-loses-none : (bytes : List ℕ) → IsCountedFile bytes → LosesNoFrame bytes
 counted-loses-none bytes is =

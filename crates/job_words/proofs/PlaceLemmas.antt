@@ -5,11 +5,12 @@ use Rattle.std.proofs.lemmas.List.{Elements.All-contains, Sums.common_prefix_len
 use Rattle.std.specs.Prelude.{Contains, IfErr, IfOk}
 use Rattle.job_words.proofs.ListLemmas.{bounds, common_prefix_len-take, found, none_is, reached}
 use Rattle.job_words.proofs.{ListLemmas.whole, ReadingLemmas.listed_form}
-use Rattle.job_words.{proofs.SoundLemmas.shape_is_sound, specs.Code.{job_request, request_result}}
-use Rattle.job_words.specs.{Forms.{forms, help_form, Shape, shape_with, shapes}, Request.Request}
+use Rattle.job_words.proofs.SoundLemmas.{shape_is_sound}
+use Rattle.job_words.specs.Forms.{forms, help_form, Shape, shape_with, shapes}
+use Rattle.job_words.specs.Request.{IsSoundRequest, job_request, Request, request_result}
 use Rattle.job_words.specs.Words.{fitting_count, have_kinds, IsBadWord, IsReadingOf, IsShapePrefix}
-use Rattle.job_words.specs.Words.{IsSoundRequest, job_of, longest_fit, shape_in, shape_kinds}
-use Rattle.job_words.specs.{Words.shape_reading, declared.jobs.Job.Job}
+use Rattle.job_words.specs.Words.{job_of, longest_fit, shape_in, shape_kinds, shape_reading}
+use Rattle.job_words.specs.declared.jobs.Job.{Job}
 
 module _ (words : List (List ℕ)) where
   -- a shape that the words follow furthest

@@ -23,8 +23,8 @@ use Rattle.job_words.specs.Kinds.{Channel, Count, count_in, count_said, CountSai
 use Rattle.job_words.specs.Kinds.{exact_said, fits_kind, Fixed, Kind, Name, name_said, Place}
 use Rattle.job_words.specs.Kinds.{place_said, PlaceSaid, Rate, Said, said_at, Seed, seed_said}
 use Rattle.job_words.specs.Kinds.{Steps, steps_said, StepsSaid, values_of, word_value}
-use Rattle.job_words.specs.Words.{have_kinds, IsCount, IsName, IsSeed, IsSoundRequest, IsStepCount}
-use Rattle.job_words.specs.{Words.shape_kinds, declared.flags.Flag.Flag}
+use Rattle.job_words.specs.Request.{IsCount, IsName, IsSeed, IsSoundRequest, IsStepCount}
+use Rattle.job_words.specs.{Words.{have_kinds, shape_kinds}, declared.flags.Flag.Flag}
 
 -- ---- numbers and places
 

@@ -1,15 +1,9 @@
 -- How the program's words are read by the forms that they can have.
-use Rattle.std.specs.{Cmp.Lexicographic.pointwise, List.{All, common_prefix_len}}
-use Rattle.std.specs.Prelude.{Bool, Contains, Err, find, fold, IsTrue, length, List, map, max}
-use Rattle.std.specs.Prelude.{neg_ℤ, None, Ok, Option, pos, Result, Some, take, ℕ, ℤ, ◌≤ℤ◌, ◌+◌}
-use Rattle.std.specs.Prelude.{◌-◌, ◌<◌, ◌≡◌, ◌≤◌}
-use Rattle.cue_sheet.specs.{Places.IsPlace, declared.place.Place.Place}
-use Rattle.exact_span.specs.{Places.IsExactPlace, declared.exact_place.ExactPlace.ExactPlace}
+use Rattle.std.specs.{Cmp.Lexicographic.pointwise, List.common_prefix_len}
+use Rattle.std.specs.Prelude.{Bool, Contains, Err, find, fold, IsTrue, length, List, map, max, None}
+use Rattle.std.specs.Prelude.{Ok, Option, Result, Some, take, ℕ, ◌+◌, ◌-◌, ◌<◌, ◌≡◌, ◌≤◌}
 use Rattle.job_words.specs.Forms.{forms, kinds_for, Shape, shape_request, shapes}
-use Rattle.job_words.specs.Kinds.{fits_kind, is_name, Kind}
-use Rattle.job_words.specs.Request.{Cut, CutExact, Drill, Fade, Gain, Help, InfoFile, Join}
-use Rattle.job_words.specs.Request.{ListFile, Pack, Request, Salvage, SplitAt, SplitBy, SplitExact}
-use Rattle.job_words.specs.Request.{Undo, Version}
+use Rattle.job_words.specs.{Kinds.{fits_kind, Kind}, Request.Request}
 
 -- ---- the reading
 
@@ -73,64 +67,3 @@ pub record IsBadWord (words : List (List ℕ)) (place : ℕ) : Type 0 where
   pub before : IsShapePrefix (place - 1) nearest words
   pub longest : (n : ℕ) (shape : Shape) → Contains (shapes forms) shape
       → IsShapePrefix n shape words → n < place
-
--- ---- what is asked for is in range
-
--- a word that can be a file's name
-abbrev pub IsName : List ℕ → Type 0
-IsName word = IsTrue (is_name word)
-
--- a number of steps that can be asked for
-pub record IsStepCount (steps : ℤ) : Type 0 where
-  pub low : neg_ℤ (pos 255) ≤ℤ steps
-  pub high : steps ≤ℤ pos 255
-
--- the names of files that can be joined
-pub record AreJoinNames (inputs : List (List ℕ)) : Type 0 where
-  pub some : 1 ≤ length inputs
-  pub few : length inputs ≤ 64
-  pub names : All IsName inputs
-
--- positions at which a stream can be split
-pub record AreSplitPlaces (places : List Place) : Type 0 where
-  pub some : 2 ≤ length places
-  pub few : length places ≤ 100
-  pub each : All IsPlace places
-
--- places among the samples at which a stream can be split
-pub record AreExactPlaces (places : List ExactPlace) : Type 0 where
-  pub some : 2 ≤ length places
-  pub few : length places ≤ 100
-  pub each : All IsExactPlace places
-
--- a seed of a stream
-abbrev pub IsSeed : ℕ → Type 0
-IsSeed seed = seed < 2147483648
-
--- a number of frames of such a stream that can be asked for
-pub record IsCount (count : ℕ) : Type 0 where
-  pub some : 1 ≤ count
-  pub few : count ≤ 20000
-
--- what is asked for is sound: its names, steps, positions and numbers can be asked for
-abbrev pub IsSoundRequest : Request → Type 0
-IsSoundRequest Help = Unit {0}
-IsSoundRequest Version = Unit {0}
-IsSoundRequest (ListFile input) = IsName input
-IsSoundRequest (InfoFile input) = IsName input
-IsSoundRequest (Gain shift tags input output) =
-    IsName input × IsName output × IsStepCount shift.steps
-IsSoundRequest (Undo input output) = IsName input × IsName output
-IsSoundRequest (Cut from to least input output) =
-    IsName input × IsName output × IsPlace from × IsPlace to
-IsSoundRequest (CutExact input from to output) =
-    IsName input × IsName output × IsExactPlace from × IsExactPlace to
-IsSoundRequest (Pack mode input output) = IsName input × IsName output
-IsSoundRequest (SplitAt input prefix places) = IsName input × IsName prefix × AreSplitPlaces places
-IsSoundRequest (SplitExact input prefix places) =
-    IsName input × IsName prefix × AreExactPlaces places
-IsSoundRequest (SplitBy exact input prefix sheet) = IsName input × IsName prefix × IsName sheet
-IsSoundRequest (Join seamless output inputs) = IsName output × AreJoinNames inputs
-IsSoundRequest (Drill seed count) = IsSeed seed × IsCount count
-IsSoundRequest (Fade back input output sheet) = IsName input × IsName output × IsName sheet
-IsSoundRequest (Salvage input output) = IsName input × IsName output

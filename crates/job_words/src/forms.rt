@@ -4,7 +4,8 @@ ghost use Rattle.job_words.specs.Kinds.{said_at, name_at, place_said, exact_said
 ghost use Rattle.job_words.specs.Flags.{flag_kinds};
 ghost use Rattle.job_words.specs.Forms.{shapes_of, last_kind, form_kinds, front_kinds, gain_request, pack_request, sheet_request, form_request, most_values, IsReadable};
 ghost use Rattle.job_words.specs.Words.{table_reading};
-ghost use Rattle.job_words.specs.Code.{word_kind, value_said, form_given, job_request, request_result};
+ghost use Rattle.job_words.specs.Code.{word_kind, value_said, form_given};
+ghost use Rattle.job_words.specs.Request.{job_request, request_result};
 
 use crate::flags::{Flag, is_given, leading_flags, skip};
 use crate::jobs::Job;
@@ -60,6 +61,32 @@ macro_rules! form {
             more: $more,
             asks: FormKind::$asks,
         }
+    };
+}
+
+/// A field of a job: whether a flag is given, or what the words after the flags say from this place on, counted from 0.
+macro_rules! field {
+    ($given:ident $values:ident flag $flag:ident) => {
+        is_given($given, Flag::$flag)
+    };
+    ($given:ident $values:ident name $place:literal) => {
+        name_at($values, $place)
+    };
+    ($given:ident $values:ident places $place:literal) => {
+        places_of(skip($values, $place))
+    };
+    ($given:ident $values:ident exact_places $place:literal) => {
+        exact_places_of(skip($values, $place))
+    };
+    ($given:ident $values:ident $says:ident $place:literal) => {
+        value_at($values, $place).$says()
+    };
+}
+
+/// A job with these fields.
+macro_rules! job {
+    ($job:ident($given:ident, $values:ident) $($field:ident: $says:ident $from:tt),*) => {
+        Job::$job { $($field: field!($given $values $says $from)),* }
     };
 }
 
@@ -218,31 +245,16 @@ impl FormKind {
         match self {
             FormKind::Help => Job::Help,
             FormKind::Version => Job::Version,
-            FormKind::List => Job::List {
-                input: name_at(values, 0),
-            },
-            FormKind::Info => Job::Info {
-                input: name_at(values, 0),
-            },
+            FormKind::List => job!(List(given, values) input: name 0),
+            FormKind::Info => job!(Info(given, values) input: name 0),
             FormKind::Gain => gain(Channels::Both, given, values, 1),
             FormKind::ChannelGain => gain(value_at(values, 1).channels(), given, values, 2),
-            FormKind::Undo => Job::Undo {
-                input: name_at(values, 1),
-                output: name_at(values, 2),
-            },
-            FormKind::Cut => Job::Cut {
-                from: value_at(values, 1).place(),
-                to: value_at(values, 2).place(),
-                least: is_given(given, Flag::Least),
-                input: name_at(values, 0),
-                output: name_at(values, 3),
-            },
-            FormKind::CutExact => Job::CutExact {
-                input: name_at(values, 1),
-                from: value_at(values, 2).exact(),
-                to: value_at(values, 3).exact(),
-                output: name_at(values, 4),
-            },
+            FormKind::Undo => job!(Undo(given, values) input: name 1, output: name 2),
+            FormKind::Cut => job!(Cut(given, values) from: place 1, to: place 2, least: flag Least,
+                input: name 0, output: name 3),
+            FormKind::CutExact =>
+                job!(CutExact(given, values) input: name 1, from: exact 2, to: exact 3,
+                output: name 4),
             FormKind::Pack => pack(PackMode::Least, values, 0),
             FormKind::ConstantPack => pack(
                 PackMode::Constant(value_at(values, 1).rate()),
@@ -251,16 +263,10 @@ impl FormKind {
             ),
             FormKind::FloorPack => pack(PackMode::Floor(value_at(values, 1).rate()), values, 2),
             FormKind::BestPack => pack(PackMode::Best, values, 1),
-            FormKind::SplitAt => Job::SplitAt {
-                input: name_at(values, 0),
-                prefix: name_at(values, 1),
-                places: places_of(skip(values, 2)),
-            },
-            FormKind::SplitExact => Job::SplitExact {
-                input: name_at(values, 1),
-                prefix: name_at(values, 2),
-                places: exact_places_of(skip(values, 3)),
-            },
+            FormKind::SplitAt =>
+                job!(SplitAt(given, values) input: name 0, prefix: name 1, places: places 2),
+            FormKind::SplitExact =>
+                job!(SplitExact(given, values) input: name 1, prefix: name 2, places: exact_places 3),
             FormKind::SplitBy => split_by(false, values, 0),
             FormKind::SplitExactBy => split_by(true, values, 1),
             FormKind::Join => Job::Join {
@@ -268,20 +274,11 @@ impl FormKind {
                 output: name_at(values, 0),
                 inputs: skip(words, 1),
             },
-            FormKind::Drill => Job::Drill {
-                seed: value_at(values, 0).seed(),
-                count: value_at(values, 1).count(),
-            },
-            FormKind::Fade => Job::Fade {
-                back: is_given(given, Flag::Back),
-                input: name_at(values, 0),
-                output: name_at(values, 1),
-                sheet: name_at(values, 2),
-            },
-            FormKind::Salvage => Job::Salvage {
-                input: name_at(values, 0),
-                output: name_at(values, 1),
-            },
+            FormKind::Drill => job!(Drill(given, values) seed: seed 0, count: count 1),
+            FormKind::Fade =>
+                job!(Fade(given, values) back: flag Back, input: name 0, output: name 1,
+                sheet: name 2),
+            FormKind::Salvage => job!(Salvage(given, values) input: name 0, output: name 1),
         }
     }
 }

@@ -1,8 +1,10 @@
 //! What the program's words ask for.
 ghost use Rattle.std.specs.Prelude.{◌≡◌, map, string_bytes, IfOk, IfErr, All};
 ghost use Rattle.job_words.specs.Forms.{shapes, IsReadable};
-ghost use Rattle.job_words.specs.Words.{table_reading, job_of, IsReadingOf, IsBadWord, IsSoundRequest};
-ghost use Rattle.job_words.specs.Code.{form_given, job_request, request_result};
+ghost use Rattle.job_words.specs.Words.{table_reading, job_of, IsReadingOf, IsBadWord};
+ghost use Rattle.job_words.specs.Request.{IsSoundRequest};
+ghost use Rattle.job_words.specs.Code.{form_given};
+ghost use Rattle.job_words.specs.Request.{job_request, request_result};
 
 use crate::forms::{FORMS, Form};
 use crate::jobs::Job;

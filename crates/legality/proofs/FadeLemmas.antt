@@ -2,6 +2,8 @@
 use Rattle.std.proofs.Common.{ap, Bool, cond, Err, length, List, map, None, Ok, Option, refl}
 use Rattle.std.proofs.Common.{Result, Some, subst, suc, sym, ℕ, [], ◌<◌, ◌∙◌, ◌∷◌, ◌≡◌}
 use Rattle.std.{proofs.lemmas.Bool.{lt-ltb, ltb-true}, specs.Prelude.nat_lt}
+use Rattle.command_table.specs.Choices.{CanAllMove, IsLegalFade}
+use Rattle.command_table.specs.Inputs.{FileInput, HoldsOfEachNext}
 use Rattle.commands.proofs.{FoundSheetLemmas.{is-sheet, sheet-is}, RefusingLemmas.then_ok}
 use Rattle.commands.specs.{Refusing.{refusal_or, then_made}, Sheet.sheet_in}
 use Rattle.commands.specs.{SingleOutput.most_frames, declared.fault.EditFault.EditFault}
@@ -19,7 +21,6 @@ use Rattle.gain_edits.proofs.FadeProperLemmas.{faded-parts}
 use Rattle.gain_edits.specs.Fade.{curve_change, curve_result, input_sheet_change, points_curve}
 use Rattle.gain_edits.specs.Fade.{points_result, sheet_change, sheet_curve}
 use Rattle.legality.proofs.{GainLemmas.{Agree, free-moves, moves-free}, InputLemmas.next-cons}
-use Rattle.legality.specs.{Choices.{CanAllMove, IsLegalFade}, Inputs.{FileInput, HoldsOfEachNext}}
 use Rattle.moved_gains.{proofs.CourseLemmas.survey_numbered, specs.Change.FileChange}
 use Rattle.moved_gains.specs.Course.{course_steps, equal_steps, steps_at_offset}
 use Rattle.moved_gains.specs.declared.course.Course.TheVariants.{Along}

@@ -4,6 +4,8 @@ use Rattle.std.proofs.Common.{pos, refl, Result, rules, Some, subst, suc, sym, t
 use Rattle.std.proofs.Common.{◌<◌, ◌==◌, ◌∙◌, ◌∷◌, ◌≡◌, ◌≢◌, ◌≤◌, ◌⊎◌}
 use Rattle.std.{proofs.lemmas.Bool.{le-ltb, ltb-false, ne_eqb}, specs.Option.option_or}
 use Rattle.std.specs.Prelude.{nat_lt, unsigned_abs}
+use Rattle.command_table.specs.Choices.{AreSeparate, CanChange, CanMove, channel_steps, IsLegalGain}
+use Rattle.command_table.specs.{Choices.{IsLegalUndo, StaysGain}, Inputs.{FileInput, HoldsOfEach}}
 use Rattle.commands.proofs.RefusingLemmas.{first-cons, first-nil, none_both, none_first}
 use Rattle.commands.{proofs.RefusingLemmas.refusal_or-ok, specs.Refusing.{refusal_or, then_made}}
 use Rattle.commands.specs.declared.fault.{EditFault.EditFault, Refusal.Refusal}
@@ -21,8 +23,6 @@ use Rattle.gain_edits.specs.UndoItem.{noted_undo, number_fault, output_fault, ou
 use Rattle.gain_edits.specs.UndoItem.{size_fault, tag_result, tag_with_undo, tag_without_undo}
 use Rattle.gain_edits.specs.UndoItem.{undo_fault, undo_steps}
 use Rattle.legality.proofs.InputLemmas.{each-cons}
-use Rattle.legality.specs.Choices.{AreSeparate, CanChange, CanMove, channel_steps, IsLegalGain}
-use Rattle.legality.specs.{Choices.{IsLegalUndo, StaysGain}, Inputs.{FileInput, HoldsOfEach}}
 use Rattle.moved_gains.{proofs.MovedGainLemmas.within, specs.Change.FileChange}
 use Rattle.moved_gains.specs.{Course.constant_steps, Edited.row_out_of_range}
 use Rattle.moved_gains.specs.Gains.{gain_out_of_range, is_out_of_range, side_out_of_range}

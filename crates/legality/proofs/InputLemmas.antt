@@ -4,8 +4,9 @@ use Rattle.std.proofs.Common.{refl, Some, suc, ℕ, [], ◌+◌, ◌∙◌, ◌�
 use Rattle.std.proofs.lemmas.{Bool.false_from_ne_true, List.{Elements.All-cons, Folds.list_any_at}}
 use Rattle.std.proofs.lemmas.{Map.Views.Contains-from_any, Slice.Eq.bytes_eq-Decides}
 use Rattle.std.specs.List.{list_any}
+use Rattle.command_table.specs.Inputs.{AreNamesApart, FileInput, HoldsOfEach, HoldsOfEachNext}
+use Rattle.command_table.specs.Inputs.{IsInput}
 use Rattle.commands.{proofs.MakeLemmas.no_clash, specs.Command.clash_from}
-use Rattle.legality.specs.Inputs.{AreNamesApart, FileInput, HoldsOfEach, HoldsOfEachNext, IsInput}
 use Rattle.outside.{proofs.FilesLemmas.bytes_eq_same, specs.Files.Contents}
 use Rattle.pack_edits.proofs.LimitLemmas.{few-rows}
 use Rattle.sync_survey.proofs.{FaultsLemmas.length-marked_rows, FoldersLemmas.survey_of-short}

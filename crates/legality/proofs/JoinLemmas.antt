@@ -2,6 +2,8 @@
 use Rattle.std.proofs.Common.{ap, arith, length, List, None, Ok, Option, refl, Result, Some, suc}
 use Rattle.std.proofs.Common.{sym, zero, ℕ, [], ◌+◌, ◌-◌, ◌∙◌, ◌∷◌, ◌≡◌, ◌≤◌}
 use Rattle.std.specs.Prelude.{slice_get, unwrap_or}
+use Rattle.command_table.specs.Choices.{AreInputsOfOneClass}
+use Rattle.command_table.specs.Inputs.{AreInputs, FileInput, input_frames}
 use Rattle.commands.{proofs.RefusingLemmas.then_ok, specs.Refusing.then_made}
 use Rattle.commands.specs.{SingleOutput.most_frames, declared.fault.EditFault.EditFault}
 use Rattle.frame_header.specs.Fields.{ClassFields}
@@ -10,7 +12,6 @@ use Rattle.join_edits.specs.Inputs.{HasClassOfFirst}
 use Rattle.join_edits.specs.Join.{join_part, join_parts, join_parts_from, whole_part}
 use Rattle.laying.specs.Relaid.{FilePart}
 use Rattle.legality.proofs.InputLemmas.{survey-input, survey-whole, whole-survey}
-use Rattle.legality.specs.{Choices.AreInputsOfOneClass, Inputs.{AreInputs, FileInput, input_frames}}
 use Rattle.outside.specs.Files.{Contents}
 use Rattle.sync_survey.specs.{Faults.SurveyFields, Survey.survey_of}
 

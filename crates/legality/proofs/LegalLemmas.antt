@@ -2,6 +2,12 @@
 use Rattle.std.proofs.Common.{ap, append-nil, arith, Bool, Err, false, length, List, map, None, Ok}
 use Rattle.std.proofs.Common.{Option, refl, Result, Some, subst, sym, true, ℕ, [], ◌++◌, ◌+◌, ◌↔◌}
 use Rattle.std.proofs.{Common.{◌∙◌, ◌∷◌, ◌≡◌, ◌≤◌}, lemmas.List.Elements.All-cons}
+use Rattle.command_table.specs.Choices.{ArePieceRanges, AreSamplePieces, IsLegalExactSheet}
+use Rattle.command_table.specs.Choices.{IsLegalFade, IsLegalGain, IsLegalPack, IsLegalSheet}
+use Rattle.command_table.specs.Choices.{IsLegalUndo, IsRange, IsSampleRange, IsSheetWith}
+use Rattle.command_table.specs.Inputs.{AreInputs, AreNamesApart, FileInput, HoldsOfEachNext}
+use Rattle.command_table.specs.Inputs.{input_frames}
+use Rattle.command_table.specs.Table.{command_of, entry_of, outputs_of, sources_of}
 use Rattle.commands.proofs.MadeLemmas.{made-of, makes-parts, of-made, parts-make}
 use Rattle.commands.proofs.{RefusingLemmas.then_ok, TellingLemmas.text-parts}
 use Rattle.commands.specs.{Command.{clash_from, Made}, Refusing.then_made}
@@ -14,6 +20,7 @@ use Rattle.cut_edits.specs.Chosen.{all_choice, chosen_needs, cut_choice, cut_com
 use Rattle.cut_edits.specs.Chosen.{first_plan, first_planning, laying_making, laying_task}
 use Rattle.cut_edits.specs.Chosen.{slot_choices}
 use Rattle.cut_edits.specs.Exact.{exact_command, exact_making, exact_refuses, exact_task}
+use Rattle.drill.specs.Drilled.{drill_text}
 use Rattle.exact_span.specs.declared.exact_place.ExactPlace.{ExactPlace}
 use Rattle.exact_span.specs.declared.exact_place.ExactPlace.TheVariants.{Place as Position}
 use Rattle.gain_edits.specs.Change.{change_making, change_task, changed_or_fault, Changing}
@@ -21,8 +28,8 @@ use Rattle.gain_edits.specs.Fade.{fade_change, fade_command, fade_task}
 use Rattle.gain_edits.specs.Gain.{gain_change, gain_command, gain_refuses}
 use Rattle.gain_edits.specs.Undo.{file_undo_steps, undo_change, undo_command, undo_refuses}
 use Rattle.job_words.specs.Request.{Cut, CutExact, Drill, Fade, Gain, Help, InfoFile, Join}
-use Rattle.job_words.specs.Request.{ListFile, Pack, Request, SplitAt, SplitBy, SplitExact, Undo}
-use Rattle.job_words.specs.Request.{Version}
+use Rattle.job_words.specs.Request.{ListFile, Pack, Request, Salvage, SplitAt, SplitBy, SplitExact}
+use Rattle.job_words.specs.Request.{Undo, Version}
 use Rattle.join_edits.specs.Join.{join_command, join_parts, join_task, joined_file}
 use Rattle.laying.specs.{KeptFields.fields_of_head, Relaid.FilePart}
 use Rattle.legality.proofs.FadeLemmas.{fade-legal, legal-fade}
@@ -35,19 +42,14 @@ use Rattle.legality.proofs.{PackLemmas.planned-made, SalvageLemmas.salvage-law}
 use Rattle.legality.proofs.SampleLemmas.{range-span, span-range}
 use Rattle.legality.proofs.SplitLemmas.{cut-range, frames-right, FramesFollow, range-cut}
 use Rattle.legality.proofs.SplitLemmas.{samples-right, SamplesFollow, split-law}
-use Rattle.legality.specs.Choices.{ArePieceRanges, AreSamplePieces, IsLegalExactSheet, IsLegalFade}
-use Rattle.legality.specs.Choices.{IsLegalGain, IsLegalPack, IsLegalSheet, IsLegalUndo, IsRange}
-use Rattle.legality.specs.Choices.{IsSampleRange, IsSheetWith}
-use Rattle.legality.specs.Inputs.{AreInputs, AreNamesApart, FileInput, HoldsOfEachNext}
-use Rattle.legality.specs.{Inputs.input_frames, Laws.{AcceptsFiles, LegalIsAccepted}}
-use Rattle.legality.specs.Legal.{AreLegalChoices, IsLegalFor, most_frames_of, others_of, outputs_of}
-use Rattle.legality.specs.Legal.{sources_of}
+use Rattle.legality.specs.{Laws.{AcceptsFiles, LegalIsAccepted}, Legal.IsLegalFor}
 use Rattle.list_edits.specs.{InfoText.{info_command, info_text}, Listing.{list_command, listing}}
 use Rattle.list_edits.specs.TextCommand.{input_text, surveyed_text, text_command}
 use Rattle.moved_gains.specs.Change.{file_with_change, FileChange}
 use Rattle.outside.specs.Files.{Contents}
 use Rattle.pack_edits.specs.Modes.{allowed_frames, limited_result, mode_planning, most_best}
 use Rattle.pack_edits.specs.Modes.{pack_mode_command, pack_task, survey_fault_or}
+use Rattle.program_texts.specs.Texts.{help_text, version_text}
 use Rattle.requests.specs.{Shifts.steps_of, declared.mode.PackMode.PackMode}
 use Rattle.requests.specs.declared.mode.PackMode.TheVariants.{Best, Constant, Floor, Least}
 use Rattle.requests.specs.declared.shift.Shift.{Shift}
@@ -67,17 +69,25 @@ use Rattle.sync_survey.specs.declared.survey_fault.SurveyFault.{SurveyFault}
 no-names : (outputs : List (List ℕ)) → AreNamesApart [] outputs
 no-names outputs = λ k d within. absurd (omega (arith, within))
 
--- help is always legal
-pub help-legal : (files : Contents) → IsLegalFor Help files
-help-legal files = grind (arith, no-names)
+help-law : (files : Contents) → IsLegalFor Help files ↔ AcceptsFiles (command_of Help) files
+help-law files = (
+  (λ legal. (record { outputs = []; text = help_text }, refl)),
+  (λ made. grind (arith, no-names)),
+)
 
--- the version is always legal
-pub version-legal : (files : Contents) → IsLegalFor Version files
-version-legal files = grind (arith, no-names)
+version-law : (files : Contents)
+    → IsLegalFor Version files ↔ AcceptsFiles (command_of Version) files
+version-law files = (
+  (λ legal. (record { outputs = []; text = version_text }, refl)),
+  (λ made. grind (arith, no-names)),
+)
 
--- a drill is always legal
-pub drill-legal : (seed count : ℕ) (files : Contents) → IsLegalFor (Drill seed count) files
-drill-legal seed count files = grind (arith, no-names)
+drill-law : (seed count : ℕ) (files : Contents)
+    → IsLegalFor (Drill seed count) files ↔ AcceptsFiles (command_of (Drill seed count)) files
+drill-law seed count files = (
+  (λ legal. (record { outputs = []; text = drill_text seed count }, refl)),
+  (λ made. grind (arith, no-names)),
+)
 
 -- ---- one input
 
@@ -89,16 +99,16 @@ few-one n most few = omega (arith, few)
 module _ (asked : Request) (files : Contents) (input : List ℕ)
     (reads : sources_of asked ≡ input ∷ []) where
   abbrev ChoiceOf : FileInput → Type 0
-  ChoiceOf one = AreLegalChoices asked files (one ∷ [])
+  ChoiceOf one = (entry_of asked).legal files (one ∷ [])
 
   abbrev IsOneOf : Type 0
-  IsOneOf = IsOne ChoiceOf files input (most_frames_of asked)
+  IsOneOf = IsOne ChoiceOf files input (entry_of asked).most
 
   abbrev AreApart : List (List ℕ) → Type 0
-  AreApart sources = AreNamesApart (sources ++ others_of asked) (outputs_of asked)
+  AreApart sources = AreNamesApart (sources ++ (entry_of asked).others) (outputs_of asked)
 
   the-one : (inputs : List FileInput) → AreInputs files (input ∷ []) inputs
-      → input_frames inputs ≤ most_frames_of asked → AreLegalChoices asked files inputs → IsOneOf
+      → input_frames inputs ≤ (entry_of asked).most → (entry_of asked).legal files inputs → IsOneOf
   the-one inputs are few choices = grind arith
 
   one-legal : IsLegalFor asked files ↔ (AreApart (input ∷ []) × IsOneOf)
@@ -112,7 +122,7 @@ module _ (asked : Request) (files : Contents) (input : List ℕ)
       names = subst AreApart (sym reads) is.0;
       inputs = is.1.input ∷ [];
       are = subst (λ names. AreInputs files names (is.1.input ∷ [])) (sym reads) (is.1.is, tt);
-      few = few-one (length is.1.input.survey.frames) (most_frames_of asked) is.1.few;
+      few = few-one (length is.1.input.survey.frames) (entry_of asked).most is.1.few;
       choices = is.1.choice;
     }),
   )
@@ -535,22 +545,24 @@ seamless-law files output inputs =
 
 -- ---- all commands
 
--- each command is legal exactly if it isn't refused
+-- a command is legal exactly if it isn't refused
 pub legal-is-accepted : LegalIsAccepted
-legal-is-accepted = record {
-  list = list-law;
-  info = info-law;
-  gain = gain-law;
-  undo = undo-law;
-  cut = cut-law;
-  cut_exact = exact-law;
-  pack = pack-law;
-  split_at = split-at-law;
-  split_by = split-by-law;
-  split_exact = split-exact-law;
-  split_exact_by = split-exact-by-law;
-  join = join-law;
-  join_seamless = seamless-law;
-  fade = fade-law;
-  salvage = salvage-law;
-}
+legal-is-accepted Help files = help-law files
+legal-is-accepted Version files = version-law files
+legal-is-accepted (Drill seed count) files = drill-law seed count files
+legal-is-accepted (ListFile input) files = list-law files input
+legal-is-accepted (InfoFile input) files = info-law files input
+legal-is-accepted (Gain shift tags input output) files = gain-law files shift tags input output
+legal-is-accepted (Undo input output) files = undo-law files input output
+legal-is-accepted (Fade back input output sheet) files = fade-law files back input output sheet
+legal-is-accepted (Cut from to least input output) files = cut-law files from to least input output
+legal-is-accepted (CutExact input from to output) files = exact-law files input from to output
+legal-is-accepted (Pack mode input output) files = pack-law files mode input output
+legal-is-accepted (SplitAt input prefix places) files = split-at-law files input prefix places
+legal-is-accepted (SplitExact input prefix places) files = split-exact-law files input prefix places
+legal-is-accepted (SplitBy false input prefix sheet) files = split-by-law files input prefix sheet
+legal-is-accepted (SplitBy true input prefix sheet) files =
+    split-exact-by-law files input prefix sheet
+legal-is-accepted (Join false output inputs) files = join-law files output inputs
+legal-is-accepted (Join true output inputs) files = seamless-law files output inputs
+legal-is-accepted (Salvage input output) files = salvage-law files input output

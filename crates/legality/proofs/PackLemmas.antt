@@ -4,6 +4,7 @@ use Rattle.std.proofs.Common.{List, map, None, Ok, refl, Result, Some, subst, su
 use Rattle.std.proofs.Common.{ℕ, [], ◌<◌, ◌==◌, ◌∙◌, ◌∷◌, ◌≡◌, ◌≤◌}
 use Rattle.std.proofs.lemmas.{Bool.{eq-eqb, eqb-true, lt-ltb, ltb-true}, List.length-map}
 use Rattle.std.specs.Prelude.{filter, ◌↔◌}
+use Rattle.command_table.specs.Choices.{HasRateRoom, IsFirstUnfit, IsRate}
 use Rattle.commands.proofs.{MadeLemmas.some-frames, RefusingLemmas.{refusal_or-ok, then_ok}}
 use Rattle.commands.specs.{Refusing.{refusal_or, then_made}, SingleOutput.most_frames}
 use Rattle.commands.specs.declared.fault.EditFault.{EditFault, TheVariants.Refused}
@@ -16,7 +17,6 @@ use Rattle.frame_header.specs.Tables.{rate_of, window_of}
 use Rattle.laying.{proofs.PlacesLemmas.range-whole, specs.{Laid.file_laid, Needs.need_of}}
 use Rattle.laying.specs.{NeedsFit.IsPlacedSurvey, Written.head_info}
 use Rattle.legality.proofs.SplitLemmas.{within-ok}
-use Rattle.legality.specs.Choices.{HasRateRoom, IsFirstUnfit, IsRate}
 use Rattle.pack_edits.proofs.MenuLemmas.{menu-ascends, menu-some}
 use Rattle.pack_edits.proofs.PlanLemmas.{fitted_plan-ok, floor-unfit, plan-is, rows-same, rows-some}
 use Rattle.pack_edits.proofs.PlanLemmas.{rows-sound}

@@ -1,10 +1,11 @@
 -- What is left of a damaged file.
 use Rattle.std.proofs.Common.{ap, arith, List, Ok, ℕ, [], ◌↔◌, ◌∙◌, ◌∷◌, ◌≡◌}
+use Rattle.command_table.specs.Choices.{IsLegalSalvage}
 use Rattle.commands.proofs.{MadeLemmas.{makes-parts, parts-make}, TellingLemmas.text-parts}
 use Rattle.commands.specs.{SingleOutput.one_command, WithText.with_text}
 use Rattle.job_words.specs.Request.{Salvage}
-use Rattle.legality.proofs.InputLemmas.{apart_no-clash, no-clash_apart}
-use Rattle.legality.specs.{Choices.IsLegalSalvage, Laws.AcceptsFiles, Legal.IsLegalFor}
+use Rattle.legality.{proofs.InputLemmas.{apart_no-clash, no-clash_apart}, specs.Laws.AcceptsFiles}
+use Rattle.legality.specs.Legal.{IsLegalFor}
 use Rattle.outside.specs.Files.{Contents}
 use Rattle.salvage.proofs.LaidOutLemmas.{frames-read, read-frames}
 use Rattle.salvage.specs.DamagedFiles.{damaged_from}

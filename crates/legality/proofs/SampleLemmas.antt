@@ -3,6 +3,7 @@
 use Rattle.std.proofs.Common.{ap, ap₂, Bool, cond, length, List, None, Ok, Option, refl, Some, ℕ}
 use Rattle.std.proofs.{Common.{◌&&◌, ◌+◌, ◌<◌, ◌≡◌, ◌≤◌}, lemmas.Bool.{le-leb, lt-ltb}}
 use Rattle.std.specs.Prelude.{nat_le, nat_lt}
+use Rattle.command_table.specs.Choices.{IsSampleRange}
 use Rattle.commands.{proofs.RefusingLemmas.refusal_or-ok, specs.Refusing.refusal_or}
 use Rattle.commands.specs.declared.fault.Refusal.TheVariants.{Span as NoSpan}
 use Rattle.cut_edits.{proofs.PieceLemmas.samples_there, specs.Exact.{file_span, samples_fault}}
@@ -11,7 +12,6 @@ use Rattle.exact_span.specs.{Spans.span_of, declared.exact_place.ExactPlace.Exac
 use Rattle.exact_span.specs.declared.{played.Played.Played, span.Span.Span}
 use Rattle.info_header.specs.declared.fields.Info.{Info}
 use Rattle.laying.specs.KeptFields.{fields_of_head}
-use Rattle.legality.specs.Choices.{IsSampleRange}
 use Rattle.sync_survey.specs.Faults.{SurveyFields}
 
 samples_none : (a b samples : ℕ) → a < b → b ≤ samples → samples_fault a b samples ≡ None

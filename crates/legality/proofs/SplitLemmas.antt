@@ -2,6 +2,8 @@
 use Rattle.std.proofs.Common.{ap, ap₂, Bool, cond, Err, length, List, None, Ok, Option, refl}
 use Rattle.std.proofs.Common.{replicate, Result, Some, suc, ℕ, [], ◌&&◌, ◌<◌, ◌↔◌, ◌∙◌, ◌∷◌, ◌≡◌}
 use Rattle.std.proofs.{Common.◌≤◌, lemmas.Bool.{le-leb, lt-ltb}}
+use Rattle.command_table.specs.Choices.{IsRange, IsSampleRange}
+use Rattle.command_table.specs.Inputs.{AreNamesApart, FileInput, HoldsOfEachNext}
 use Rattle.commands.{proofs.RefusingLemmas.then_ok, specs.Command.clash_from}
 use Rattle.commands.specs.{Refusing.{refusal_or, then_made}, SingleOutput.most_frames}
 use Rattle.commands.specs.declared.fault.{EditFault.EditFault, Refusal.{Refusal, TheVariants.Range}}
@@ -14,9 +16,7 @@ use Rattle.exact_span.specs.declared.{exact_place.ExactPlace.ExactPlace, span.Sp
 use Rattle.laying.specs.{KeptFields.fields_of_head, Laid.LaidPart, NeedsFit.own_choice}
 use Rattle.legality.proofs.InputLemmas.{apart_no-clash, IsOne, next-cons, no-clash_apart}
 use Rattle.legality.proofs.InputLemmas.{one-survey, surveyed-one}
-use Rattle.legality.proofs.SampleLemmas.{range-span, span-range}
-use Rattle.legality.specs.Choices.{IsRange, IsSampleRange}
-use Rattle.legality.specs.{Inputs.{AreNamesApart, FileInput, HoldsOfEachNext}, Laws.AcceptsFiles}
+use Rattle.legality.{proofs.SampleLemmas.{range-span, span-range}, specs.Laws.AcceptsFiles}
 use Rattle.outside.specs.Files.{Contents}
 use Rattle.requests.specs.Names.{piece_names}
 use Rattle.split_edits.proofs.PartsLemmas.{IsSplit, made_in, split-parts}

@@ -1,6 +1,5 @@
 -- The lemmas of this crate.
 pub mod LegalLemmas
-pub mod NameLemmas
 pub mod RunLemmas
 pub mod WrittenLemmas
 pub mod FewestLemmas

@@ -1,15 +1,15 @@
 -- What a run is follows from how its command ends, or from a bad word.
 use Rattle.std.proofs.Common.{ap, arith, Err, List, lit≤, Ok, refl, subst, sym, ℕ, [], ◌≡◌}
 use Rattle.std.specs.Prelude.{IfSome, IsErr, ◌↔◌}
+use Rattle.command_table.specs.Table.{command_of}
 use Rattle.commands.specs.Command.{HoldsStreams}
-use Rattle.job_words.specs.{Request.Request, Words.{IsSoundRequest, job_of}}
+use Rattle.job_words.specs.{Request.{IsSoundRequest, Request}, Words.job_of}
 use Rattle.mp3_cli.proofs.FewestLemmas.{fewest-bytes}
 use Rattle.mp3_cli.proofs.RunLemmas.{at_most, bad_word_defined, counts_kept, is_accepted}
 use Rattle.mp3_cli.proofs.RunLemmas.{is_defined, kept, not_two, quiet, says_always, silent, touched}
 use Rattle.mp3_cli.proofs.WrittenLemmas.{written-streams}
-use Rattle.mp3_cli.specs.Run.{always_of, AnswersBadWord, AnswersWords, command_of, CommandAnswers}
-use Rattle.mp3_cli.specs.Run.{IsLegalBy, IsOutcome, outcome, outputs_asked, ProgramRun, World}
-use Rattle.mp3_cli.specs.Run.{world}
+use Rattle.mp3_cli.specs.Run.{always_of, AnswersBadWord, AnswersWords, CommandAnswers, IsLegalBy}
+use Rattle.mp3_cli.specs.Run.{IsOutcome, outcome, outputs_asked, ProgramRun, World, world}
 use Rattle.outside.{proofs.FilesLemmas.touches_none, specs.Counts.NoneFell}
 use Rattle.outside.specs.{Files.{IfTold, OnlyTouches, sent_and_more}, Seen.{Heard, Seen}}
 

@@ -1,8 +1,10 @@
 -- What `run` promises, from how a command ends.
 use Rattle.std.proofs.Common.{ap, arith, Err, false, inl, inr, List, None, Ok, Option, refl, Result}
-use Rattle.std.proofs.Common.{Some, subst, sym, ℕ, [], ◌↔◌, ◌∙◌, ◌∷◌, ◌≡◌, ◌≢◌, ◌≤◌, ◌⊎◌}
+use Rattle.std.proofs.Common.{Some, subst, sym, ℕ, [], ◌↔◌, ◌∙◌, ◌≡◌, ◌≢◌, ◌≤◌, ◌⊎◌}
 use Rattle.std.proofs.{Math.Seq.take-nil, lemmas.Option.same_Some}
 use Rattle.std.specs.Prelude.{IfErr, IfSome, IsErrOf, OnOk}
+use Rattle.chosen_streams.proofs.NamedLemmas.{one_made}
+use Rattle.command_table.specs.Table.{command_of}
 use Rattle.commands.proofs.TouchLemmas.{left_touched}
 use Rattle.commands.specs.AfterCall.{by_why, HasNumbers, IsCommandDone, IsCommandFault}
 use Rattle.commands.specs.AfterCall.{IsCommandRefused, left_cases, Missing, NoMemory, Rejected}
@@ -10,7 +12,7 @@ use Rattle.commands.specs.AfterCall.{Shorter, Unread, Unsent, Unwritten, Why, wh
 use Rattle.commands.specs.Command.{clash_of, Command, HasAnswer, Made, written_files}
 use Rattle.commands.specs.{FaultKinds.{by_kind, InputKind, IsAbsent, kind_of}, Runs.IsRunOf}
 use Rattle.commands.specs.SentText.{answer_fault, IsCommandText, SaysText}
-use Rattle.commands.specs.SingleOutput.{command_result, one_command, Task, task_result}
+use Rattle.commands.specs.SingleOutput.{one_command, Task, task_result}
 use Rattle.commands.specs.declared.fault.EditFault.{EditFault}
 use Rattle.commands.specs.declared.fault.EditFault.TheVariants.{EqualNames, Input, Memory}
 use Rattle.commands.specs.declared.fault.EditFault.TheVariants.{Sent as NotSent}
@@ -18,9 +20,9 @@ use Rattle.drill.specs.Drilled.{IsDrillFault}
 use Rattle.job_words.specs.{Request.Request, Words.job_of}
 use Rattle.list_edits.specs.TextCommand.{IsTextRun, text_command}
 use Rattle.mp3_cli.proofs.LegalLemmas.{legal-by}
-use Rattle.mp3_cli.specs.Run.{command_fault_line, command_of, command_outcome, CommandAnswers}
-use Rattle.mp3_cli.specs.Run.{CommandEnds, fault_status, GetsLine, IsLegal, IsLegalBy, IsOutcome}
-use Rattle.mp3_cli.specs.Run.{job_outcome, made_outcome, outcome, world}
+use Rattle.mp3_cli.specs.Run.{command_fault_line, command_outcome, CommandAnswers, CommandEnds}
+use Rattle.mp3_cli.specs.Run.{fault_status, GetsLine, IsLegal, IsLegalBy, IsOutcome, job_outcome}
+use Rattle.mp3_cli.specs.Run.{made_outcome, outcome, world}
 use Rattle.outside.{proofs.FilesLemmas.{sent_nothing, touches_none}, specs.Counts.Rose}
 use Rattle.outside.specs.Files.{Contents, Files, IfTold, is_told, OnlyTouches, Sent, sent_and_more}
 use Rattle.outside.specs.{Files.{Told, Untold}, Seen.{Heard, Seen}}
@@ -370,13 +372,6 @@ text_ends text input (Ok x) old new out_old out_new run = grind arith
 text_ends text input (Err fault) old new out_old out_new run = grind arith
 
 -- ---- a command that makes one file
-
--- a command that makes one file makes one output, and no text
-pub one_made : (output : List ℕ) (r : Result (List ℕ) EditFault) (made : Made)
-    → command_result output r ≡ Ok made → (bytes : List ℕ)
-    × (record { outputs = record { name = output; bytes = bytes } ∷ []; text = [] } ≡ made)
-one_made output (Ok bytes) made is = (bytes, cc)
-one_made output (Err fault) made is = absurd cc
 
 -- what each call of a command that makes files promises
 pub run_ends : (command : Command) → IsSilent command

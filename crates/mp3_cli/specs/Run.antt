@@ -1,52 +1,20 @@
 -- What the program does, from its words and the files that are there.
-use Rattle.std.specs.Prelude.{Err, false, IfOk, IfSome, IsErr, List, None, Ok, Option, Result, Some}
-use Rattle.std.specs.Prelude.{true, ℕ, [], ◌↔◌, ◌∷◌, ◌≡◌, ◌≢◌, ◌≤◌}
-use Rattle.chosen_streams.specs.Chosen.{chosen_of, ConsistsOf, Frames}
+use Rattle.std.specs.Prelude.{Err, IfOk, IfSome, IsErr, List, None, Ok, Option, Result, Some, ℕ, []}
+use Rattle.std.specs.Prelude.{◌↔◌, ◌∷◌, ◌≡◌, ◌≢◌, ◌≤◌}
+use Rattle.chosen_streams.specs.Exact.{ConsistsOf}
+use Rattle.command_table.specs.{Chosen.Frames, Table.{chosen_of, command_of}}
 use Rattle.commands.specs.AfterCall.{HasNumbers, IsCommandDone, IsCommandFault}
 use Rattle.commands.specs.Command.{AreSoundFiles, clash_of, Command, Made, written_files}
 use Rattle.commands.specs.{SentText.SaysText, declared.fault.EditFault.EditFault}
 use Rattle.commands.specs.declared.fault.EditFault.TheVariants.{EqualNames}
-use Rattle.cut_edits.specs.{Chosen.cut_command, Exact.exact_command}
-use Rattle.drill.specs.Drilled.{drill_command}
-use Rattle.gain_edits.specs.{Fade.fade_command, Gain.gain_command, Undo.undo_command}
-use Rattle.job_words.specs.Request.{Cut, CutExact, Drill, Fade, Gain, Help, InfoFile, Join}
-use Rattle.job_words.specs.Request.{ListFile, Pack, Request, Salvage, SplitAt, SplitBy, SplitExact}
-use Rattle.job_words.specs.{Request.{Undo, Version}, Words.job_of}
-use Rattle.join_edits.specs.Join.{join_command}
+use Rattle.job_words.specs.{Request.{Pack, Request}, Words.job_of}
 use Rattle.legality.specs.{Laws.AcceptsFiles, Legal.IsLegalFor}
-use Rattle.list_edits.specs.{InfoText.info_command, Listing.list_command}
 use Rattle.outside.specs.Counts.{NoneFell, Rose}
 use Rattle.outside.specs.Files.{Contents, Files, IfTold, OnlyTouches, sent_and_more, Told}
 use Rattle.outside.specs.Seen.{Heard, Seen}
-use Rattle.pack_edits.specs.{Fewest.WritesFewest, Modes.pack_mode_command}
-use Rattle.program_texts.specs.Texts.{bad_word_line, fault_line, fixed_text_command, GotLine}
-use Rattle.program_texts.specs.Texts.{help_text, status_of, version_text}
-use Rattle.salvage_edits.specs.Salvaged.{salvage_command}
-use Rattle.seamless_edits.specs.Seamless.{seamless_command}
-use Rattle.split_edits.specs.Split.{split_at_command, split_by_command, split_exact_at_command}
-use Rattle.split_edits.specs.Split.{split_exact_by_command}
+use Rattle.pack_edits.specs.Fewest.{WritesFewest}
+use Rattle.program_texts.specs.Texts.{bad_word_line, fault_line, GotLine, status_of}
 use Rattle.sync_survey.specs.Faults.{IsWellFormed, stream_of}
-
--- what is asked for, as a command
-abbrev pub command_of : Request → Command
-command_of Help = fixed_text_command help_text
-command_of Version = fixed_text_command version_text
-command_of (ListFile input) = list_command input
-command_of (InfoFile input) = info_command input
-command_of (Gain shift tags input output) = gain_command shift tags input output
-command_of (Undo input output) = undo_command input output
-command_of (Cut from to least input output) = cut_command from to least input output
-command_of (CutExact input from to output) = exact_command from to input output
-command_of (Pack mode input output) = pack_mode_command mode input output
-command_of (SplitAt input prefix places) = split_at_command places input prefix
-command_of (SplitExact input prefix places) = split_exact_at_command places input prefix
-command_of (SplitBy false input prefix sheet) = split_by_command input sheet prefix
-command_of (SplitBy true input prefix sheet) = split_exact_by_command input sheet prefix
-command_of (Join false output inputs) = join_command output inputs
-command_of (Join true output inputs) = seamless_command output inputs
-command_of (Drill seed count) = drill_command seed count
-command_of (Fade back input output sheet) = fade_command sheet back input output
-command_of (Salvage input output) = salvage_command input output
 
 -- ---- how a command ends over every folder, even one whose contents aren't known
 

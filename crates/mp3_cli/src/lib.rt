@@ -1,7 +1,7 @@
 //! The program except its `main`.
 #![tactic(auto)]
 
-mod job_names;
+mod jobs;
 mod laws;
 mod program;
 

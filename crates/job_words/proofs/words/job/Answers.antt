@@ -1,7 +1,7 @@
 -- The forms of the code are the forms of the definition.
 use Rattle.std.proofs.Common.{map, string_bytes, subst, sym, ◌≡◌}
 use Rattle.job_words.proofs.PlaceLemmas.{code_is, IsAnswer, job_is}
-use Rattle.job_words.{proofs.ReadingLemmas.forms_are_readable, specs.Code.request_result}
+use Rattle.job_words.{proofs.ReadingLemmas.forms_are_readable, specs.Request.request_result}
 use Rattle.job_words.specs.Words.{job_of}
 use Rattle.job_words.proofs.words.job.Goals as goal
 

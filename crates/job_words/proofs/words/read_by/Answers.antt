@@ -4,10 +4,9 @@ use Rattle.std.proofs.Common.{ap, arith, Err, get_or, List, map, max, string_byt
 use Rattle.std.proofs.{Common.{take, ◌∙◌, ◌≡◌}, lemmas.Grind.common_steps}
 use Rattle.std.proofs.lemmas.List.{get_or-map, length-map, take_all}
 use Rattle.job_words.proofs.ReadingLemmas.{accepted, table_reading-more}
-use Rattle.job_words.proofs.words.read_by.Goals.{After-read}
-use Rattle.job_words.specs.Code.{form_given, request_result}
+use Rattle.job_words.{proofs.words.read_by.Goals.After-read, specs.Code.form_given}
 use Rattle.job_words.specs.Forms.{Form, help_form, IsReadable, shapes, shapes_of}
-use Rattle.job_words.specs.Words.{table_reading}
+use Rattle.job_words.specs.{Request.request_result, Words.table_reading}
 use Rattle.job_words.proofs.words.read_by.Goals as goal
 
 pub read-requires : goal.read-requires

@@ -1,6 +1,6 @@
 -- A bad word is refused, or its job was done.
 use Rattle.std.{proofs.Common.{ap, map, refl, string_bytes, subst, sym, ◌∙◌}, specs.Prelude.IfOk}
-use Rattle.job_words.specs.{Code.{job_request, request_result}, Words.IsSoundRequest}
+use Rattle.job_words.specs.Request.{IsSoundRequest, job_request, request_result}
 use Rattle.mp3_cli.proofs.ProgramRunLemmas.{command_ran, word_refused}
 use Rattle.outside.proofs.CountsLemmas.{none_fell_same}
 use Rattle.mp3_cli.proofs.program.run.Goals as goal

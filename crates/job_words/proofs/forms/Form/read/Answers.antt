@@ -4,8 +4,8 @@ use Rattle.std.proofs.{Common.{◌≡◌, ◌⊎◌}, lemmas.List.{length-drop, 
 use Rattle.std.specs.List.{drop-map}
 use Rattle.job_words.proofs.ReadingLemmas.{accepts, few, Found, refuses}
 use Rattle.job_words.proofs.forms.Form.read.Goals.{After-as_slice-values}
-use Rattle.job_words.specs.{Code.{form_given, job_request, value_said, word_kind}, Kinds.values_of}
-use Rattle.job_words.specs.declared.kinds.WordKind.{WordKind}
+use Rattle.job_words.specs.{Code.{form_given, value_said, word_kind}, Kinds.values_of}
+use Rattle.job_words.specs.{Request.job_request, declared.kinds.WordKind.WordKind}
 use Rattle.job_words.proofs.forms.Form.read.Goals as goal
 
 -- what was found of the form

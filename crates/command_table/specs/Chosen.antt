@@ -1,8 +1,6 @@
--- The frames that a job chooses, for each file that it writes:
--- the headline's words, without plans, slots or bytes.
-use Rattle.std.specs.Prelude.{Err, false, flat_map, length, List, map, Ok, Result, slice_range}
-use Rattle.std.specs.Prelude.{true, unwrap_or, ℕ, [], ◌++◌, ◌+◌, ◌∷◌, ◌≡◌}
-use Rattle.chosen_streams.specs.Exact.{IsExactly}
+-- The frames that a command chooses from its inputs, without plans, slots or bytes.
+use Rattle.std.specs.Prelude.{Bool, Err, false, flat_map, length, List, map, Ok, Result}
+use Rattle.std.specs.Prelude.{slice_range, true, unwrap_or, ℕ, [], ◌++◌, ◌+◌, ◌∷◌}
 use Rattle.commands.specs.declared.fault.EditFault.{EditFault}
 use Rattle.cue_sheet.specs.{Cues.cue_of, Places.frame_at, declared.cue_fault.CueFault.CueFault}
 use Rattle.cue_sheet.specs.declared.place.Place.{Place, TheVariants.End}
@@ -11,16 +9,9 @@ use Rattle.exact_span.specs.{Places.sample_at, PlayedPositions.{length_of_played
 use Rattle.exact_span.specs.{Spans.span_of, declared.exact_place.ExactPlace.ExactPlace}
 use Rattle.exact_span.specs.declared.exact_place.ExactPlace.TheVariants.{Place as Position}
 use Rattle.frame_header.specs.Tables.{class_of}
-use Rattle.gain_edits.specs.{Fade.faded_stream, Undo.file_undo_steps}
-use Rattle.job_words.specs.Request.{Cut, CutExact, Drill, Fade, Gain, Help, InfoFile, Join}
-use Rattle.job_words.specs.Request.{ListFile, Pack, Request, Salvage, SplitAt, SplitBy, SplitExact}
-use Rattle.job_words.specs.Request.{Undo, Version}
 use Rattle.join_edits.specs.Join.{join_parts}
 use Rattle.laying.specs.{KeptFields.fields_of_head, Relaid.{FilePart, part_stream}}
-use Rattle.moved_gains.specs.Streams.{moved_stream_frame}
 use Rattle.outside.specs.Files.{Contents}
-use Rattle.requests.specs.Shifts.{steps_of}
-use Rattle.salvage.specs.Stream.{salvaged_stream}
 use Rattle.seamless_edits.specs.Seamless.{run_parts}
 use Rattle.sync_survey.specs.Faults.{stream_of, stream_of_survey, SurveyFields, unbounded_survey}
 use Rattle.sync_survey.specs.{MainData.StreamFrame, declared.survey_fault.SurveyFault.SurveyFault}
@@ -33,18 +24,6 @@ pub data Frames : Type 0 where
   Alone : List StreamFrame → Frames
   -- the frames of these parts, each part after at most one lead-in, and no others
   InParts : List (List StreamFrame) → Frames
-
--- a stream consists of these frames
-abbrev pub ConsistsOf : Frames → List StreamFrame → Type 0
-ConsistsOf (Alone frames) stream = stream ≡ frames
-ConsistsOf (InParts parts) stream = IsExactly parts stream
-
--- each stream consists of the frames at its place in the list
-abbrev pub AllConsistOf : List Frames → List (List StreamFrame) → Type 0
-AllConsistOf [] [] = Unit {0}
-AllConsistOf (frames ∷ more) (stream ∷ streams) =
-    ConsistsOf frames stream × AllConsistOf more streams
-AllConsistOf _ _ = ⊥
 
 -- ---- frames of the inputs
 
@@ -118,43 +97,17 @@ cue_positions (Err fault) = []
 abbrev pub positions_in : List ℕ → List Place
 positions_in sheet = cue_positions (cue_of sheet)
 
--- ---- the frames of each output of a job, in the order of writing
-
--- A change of gains keeps all frames where they are, and moves their gains. The other commands
--- repack the chosen frames: those between two positions, those needed for some samples, those of
--- each piece, all frames of one input or of several, those of several that aren't left out, or what
--- is left of a damaged file, where each frame that isn't sound is empty.
-abbrev pub chosen_of : Request → Contents → List Frames
-chosen_of (Gain shift tags input output) files =
-    Alone (map (moved_stream_frame (steps_of shift)) (named_frames files input)) ∷ []
-chosen_of (Undo input output) files =
-    Alone (map (moved_stream_frame (file_undo_steps (file_bytes_of files input)))
-    (named_frames files input))
-    ∷ []
-chosen_of (Fade back input output sheet) files =
-    Alone (faded_stream (files sheet) back (file_bytes_of files input)) ∷ []
-chosen_of (Cut from to least input output) files =
-    InParts (frames_between (named_frames files input) from to ∷ []) ∷ []
-chosen_of (CutExact input from to output) files =
-    InParts (frames_needed from to (file_bytes_of files input) ∷ []) ∷ []
-chosen_of (SplitAt input prefix places) files =
-    piece_frames (frames_between (named_frames files input)) places
-chosen_of (SplitExact input prefix places) files =
-    piece_frames (frames_needed_between (file_bytes_of files input)) places
-chosen_of (SplitBy false input prefix sheet) files =
+-- the frames of each piece between the positions of a
+-- cue sheet: to a frame, or those needed for its samples
+abbrev pub sheet_piece_frames : Bool → Contents → List ℕ → List ℕ → List Frames
+sheet_piece_frames false files input sheet =
     piece_frames (frames_between (named_frames files input))
     (positions_in (file_bytes_of files sheet))
-chosen_of (SplitBy true input prefix sheet) files =
+sheet_piece_frames true files input sheet =
     piece_frames (frames_needed_between (file_bytes_of files input))
     (map Position (positions_in (file_bytes_of files sheet)))
-chosen_of (Pack mode input output) files = InParts (named_frames files input ∷ []) ∷ []
-chosen_of (Join false output inputs) files = InParts (map (named_frames files) inputs) ∷ []
-chosen_of (Join true output inputs) files =
-    InParts (joined_run_frames (join_parts files inputs) ∷ []) ∷ []
-chosen_of (Salvage input output) files =
-    InParts (salvaged_stream (file_bytes_of files input) ∷ []) ∷ []
-chosen_of Help files = []
-chosen_of Version files = []
-chosen_of (ListFile input) files = []
-chosen_of (InfoFile input) files = []
-chosen_of (Drill seed count) files = []
+
+-- the frames of a join: of each input all, or those that aren't left out
+abbrev pub frames_joined : Bool → Contents → List (List ℕ) → Frames
+frames_joined false files inputs = InParts (map (named_frames files) inputs)
+frames_joined true files inputs = InParts (joined_run_frames (join_parts files inputs) ∷ [])

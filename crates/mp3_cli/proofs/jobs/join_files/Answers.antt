@@ -1,6 +1,6 @@
 -- With the flag a text is sent, without it nothing.
 use Rattle.mp3_cli.proofs.RunLemmas.{one_silent, run_ends, told_ends}
-use Rattle.mp3_cli.proofs.program.join_files.Goals as goal
+use Rattle.mp3_cli.proofs.jobs.join_files.Goals as goal
 
 pub returns-then-seamless-clause-ends : goal.returns-then-seamless-clause-ends
 returns-then-seamless-clause-ends g c =

@@ -1,6 +1,6 @@
 -- The names so far.
 use Rattle.std.proofs.Common.{length, map, string_bytes, take, ◌≡◌, ◌≤◌}
-use Rattle.mp3_cli.proofs.job_names.names_of.Given as goal
+use Rattle.mp3_cli.proofs.jobs.names_of.Given as goal
 
 abbrev pub invariant-loop-word : goal.invariant-loop-word
 invariant-loop-word l =

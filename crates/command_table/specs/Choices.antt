@@ -2,6 +2,7 @@
 use Rattle.std.specs.Prelude.{Bool, Contains, false, length, List, map, Ok, pos, slice_get, Some}
 use Rattle.std.specs.Prelude.{suc, true, unsigned_abs, zero, ℕ, ℤ, ◌+ℤ◌, [], ◌++◌, ◌<◌, ◌∷◌, ◌≡◌}
 use Rattle.std.specs.Prelude.{◌≢◌, ◌≤◌, ◌⊎◌}
+use Rattle.command_table.specs.Inputs.{FileInput, HoldsOfEach, HoldsOfEachNext}
 use Rattle.cue_sheet.specs.{Cues.cue_of, Limits.longest_sheet, Places.frame_at}
 use Rattle.cue_sheet.specs.declared.place.Place.{Place, TheVariants.End}
 use Rattle.exact_span.specs.{Places.sample_at, PlayedPositions.{length_of_played, played_of}}
@@ -13,7 +14,6 @@ use Rattle.frame_header.specs.{Fields.{ClassFields, SlotFields}, Slots.all_slots
 use Rattle.frame_header.specs.Tables.{rate_of, window_of}
 use Rattle.gain_edits.specs.UndoItem.{next_undo, no_undo, output_length, tag_with_undo, undo_steps}
 use Rattle.laying.specs.{KeptFields.fields_of_head, Needs.need_of}
-use Rattle.legality.specs.Inputs.{FileInput, HoldsOfEach, HoldsOfEachNext}
 use Rattle.moved_gains.specs.{Course.equal_steps, TagReading.{file_tag, longest_tag}}
 use Rattle.outside.specs.Files.{Contents}
 use Rattle.pack_edits.specs.Rates.{menu_in}
@@ -174,6 +174,11 @@ AreSamplePieces input places = HoldsOfEachNext places (λ from to. IsSampleRange
 abbrev pub IsLegalExactSheet : List ℕ → Contents → FileInput → Type 0
 IsLegalExactSheet sheet files input =
     IsSheetWith (λ places. AreSamplePieces input (map Position places)) sheet files
+
+-- the sheet is legal for a split to a frame, or to a sample
+abbrev pub IsLegalSheetOf : Bool → List ℕ → Contents → FileInput → Type 0
+IsLegalSheetOf false sheet files input = IsLegalSheet sheet files input
+IsLegalSheetOf true sheet files input = IsLegalExactSheet sheet files input
 
 -- ---- pack
 

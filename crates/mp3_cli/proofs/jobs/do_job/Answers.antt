@@ -1,15 +1,16 @@
 -- Commands that send a text, and commands without one.
 use Rattle.std.proofs.Common.{Bool, false, List, Some, true, ℕ, [], ◌≢◌}
+use Rattle.command_table.specs.Table.{command_of}
 use Rattle.drill.{proofs.PackedLemmas.drill_text-some, specs.Drilled.drill_text}
 use Rattle.job_words.specs.Request.{SplitBy}
 use Rattle.list_edits.specs.{InfoText.info_of, Listing.listing}
 use Rattle.mp3_cli.proofs.RunLemmas.{IsSilent, one_silent, run_ends, said_ends, sent_alone}
-use Rattle.mp3_cli.{proofs.RunLemmas.{split_silent, text_ends, told_ends}, specs.Run.command_of}
+use Rattle.mp3_cli.proofs.RunLemmas.{split_silent, text_ends, told_ends}
 use Rattle.outside.proofs.CountsLemmas.{none_fell_by_reads}
 use Rattle.program_texts.specs.Texts.{help_text, version_text}
 use Rattle.split_edits.specs.Split.{sheet_cutting, sheet_exact_cutting, split_at_command}
 use Rattle.split_edits.specs.Split.{split_exact_at_command}
-use Rattle.mp3_cli.proofs.program.do_job.Goals as goal
+use Rattle.mp3_cli.proofs.jobs.do_job.Goals as goal
 
 some_help : Some help_text ≢ Some []
 unfolding help_text

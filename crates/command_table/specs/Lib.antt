@@ -1,0 +1,6 @@
+-- What the contracts of this crate cite.
+pub mod Inputs
+pub mod Choices
+pub mod Chosen
+pub mod Table
+pub mod Laws
