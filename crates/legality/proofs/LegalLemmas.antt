@@ -6,8 +6,7 @@ use Rattle.command_table.specs.Choices.{ArePieceRanges, AreSamplePieces, IsLegal
 use Rattle.command_table.specs.Choices.{IsLegalFade, IsLegalGain, IsLegalPack, IsLegalSheet}
 use Rattle.command_table.specs.Choices.{IsLegalUndo, IsRange, IsSampleRange, IsSheetWith}
 use Rattle.command_table.specs.Inputs.{AreInputs, AreNamesApart, FileInput, HoldsOfEachNext}
-use Rattle.command_table.specs.Inputs.{input_frames}
-use Rattle.command_table.specs.Table.{command_of, entry_of, outputs_of, sources_of}
+use Rattle.command_table.specs.{Inputs.input_frames, Table.{entry_of, outputs_of, sources_of}}
 use Rattle.commands.proofs.MadeLemmas.{made-of, makes-parts, of-made, parts-make}
 use Rattle.commands.proofs.{RefusingLemmas.then_ok, TellingLemmas.text-parts}
 use Rattle.commands.specs.{Command.{clash_from, Made}, Refusing.then_made}
@@ -16,21 +15,19 @@ use Rattle.commands.specs.{WithText.with_text, declared.fault.EditFault.EditFaul
 use Rattle.cue_sheet.specs.declared.place.Place.{Place}
 use Rattle.cut_edits.proofs.ChosenLemmas.{laid-parts, laying-is}
 use Rattle.cut_edits.proofs.PieceLemmas.{exact-is, piece-parts}
-use Rattle.cut_edits.specs.Chosen.{all_choice, chosen_needs, cut_choice, cut_command, cut_refuses}
-use Rattle.cut_edits.specs.Chosen.{first_plan, first_planning, laying_making, laying_task}
-use Rattle.cut_edits.specs.Chosen.{slot_choices}
-use Rattle.cut_edits.specs.Exact.{exact_command, exact_making, exact_refuses, exact_task}
+use Rattle.cut_edits.specs.Chosen.{all_choice, chosen_needs, cut_choice, cut_refuses, first_plan}
+use Rattle.cut_edits.specs.Chosen.{first_planning, laying_making, laying_task, slot_choices}
+use Rattle.cut_edits.specs.Exact.{exact_making, exact_refuses, exact_task}
 use Rattle.drill.specs.Drilled.{drill_text}
 use Rattle.exact_span.specs.declared.exact_place.ExactPlace.{ExactPlace}
 use Rattle.exact_span.specs.declared.exact_place.ExactPlace.TheVariants.{Place as Position}
 use Rattle.gain_edits.specs.Change.{change_making, change_task, changed_or_fault, Changing}
-use Rattle.gain_edits.specs.Fade.{fade_change, fade_command, fade_task}
-use Rattle.gain_edits.specs.Gain.{gain_change, gain_command, gain_refuses}
-use Rattle.gain_edits.specs.Undo.{file_undo_steps, undo_change, undo_command, undo_refuses}
+use Rattle.gain_edits.specs.{Fade.{fade_change, fade_task}, Gain.{gain_change, gain_refuses}}
+use Rattle.gain_edits.specs.Undo.{file_undo_steps, undo_change, undo_refuses}
 use Rattle.job_words.specs.Request.{Cut, CutExact, Drill, Fade, Gain, Help, InfoFile, Join}
 use Rattle.job_words.specs.Request.{ListFile, Pack, Request, Salvage, SplitAt, SplitBy, SplitExact}
 use Rattle.job_words.specs.Request.{Undo, Version}
-use Rattle.join_edits.specs.Join.{join_command, join_parts, join_task, joined_file}
+use Rattle.join_edits.specs.Join.{join_parts, join_task, joined_file}
 use Rattle.laying.specs.{KeptFields.fields_of_head, Relaid.FilePart}
 use Rattle.legality.proofs.FadeLemmas.{fade-legal, legal-fade}
 use Rattle.legality.proofs.GainLemmas.{gain-legal, legal-gain, legal-undo, undo-legal, with-parts}
@@ -43,24 +40,20 @@ use Rattle.legality.proofs.SampleLemmas.{range-span, span-range}
 use Rattle.legality.proofs.SplitLemmas.{cut-range, frames-right, FramesFollow, range-cut}
 use Rattle.legality.proofs.SplitLemmas.{samples-right, SamplesFollow, split-law}
 use Rattle.legality.specs.{Laws.{AcceptsFiles, LegalIsAccepted}, Legal.IsLegalFor}
-use Rattle.list_edits.specs.{InfoText.{info_command, info_text}, Listing.{list_command, listing}}
+use Rattle.list_edits.specs.{InfoText.info_text, Listing.listing}
 use Rattle.list_edits.specs.TextCommand.{input_text, surveyed_text, text_command}
 use Rattle.moved_gains.specs.Change.{file_with_change, FileChange}
 use Rattle.outside.specs.Files.{Contents}
 use Rattle.pack_edits.specs.Modes.{allowed_frames, limited_result, mode_planning, most_best}
-use Rattle.pack_edits.specs.Modes.{pack_mode_command, pack_task, survey_fault_or}
+use Rattle.pack_edits.specs.Modes.{pack_task, survey_fault_or}
 use Rattle.program_texts.specs.Texts.{help_text, version_text}
 use Rattle.requests.specs.{Shifts.steps_of, declared.mode.PackMode.PackMode}
 use Rattle.requests.specs.declared.mode.PackMode.TheVariants.{Best, Constant, Floor, Least}
-use Rattle.requests.specs.declared.shift.Shift.{Shift}
-use Rattle.seamless_edits.specs.Seamless.{seamless_command, seamless_file, seamless_task}
-use Rattle.seamless_edits.specs.Seamless.{seamless_text_or_none}
+use Rattle.seamless_edits.specs.Seamless.{seamless_file, seamless_task, seamless_text_or_none}
 use Rattle.split_edits.proofs.PartsLemmas.{cue-parts, parts-cue}
 use Rattle.split_edits.specs.Split.{cue_sheet_places, exact_places_result, given_cutting}
 use Rattle.split_edits.specs.Split.{given_exact_cutting, sheet_cut_refuses, sheet_cutting}
-use Rattle.split_edits.specs.Split.{sheet_exact_cutting, sheet_exact_refuses, split_at_command}
-use Rattle.split_edits.specs.Split.{split_by_command, split_exact_at_command}
-use Rattle.split_edits.specs.Split.{split_exact_by_command}
+use Rattle.split_edits.specs.Split.{sheet_exact_cutting, sheet_exact_refuses}
 use Rattle.sync_survey.specs.{Faults.SurveyFields, Survey.survey_of}
 use Rattle.sync_survey.specs.declared.survey_fault.SurveyFault.{SurveyFault}
 
@@ -68,26 +61,6 @@ use Rattle.sync_survey.specs.declared.survey_fault.SurveyFault.{SurveyFault}
 
 no-names : (outputs : List (List ℕ)) → AreNamesApart [] outputs
 no-names outputs = λ k d within. absurd (omega (arith, within))
-
-help-law : (files : Contents) → IsLegalFor Help files ↔ AcceptsFiles (command_of Help) files
-help-law files = (
-  (λ legal. (record { outputs = []; text = help_text }, refl)),
-  (λ made. grind (arith, no-names)),
-)
-
-version-law : (files : Contents)
-    → IsLegalFor Version files ↔ AcceptsFiles (command_of Version) files
-version-law files = (
-  (λ legal. (record { outputs = []; text = version_text }, refl)),
-  (λ made. grind (arith, no-names)),
-)
-
-drill-law : (seed count : ℕ) (files : Contents)
-    → IsLegalFor (Drill seed count) files ↔ AcceptsFiles (command_of (Drill seed count)) files
-drill-law seed count files = (
-  (λ legal. (record { outputs = []; text = drill_text seed count }, refl)),
-  (λ made. grind (arith, no-names)),
-)
 
 -- ---- one input
 
@@ -153,22 +126,10 @@ module _ (text : List ℕ → SurveyFields → List ℕ) (files : Contents) (inp
         (one-survey NoChoice files input most_frames one),
   )
 
-  text-law : (Legal : Type 0)
+  text-law : {Legal : Type 0}
       → Legal ↔ (AreNamesApart (input ∷ []) [] × IsOne NoChoice files input most_frames)
       → Legal ↔ AcceptsFiles (text_command text input) files
-  text-law Legal is = grind (arith, one-text, All-cons, no-names, text-one)
-
-list-law : (files : Contents) (input : List ℕ)
-    → IsLegalFor (ListFile input) files ↔ AcceptsFiles (list_command input) files
-list-law files input =
-    text-law (λ file. listing) files input (IsLegalFor (ListFile input) files)
-    (one-legal (ListFile input) files input refl)
-
-info-law : (files : Contents) (input : List ℕ)
-    → IsLegalFor (InfoFile input) files ↔ AcceptsFiles (info_command input) files
-info-law files input =
-    text-law (λ file s. info_text (fields_of_head file s.head) s) files input
-    (IsLegalFor (InfoFile input) files) (one-legal (InfoFile input) files input refl)
+  text-law is = grind (arith, one-text, All-cons, no-names, text-one)
 
 -- ---- a file of one input
 
@@ -206,9 +167,9 @@ module _ (files : Contents) (input : List ℕ) (others : List (List ℕ)) (outpu
   abbrev IsLegalOne : Type 0
   IsLegalOne = AreNamesApart (input ∷ others) (output ∷ []) × IsOne Choice files input most
 
-  one-law : (Legal : Type 0) → Legal ↔ IsLegalOne
+  one-law : {Legal : Type 0} → Legal ↔ IsLegalOne
       → Legal ↔ AcceptsFiles (one_command task output) files
-  one-law Legal is = (
+  one-law is = (
     (λ legal.
         let one = is.0 legal in
         let bytes = makes.0 one.1 in
@@ -237,92 +198,6 @@ changed-made change Choice is file s surveyed = (
       (file_with_change made.0 file s, ap (changed_or_fault file s) made.1)),
   (λ made. (is file s surveyed).1 (with-parts file s (change file s) made.0 made.1)),
 )
-
-gain-law : (files : Contents) (shift : Shift) (tags : Bool) (input output : List ℕ)
-    → IsLegalFor (Gain shift tags input output) files
-    ↔ AcceptsFiles (gain_command shift tags input output) files
-gain-law files shift tags input output =
-    let change = gain_change shift tags in
-    let Choice = IsLegalGain shift tags in
-    one-law files input [] output most_frames Choice
-    (change_task change (λ file. steps_of shift) (gain_refuses tags) input) refl
-    (one-made (change_making change) Choice (changed-made change Choice (λ file s surveyed. (
-      legal-gain shift file s tags,
-      (λ made. gain-legal shift file s tags made.0 made.1),
-    ))) files input)
-    (IsLegalFor (Gain shift tags input output) files)
-    (one-legal (Gain shift tags input output) files input refl)
-
-undo-law : (files : Contents) (input output : List ℕ)
-    → IsLegalFor (Undo input output) files ↔ AcceptsFiles (undo_command input output) files
-undo-law files input output =
-    one-law files input [] output most_frames IsLegalUndo
-    (change_task undo_change file_undo_steps undo_refuses input) refl
-    (one-made (change_making undo_change) IsLegalUndo
-    (changed-made undo_change IsLegalUndo (λ file s surveyed. (
-      legal-undo file s,
-      (λ made. undo-legal file s made.0 made.1),
-    ))) files input)
-    (IsLegalFor (Undo input output) files) (one-legal (Undo input output) files input refl)
-
-fade-law : (files : Contents) (back : Bool) (input output sheet : List ℕ)
-    → IsLegalFor (Fade back input output sheet) files
-    ↔ AcceptsFiles (fade_command sheet back input output) files
-fade-law files back input output sheet =
-    let change = fade_change (files sheet) back in
-    let Choice = IsLegalFade sheet back files in
-    one-law files input (sheet ∷ []) output most_frames Choice (fade_task sheet back input) refl
-    (one-made (change_making change) Choice (changed-made change Choice (λ file s surveyed. (
-      legal-fade sheet back files file s surveyed,
-      (λ made. fade-legal sheet back files file s surveyed made.0 made.1),
-    ))) files input)
-    (IsLegalFor (Fade back input output sheet) files)
-    (one-legal (Fade back input output sheet) files input refl)
-
--- ---- cut
-
-cut-law : (files : Contents) (from to : Place) (least : Bool) (input output : List ℕ)
-    → IsLegalFor (Cut from to least input output) files
-    ↔ AcceptsFiles (cut_command from to least input output) files
-cut-law files from to least input output =
-    let choice = cut_choice from to in
-    let planning = first_planning (slot_choices least) in
-    let Range = λ (i : FileInput). IsRange i.survey from to in
-    one-law files input [] output most_frames Range
-    (laying_task choice planning cut_refuses input) refl
-    (one-made (laying_making choice planning) Range (λ file s surveyed. (
-      (λ legal.
-          let chosen = range-cut from to file s legal in (
-            _,
-            laying-is choice planning file s chosen.0
-                (Ok (first_plan (slot_choices least) s.class (chosen_needs chosen.0 s)))
-                chosen.1 refl,
-          )),
-      (λ made.
-          let by = laid-parts choice planning file s made.0 made.1 in
-          cut-range from to file s by.chosen by.chose),
-    )) files input)
-    (IsLegalFor (Cut from to least input output) files)
-    (one-legal (Cut from to least input output) files input refl)
-
--- ---- cut --exact
-
-exact-law : (files : Contents) (input : List ℕ) (from to : ExactPlace) (output : List ℕ)
-    → IsLegalFor (CutExact input from to output) files
-    ↔ AcceptsFiles (exact_command from to input output) files
-exact-law files input from to output =
-    let Range = IsSampleRange from to in
-    one-law files input [] output most_frames Range (exact_task from to input) refl
-    (one-made (exact_making from to) Range (λ file s surveyed. (
-      (λ legal.
-          let span = range-span from to file s legal in
-          (_, exact-is from to file s span.0 span.1)),
-      (λ made.
-          let by = piece-parts from to file s made.0 made.1 in
-          span-range from to file s by.span by.span_is),
-    )) files input)
-    (IsLegalFor (CutExact input from to output) files)
-    (one-legal (CutExact input from to output) files input refl)
 
 -- ---- pack
 
@@ -389,14 +264,6 @@ module _ (files : Contents) (input : List ℕ) where
     (λ made. pack-choice mode file s made.0 surveyed made.1),
   )) files input
 
-pack-law : (files : Contents) (mode : PackMode) (input output : List ℕ)
-    → IsLegalFor (Pack mode input output) files
-    ↔ AcceptsFiles (pack_mode_command mode input output) files
-pack-law files mode input output =
-    one-law files input [] output (allowed_frames mode) (LegalIn mode) (pack_task mode input) refl
-    (one-packed files input mode) (IsLegalFor (Pack mode input output) files)
-    (one-legal (Pack mode input output) files input refl)
-
 -- ---- split
 
 abbrev found_at : {P : Type 0} → List P → Result (List P) EditFault
@@ -405,19 +272,6 @@ found_at places = Ok places
 same-places : {P : Type 0} (places found : List P) → found_at places ≡ found_at found
     → places ≡ found
 same-places places found e = cc
-
-split-at-law : (files : Contents) (input prefix : List ℕ) (places : List Place)
-    → IsLegalFor (SplitAt input prefix places) files
-    ↔ AcceptsFiles (split_at_command places input prefix) files
-split-at-law files input prefix places =
-    let Choice = λ (i : FileInput). ArePieceRanges i.survey places in
-    split-law (given_cutting places) FramesFollow
-    (frames-right [] (λ f. Ok places) cut_refuses) files input prefix Choice
-    (λ i each. (places, refl, each))
-    (λ i found e each. subst (λ (l : List Place). HoldsOfEachNext l (FramesFollow i))
-    (sym (same-places places found e)) each)
-    (IsLegalFor (SplitAt input prefix places) files)
-    (one-legal (SplitAt input prefix places) files input refl)
 
 -- what holds of the starts of a sheet holds of the places that are read from it
 module _ (Pieces : List Place → Type 0) (sheet : List ℕ) (files : Contents) where
@@ -429,53 +283,8 @@ module _ (Pieces : List Place → Type 0) (sheet : List ℕ) (files : Contents) 
       → Pieces places → IsSheetWith Pieces sheet files
   places-sheet places e pieces = grind (arith, cue-parts)
 
-split-by-law : (files : Contents) (input prefix sheet : List ℕ)
-    → IsLegalFor (SplitBy false input prefix sheet) files
-    ↔ AcceptsFiles (split_by_command input sheet prefix) files
-split-by-law files input prefix sheet =
-    split-law (sheet_cutting sheet) FramesFollow
-    (frames-right (sheet ∷ []) (λ f. cue_sheet_places (f sheet)) sheet_cut_refuses) files input
-    prefix (IsLegalSheet sheet files)
-    (λ i. sheet-places (ArePieceRanges i.survey) sheet files)
-    (λ i. places-sheet (ArePieceRanges i.survey) sheet files)
-    (IsLegalFor (SplitBy false input prefix sheet) files)
-    (one-legal (SplitBy false input prefix sheet) files input refl)
-
-split-exact-law : (files : Contents) (input prefix : List ℕ) (places : List ExactPlace)
-    → IsLegalFor (SplitExact input prefix places) files
-    ↔ AcceptsFiles (split_exact_at_command places input prefix) files
-split-exact-law files input prefix places =
-    let Choice = λ (i : FileInput). AreSamplePieces i places in
-    split-law (given_exact_cutting places) SamplesFollow
-    (samples-right [] (λ f. Ok places) exact_refuses) files input prefix Choice
-    (λ i each. (places, refl, each))
-    (λ i found e each. subst (AreSamplePieces i) (sym (same-places places found e)) each)
-    (IsLegalFor (SplitExact input prefix places) files)
-    (one-legal (SplitExact input prefix places) files input refl)
-
 abbrev exact_list : List Place → Result (List ExactPlace) EditFault
 exact_list list = Ok (map Position list)
-
-split-exact-by-law : (files : Contents) (input prefix sheet : List ℕ)
-    → IsLegalFor (SplitBy true input prefix sheet) files
-    ↔ AcceptsFiles (split_exact_by_command input sheet prefix) files
-split-exact-by-law files input prefix sheet =
-    let Pieces = λ (i : FileInput) (places : List Place). AreSamplePieces i (map Position places) in
-    split-law (sheet_exact_cutting sheet) SamplesFollow (samples-right (sheet ∷ [])
-    (λ f. exact_places_result (cue_sheet_places (f sheet))) sheet_exact_refuses) files input prefix
-    (IsLegalExactSheet sheet files)
-    (λ i is.
-    let read = sheet-places (Pieces i) sheet files is in (
-      map Position read.0,
-      ap (λ (r : Result (List Place) EditFault). then_made r exact_list) read.1,
-      read.2,
-    ))
-    (λ i found e each.
-    let read = then_ok (cue_sheet_places (files sheet)) exact_list found e in
-    places-sheet (Pieces i) sheet files read.0 read.1
-    (subst (AreSamplePieces i) (sym (same-places (map Position read.0) found read.2)) each))
-    (IsLegalFor (SplitBy true input prefix sheet) files)
-    (one-legal (SplitBy true input prefix sheet) files input refl)
 
 -- ---- join
 
@@ -511,9 +320,128 @@ made-parts : {X : Type 0} (files : Contents) (inputs : List (List ℕ)) (file : 
     → then_made (join_parts files inputs) (λ ps. Ok (file ps)) ≡ Ok (file parts)
 made-parts files inputs file parts e = grind arith
 
-join-law : (files : Contents) (output : List ℕ) (inputs : List (List ℕ))
-    → IsLegalFor (Join false output inputs) files ↔ AcceptsFiles (join_command output inputs) files
-join-law files output inputs = (
+-- ---- all commands
+
+-- whatever is asked for is legal exactly if its command isn't refused
+pub legal-is-accepted : LegalIsAccepted
+legal-is-accepted Help files = (
+  (λ legal. (record { outputs = []; text = help_text }, refl)),
+  (λ made. grind (arith, no-names)),
+)
+legal-is-accepted Version files = (
+  (λ legal. (record { outputs = []; text = version_text }, refl)),
+  (λ made. grind (arith, no-names)),
+)
+legal-is-accepted (Drill seed count) files = (
+  (λ legal. (record { outputs = []; text = drill_text seed count }, refl)),
+  (λ made. grind (arith, no-names)),
+)
+legal-is-accepted (ListFile input) files =
+    text-law (λ file. listing) files input (one-legal (ListFile input) files input refl)
+legal-is-accepted (InfoFile input) files =
+    text-law (λ file s. info_text (fields_of_head file s.head) s) files input
+    (one-legal (InfoFile input) files input refl)
+legal-is-accepted (Gain shift tags input output) files =
+    let change = gain_change shift tags in
+    let Choice = IsLegalGain shift tags in
+    one-law files input [] output most_frames Choice
+    (change_task change (λ file. steps_of shift) (gain_refuses tags) input) refl
+    (one-made (change_making change) Choice (changed-made change Choice (λ file s surveyed. (
+      legal-gain shift file s tags,
+      (λ made. gain-legal shift file s tags made.0 made.1),
+    ))) files input)
+    (one-legal (Gain shift tags input output) files input refl)
+legal-is-accepted (Undo input output) files =
+    one-law files input [] output most_frames IsLegalUndo
+    (change_task undo_change file_undo_steps undo_refuses input) refl
+    (one-made (change_making undo_change) IsLegalUndo
+    (changed-made undo_change IsLegalUndo (λ file s surveyed. (
+      legal-undo file s,
+      (λ made. undo-legal file s made.0 made.1),
+    ))) files input)
+    (one-legal (Undo input output) files input refl)
+legal-is-accepted (Fade back input output sheet) files =
+    let change = fade_change (files sheet) back in
+    let Choice = IsLegalFade sheet back files in
+    one-law files input (sheet ∷ []) output most_frames Choice (fade_task sheet back input) refl
+    (one-made (change_making change) Choice (changed-made change Choice (λ file s surveyed. (
+      legal-fade sheet back files file s surveyed,
+      (λ made. fade-legal sheet back files file s surveyed made.0 made.1),
+    ))) files input)
+    (one-legal (Fade back input output sheet) files input refl)
+legal-is-accepted (Cut from to least input output) files =
+    let choice = cut_choice from to in
+    let planning = first_planning (slot_choices least) in
+    let Range = λ (i : FileInput). IsRange i.survey from to in
+    one-law files input [] output most_frames Range
+    (laying_task choice planning cut_refuses input) refl
+    (one-made (laying_making choice planning) Range (λ file s surveyed. (
+      (λ legal.
+          let chosen = range-cut from to file s legal in (
+            _,
+            laying-is choice planning file s chosen.0
+                (Ok (first_plan (slot_choices least) s.class (chosen_needs chosen.0 s)))
+                chosen.1 refl,
+          )),
+      (λ made.
+          let by = laid-parts choice planning file s made.0 made.1 in
+          cut-range from to file s by.chosen by.chose),
+    )) files input)
+    (one-legal (Cut from to least input output) files input refl)
+legal-is-accepted (CutExact input from to output) files =
+    let Range = IsSampleRange from to in
+    one-law files input [] output most_frames Range (exact_task from to input) refl
+    (one-made (exact_making from to) Range (λ file s surveyed. (
+      (λ legal.
+          let span = range-span from to file s legal in
+          (_, exact-is from to file s span.0 span.1)),
+      (λ made.
+          let by = piece-parts from to file s made.0 made.1 in
+          span-range from to file s by.span by.span_is),
+    )) files input)
+    (one-legal (CutExact input from to output) files input refl)
+legal-is-accepted (Pack mode input output) files =
+    one-law files input [] output (allowed_frames mode) (LegalIn mode) (pack_task mode input) refl
+    (one-packed files input mode) (one-legal (Pack mode input output) files input refl)
+legal-is-accepted (SplitAt input prefix places) files =
+    let Choice = λ (i : FileInput). ArePieceRanges i.survey places in
+    split-law (given_cutting places) FramesFollow
+    (frames-right [] (λ f. Ok places) cut_refuses) files input prefix Choice
+    (λ i each. (places, refl, each))
+    (λ i found e each. subst (λ (l : List Place). HoldsOfEachNext l (FramesFollow i))
+    (sym (same-places places found e)) each)
+    (one-legal (SplitAt input prefix places) files input refl)
+legal-is-accepted (SplitExact input prefix places) files =
+    let Choice = λ (i : FileInput). AreSamplePieces i places in
+    split-law (given_exact_cutting places) SamplesFollow
+    (samples-right [] (λ f. Ok places) exact_refuses) files input prefix Choice
+    (λ i each. (places, refl, each))
+    (λ i found e each. subst (AreSamplePieces i) (sym (same-places places found e)) each)
+    (one-legal (SplitExact input prefix places) files input refl)
+legal-is-accepted (SplitBy false input prefix sheet) files =
+    split-law (sheet_cutting sheet) FramesFollow
+    (frames-right (sheet ∷ []) (λ f. cue_sheet_places (f sheet)) sheet_cut_refuses) files input
+    prefix (IsLegalSheet sheet files)
+    (λ i. sheet-places (ArePieceRanges i.survey) sheet files)
+    (λ i. places-sheet (ArePieceRanges i.survey) sheet files)
+    (one-legal (SplitBy false input prefix sheet) files input refl)
+legal-is-accepted (SplitBy true input prefix sheet) files =
+    let Pieces = λ (i : FileInput) (places : List Place). AreSamplePieces i (map Position places) in
+    split-law (sheet_exact_cutting sheet) SamplesFollow (samples-right (sheet ∷ [])
+    (λ f. exact_places_result (cue_sheet_places (f sheet))) sheet_exact_refuses) files input prefix
+    (IsLegalExactSheet sheet files)
+    (λ i is.
+    let read = sheet-places (Pieces i) sheet files is in (
+      map Position read.0,
+      ap (λ (r : Result (List Place) EditFault). then_made r exact_list) read.1,
+      read.2,
+    ))
+    (λ i found e each.
+    let read = then_ok (cue_sheet_places (files sheet)) exact_list found e in
+    places-sheet (Pieces i) sheet files read.0 read.1
+    (subst (AreSamplePieces i) (sym (same-places (map Position read.0) found read.2)) each))
+    (one-legal (SplitBy true input prefix sheet) files input refl)
+legal-is-accepted (Join false output inputs) files = (
   (λ legal.
       let is = joined-of false files output inputs legal in
       parts-make (join_task inputs) output files (joined_file is.1) is.0
@@ -523,12 +451,7 @@ join-law files output inputs = (
       let parts = then_ok (join_parts files inputs) (λ parts. Ok (joined_file parts)) one.1 one.2 in
       legal-of false files output inputs one.0 parts.0 parts.1),
 )
-
--- a join without seams refuses nothing more
-seamless-law : (files : Contents) (output : List ℕ) (inputs : List (List ℕ))
-    → IsLegalFor (Join true output inputs) files
-    ↔ AcceptsFiles (seamless_command output inputs) files
-seamless-law files output inputs =
+legal-is-accepted (Join true output inputs) files =
     let text = seamless_text_or_none inputs (join_parts files inputs) in
     let task = seamless_task inputs in (
       (λ legal.
@@ -542,27 +465,4 @@ seamless-law files output inputs =
           let parts = then_ok (join_parts files inputs) (λ ps. Ok (seamless_file ps)) one.1 one.2 in
           legal-of true files output inputs one.0 parts.0 parts.1),
     )
-
--- ---- all commands
-
--- a command is legal exactly if it isn't refused
-pub legal-is-accepted : LegalIsAccepted
-legal-is-accepted Help files = help-law files
-legal-is-accepted Version files = version-law files
-legal-is-accepted (Drill seed count) files = drill-law seed count files
-legal-is-accepted (ListFile input) files = list-law files input
-legal-is-accepted (InfoFile input) files = info-law files input
-legal-is-accepted (Gain shift tags input output) files = gain-law files shift tags input output
-legal-is-accepted (Undo input output) files = undo-law files input output
-legal-is-accepted (Fade back input output sheet) files = fade-law files back input output sheet
-legal-is-accepted (Cut from to least input output) files = cut-law files from to least input output
-legal-is-accepted (CutExact input from to output) files = exact-law files input from to output
-legal-is-accepted (Pack mode input output) files = pack-law files mode input output
-legal-is-accepted (SplitAt input prefix places) files = split-at-law files input prefix places
-legal-is-accepted (SplitExact input prefix places) files = split-exact-law files input prefix places
-legal-is-accepted (SplitBy false input prefix sheet) files = split-by-law files input prefix sheet
-legal-is-accepted (SplitBy true input prefix sheet) files =
-    split-exact-by-law files input prefix sheet
-legal-is-accepted (Join false output inputs) files = join-law files output inputs
-legal-is-accepted (Join true output inputs) files = seamless-law files output inputs
 legal-is-accepted (Salvage input output) files = salvage-law files input output

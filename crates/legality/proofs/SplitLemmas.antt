@@ -210,9 +210,9 @@ module _ {P : Type 0} (cut : Cutting P) (Right : FileInput → P → P → Type 
       AreNamesApart (input ∷ cut.more) (piece_names prefix) × IsOne Choice files input most_frames
 
   -- a split succeeds exactly where the choice is legal, and no piece has the name of an input
-  pub split-law : (Legal : Type 0) → Legal ↔ IsLegalSplit
+  pub split-law : {Legal : Type 0} → Legal ↔ IsLegalSplit
       → Legal ↔ AcceptsFiles (split_command cut input prefix) files
-  split-law Legal same = (
+  split-law same = (
     (λ legal.
         let names_apart = (same.0 legal).0 in
         let one = (same.0 legal).1 in
