@@ -12,7 +12,7 @@ mod surveys;
 pub use edit::{Edit, make_one};
 pub use fault::{EditFault, Refusal};
 pub use frame_header::MOST_FRAMES;
-pub use inputs::Inputs;
+pub use inputs::{Inputs, OutputNames, clash};
 pub use output::{OutputPass, write_output};
 pub use sheet::{SHEET, sheet_bytes};
 pub use surveys::survey_at;

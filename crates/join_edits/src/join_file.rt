@@ -1,28 +1,14 @@
 //! The join command over a folder.
-ghost use Rattle.std.specs.Prelude.{◌≡◌, ◌≤◌, [], ◌∷◌, length, map, string_bytes};
-ghost use Rattle.commands.specs.Command.{clash_from};
+ghost use Rattle.std.specs.Prelude.{◌≤◌, length, map, string_bytes};
 ghost use Rattle.commands.specs.Runs.{IsRunOf};
 ghost use Rattle.join_edits.specs.Join.{join_command};
 
 use crate::planned::prepare;
-use crate::surveys::{name_at, survey_all};
+use crate::surveys::survey_all;
 use crate::written::write_joined;
-use commands::EditFault;
+use commands::{EditFault, clash};
 use outside::Folder;
 use std::alloc::Global;
-
-/// The number of the first of these names that equals the output's, counted from 0.
-pub fn clash(output: &str, inputs: &[String]) -> Option<u32>
-    requires { length inputs.now ≤ 64 }
-    ensures { result ≡ clash_from (output.now ∷ []) 0 (map string_bytes inputs.now) }
-{
-    for place in 0..inputs.len() {
-        if name_at(inputs, place) == output {
-            return Some(place as u32);
-        }
-    }
-    None
-}
 
 /// Writes the output: all frames of the inputs, 1 to 64 of one class, in their order and with all
 /// main data. It consists of the ID3v2 blocks of the first input before its first frame, an Info

@@ -11,7 +11,7 @@ mod surveys;
 mod written;
 
 pub use inputs::{JoinInput, input_at};
-pub use join_file::{clash, join};
+pub use join_file::join;
 pub use planned::JoinWork;
 pub use stopped::Stopped;
 pub use surveys::survey_all;

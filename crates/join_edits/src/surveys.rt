@@ -14,7 +14,7 @@ use std::alloc::Global;
 use sync_survey::Survey;
 
 /// The name of the input with this number, counted from 0.
-pub(crate) fn name_at(inputs: &[String], place: usize) -> &str
+fn name_at(inputs: &[String], place: usize) -> &str
     requires { place < length inputs.now }
     ensures { drop place (map string_bytes inputs.now)
         ≡ result.now ∷ drop (place + 1) (map string_bytes inputs.now) }

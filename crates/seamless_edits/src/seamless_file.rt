@@ -15,8 +15,8 @@ use crate::beginnings::{Beginning, beginnings_of, set_all_apart};
 use crate::decided::{Decided, decide_all};
 use crate::lines::send_lines;
 use crate::planned::prepare_run;
-use commands::EditFault;
-use join_edits::{JoinInput, JoinWork, clash, survey_all, write_joined};
+use commands::{EditFault, clash};
+use join_edits::{JoinInput, JoinWork, survey_all, write_joined};
 use outside::{Failed, Folder, SendBuffer, Sink};
 use std::alloc::Global;
 

@@ -1,6 +1,4 @@
 //! The split commands over a folder.
-ghost use Rattle.std.specs.Prelude.{◌≡◌, ◌∷◌, option_copied, option_to_list};
-ghost use Rattle.commands.specs.Command.{clash_from};
 ghost use Rattle.commands.specs.Runs.{IsRunOf};
 ghost use Rattle.requests.specs.Names.{piece_names};
 ghost use Rattle.split_edits.specs.Cutting.{split_command, IsProperCutting};
@@ -11,23 +9,23 @@ use crate::exact_points::ExactPoints;
 use crate::piece::make_pieces;
 use crate::points::Points;
 use crate::writing::write_pieces;
-use commands::{EditFault, MOST_FRAMES, survey_at};
+use commands::{EditFault, Inputs, MOST_FRAMES, OutputNames, survey_at};
 use laying::RelayBuffers;
 use outside::Folder;
 use requests::is_piece_name;
 use std::alloc::Global;
 
-/// The number of the first input that has the name of a piece, however many pieces there are.
-fn clash(input: &str, sheet: Option<&str>, prefix: &str) -> Option<u32>
-    ensures { result ≡ clash_from (piece_names prefix.now) 0 (input.now ∷ option_to_list
-        (option_copied sheet.entry)) }
-{
-    if is_piece_name(prefix, input) {
-        return Some(0);
-    }
-    match sheet {
-        Some(sheet) if is_piece_name(prefix, sheet) => Some(1),
-        _ => None,
+/// The names that the pieces can have, however many there are.
+#[derive(Clone, Copy)]
+struct PieceNames<'a> {
+    prefix: &'a str,
+}
+
+impl<'a> OutputNames for PieceNames<'a> {
+    ghost names = { λ pieces. piece_names pieces.prefix.now };
+
+    fn contain(&self, name: &str) -> bool {
+        is_piece_name(self.prefix, name)
     }
 }
 
@@ -49,7 +47,11 @@ fn split_by<C: Cut, D: Folder>(
         (D.seen folder.old)
         (D.seen folder.new) result }
 {
-    if let Some(place) = clash(input, cut.sheet(), prefix) {
+    let inputs = Inputs {
+        source: input,
+        sheet: cut.sheet(),
+    };
+    if let Some(place) = inputs.clash(PieceNames { prefix }) {
         return Err(EditFault::EqualNames(place));
     }
     let survey = survey_at(alloc, folder, input, 0, MOST_FRAMES)?;
