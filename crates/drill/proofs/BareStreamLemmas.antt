@@ -12,15 +12,14 @@ use Rattle.info_header.specs.HeadText.{head_text_of}
 use Rattle.laying.proofs.EntryByteLemmas.{entry_item, length-entry, shaped}
 use Rattle.laying.proofs.LaidDataLemmas.{laid-there, length-laid}
 use Rattle.laying.proofs.LaidFileLemmas.{entries_by, entry_get, HasPayload, payload_there, row_at}
-use Rattle.laying.proofs.LaidFrameLemmas.{areas-all, areas-there, frame_items, framed_bytes-stand}
-use Rattle.laying.proofs.LaidFrameLemmas.{framed_bytes-whole, frames_at, rows-there, StandFrom}
+use Rattle.laying.proofs.LaidFrameLemmas.{areas-all, areas-there, frame_items, framed_bytes-items}
+use Rattle.laying.proofs.LaidFrameLemmas.{framed_bytes-stand, frames_at, rows-there, StandFrom}
 use Rattle.laying.proofs.LaidRunLemmas.{front_end-is, not_in_front, some_frames, start_by}
 use Rattle.laying.proofs.LaidSoundLemmas.{laid-sound, marked_rows-none, starts-there}
-use Rattle.laying.proofs.WholeItemLemmas.{placed, whole-item_run}
 use Rattle.laying.specs.LaidFiles.{AreStreamEntries, frame_length, rows_from, stream_entry}
 use Rattle.side_info.specs.Frame.{frame_front_bytes}
-use Rattle.sync_survey.proofs.{ItemListLemmas.item_at-known, OneItemLemmas.stands-only_at}
-use Rattle.sync_survey.proofs.RunsLemmas.{whole_item_at-past}
+use Rattle.sync_survey.proofs.ItemListLemmas.{item_at-known, items-item_run, placed}
+use Rattle.sync_survey.proofs.{OneItemLemmas.stands-only_at, RunsLemmas.whole_item_at-past}
 use Rattle.sync_survey.proofs.SurveyPartsLemmas.{frames_from, IsRead, sound-no_all_faults}
 use Rattle.sync_survey.proofs.SurveyPartsLemmas.{survey_fields-stream, survey_fields-told}
 use Rattle.sync_survey.proofs.SurveyPartsLemmas.{told_from}
@@ -104,7 +103,7 @@ module _ (c : ClassFields) (f : Frame) (more : List Frame) (is : IsBare c f more
       is.entries.0.header (shaped f.kept.side is.entries.0.pairs) long_area).known rest)
 
   front_run : item_run Front file 0 ≡ record { items = []; stop = 0 }
-  front_run = whole-item_run Front file 0 [] [] file refl (omega arith) refl
+  front_run = items-item_run Front file 0 [] [] file refl (omega arith) refl
       (not_in_front file 0 f.kept.header first_item)
 
   start-is : start_of file ≡ Ok begin
@@ -114,8 +113,8 @@ module _ (c : ClassFields) (f : Frame) (more : List Frame) (is : IsBare c f more
   stream : stream_run file begin
       ≡ record { items = placed 0 (frame_items frames); stop = 0 + length file }
   stream =
-      whole-item_run Stream file 0 (frame_items frames) file []
-      (framed_bytes-whole c frames area_data is.entries many) (omega arith) (sym (append-nil file))
+      items-item_run Stream file 0 (frame_items frames) file []
+      (framed_bytes-items c frames area_data is.entries many) (omega arith) (sym (append-nil file))
       (whole_item_at-past Stream file (0 + length file) (omega arith))
 
   -- ---- the head

@@ -8,16 +8,16 @@ use Rattle.std.proofs.lemmas.List.{drop-drop, drop_at, length-take-le, take_at, 
 use Rattle.frame_header.specs.{Fields.{ClassFields, same_class}, Tables.{class_of, overhead_of}}
 use Rattle.frame_writer.specs.Frames.{all_frame_data, areas_length, fields_of_frames, Frame}
 use Rattle.frame_writer.specs.{Frames.{frame_area, framed_bytes}, Laid.areas_end}
+use Rattle.laying.proofs.BlockItemLemmas.{block_items, blocks-no_frame, blocks-placed}
 use Rattle.laying.proofs.EntryByteLemmas.{entry_item, front-side, front-word, length-entry}
 use Rattle.laying.proofs.EntryByteLemmas.{length-front, shaped}
-use Rattle.laying.proofs.WholeItemLemmas.{AreWhole, block_items, blocks-no_frame, blocks-placed}
-use Rattle.laying.proofs.WholeItemLemmas.{placed}
 use Rattle.laying.specs.LaidFiles.{AreBlocks, AreStreamEntries, blocks_from, frame_length}
 use Rattle.laying.specs.LaidFiles.{IsStreamEntry, rows_from}
 use Rattle.side_info.specs.{Frame.{frame_front_bytes, side_in, stored_crc}, Side.SideFits}
 use Rattle.side_info.specs.declared.side.Side.{Side}
-use Rattle.sync_survey.specs.{Faults.has_wrong_crc, MainData.{area_bytes, own_area, rows_of}}
-use Rattle.sync_survey.specs.{Row.Row, Runs.{blocks_of, frames_of}, declared.items.Item.Item}
+use Rattle.sync_survey.{proofs.ItemListLemmas.{AreItems, placed}, specs.Faults.has_wrong_crc}
+use Rattle.sync_survey.specs.{MainData.{area_bytes, own_area, rows_of}, Row.Row}
+use Rattle.sync_survey.specs.{Runs.{blocks_of, frames_of}, declared.items.Item.Item}
 use Rattle.sync_survey.specs.declared.items.Item.TheVariants.{Frame as FrameItem}
 use Rattle.sync_survey.specs.declared.places.PlacedFrame.{PlacedFrame}
 use Rattle.sync_survey.specs.declared.runs.Region.TheVariants.{Stream}
@@ -32,12 +32,12 @@ pub own_fits : (c : ClassFields) (f : Frame) → IsStreamEntry c f
     → SideFits (class_of f.kept.header) f.kept.side
 own_fits c f entry = subst (λ d. SideFits d f.kept.side) (sym entry.class) entry.fits
 
--- frames with bytes in their areas are whole items
-pub framed_bytes-whole : (c : ClassFields) (fs : List Frame) (bytes : List ℕ)
+-- frames with bytes in their areas are their items
+pub framed_bytes-items : (c : ClassFields) (fs : List Frame) (bytes : List ℕ)
     → AreStreamEntries c fs → areas_length (fields_of_frames fs) ≡ length bytes
-    → AreWhole Stream (frame_items fs) (framed_bytes (fields_of_frames fs) bytes)
-framed_bytes-whole c [] bytes entries many = refl
-framed_bytes-whole c (f ∷ fs) bytes entries many =
+    → AreItems Stream (frame_items fs) (framed_bytes (fields_of_frames fs) bytes)
+framed_bytes-items c [] bytes entries many = refl
+framed_bytes-items c (f ∷ fs) bytes entries many =
     let k = f.kept in
     let n = frame_area k in
     let front = frame_front_bytes k.header k.side in
@@ -48,7 +48,7 @@ framed_bytes-whole c (f ∷ fs) bytes entries many =
       entry_item k.header k.side (take n bytes) entries.0.header (shaped k.side entries.0.pairs)
           (length-take-le n bytes (omega (arith, many))),
       refl,
-      framed_bytes-whole c fs (drop n bytes) entries.1 (omega (arith, many, length-drop n bytes)),
+      framed_bytes-items c fs (drop n bytes) entries.1 (omega (arith, many, length-drop n bytes)),
     )
 
 -- the frames placed end to end, the first of them at an offset

@@ -7,14 +7,14 @@ use Rattle.frame_header.specs.{Fields.{ClassFields, HeaderFields}, Tables.{class
 use Rattle.frame_writer.specs.Frames.{all_frame_data, areas_length, bytes_of_frames}
 use Rattle.frame_writer.specs.{Frames.{fields_of_frames, Frame}, Laid.laid_data}
 use Rattle.info_header.specs.{InfoFrame.{info_frame, info_header_of}, declared.fields.Info.Info}
+use Rattle.laying.proofs.BlockItemLemmas.{block_items, blocks-items, blocks-placed}
 use Rattle.laying.proofs.InfoByteLemmas.{info_header, info_item, info_text, length-info_area}
 use Rattle.laying.proofs.{InfoByteLemmas.length-info_frame, LaidDataLemmas.length-laid}
-use Rattle.laying.proofs.LaidFrameLemmas.{areas-all, blocks-behind, frame_items, framed_bytes-stand}
-use Rattle.laying.proofs.LaidFrameLemmas.{framed_bytes-whole, frames-placed, frames_at, StandFrom}
-use Rattle.laying.proofs.WholeItemLemmas.{AreWhole, block_items, blocks-placed, blocks-whole}
-use Rattle.laying.proofs.WholeItemLemmas.{placed, whole-append, whole-item_run}
+use Rattle.laying.proofs.LaidFrameLemmas.{areas-all, blocks-behind, frame_items, framed_bytes-items}
+use Rattle.laying.proofs.LaidFrameLemmas.{framed_bytes-stand, frames-placed, frames_at, StandFrom}
 use Rattle.laying.specs.LaidFiles.{blocks_from, frames_offset, head_at, IsLaidFile, laid_file}
-use Rattle.sync_survey.proofs.{ItemListLemmas.item_at-known, OneItemLemmas.stands-only_at}
+use Rattle.sync_survey.proofs.ItemListLemmas.{AreItems, item_at-known, items-append, items-item_run}
+use Rattle.sync_survey.proofs.{ItemListLemmas.placed, OneItemLemmas.stands-only_at}
 use Rattle.sync_survey.proofs.{RunsLemmas.whole_item_at-past, SameHeadLemmas.area-frame}
 use Rattle.sync_survey.proofs.{StartLemmas.start_is, SurveyLemmas.overhead-within}
 use Rattle.sync_survey.{proofs.SurveyPartsLemmas.frames_from, specs.Items.{item_at, size_of}}
@@ -126,15 +126,15 @@ module _ (c : ClassFields) (front : List (List ℕ)) (first : HeaderFields) (inf
 
   front_run : item_run Front file 0
       ≡ record { items = placed 0 (block_items front is.blocks_before); stop = from }
-  front_run = grind (arith, whole-item_run, blocks-whole, file-is, not_in_front, first_item, placed)
+  front_run = grind (arith, items-item_run, blocks-items, file-is, not_in_front, first_item, placed)
 
   -- the stream starts with the Info frame
   pub start-is : start_of file ≡ Ok start
   start-is = start_by file from h (sym (ap (λ (r : ItemRun). r.stop) front_run) ∙ front_end-is file)
       first_item (omega (arith, long_file))
 
-  later_whole : AreWhole Stream later_items after
-  later_whole = grind (arith, whole-append, framed_bytes-whole, many, blocks-whole)
+  later_are : AreItems Stream later_items after
+  later_are = grind (arith, items-append, framed_bytes-items, many, blocks-items)
 
   -- where the stream ends
   pub stop : ℕ
@@ -148,8 +148,8 @@ module _ (c : ClassFields) (front : List (List ℕ)) (first : HeaderFields) (inf
       ≡ record { items = placed from (FrameItem h ∷ later_items); stop = stop }
   unfolding stop
   stream =
-      whole-item_run Stream file from (FrameItem h ∷ later_items) (own ++ after) []
-      (own, after, refl, info_item first info is.header is.sizes, refl, later_whole)
+      items-item_run Stream file from (FrameItem h ∷ later_items) (own ++ after) []
+      (own, after, refl, info_item first info is.header is.sizes, refl, later_are)
       (omega (arith, long_file))
       (stands ∙ sym (append-nil (own ++ after)))
       (whole_item_at-past Stream file (from + length (own ++ after)) stop-past)

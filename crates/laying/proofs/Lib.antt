@@ -17,7 +17,7 @@ pub mod FramesFromLemmas
 pub mod LaidDataLemmas
 pub mod EntryByteLemmas
 pub mod InfoByteLemmas
-pub mod WholeItemLemmas
+pub mod BlockItemLemmas
 pub mod LaidFrameLemmas
 pub mod LaidRunLemmas
 pub mod LaidSoundLemmas

@@ -10,7 +10,7 @@ use Rattle.moved_gains.proofs.MovedFrameLemmas.{IsWhole, moved_whole, whole_item
 use Rattle.moved_gains.specs.Edited.{moved_frame_unless_lost, moved_item, moved_items}
 use Rattle.requests.specs.declared.shift.Steps.{Steps}
 use Rattle.sync_survey.proofs.ItemBytesLemmas.{frame-least, header_front-four, IsItem, kept_item}
-use Rattle.sync_survey.proofs.ItemListLemmas.{AreItems}
+use Rattle.sync_survey.proofs.ItemListLemmas.{AreItems, items_of}
 use Rattle.sync_survey.proofs.ItemsLemmas.{header_front-in_range, stands-at}
 use Rattle.sync_survey.{proofs.RunsLemmas.whole_item_at-is, specs.Items.{item_at, size_of}}
 use Rattle.sync_survey.specs.Runs.{AreEndToEnd, belongs, frame_of_item, frames_of, item_bytes_in}
@@ -68,7 +68,7 @@ moved-cons steps lost file p ps = refl
 pub moved_are : (steps : ℕ → Steps) (lost : ℕ → Bool) (file : List ℕ) (from : ℕ)
     (ps : List PlacedItem)
     (to : ℕ) → AreBytes file → AreEndToEnd Stream file from ps to
-    → AreItems ps (moved_items steps lost file ps)
+    → AreItems Stream (items_of ps) (moved_items steps lost file ps)
 moved_are steps lost file from [] to all ends = moved-nil steps lost file
 moved_are steps lost file from (p ∷ ps) to all ends =
     let here = whole_item_at-is Stream file p.offset p.item ends.1 in (
@@ -77,6 +77,7 @@ moved_are steps lost file from (p ∷ ps) to all ends =
       moved-cons steps lost file p ps,
       moved_own (steps p.offset)
           (lost p.offset) file p.offset p.item all here.is here.belongs here.within,
+      here.belongs,
       moved_are steps lost file (p.offset + size_of p.item) ps to all ends.2,
     )
 

@@ -16,10 +16,10 @@ use Rattle.moved_gains.specs.Edited.{edited_file, is_lost_at, moved_frame_unless
 use Rattle.moved_gains.specs.Edited.{moved_stream}
 use Rattle.requests.specs.declared.shift.Steps.{Steps}
 use Rattle.sync_survey.proofs.ItemBytesLemmas.{IsItem}
-use Rattle.sync_survey.proofs.ItemListLemmas.{AreItems, blocks-nearer, ends-stream, frames-nearer}
-use Rattle.sync_survey.proofs.ItemListLemmas.{item_at-known, items-item_run, items-length}
-use Rattle.sync_survey.proofs.ItemListLemmas.{kept_items, nearer, nearer-none, nearer_frame}
-use Rattle.sync_survey.proofs.ItemListLemmas.{nearer_piece}
+use Rattle.sync_survey.proofs.ItemListLemmas.{AreItems, blocks-nearer, frames-nearer, item_at-known}
+use Rattle.sync_survey.proofs.ItemListLemmas.{items-item_run, items-length, items_of, kept_items}
+use Rattle.sync_survey.proofs.ItemListLemmas.{nearer, nearer-none, nearer_frame, nearer_piece}
+use Rattle.sync_survey.proofs.ItemListLemmas.{placed, placed-nearer}
 use Rattle.sync_survey.proofs.RunsLemmas.{item_run-ends, whole_item_at-past}
 use Rattle.sync_survey.proofs.SameHeadLemmas.{head_bytes-nearer, head_of-nearer, nearer_head}
 use Rattle.sync_survey.proofs.SurveyPartsLemmas.{frames_from, IsRead, told_from}
@@ -143,10 +143,10 @@ module _ (steps : ℕ → Steps) (file : List ℕ) (allowed : ℕ) (start : Star
   own_item : IsItem (Frame h) own
   own_item = whole_item h own own_moved.whole
 
-  before_are : AreItems front.items before
-  before_are = grind (arith, kept_items, ends-stream, front_ends)
+  before_are : AreItems Front (items_of front.items) before
+  before_are = kept_items Front file 0 front.items front.stop front_ends
 
-  after_are : AreItems later.items after
+  after_are : AreItems Stream (items_of later.items) after
   after_are = moved_are steps lost file (first + size) later.items later.stop all later_ends
 
   new-is : new_file ≡ before ++ (own ++ after)
@@ -194,23 +194,31 @@ module _ (steps : ℕ → Steps) (file : List ℕ) (allowed : ℕ) (start : Star
   -- the front of the edited file is the file's
   pub new-front : item_run Front new_file 0 ≡ record { items = front.items; stop = front_end }
   new-front =
-      let stop : front.stop - 0 ≡ front_end = omega (arith, has.front) in
-      items-item_run Front file new_file 0 0 0 front.items front.stop before
-      (own ++ after) front_ends
-      (omega arith) before_are (omega arith) new-is
-      (not_in_front new_file (front.stop - 0) h (ap (item_at new_file) stop ∙ new_first))
-      ∙ (λ i. record { items = nearer-none front.items i; stop = stop i })
+      let stop : 0 + length before ≡ front_end = omega (arith, before_long) in
+      let same : placed 0 (items_of front.items) ≡ front.items =
+      placed-nearer Front file 0 0 0 front.items front.stop front_ends (omega arith)
+      ∙ nearer-none front.items in
+      items-item_run Front new_file 0 (items_of front.items) before (own ++ after) before_are
+      (omega arith) new-is
+      (not_in_front new_file (0 + length before) h (ap (item_at new_file) stop ∙ new_first))
+      ∙ (λ i. record { items = same i; stop = stop i })
 
   -- the stream of the edited file has the same items, nearer by the junk
   pub new-stream : item_run Stream new_file front_end
       ≡ record { items = map (nearer gap) items; stop = later.stop - gap }
   new-stream =
-      items-item_run Stream file new_file gap first front_end items later.stop (own ++ after) []
-      ends
-      (omega (arith, has.low))
-      (own, after, refl, own_item, after_are) (omega (arith, new_room))
+      let long : front_end + length (own ++ after) ≡ length new_file =
+      omega (arith, ap length new-is, length-append before (own ++ after), before_long) in
+      let stop : front_end + length (own ++ after) ≡ later.stop - gap =
+      omega (arith, long, new-length, has.stop) in
+      let same : placed front_end (items_of items) ≡ map (nearer gap) items =
+      placed-nearer Stream file gap first front_end items later.stop ends
+      (omega (arith, has.low)) in
+      items-item_run Stream new_file front_end (items_of items) (own ++ after) []
+      (own, after, refl, own_item, refl, after_are) (omega (arith, new_room))
       (new-stands ∙ sym (append-nil (own ++ after)))
-      (whole_item_at-past Stream new_file (later.stop - gap) (omega (arith, new-length, has.stop)))
+      (whole_item_at-past Stream new_file (front_end + length (own ++ after)) (omega (arith, long)))
+      ∙ (λ i. record { items = same i; stop = stop i })
 
   -- the edited file starts with the same frame
   pub new-start : start_of new_file ≡ Ok (moved_start start)

@@ -58,7 +58,7 @@ has_stream file allowed start read =
       stop = omega (
         arith,
         items-length Stream file at items later.stop bytes ends
-            (kept_items file at items later.stop ends),
+            (kept_items Stream file at items later.stop ends),
         ap (λ (r : ItemRun). length (bytes_of_items file r.items)) stream,
         length-append (bytes_of_items file (stream_run file start).items) (drop (length file) file),
         length-drop (length file) file,

@@ -52,38 +52,57 @@ module _ (part : Region) (file : List ℕ) where
 
 -- ---- bytes that are items
 
--- these bytes are these items, joined in order
-abbrev pub AreItems : List PlacedItem → List ℕ → Type 0
-AreItems [] bytes = bytes ≡ []
-AreItems (p ∷ ps) bytes =
-    (own : List ℕ) × (rest : List ℕ) × (bytes ≡ own ++ rest) × IsItem p.item own × AreItems ps rest
+-- these bytes are these items of the part, joined in order
+abbrev pub AreItems : Region → List Item → List ℕ → Type 0
+AreItems part [] bytes = bytes ≡ []
+AreItems part (item ∷ items) bytes = (own : List ℕ) × (rest : List ℕ) × (bytes ≡ own ++ rest)
+    × IsItem item own × (belongs part item ≡ true) × AreItems part items rest
 
--- bytes that are items are as many as the items have
-pub items-length : (part : Region) (file : List ℕ) (from : ℕ) (ps : List PlacedItem) (to : ℕ)
-    (bytes : List ℕ) → AreEndToEnd part file from ps to → AreItems ps bytes
-    → from + length bytes ≡ to
-items-length part file from [] to bytes ends are = omega (arith, ends, ap length are)
-items-length part file from (p ∷ ps) to bytes ends are =
-    grind (
-      arith,
-      length-append,
-      items-length part file (p.offset + size_of p.item) ps to are.1 ends.2 are.4,
-    )
+-- items joined with items are items
+pub items-append : (part : Region) (xs ys : List Item) (front back : List ℕ)
+    → AreItems part xs front → AreItems part ys back → AreItems part (xs ++ ys) (front ++ back)
+items-append part [] ys front back are behind = grind arith
+items-append part (x ∷ xs) ys front back are behind =
+    grind (arith, append_assoc, items-append part xs ys are.1 back are.5 behind)
 
--- the bytes of items of a file are these items
-pub kept_items : (file : List ℕ) (from : ℕ) (ps : List PlacedItem) (to : ℕ)
-    → AreEndToEnd Stream file from ps to → AreItems ps (bytes_of_items file ps)
-kept_items file from [] to ends = refl
-kept_items file from (p ∷ ps) to ends =
-    let here = whole_item_at-is Stream file p.offset p.item ends.1 in (
-      item_bytes_in file p,
-      bytes_of_items file ps,
-      refl,
-      kept_item file p.offset p.item here.is here.belongs here.within,
-      kept_items file (p.offset + size_of p.item) ps to ends.2,
-    )
+-- items without their offsets
+abbrev pub items_of : List PlacedItem → List Item
+items_of ps = map (λ p. p.item) ps
+
+module _ (part : Region) (file : List ℕ) where
+  -- bytes that are items are as many as the items have
+  pub items-length : (from : ℕ) (ps : List PlacedItem) (to : ℕ) (bytes : List ℕ)
+      → AreEndToEnd part file from ps to → AreItems part (items_of ps) bytes
+      → from + length bytes ≡ to
+  items-length from [] to bytes ends are = omega (arith, ends, ap length are)
+  items-length from (p ∷ ps) to bytes ends are =
+      grind (
+        arith,
+        length-append,
+        items-length (p.offset + size_of p.item) ps to are.1 ends.2 are.5,
+      )
+
+  -- the bytes of items of a file are these items
+  pub kept_items : (from : ℕ) (ps : List PlacedItem) (to : ℕ) → AreEndToEnd part file from ps to
+      → AreItems part (items_of ps) (bytes_of_items file ps)
+  kept_items from [] to ends = refl
+  kept_items from (p ∷ ps) to ends =
+      let here = whole_item_at-is part file p.offset p.item ends.1 in (
+        item_bytes_in file p,
+        bytes_of_items file ps,
+        refl,
+        kept_item file p.offset p.item here.is (stream_belongs part p.item here.belongs)
+            here.within,
+        here.belongs,
+        kept_items (p.offset + size_of p.item) ps to ends.2,
+      )
 
 -- ---- where they are
+
+-- the items placed end to end, the first of them at an offset
+abbrev pub placed : ℕ → List Item → List PlacedItem
+placed at [] = []
+placed at (item ∷ items) = record { offset = at; item = item } ∷ placed (at + size_of item) items
 
 -- an item whose offset is mapped
 abbrev pub placed_by : (ℕ → ℕ) → PlacedItem → PlacedItem
@@ -99,12 +118,6 @@ piece_by to p = record p { offset = to p.offset }
 abbrev pub nearer : ℕ → PlacedItem → PlacedItem
 nearer gap p = placed_by (λ at. at - gap) p
 
--- the item at an offset is the one with which the bytes from there on begin
-pub item_at-known : (file : List ℕ) (place at : ℕ) (bytes : List ℕ) (item : Item) → place ≡ at
-    → drop at file ≡ bytes → item_front bytes ≡ item → item_at file place ≡ item
-unfolding item_at
-item_at-known file place at bytes item same is known = grind arith
-
 -- items that aren't nearer at all are where they were
 pub nearer-none : (ps : List PlacedItem) → map (nearer 0) ps ≡ ps
 nearer-none [] = refl
@@ -112,51 +125,57 @@ nearer-none (p ∷ ps) =
     let same : p.offset - 0 ≡ p.offset = omega arith in
     λ i. record p { offset = same i } ∷ nearer-none ps i
 
-module _ (part : Region) (old file : List ℕ) (gap : ℕ) where
-  -- If bytes that are items are in another file, `gap` bytes
-  -- nearer to its beginning, they are there end to end.
-  pub items-end : (from at : ℕ) (ps : List PlacedItem) (to : ℕ)
-      (bytes behind : List ℕ) → AreEndToEnd part old from ps to → from ≡ at + gap
-      → AreItems ps bytes → at ≤ length file → drop at file ≡ bytes ++ behind
-      → AreEndToEnd part file at (map (nearer gap) ps) (to - gap)
-  items-end from at [] to bytes behind ends there are within is = omega (arith, ends, there)
-  items-end from at (p ∷ ps) to bytes behind ends there are within is =
-      let own = are.0 in
-      let rest = are.1 in
-      let size = size_of p.item in
-      let here = whole_item_at-is part old p.offset p.item ends.1 in
-      let place : p.offset - gap ≡ at = omega (arith, ends.0, there) in
-      let stands : drop at file ≡ own ++ (rest ++ behind) =
-      grind (arith, append_assoc) in
+-- items end to end, placed `gap` bytes nearer to the beginning, are nearer by as much
+pub placed-nearer : (part : Region) (file : List ℕ) (gap from at : ℕ) (ps : List PlacedItem)
+    (to : ℕ) → AreEndToEnd part file from ps to → from ≡ at + gap
+    → placed at (items_of ps) ≡ map (nearer gap) ps
+placed-nearer part file gap from at [] to ends there = refl
+placed-nearer part file gap from at (p ∷ ps) to ends there =
+    let place : at ≡ p.offset - gap = omega (arith, ends.0, there) in
+    λ i. record p { offset = place i } ∷ placed-nearer part file gap (p.offset + size_of p.item)
+    (at + size_of p.item) ps to ends.2 (omega (arith, ends.0, there)) i
+
+-- the item at an offset is the one with which the bytes from there on begin
+pub item_at-known : (file : List ℕ) (place at : ℕ) (bytes : List ℕ) (item : Item) → place ≡ at
+    → drop at file ≡ bytes → item_front bytes ≡ item → item_at file place ≡ item
+unfolding item_at
+item_at-known file place at bytes item same is known = grind arith
+
+module _ (part : Region) (file : List ℕ) where
+  -- bytes that are items are items end to end wherever they are
+  pub items-end : (at : ℕ) (items : List Item) (bytes behind : List ℕ)
+      → AreItems part items bytes → at ≤ length file → drop at file ≡ bytes ++ behind
+      → AreEndToEnd part file at (placed at items) (at + length bytes)
+  items-end at [] bytes behind are within is = omega (arith, ap length are)
+  items-end at (item ∷ items) bytes behind are within is =
+      let size = size_of item in
+      let rest = are.1 ++ behind in
+      let stands : drop at file ≡ are.0 ++ rest = grind (arith, append_assoc) in
+      let known =
+      item_at-known file at at (are.0 ++ rest) item refl stands (are.3.known rest) in
       let room : at + size ≤ length file = omega (
         arith,
         within,
         ap length stands,
         length-drop at file,
-        length-append own (rest ++ behind),
+        length-append are.0 rest,
         are.3.size,
       ) in
-      let known =
-      item_at-known file (p.offset - gap) at (own ++ (rest ++ behind)) p.item place stands
-      (are.3.known (rest ++ behind)) in
-      let next : drop (p.offset - gap + size) file ≡ rest ++ behind =
-      ap (λ n. drop (n + size) file) place ∙ sym (drop-drop size at file) ∙ ap (drop size) stands
-      ∙ drop_at own (rest ++ behind) size are.3.size in (
-        place,
-        whole_item_at-whole part file
-            (p.offset - gap) p.item known here.belongs (omega (arith, place, room)),
-        items-end (p.offset + size) (p.offset - gap + size) ps to rest behind
-            ends.2 (omega (arith, place, ends.0, there)) are.4 (omega (arith, place, room)) next,
+      let next : drop (at + size) file ≡ rest = sym (drop-drop size at file) ∙ ap (drop size) stands
+      ∙ drop_at are.0 rest size are.3.size in
+      grind (
+        arith,
+        length-append,
+        whole_item_at-whole part file at item known are.4 room,
+        items-end (at + size) items are.1 behind are.5 room next,
       )
 
-  -- bytes that are items are the run there, if no further item of the part begins after them
-  pub items-item_run : (from at : ℕ) (ps : List PlacedItem) (to : ℕ)
-      (bytes behind : List ℕ) → AreEndToEnd part old from ps to → from ≡ at + gap
-      → AreItems ps bytes → at ≤ length file → drop at file ≡ bytes ++ behind
-      → whole_item_at part file (to - gap) ≡ None
-      → item_run part file at ≡ record { items = map (nearer gap) ps; stop = to - gap }
-  items-item_run from at ps to bytes behind ends there are within is none =
-      search (arith, item_run-only, items-end)
+  -- they are the run there, if no further item of the part begins after them
+  pub items-item_run : (at : ℕ) (items : List Item) (bytes behind : List ℕ)
+      → AreItems part items bytes → at ≤ length file → drop at file ≡ bytes ++ behind
+      → whole_item_at part file (at + length bytes) ≡ None
+      → item_run part file at ≡ record { items = placed at items; stop = at + length bytes }
+  items-item_run at items bytes behind are within is none = search (arith, item_run-only, items-end)
 
 -- ---- frames and blocks among them
 
