@@ -7,6 +7,7 @@ pub mod InputLemmas
 pub mod MakeLemmas
 pub mod MadeLemmas
 pub mod TellingLemmas
+pub mod SurveyedLemmas
 pub mod SheetLemmas
 pub mod FoundSheetLemmas
 pub mod TouchLemmas

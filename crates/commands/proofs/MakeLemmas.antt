@@ -1,8 +1,8 @@
 -- A command that makes one file: what it leaves after each step.
 use Rattle.std.proofs.Common.{ap, arith, Bool, bytes_eq, cond, Err, false, IfErr, inl, inr, IsErrOf}
-use Rattle.std.proofs.Common.{length, List, None, Ok, OnOk, Option, refl, Result, slice_index_or}
-use Rattle.std.proofs.Common.{Some, subst, sym, ℕ, [], ◌||◌, ◌↔◌, ◌∙◌, ◌∷◌, ◌≡◌, ◌≢◌, ◌≤◌}
-use Rattle.std.specs.{List.list_any, Result.IsErrAnd}
+use Rattle.std.proofs.Common.{length, List, None, Ok, OnOk, Option, refl, Result, Some, subst, sym}
+use Rattle.std.{proofs.Common.{ℕ, [], ◌||◌, ◌↔◌, ◌∙◌, ◌∷◌, ◌≡◌, ◌≢◌, ◌≤◌}, specs.List.list_any}
+use Rattle.std.specs.Result.{IsErrAnd}
 use Rattle.bit_fields.specs.Bits.{AreBytes}
 use Rattle.commands.proofs.{NamedLemmas.among_all, WhyLemmas.each_why}
 use Rattle.commands.specs.AfterCall.{HasNumbers, HasPassNumbers, IsCommandDone, IsCommandFault}
@@ -14,12 +14,13 @@ use Rattle.commands.specs.{Command.{partly_written_files, written_files}, Inputs
 use Rattle.commands.specs.Runs.{IsRunOf}
 use Rattle.commands.specs.SingleOutput.{clash_in, command_result, files_holding, first_input}
 use Rattle.commands.specs.SingleOutput.{HasTaskNumbers, HoldsLess, HoldsPrefix, IsEarlyFault}
-use Rattle.commands.specs.SingleOutput.{IsLeftShort, IsMaking, IsOutputBegun, IsPassFault}
-use Rattle.commands.specs.SingleOutput.{one_command, Task, task_result, TaskRefuses}
+use Rattle.commands.specs.SingleOutput.{IsMaking, IsPassFault, IsProperTask, one_command, Task}
+use Rattle.commands.specs.SingleOutput.{task_result, TaskRefuses, WritesOutput}
 use Rattle.commands.specs.declared.fault.EditFault.{EditFault, TheVariants.EqualNames}
 use Rattle.commands.specs.declared.inputs.Inputs.{Inputs}
+use Rattle.outside.proofs.CountsLemmas.{none_fell_by_reads, none_fell_same}
 use Rattle.outside.proofs.FilesLemmas.{bytes_eq_same, there_holds, touches_none}
-use Rattle.outside.specs.Counts.{HappenedTo, NoneFell}
+use Rattle.outside.specs.Counts.{NoneFell, OnlyReads}
 use Rattle.outside.specs.Files.{Contents, Files, Holds, IfTold, IsFileThere, OnlyTouches, Told}
 use Rattle.outside.specs.{Files.Untold, Seen.Seen}
 use Rattle.sync_survey.specs.Faults.{HoldsStream, longest_file}
@@ -94,14 +95,10 @@ module _ (task : Task) (output : List ℕ) (free : clash_in task output ≡ None
       → HasAnswer (one_command task output) files (Err fault)
   gives_refused files fault is = grind (arith, makes_free)
 
-  -- what is true of every fault
-  all_of : (P : EditFault → Type 0) (r : Result (List ℕ) EditFault) → IfErr r P
-      → IfErr (command_result output r) P
-  all_of P r is = grind arith
-
-  all_made : (files : Files) (P : EditFault → Type 0) → IfTold files (λ f. IfErr (task.makes f) P)
-      → IfTold files (λ f. IfErr ((one_command task output).makes f) P)
-  all_made files P is = grind (arith, makes_free, all_of)
+  before_made : (files : Files) (fault : EditFault)
+      → IfTold files (λ f. IfErr (task.makes f) (IsNotBefore fault))
+      → IfTold files (λ f. IfErr ((one_command task output).makes f) (IsNotBefore fault))
+  before_made files fault is = grind (arith, makes_free)
 
   takes : (r : Result (List ℕ) EditFault) → IfErr r IsLateFault
       → TakesMemory (command_result output r)
@@ -127,24 +124,18 @@ module _ (task : Task) (output : List ℕ) (free : clash_in task output ≡ None
       pub early_left : IsEarlyFault task old new fault
           → IsCommandFault (one_command task output) old new fault
       early_left h = each_why (why_of fault) h (record {
-        rejected =
-            λ r. record { defined = gives_refused old.files fault r.defined; stays = r.stays };
-        missing = λ m. record {
-          defined = gives_refused old.files fault m.defined;
-          rose = m.rose;
-          files = m.files;
-        };
+        rejected = grind (arith, gives_refused);
+        missing = grind (arith, gives_refused);
         unread = λ u. record {
           names = free;
-          before = all_made old.files (IsNotBefore fault) u.before;
+          before = before_made old.files fault u.before;
           rose = u.rose;
           files = inl u.files;
         };
         shorter = λ l. record { ended = l.ended; touches = stays_touched l.files };
         unwritten = λ k w. absurd w;
         unsent = λ w. absurd w;
-        no_memory = λ n.
-            record { names = free; takes = takes_memory old.files n.there n.few; stays = n.stays };
+        no_memory = grind (arith, takes_memory);
       })
 
   -- ---- the second pass
@@ -212,73 +203,49 @@ module _ (task : Task) (output : List ℕ) (free : clash_in task output ≡ None
           touches = touches;
         }
 
-    module _ (first : first_input task.inputs ≡ task.source) (old new : Seen) (fault : EditFault)
-        (making : IsMaking task file old.files)
-        (touches : OnlyTouches (output ∷ []) old.files new.files) where
-      pass_left : IsPassFault file task.inputs output old new fault
+    module _ (first : first_input task.inputs ≡ task.source) (old new : Seen)
+        (making : IsMaking task file old.files) where
+      pass_left : (fault : EditFault) → OnlyTouches (output ∷ []) old.files new.files
+          → IsPassFault file task.inputs output old new fault
           → IsCommandFault (one_command task output) old new fault
-      pass_left h = each_why (why_of fault) h (record {
+      pass_left fault touches h = each_why (why_of fault) h (record {
         rejected = λ w. absurd w;
         missing = λ w. absurd w;
-        unread = λ u.
-            let begun =
-            subst (λ n. IsOutputBegun file n output old.files new.files) first u.files in
-            record {
-              names = free;
-              before = made_none old.files (IsNotBefore fault) making;
-              rose = u.rose;
-              files = inr (0, written_part old.files new.files making begun touches);
-            };
+        unread = λ u. record {
+          names = free;
+          before = made_none old.files (IsNotBefore fault) making;
+          rose = u.rose;
+          files = inr (
+            0,
+            written_part old.files new.files making (rw first at u.files) touches,
+          );
+        };
         shorter = λ l. record { ended = l; touches = touches };
-        unwritten = λ k w.
-            let short =
-            subst (λ n. IsLeftShort file n output old.files new.files) first w.1.files in
-            record {
-              rose = subst (λ n. HappenedTo (slice_index_or (output ∷ []) n [])
-                  old.counts.write_faults new.counts.write_faults) (sym w.0) w.1.rose;
-              files =
-                  subst (λ n. IsOutputUnfinished (one_command task output) n old.files new.files)
-                  (sym w.0) (unfinished_part old.files new.files making short touches);
-            };
+        unwritten = λ k w. rw w.0 (record {
+          rose = w.1.rose;
+          files = unfinished_part old.files new.files making (rw first at w.1.files) touches;
+        });
         unsent = λ w. absurd w;
         no_memory = λ w. absurd w;
       })
 
-    -- from a moment on at which nothing has changed yet
-    module _ {T : Type 0} (old mid new : Seen) (stays : mid ≡ old) (making : IsMaking task file
-        old.files) (touches : OnlyTouches (output ∷ []) mid.files new.files) where
       -- if the output holds what is made, and no count changed, the command is done
-      pub one_done : (r : Result T EditFault)
-          → OnOk r ((bytes : List ℕ) → Holds mid.files task.source bytes → new.files
-          ≡ files_holding mid.files output (file bytes)) → OnOk r (new.counts ≡ mid.counts)
+      wrote_done : (r : Result (Unit {0}) EditFault)
+          → WritesOutput file task.inputs output old new r
           → OnOk r (IsCommandDone (one_command task output) old new)
-      one_done (Ok x) wrote counts =
-          record {
-            made = made_whole old.files new.files making
-                (subst (λ (m : Seen). (bytes : List ℕ) → Holds m.files task.source bytes
-                → new.files ≡ files_holding m.files output (file bytes)) stays wrote);
-            touches =
-                subst (λ (m : Seen). OnlyTouches (output ∷ []) m.files new.files) stays touches;
-            counts = counts ∙ ap (λ (m : Seen). m.counts) stays;
-          }
-      one_done (Err fault) wrote counts = tt
+      wrote_done (Ok x) wrote = record {
+        made = made_whole old.files new.files making (rw (← first) wrote.written);
+        touches = wrote.touches;
+        counts = wrote.done;
+      }
+      wrote_done (Err fault) wrote = tt
 
       -- a fault of the pass leaves the output begun
-      pub all_left : first_input task.inputs ≡ task.source → (r : Result T EditFault)
-          → IfErr r (IsPassFault file task.inputs output mid new)
+      wrote_left : (r : Result (Unit {0}) EditFault)
+          → WritesOutput file task.inputs output old new r
           → IfErr r (IsCommandFault (one_command task output) old new)
-      all_left first r h = grind (arith, pass_left)
-
-      -- a fault of a pass over the source alone leaves the output begun
-      pub one_left : first_input task.inputs ≡ task.source → (r : Result T EditFault)
-          → IfErr r HasPassNumbers → IfErr r (IsPassFault file (task.source ∷ []) output mid new)
-          → IfErr r (IsCommandFault (one_command task output) old new)
-      one_left first (Ok x) numbers h = tt
-      one_left first (Err fault) numbers h = all_left first failed
-          (among_all file task.inputs task.source first output mid new fault numbers h)
-        where
-          failed : Result T EditFault
-          failed = Err fault
+      wrote_left (Ok x) wrote = tt
+      wrote_left (Err fault) wrote = pass_left fault wrote.touches wrote.left
 
     -- ---- what the output holds
 
@@ -327,14 +294,84 @@ pub refused_run : (command : Command) (old new : Seen) (r : Result (Unit {0}) Ed
     → NoneFell old.counts new.counts → IsRunOf command old new r
 refused_run command old new r fault none is left numbers fell = grind arith
 
--- a command that is done was run without a fault, if its names don't clash and no count fell
-pub done-run : (command : Command) (old new : Seen) → clash_of command ≡ None
-    → IsCommandDone command old new → HoldsStreams command old.files
-    → NoneFell old.counts new.counts → IsRunOf command old new (Ok tt)
-done-run command old new none done streams fell = grind arith
-
 -- a run from a moment is also a run from an earlier one, if no file and no count changed in between
 pub run-before : (command : Command) (old mid new : Seen) (r : Result (Unit {0}) EditFault)
     → mid.files ≡ old.files → mid.counts ≡ old.counts → IsRunOf command mid new r
     → IsRunOf command old new r
 run-before command old mid new r files counts ran = grind arith
+
+-- a call that returned this fault is a run if the call ended with it
+pub returned_run : (command : Command) (old new : Seen) (r : Result (Unit {0}) EditFault)
+    (fault : EditFault) → IsErrAnd r (λ y. y ≡ fault) → IsRunOf command old new (Err fault)
+    → IsRunOf command old new r
+returned_run command old new r fault is ran = grind arith
+
+-- ---- runs of a command that makes one file
+
+module _ (task : Task) (output : List ℕ) where
+  -- a call that found a clash
+  pub clash_run : (place : ℕ) (now : Seen) → clash_in task output ≡ Some place
+      → IsRunOf (one_command task output) now now (Err (EqualNames place))
+  clash_run place now clash = record {
+    done = tt;
+    left = clash_left task output place now clash;
+    numbers = clash;
+    names = grind (arith, clash);
+    streams = tt;
+    counts = none_fell_same now.counts;
+  }
+
+  pass_numbers : (r : Result (Unit {0}) EditFault) → 1 ≤ length task.inputs
+      → IfErr r HasPassNumbers → IfErr r (HasNumbers (one_command task output))
+  pass_numbers r some numbers = grind arith
+
+  pass_all : (file : List ℕ → List ℕ) (old new : Seen) (r : Result (Unit {0}) EditFault)
+      → first_input task.inputs ≡ task.source → IfErr r HasPassNumbers
+      → IfErr r (IsPassFault file (task.source ∷ []) output old new)
+      → IfErr r (IsPassFault file task.inputs output old new)
+  pass_all file old new (Ok x) first numbers left = tt
+  pass_all file old new (Err fault) first numbers left =
+      among_all file task.inputs task.source first output old new fault numbers left
+
+  module _ (free : clash_in task output ≡ None) {old new : Seen}
+      {r : Result (Unit {0}) EditFault} where
+    -- a call that met a fault before the output was created
+    pub early_run : ((f : Contents) (bytes : List ℕ) → f task.source ≡ Some bytes
+        → length bytes ≤ longest_file → IfErr (task.makes f) IsLateFault) → (fault : EditFault)
+        → IsErrAnd r (λ y. y ≡ fault) → IsEarlyFault task old new fault
+        → HasNumbers (one_command task output) fault → OnlyReads old.counts new.counts
+        → IsRunOf (one_command task output) old new r
+    early_run late fault is early numbers reads =
+        refused_run (one_command task output) old new r fault free is
+        (early_left task output free late old new fault early) numbers
+        (none_fell_by_reads old.counts new.counts reads)
+
+    module _ (file : List ℕ → List ℕ) (making : IsMaking task file old.files) where
+      -- a call that wrote what the task makes, or a part of it
+      pub one_run : first_input task.inputs ≡ task.source
+          → OnOk r (HoldsStreams (one_command task output) old.files)
+          → IfErr r (HasNumbers (one_command task output))
+          → WritesOutput file task.inputs output old new r → NoneFell old.counts new.counts
+          → IsRunOf (one_command task output) old new r
+      one_run first streams numbers wrote fell = record {
+        done = wrote_done task output free file first old new making r wrote;
+        left = wrote_left task output free file first old new making r wrote;
+        numbers = numbers;
+        names = names_free (one_command task output) r free numbers;
+        streams = streams;
+        counts = fell;
+      }
+
+      -- a call that wrote what the task makes of its source, or a part of it
+      pub pass_run : IsProperTask task → IfErr r HasPassNumbers
+          → WritesOutput file (task.source ∷ []) output old new r → NoneFell old.counts new.counts
+          → IsRunOf (one_command task output) old new r
+      pass_run proper numbers wrote fell =
+          let hold = proper_holds task output free file proper.streams old.files making in
+          one_run proper.first (one_streams task output free file old.files making hold r)
+          (pass_numbers r proper.some numbers) (record {
+            written = rw proper.first wrote.written;
+            touches = wrote.touches;
+            done = wrote.done;
+            left = pass_all file old new r proper.first numbers wrote.left;
+          }) fell

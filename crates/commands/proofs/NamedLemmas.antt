@@ -1,39 +1,28 @@
 -- The file that a fault is about, by its place among the inputs.
 use Rattle.std.proofs.Common.{List, refl, slice_index_or, subst, sym, ℕ, [], ◌∙◌, ◌∷◌, ◌≡◌}
 use Rattle.commands.proofs.WhyLemmas.{each_why}
-use Rattle.commands.specs.AfterCall.{end_offset, HasPassNumbers, input_of, InputEndsEarly, why_of}
-use Rattle.commands.specs.SingleOutput.{first_input, IsLeftShort, IsOutputBegun, IsPassFault}
-use Rattle.commands.specs.SingleOutput.{LosesInput, MissesAt, ReadsNothing}
-use Rattle.commands.specs.declared.fault.EditFault.{EditFault, TheVariants.Input}
-use Rattle.outside.specs.{Counts.{EndedAt, HappenedTo}, Seen.Seen}
+use Rattle.commands.specs.AfterCall.{HasPassNumbers, input_of, InputEndsEarly, why_of}
+use Rattle.commands.specs.SingleOutput.{first_input, IsPassFault, LosesInput, MissesAt}
+use Rattle.commands.specs.{SingleOutput.ReadsNothing, declared.fault.EditFault.EditFault}
+use Rattle.commands.specs.declared.fault.EditFault.TheVariants.{Input}
+use Rattle.outside.specs.{Counts.HappenedTo, Seen.Seen}
 
 module _ (inputs : List (List ℕ)) (place : ℕ) {name : List ℕ}
     (named : name ≡ slice_index_or inputs place []) {old new : Seen} {fault : EditFault} where
   -- a call that missed a file counts a miss of the input that the fault names
   pub missed_name : MissesAt place name old new fault
       → HappenedTo (input_of inputs fault) old.counts.misses new.counts.misses
-  missed_name h =
-      subst (λ e. HappenedTo (input_of inputs e) old.counts.misses new.counts.misses) (sym h.is)
-      (subst (λ (n : List ℕ). HappenedTo n old.counts.misses new.counts.misses) named h.rose)
+  missed_name h = rw (h.is, ← named) h.rose
 
   -- a call that couldn't read a file counts a failed read of the input that the fault names
   pub unread_name : ReadsNothing place name old new fault
       → HappenedTo (input_of inputs fault) old.counts.read_faults new.counts.read_faults
-  unread_name h =
-      subst (λ e. HappenedTo (input_of inputs e) old.counts.read_faults new.counts.read_faults)
-      (sym h.is) (subst (λ (n : List ℕ). HappenedTo n old.counts.read_faults new.counts.read_faults)
-      named h.rose)
+  unread_name h = rw (h.is, ← named) h.rose
 
   -- a call that found a file shorter names the input that became shorter
   pub lost_name : LosesInput place name old new fault → InputEndsEarly inputs old new fault
-  lost_name h = record {
-    rose =
-        subst (λ e. EndedAt (input_of inputs e) (end_offset e) old.counts.ends new.counts.ends)
-        (sym h.is)
-        (subst (λ (n : List ℕ). EndedAt n h.second old.counts.ends new.counts.ends) named h.rose);
-    counts = h.counts;
-    untold = h.untold;
-  }
+  lost_name h =
+      rw h.is (record { rose = rw (← named) h.rose; counts = h.counts; untold = h.untold })
 
 -- ---- a pass over the first input
 
@@ -60,24 +49,9 @@ among_all made inputs source first output old new fault numbers h =
     each_why (why_of fault) h (record {
       rejected = λ w. w;
       missing = λ w. w;
-      unread = λ u. record {
-        rose = subst (λ (n : List ℕ). HappenedTo n old.counts.read_faults new.counts.read_faults)
-            named u.rose;
-        files = subst (λ n. IsOutputBegun made n output old.files new.files) (sym first) u.files;
-      };
-      shorter = λ l. record {
-        rose = subst (λ (n : List ℕ). EndedAt n (end_offset fault) old.counts.ends new.counts.ends)
-            named l.rose;
-        counts = l.counts;
-        untold = l.untold;
-      };
-      unwritten = λ k w. (
-        w.0,
-        record {
-          rose = w.1.rose;
-          files = subst (λ n. IsLeftShort made n output old.files new.files) (sym first) w.1.files;
-        },
-      );
+      unread = λ u. record { rose = rw named at u.rose; files = rw (← first) at u.files };
+      shorter = λ l. record { rose = rw named at l.rose; counts = l.counts; untold = l.untold };
+      unwritten = λ k w. (w.0, record { rose = w.1.rose; files = rw (← first) at w.1.files });
       unsent = λ w. w;
       no_memory = λ w. w;
     })

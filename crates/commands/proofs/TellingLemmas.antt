@@ -1,13 +1,14 @@
 -- A command with a text leaves the same files as without.
-use Rattle.std.proofs.Common.{ap, Err, IfErr, inl, inr, length, List, Ok, refl, Result, subst, sym}
-use Rattle.std.proofs.Common.{take, ℕ, ◌∙◌, ◌≡◌, ◌≤◌, ◌⊎◌}
+use Rattle.std.proofs.Common.{ap, arith, Err, IfErr, inl, inr, length, List, Ok, refl, Result}
+use Rattle.std.proofs.Common.{subst, sym, take, ℕ, ◌∙◌, ◌≡◌, ◌≤◌, ◌⊎◌}
 use Rattle.commands.proofs.WhyLemmas.{each_why}
-use Rattle.commands.specs.AfterCall.{IsCommandDone, IsCommandFault, IsNotBefore, IsOutputUnfinished}
-use Rattle.commands.specs.AfterCall.{IsWrittenTo, TakesMemory, why_of}
+use Rattle.commands.specs.AfterCall.{HasNumbers, IsCommandDone, IsCommandFault, IsOutputUnfinished}
+use Rattle.commands.specs.AfterCall.{IsWrittenTo, TakesMemory}
 use Rattle.commands.specs.Command.{Command, HasAnswer, HoldsStreams, Made, MakesStreams}
-use Rattle.commands.specs.{Command.written_files, SentText.{IsCommandText, SaysAll, SaysPrefix}}
+use Rattle.commands.specs.{Command.written_files, Runs.IsRunOf}
+use Rattle.commands.specs.SentText.{IsCommandText, SaysAll, SaysPrefix}
 use Rattle.commands.specs.WithText.{telling_command, with_text}
-use Rattle.commands.specs.declared.fault.EditFault.{EditFault}
+use Rattle.commands.specs.declared.fault.EditFault.{EditFault, TheVariants.Sent as NotSent}
 use Rattle.outside.specs.{BufferOutput.SentPrefix, Counts.Rose}
 use Rattle.outside.specs.Files.{Contents, Files, IfTold, sent_and_more, Told, Untold}
 use Rattle.outside.specs.Seen.{Heard, Seen}
@@ -33,7 +34,7 @@ module _ (text : Contents → List ℕ) (command : Command) where
   told = telling_command text command
 
   -- a fault of the command is one of the command with the text
-  pub telling_command-gives : (files : Files) (fault : EditFault)
+  telling_command-gives : (files : Files) (fault : EditFault)
       → HasAnswer command files (Err fault) → HasAnswer told files (Err fault)
   telling_command-gives (Untold touched) fault is = tt
   telling_command-gives (Told f) fault is = ap (with_text (text f)) is
@@ -49,7 +50,7 @@ module _ (text : Contents → List ℕ) (command : Command) where
   all-told (Told f) P is = all_text P (text f) (command.makes f) is
 
   -- a command that is done is done with the text too
-  pub telling_command-done : (old new : Seen) → IsCommandDone command old new
+  telling_command-done : (old new : Seen) → IsCommandDone command old new
       → IsCommandDone told old new
   telling_command-done old new done =
       record { made = at old.files done.made; touches = done.touches; counts = done.counts }
@@ -85,32 +86,22 @@ module _ (text : Contents → List ℕ) (command : Command) where
     unread-to (inr h) = inr (h.0, written-to h.0 old.files new.files h.1)
 
     -- what the command leaves, it leaves with the text too
-    pub telling_command-left : IsCommandFault command old new fault
+    telling_command-left : IsCommandFault command old new fault
         → IsCommandFault told old new fault
-    telling_command-left h = each_why (why_of fault) h (record {
-      rejected = λ r.
-          record { defined = telling_command-gives old.files fault r.defined; stays = r.stays };
-      missing = λ m. record {
-        defined = telling_command-gives old.files fault m.defined;
-        rose = m.rose;
-        files = m.files;
-      };
-      unread = λ u. record {
-        names = u.names;
-        before = all-told old.files (IsNotBefore fault) u.before;
-        rose = u.rose;
-        files = unread-to u.files;
-      };
-      shorter = λ l. record { ended = l.ended; touches = l.touches };
-      unwritten =
-          λ k w. record { rose = w.rose; files = unfinished-to k old.files new.files w.files };
-      unsent = λ d. telling_command-done old new d;
-      no_memory =
-          λ n. record { names = n.names; takes = takes_memory old.files n.takes; stays = n.stays };
-    })
+    telling_command-left h =
+        grind (
+          arith,
+          each_why,
+          telling_command-gives,
+          all-told,
+          unread-to,
+          unfinished-to,
+          telling_command-done,
+          takes_memory,
+        )
 
   -- the streams that the command holds, it holds with the text too
-  pub telling_command-streams : (files : Files) → HoldsStreams command files
+  telling_command-streams : (files : Files) → HoldsStreams command files
       → HoldsStreams told files
   telling_command-streams (Untold touched) holds = tt
   telling_command-streams (Told f) holds = λ made is. at (command.makes f) refl made is
@@ -135,6 +126,42 @@ module _ (text : Contents → List ℕ) (command : Command) where
       at (Ok m) e = let same : (record m { text = text t.0 }) ≡ t.1 = cc in
           sym (ap (λ (x : Made). x.text) same)
       at (Err fault) e = absurd cc
+
+  -- the numbers of a fault are right with the text too
+  has-numbers : (fault : EditFault) → HasNumbers command fault → HasNumbers told fault
+  has-numbers fault numbers = grind arith
+
+  module _ {old new : Seen} where
+    -- a run of the command is one with the text too
+    pub telling_run : {r : Result (Unit {0}) EditFault} → IsRunOf command old new r
+        → IsRunOf told old new r
+    telling_run {r = Ok x} ran = record {
+      done = telling_command-done old new ran.done;
+      left = tt;
+      numbers = tt;
+      names = ran.names;
+      streams = telling_command-streams old.files ran.streams;
+      counts = ran.counts;
+    }
+    telling_run {r = Err fault} ran = record {
+      done = tt;
+      left = telling_command-left old new fault ran.left;
+      numbers = has-numbers fault ran.numbers;
+      names = ran.names;
+      streams = tt;
+      counts = ran.counts;
+    }
+
+    -- if a write of the text failed, all files of the command are whole
+    pub unsent_run : IsRunOf command old new (Ok tt) → IsRunOf told old new (Err NotSent)
+    unsent_run ran = record {
+      done = tt;
+      left = telling_command-done old new ran.done;
+      numbers = λ e. absurd cc;
+      names = λ place. (λ e. absurd cc, λ clash. let e = (ran.names place).1 clash in absurd cc);
+      streams = tt;
+      counts = ran.counts;
+    }
 
 -- ---- a text that is sent
 

@@ -1,7 +1,7 @@
 -- The names that a command touches, however it ends: only those of its outputs.
-use Rattle.std.proofs.Common.{ap, inl, inr, subst, sym, take, ℕ, ◌+◌, ◌≡◌, ◌≢◌, ◌⊎◌}
+use Rattle.std.proofs.Common.{arith, inl, inr, subst, sym, take, ℕ, ◌+◌, ◌≡◌, ◌≢◌, ◌⊎◌}
 use Rattle.std.proofs.lemmas.List.Elements.{All-take}
-use Rattle.commands.{proofs.WhyLemmas.of_why, specs.AfterCall.{IsCommandFault, IsWrittenTo, why_of}}
+use Rattle.commands.{proofs.WhyLemmas.of_why, specs.AfterCall.{IsCommandFault, IsWrittenTo}}
 use Rattle.commands.specs.{Command.Command, declared.fault.EditFault.EditFault}
 use Rattle.outside.proofs.FilesLemmas.{touches_more, touches_none}
 use Rattle.outside.specs.{Files.{Files, OnlyTouches}, Seen.Seen}
@@ -26,12 +26,4 @@ module _ (command : Command) where
     -- a command that fails touches only its outputs
     pub left_touched : IsCommandFault command old new fault
         → OnlyTouches command.outputs old.files new.files
-    left_touched h = of_why (why_of fault) h (record {
-      rejected = λ r. stays_touched old.files new.files (ap (λ (s : Seen). s.files) r.stays);
-      missing = λ m. stays_touched old.files new.files m.files;
-      unread = λ u. unread_touched u.files;
-      shorter = λ l. l.touches;
-      unwritten = λ k w. first_touched k old.files new.files w.files.touches;
-      unsent = λ d. d.touches;
-      no_memory = λ n. stays_touched old.files new.files (ap (λ (s : Seen). s.files) n.stays);
-    })
+    left_touched h = grind (arith, of_why, stays_touched, unread_touched, first_touched)

@@ -1,6 +1,6 @@
 -- A command that makes one file.
 pub use Rattle.sync_survey.specs.Limits.{most_frames}
-use Rattle.std.specs.Prelude.{Bool, Err, false, IfErr, length, List, None, Ok, Option, Result}
+use Rattle.std.specs.Prelude.{Bool, Err, false, IfErr, length, List, None, Ok, OnOk, Option, Result}
 use Rattle.std.specs.Prelude.{slice_get, Some, take, true, unwrap_or, ℕ, [], ◌<◌, ◌∷◌, ◌≡◌, ◌≢◌}
 use Rattle.std.specs.Prelude.{◌≤◌, ◌⊎◌}
 use Rattle.bit_fields.specs.Bits.{AreBytes}
@@ -12,7 +12,8 @@ use Rattle.commands.specs.declared.fault.EditFault.TheVariants.{EqualNames, Inpu
 use Rattle.commands.specs.declared.fault.Refusal.{Refusal}
 use Rattle.outside.specs.Counts.{EndedAt, HappenedTo, NothingFailed}
 use Rattle.outside.specs.Files.{Contents, Files, Holds, IfTold, is_told, IsFileMissing, IsFileThere}
-use Rattle.outside.specs.{Files.{Told, Untold, with_file, with_touch}, Seen.Seen}
+use Rattle.outside.specs.Files.{OnlyTouches, Told, Untold, with_file, with_touch}
+use Rattle.outside.specs.Seen.{OnFile, Seen}
 use Rattle.sync_survey.specs.Faults.{HoldsStream, longest_file, SurveyFields}
 use Rattle.sync_survey.specs.{MainData.StreamFrame, Survey.survey_of}
 use Rattle.sync_survey.specs.declared.survey_fault.SurveyFault.{SurveyFault}
@@ -294,3 +295,12 @@ IsPassFault made inputs output old new fault = by_why
       unwritten = λ k. (k ≡ 0) × StopsWriting made (first_input inputs) output old new;
     })
     (why_of fault)
+
+-- what a call leaves that writes the output by a second pass, from the first of these inputs
+pub record WritesOutput {T : Type 0} (made : List ℕ → List ℕ) (inputs : List (List ℕ))
+    (output : List ℕ) (old new : Seen) (result : Result T EditFault) : Type 0 where
+  pub written : OnOk result (OnFile old (first_input inputs)
+      (λ bytes. new.files ≡ files_holding old.files output (made bytes)))
+  pub touches : OnlyTouches (output ∷ []) old.files new.files
+  pub done : OnOk result (new.counts ≡ old.counts)
+  pub left : IfErr result (IsPassFault made inputs output old new)

@@ -1,11 +1,10 @@
 //! The output of a command that makes one file: it is created, and written by a second pass over the source.
 ghost use Rattle.std.specs.Prelude.{◌≡◌, ◌≢◌, List, [], ◌∷◌, ℕ, IfErr, OnOk};
-ghost use Rattle.outside.specs.Files.{Files, with_empty_file, OnlyTouches};
+ghost use Rattle.outside.specs.Files.{Files, with_empty_file};
 ghost use Rattle.outside.specs.Counts.{NoneFell};
-ghost use Rattle.outside.specs.Seen.{OnFile};
 ghost use Rattle.outside.specs.Pass.{AppendsMadeBytes, AppendsPrefix, route, HasPassCause};
 ghost use Rattle.commands.specs.AfterCall.{HasPassNumbers};
-ghost use Rattle.commands.specs.SingleOutput.{files_holding, IsPassFault};
+ghost use Rattle.commands.specs.SingleOutput.{WritesOutput};
 
 use crate::fault::EditFault;
 use outside::{Folder, PassFault};
@@ -56,15 +55,9 @@ pub fn write_output<W: OutputPass, D: Folder>(
 ) -> Result<(), EditFault>
     requires apart { input.now ≢ output.now }
     requires ready { W.IsReady work.old input.now (D.seen folder.old).files }
-    ensures written { OnOk result (OnFile (D.seen folder.old) input.now
-        (λ bytes. (D.seen folder.new).files ≡ files_holding (D.seen folder.old).files output.now
-        (W.file_of work.old bytes))) }
-    ensures touches { OnlyTouches (output.now ∷ []) (D.seen folder.old).files
-        (D.seen folder.new).files }
-    ensures done { OnOk result ((D.seen folder.new).counts ≡ (D.seen folder.old).counts) }
-    ensures left { IfErr result (IsPassFault (W.file_of work.old) (input.now ∷ []) output.now
+    ensures wrote { WritesOutput (W.file_of work.old) (input.now ∷ []) output.now
         (D.seen folder.old)
-        (D.seen folder.new)) }
+        (D.seen folder.new) result }
     ensures numbers { IfErr result HasPassNumbers }
     ensures counts { NoneFell (D.seen folder.old).counts (D.seen folder.new).counts }
 {

@@ -1,10 +1,11 @@
 -- A head that could not be read, and surveys whose head is set apart, by which frames can be laid.
-use Rattle.std.proofs.Common.{Bool, cond, false, length, List, map, None, Option, Some, true, ℕ, []}
-use Rattle.std.proofs.{Common.{◌+◌, ◌∙◌, ◌∷◌, ◌≡◌}, lemmas.List.length-map}
+use Rattle.std.proofs.Common.{arith, Bool, cond, false, length, List, map, None, Option, Some, true}
+use Rattle.std.proofs.{Common.{ℕ, [], ◌+◌, ◌∙◌, ◌∷◌, ◌≡◌}, lemmas.List.length-map}
 use Rattle.std.specs.List.{enumerate_from}
-use Rattle.commands.{proofs.WhyLemmas.each_why, specs.AfterCall.{HasInputNumbers, why_of}}
-use Rattle.commands.specs.{SingleOutput.{IsInputFault, Making}, declared.fault.EditFault.EditFault}
-use Rattle.commands.specs.declared.fault.{EditFault.TheVariants.Input, Refusal.Refusal}
+use Rattle.commands.proofs.{InputLemmas.fault_is_input, WhyLemmas.each_why}
+use Rattle.commands.specs.AfterCall.{HasInputNumbers}
+use Rattle.commands.specs.SingleOutput.{IsFileFault, IsInputFault, Making, most_frames}
+use Rattle.commands.specs.declared.fault.{EditFault.{EditFault, TheVariants.Input}, Refusal.Refusal}
 use Rattle.cut_edits.specs.{Exact.survey_without_head, Heads.{HasHeadNumbers, IsHeadFault}}
 use Rattle.laying.proofs.SurveyFrameLemmas.{side_paired}
 use Rattle.laying.specs.Surveys.{AreWholeRows, CanBeRelaid, IsWholeRow}
@@ -16,18 +17,15 @@ use Rattle.sync_survey.specs.Faults.{SurveyFields}
 use Rattle.sync_survey.specs.HeadApart.{apart_row, apart_rows, emptied_row, rows_set_apart}
 use Rattle.sync_survey.specs.{Row.Row, Survey.AreWellPlaced, declared.places.Head.Head}
 
--- a head that could not be read is a fault of the only input, whatever the command makes
-pub head_is_input : (make : Making) (name : List ℕ) (old new : Seen) (fault : EditFault)
-    → IsHeadFault name old new fault → IsInputFault make name old new fault
-head_is_input make name old new fault h = each_why (why_of fault) h (record {
-  rejected = λ r. absurd r;
-  missing = λ m. absurd m;
-  unread = λ u. u;
-  shorter = λ l. l;
-  unwritten = λ k w. w;
-  unsent = λ w. w;
-  no_memory = λ n. absurd n;
-})
+module _ (name : List ℕ) (old new : Seen) (fault : EditFault) where
+  -- a head that could not be read is a fault of the file
+  pub head_is_file : IsHeadFault name old new fault → IsFileFault 0 most_frames name old new fault
+  head_is_file h = grind (arith, each_why)
+
+  -- and one of the only input, whatever the command makes
+  pub head_is_input : (make : Making) → IsHeadFault name old new fault
+      → IsInputFault make name old new fault
+  head_is_input make h = fault_is_input make name old new fault (head_is_file h)
 
 -- the numbers of such a fault are in range
 pub head_numbers : (refuses : Refusal → Bool) (fault : EditFault) → HasHeadNumbers fault

@@ -1,13 +1,12 @@
 //! The second pass of a join.
-ghost use Rattle.std.specs.Prelude.{◌≡◌, ◌≤◌, ◌++◌, List, ℕ, [], ◌∷◌, length, map, IfErr, OnOk};
+ghost use Rattle.std.specs.Prelude.{◌≡◌, ◌≤◌, ◌++◌, List, ℕ, [], length, map, IfErr, OnOk};
 ghost use Rattle.std.specs.List.{concat};
-ghost use Rattle.outside.specs.Files.{Holds, OnlyTouches};
 ghost use Rattle.outside.specs.Counts.{NoneFell};
 ghost use Rattle.outside.specs.Pass.{AppendsMadeBytes, AppendsPrefix, route_of, HasPassCause};
 ghost use Rattle.laying.specs.Written.{front_blocks};
 ghost use Rattle.laying.specs.Passing.{IsRelayReady};
 ghost use Rattle.sync_survey.specs.Faults.{survey_view};
-ghost use Rattle.commands.specs.SingleOutput.{files_holding, IsPassFault, first_input};
+ghost use Rattle.commands.specs.SingleOutput.{WritesOutput};
 ghost use Rattle.join_edits.specs.Inputs.{input_view, input_names, HasJoinNumbers};
 ghost use Rattle.join_edits.specs.Laying.{join_bytes, CanJoinBeWritten, FitsWork, IsJoinPass, AppendsJoined};
 
@@ -95,16 +94,10 @@ pub fn write_joined<D: Folder>(
     requires few { length inputs.now ≤ 64 }
     requires can { CanJoinBeWritten output.now (D.seen folder.old).files (map input_view inputs.now)
         work.old }
-    ensures written { OnOk result ((bytes : List ℕ) → Holds (D.seen folder.old).files
-        (first_input (input_names (map input_view inputs.now))) bytes
-        → (D.seen folder.new).files ≡ files_holding (D.seen folder.old).files output.now
-        (join_bytes (D.seen folder.old).files (map input_view inputs.now) work.old bytes)) }
-    ensures touches { OnlyTouches (output.now ∷ []) (D.seen folder.old).files
-        (D.seen folder.new).files }
-    ensures done { OnOk result ((D.seen folder.new).counts ≡ (D.seen folder.old).counts) }
-    ensures left { IfErr result (IsPassFault (join_bytes (D.seen folder.old).files
-        (map input_view inputs.now) work.old) (input_names (map input_view inputs.now))
-        output.now (D.seen folder.old) (D.seen folder.new)) }
+    ensures wrote { WritesOutput (join_bytes (D.seen folder.old).files (map input_view inputs.now)
+        work.old) (input_names (map input_view inputs.now)) output.now
+        (D.seen folder.old)
+        (D.seen folder.new) result }
     ensures numbers { IfErr result (HasJoinNumbers (length inputs.now)) }
     ensures counts { NoneFell (D.seen folder.old).counts (D.seen folder.new).counts }
 {

@@ -1,29 +1,23 @@
 -- What a command that sends a text of one file leaves, given the survey of its input.
 use Rattle.std.proofs.Common.{ap, ap₂, arith, Err, length, List, Ok, refl, Result, Some, subst, sym}
-use Rattle.std.{proofs.Common.{ℕ, [], ◌+◌, ◌∙◌, ◌≡◌, ◌≤◌}, specs.Prelude.{IfErr, OnErr, OnOk}}
+use Rattle.std.{proofs.Common.{ℕ, [], ◌+◌, ◌∙◌, ◌≡◌}, specs.Prelude.{IfErr, OnErr, OnOk}}
 use Rattle.std.specs.Result.{IsErrAnd}
-use Rattle.commands.proofs.{InputLemmas.of_bytes_behind, MakeLemmas.{made-same, ok_made}}
-use Rattle.commands.proofs.NamedLemmas.{lost_name, missed_name, unread_name}
-use Rattle.commands.proofs.{RefusingLemmas.before_first, TellingLemmas.{says-all, says-prefix}}
-use Rattle.commands.proofs.WhyLemmas.{each_why}
+use Rattle.commands.proofs.{MakeLemmas.{made-same, ok_made}, SurveyedLemmas.BeginsWithSurvey}
+use Rattle.commands.proofs.TellingLemmas.{says-all, says-prefix}
 use Rattle.commands.specs.AfterCall.{HasSurveyNumbers, IsCommandDone, IsCommandFault, TakesMemory}
 use Rattle.commands.specs.Command.{HasAnswer, HoldsStreams, Made, MakesStreams, written_files}
 use Rattle.commands.specs.SentText.{answer_fault, IsCommandText, SaysText}
-use Rattle.commands.specs.SingleOutput.{IsFileFault, most_frames}
-use Rattle.commands.specs.declared.fault.EditFault.{EditFault}
-use Rattle.commands.specs.declared.fault.EditFault.TheVariants.{Input, Memory, Sent as NotSent}
+use Rattle.commands.specs.{SingleOutput.most_frames, declared.fault.EditFault.EditFault}
+use Rattle.commands.specs.declared.fault.EditFault.TheVariants.{Memory, Sent as NotSent}
 use Rattle.list_edits.specs.TextCommand.{input_text, IsTextRun, surveyed_text, text_command}
 use Rattle.outside.{proofs.FilesLemmas.{there_holds, touches_none}, specs.BufferOutput.SentPrefix}
 use Rattle.outside.specs.Counts.{Counts, HasCause, OnlyReads}
-use Rattle.outside.specs.Files.{Contents, Files, Holds, IfTold, IsFileMissing, IsFileThere}
-use Rattle.outside.specs.Files.{OnlyTouches, sent_and_more, Told, Untold}
-use Rattle.outside.specs.Seen.{Heard, Seen, seen_folder}
-use Rattle.sync_survey.proofs.BytesFaultLemmas.{IsOfBytes, survey_fields-of_bytes}
-use Rattle.sync_survey.proofs.FoldersLemmas.{survey_of-short}
+use Rattle.outside.specs.Files.{Contents, Files, Holds, IfTold, IsFileThere, OnlyTouches}
+use Rattle.outside.specs.{Files.{sent_and_more, Told, Untold}, Seen.{Heard, Seen, seen_folder}}
 use Rattle.sync_survey.proofs.SurveyPartsLemmas.{survey_fields-allowed}
 use Rattle.sync_survey.proofs.SurveyedFileLemmas.{survey_of-parts}
-use Rattle.sync_survey.specs.{Faults.{IsWellFormed, longest_file, SurveyFields}, Survey.survey_of}
-use Rattle.sync_survey.specs.declared.survey_fault.SurveyFault.{SurveyFault, TheVariants.Absent}
+use Rattle.sync_survey.specs.{Faults.{IsWellFormed, SurveyFields}, Survey.survey_of}
+use Rattle.sync_survey.specs.declared.survey_fault.SurveyFault.{SurveyFault}
 
 -- ---- the last step
 
@@ -36,10 +30,6 @@ told_by P all part result is = grind arith
 -- ---- what the contents of the files make of the command
 
 module _ (text : List ℕ → SurveyFields → List ℕ) (input : List ℕ) where
-  gives_absent : (files : Files) → IsFileMissing files input
-      → HasAnswer (text_command text input) files (Err (Input 0 Absent))
-  gives_absent files missing = grind arith
-
   gives_survey : (f : Contents) (bytes : List ℕ) (r : Result SurveyFields SurveyFault)
       → f input ≡ Some bytes → survey_of bytes most_frames ≡ r
       → (text_command text input).makes f ≡ surveyed_text (text bytes) r
@@ -51,43 +41,15 @@ module _ (text : List ℕ → SurveyFields → List ℕ) (input : List ℕ) wher
       → HasAnswer (text_command text input) files answer
   gives_bytes files answer there is = grind arith
 
-  -- ---- a fault of the survey
-
-  survey_takes : (bytes : List ℕ) (r : Result SurveyFields SurveyFault)
-      → ((fault : SurveyFault) → r ≡ Err fault → IsOfBytes fault)
-      → TakesMemory (surveyed_text (text bytes) r)
-  survey_takes bytes r of = grind (arith, of_bytes_behind)
-
-  takes_memory : (files : Files) → IsFileThere files input
-      → ((bytes : List ℕ) → Holds files input bytes → length bytes ≤ longest_file)
-      → IfTold files (λ f. TakesMemory ((text_command text input).makes f))
-  takes_memory files there few =
-      grind (
-        arith,
-        there_holds,
-        gives_survey,
-        survey_of-short,
-        survey_takes,
-        survey_fields-of_bytes,
-      )
-
-  module _ (old new : Seen) (fault : EditFault) where
-    -- a fault of the file leaves everything as it was
-    pub survey_left : IsFileFault 0 most_frames input old new fault
-        → IsCommandFault (text_command text input) old new fault
-    survey_left h =
-        search (
-          arith,
-          each_why,
-          gives_bytes,
-          gives_absent,
-          missed_name,
-          before_first,
-          unread_name,
-          lost_name,
-          touches_none,
-          takes_memory,
-        )
+  -- the command begins with the survey of its input
+  pub begins : BeginsWithSurvey (text_command text input) input
+  begins = record {
+    first = refl;
+    names = refl;
+    absent = λ f is. ap (input_text text) is;
+    refused = λ f bytes fault held is. gives_survey f bytes (Err fault) held is;
+    takes = λ f bytes s held is. rw (gives_survey f bytes (Ok s) held is) tt;
+  }
 
   -- ---- a file without fault, with this text
 

@@ -3,26 +3,23 @@ use Rattle.std.proofs.Common.{ap, ap₂, arith, Err, IfErr, inl, length, List, N
 use Rattle.std.proofs.Common.{Result, slice_get, Some, subst, sym, ℕ, [], ◌∙◌, ◌∷◌, ◌≡◌, ◌≤◌}
 use Rattle.std.{proofs.lemmas.List.length-map, specs.Result.IsErrAnd}
 use Rattle.bit_fields.specs.Bits.{AreBytes}
-use Rattle.commands.proofs.MakeLemmas.{clash_left, early_left, one_done, one_left, one_streams}
-use Rattle.commands.proofs.RefusingLemmas.{before_first}
-use Rattle.commands.proofs.TellingLemmas.{telling_command-done, telling_command-left}
-use Rattle.commands.proofs.TellingLemmas.{telling_command-streams, telling_command-text}
-use Rattle.commands.specs.AfterCall.{HasNumbers, HasPassNumbers, IsCommandDone, IsCommandFault}
-use Rattle.commands.specs.{AfterCall.IsLateFault, Command.{AreSoundFiles, Command, HoldsStreams}}
-use Rattle.commands.specs.{FaultKinds.input_edit_fault, SentText.IsCommandText}
-use Rattle.commands.specs.SingleOutput.{clash_in, files_holding, HasTaskNumbers, IsEarlyFault}
-use Rattle.commands.specs.SingleOutput.{IsMaking, IsPassFault, NeedsMemory, one_command}
-use Rattle.commands.specs.{SingleOutput.TaskRefuses, declared.fault.EditFault.EditFault}
-use Rattle.commands.specs.declared.fault.EditFault.TheVariants.{EqualNames, Input, Memory, Refused}
-use Rattle.commands.specs.declared.fault.EditFault.TheVariants.{Write}
+use Rattle.commands.proofs.{MakeLemmas.pass_run, RefusingLemmas.before_first}
+use Rattle.commands.proofs.TellingLemmas.{telling_command-text}
+use Rattle.commands.specs.{AfterCall.{HasPassNumbers, IsLateFault}, FaultKinds.input_edit_fault}
+use Rattle.commands.specs.{Runs.IsRunOf, SentText.IsCommandText}
+use Rattle.commands.specs.SingleOutput.{clash_in, HasTaskNumbers, IsEarlyFault, IsMaking}
+use Rattle.commands.specs.SingleOutput.{IsProperTask, NeedsMemory, one_command, TaskRefuses}
+use Rattle.commands.specs.{SingleOutput.WritesOutput, declared.fault.EditFault.EditFault}
+use Rattle.commands.specs.declared.fault.EditFault.TheVariants.{Input, Memory}
 use Rattle.cut_edits.proofs.LaidPassLemmas.{file-is, work_layable}
 use Rattle.cut_edits.specs.{Chosen.{chosen_file, IsSelected}, Layable.{IsWorkOf, work_file}}
 use Rattle.laying.specs.{Laid.selected_part, NeedsFit.own_choice, Surveys.CanBeRelaid}
 use Rattle.laying.specs.declared.selected.Selected.{Selected}
-use Rattle.outside.{proofs.FilesLemmas.there_holds, specs.Counts.Counts}
-use Rattle.outside.specs.Files.{Contents, Files, Holds, IfTold, IsFileMissing, IsFileThere}
-use Rattle.outside.specs.{Files.{OnlyTouches, Told, Untold}, Seen.{Seen, seen_folder}}
-use Rattle.salvage.proofs.{LaidOutLemmas.damaged_of-is, ReadFaultLemmas.damaged_of-short}
+use Rattle.outside.{proofs.FilesLemmas.there_holds, specs.Counts.{Counts, NoneFell}}
+use Rattle.outside.specs.Files.{Contents, Files, Holds, IfTold, IsFileMissing, IsFileThere, Told}
+use Rattle.outside.specs.{Files.Untold, Seen.{Seen, seen_folder}}
+use Rattle.salvage.proofs.LaidOutLemmas.{damaged_of-is, read-laid}
+use Rattle.salvage.proofs.ReadFaultLemmas.{damaged_of-short}
 use Rattle.salvage.specs.DamagedFiles.{damaged_by, damaged_fields, damaged_from, damaged_of}
 use Rattle.salvage.specs.DamagedFiles.{DamagedFields, excess_or_damaged, IsDamagedFault}
 use Rattle.salvage.specs.DamagedFiles.{IsDamagedOf, most_frames, no_frame_or_damaged}
@@ -33,10 +30,9 @@ use Rattle.salvage_edits.proofs.OrderLemmas.{report-text-same, reports-order}
 use Rattle.salvage_edits.proofs.StreamLemmas.{salvaged-holds}
 use Rattle.salvage_edits.specs.Ordered.{IsReportInOrder, report_text}
 use Rattle.salvage_edits.specs.Ready.{IsMended, IsReportOf, IsSalvageReady, ReadsDamaged}
-use Rattle.salvage_edits.specs.Salvaged.{all_chosen, input_left_stream, input_salvage_text}
-use Rattle.salvage_edits.specs.Salvaged.{input_salvaged, left_stream, left_stream_or_none}
-use Rattle.salvage_edits.specs.Salvaged.{salvage_command, salvage_task, salvage_text_or_none}
-use Rattle.salvage_edits.specs.Salvaged.{salvaged_file, salvaged_or_fault}
+use Rattle.salvage_edits.specs.Salvaged.{all_chosen, input_salvage_text, input_salvaged}
+use Rattle.salvage_edits.specs.Salvaged.{left_stream_or_none, salvage_command, salvage_task}
+use Rattle.salvage_edits.specs.Salvaged.{salvage_text_or_none, salvaged_file, salvaged_or_fault}
 use Rattle.salvage_edits.specs.declared.work.SalvageWork.{SalvageWork}
 use Rattle.sync_survey.specs.Faults.{HoldsStream, longest_file, survey_view, SurveyFields}
 use Rattle.sync_survey.specs.{HeadApart.emptied_row, Row.Row, Start.front_end_of}
@@ -97,6 +93,24 @@ salvage-late input f bytes held few =
     subst (λ o. IfErr (input_salvaged o) IsLateFault) (sym held)
     (subst (λ r. IfErr (salvaged_or_fault bytes r) IsLateFault)
     (sym (damaged_of-short bytes few)) (damaged_fields-late bytes))
+
+made-holds : (bytes new : List ℕ) (r : Result DamagedFields SurveyFault) → damaged_of bytes ≡ r
+    → salvaged_or_fault bytes r ≡ Ok new → HoldsStream new (left_stream_or_none bytes r)
+made-holds bytes new (Err fault) is e = absurd cc
+made-holds bytes new (Ok d) is e =
+    let made : salvaged_file bytes d ≡ new = cc in
+    rw (← made)
+    (salvaged-holds bytes d (damaged_of-is bytes d is).1 (read-laid bytes d is))
+
+-- the refusals are late, and what is made holds what is left
+pub salvage_proper : (input : List ℕ) → IsProperTask (salvage_task input)
+salvage_proper input = record {
+  some = omega arith;
+  first = refl;
+  late = salvage-late input;
+  streams = λ f bytes new held octets is.
+      (tt, rw held (made-holds bytes new (damaged_of bytes) refl (rw held at is)));
+}
 
 -- ---- a fault of the reading
 
@@ -237,25 +251,6 @@ module _ (input : List ℕ) where
               ∙ ap Ok (sym (salvaged-is bytes)),
         )
 
-    -- the output holds what is left
-    pub ready-holds : IfTold files (λ f. (bytes : List ℕ) → f input ≡ Some bytes
-        → AreSoundFiles f [] × HoldsStream (file_of bytes) (input_left_stream (f input)))
-    ready-holds = at files ready.read
-      where
-        at : (fs : Files) → IsDamagedOf input fs ready.of
-            → IfTold fs (λ f. (bytes : List ℕ) → f input ≡ Some bytes
-            → AreSoundFiles f [] × HoldsStream (file_of bytes) (input_left_stream (f input)))
-        at (Untold touched) read = tt
-        at (Told f) read = λ bytes held.
-            let whole = (damaged_of-is bytes ready.of (read bytes held)).1 in
-            let stream : input_left_stream (f input) ≡ left_stream bytes ready.of =
-            ap input_left_stream held ∙ ap (left_stream_or_none bytes) (read bytes held) in (
-              tt,
-              subst (λ n. HoldsStream n (input_left_stream (f input))) (sym (salvaged-is bytes))
-                  (subst (HoldsStream (salvaged_file bytes ready.of)) (sym stream)
-                  (salvaged-holds bytes ready.of whole ready.laid)),
-            )
-
     frames-same : length (survey_view work.laid.survey).frames ≡ length ready.of.survey.frames
     frames-same = ap (λ (s : SurveyFields). length s.frames) ready.survey
         ∙ length-map ready.of.survey.frames emptied_row
@@ -285,88 +280,18 @@ module _ (input : List ℕ) where
     pub ready-order : IsReportInOrder work.report
     ready-order = reports-order ready.of work.report ready.laid ready.reports
 
--- ---- what is left
+-- ---- runs of the command
 
--- a clash leaves everything as it was, with its number
-pub left-clash : (input output : List ℕ) (place : ℕ) (now : Seen)
-    → clash_in (salvage_task input) output ≡ Some place
-    → IsCommandFault (salvage_command input output) now now (EqualNames place)
-left-clash input output place now clash =
-    telling_command-left (λ f. input_salvage_text (f input))
-    (one_command (salvage_task input) output) now now
-    (EqualNames place) (clash_left (salvage_task input) output place now clash)
+-- what a call says of a file that it makes
+abbrev pub text_of : List ℕ → Contents → List ℕ
+text_of input f = input_salvage_text (f input)
 
-module _ (input output : List ℕ) (free : clash_in (salvage_task input) output ≡ None) where
-  abbrev text : Contents → List ℕ
-  text f = input_salvage_text (f input)
-
-  abbrev silent : Command
-  silent = one_command (salvage_task input) output
-
-  -- a fault before the output is created leaves everything as it was
-  pub left-early : (old new : Seen) (fault : EditFault)
-      → IsEarlyFault (salvage_task input) old new fault
-      → IsCommandFault (salvage_command input output) old new fault
-  left-early old new fault h = telling_command-left text silent old new fault
-      (early_left (salvage_task input) output free (salvage-late input) old new fault h)
-
-  module _ (old mid new : Seen) (work : SalvageWork) (stays : mid ≡ old)
-      (ready : IsSalvageReady input
-      old.files work) (touches : OnlyTouches (output ∷ []) mid.files new.files) where
-    abbrev made : List ℕ → List ℕ
-    made = work_file work.laid
-
-    making : IsMaking (salvage_task input) made old.files
-    making = ready-makes input old.files work ready
-
-    -- if the output holds what is made, and no count changed, the command is done
-    pub left-done : ((bytes : List ℕ) → Holds mid.files input bytes
-        → new.files ≡ files_holding mid.files output (made bytes)) → new.counts ≡ mid.counts
-        → IsCommandDone (salvage_command input output) old new
-    left-done wrote counts =
-        telling_command-done text silent old new (one_done (salvage_task input) output
-        free made old mid new stays making touches done wrote counts)
-      where
-        done : Result (Unit {0}) EditFault
-        done = Ok tt
-
-    -- after a fault of the pass the output is as it was, or begun
-    pub left-part : (fault : EditFault) → HasPassNumbers fault
-        → IsPassFault made (input ∷ []) output mid new fault
-        → IsCommandFault (salvage_command input output) old new fault
-    left-part fault numbers h =
-        telling_command-left text silent old new fault
-        (one_left (salvage_task input) output free made old
-        mid new stays making touches refl failed numbers h)
-      where
-        failed : Result (Unit {0}) EditFault
-        failed = Err fault
-
-  -- what is written holds the stream
-  pub left-streams : (files : Files) (work : SalvageWork) → IsSalvageReady input files work
-      → HoldsStreams (salvage_command input output) files
-  left-streams files work ready =
-      telling_command-streams text silent files
-      (one_streams (salvage_task input) output free (work_file work.laid) files
-      (ready-makes input files work ready) (ready-holds input files work ready) done)
-    where
-      done : Result (Unit {0}) EditFault
-      done = Ok tt
-
--- ---- the numbers of a fault
-
-module _ (input output : List ℕ) where
-  -- a fault before the output is created has the right numbers
-  pub numbers-early : (fault : EditFault) → HasTaskNumbers (salvage_task input) fault
-      → HasNumbers (salvage_command input output) fault
-  numbers-early (Input place fault) h = h
-  numbers-early (Refused refusal) h = h
-  numbers-early Memory h = tt
-  numbers-early _ h = absurd h
-
-  -- a fault of the pass has the right numbers
-  pub numbers-pass : (fault : EditFault) → HasPassNumbers fault
-      → HasNumbers (salvage_command input output) fault
-  numbers-pass (Input place fault) h = (omega (arith, h.0), h.1, h.2, inl h.0)
-  numbers-pass (Write place) h = omega (arith, h)
-  numbers-pass _ h = absurd h
+-- a call that wrote what is left, or a part of it, is a run of the command without a text
+pub written_run : (input output : List ℕ) (free : clash_in (salvage_task input) output ≡ None)
+    {old new : Seen} (work : SalvageWork) {r : Result (Unit {0}) EditFault}
+    → IsSalvageReady input old.files work → IfErr r HasPassNumbers
+    → WritesOutput (work_file work.laid) (input ∷ []) output old new r
+    → NoneFell old.counts new.counts → IsRunOf (one_command (salvage_task input) output) old new r
+written_run input output free {old} work ready numbers wrote fell =
+    pass_run (salvage_task input) output free (work_file work.laid)
+    (ready-makes input old.files work ready) (salvage_proper input) numbers wrote fell

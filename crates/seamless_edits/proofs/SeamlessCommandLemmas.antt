@@ -1,25 +1,22 @@
 -- What a seamless join leaves, given its steps.
-use Rattle.std.proofs.Common.{ap, append-nil, ap₂, arith, drop, Err, length, List, map, None, Ok}
-use Rattle.std.proofs.Common.{Option, refl, Result, Some, subst, sym, unwrap_or, ℕ, [], ◌++◌, ◌+◌}
-use Rattle.std.proofs.{Common.{◌-◌, ◌<◌, ◌∙◌, ◌∷◌, ◌≡◌, ◌≤◌}, lemmas.List.length-map}
+use Rattle.std.proofs.Common.{ap, append-nil, ap₂, arith, drop, length, List, map, None, Ok, Option}
+use Rattle.std.proofs.Common.{refl, Result, Some, subst, sym, unwrap_or, ℕ, [], ◌++◌, ◌+◌, ◌-◌, ◌<◌}
+use Rattle.std.proofs.{Common.{◌∙◌, ◌∷◌, ◌≡◌, ◌≤◌}, lemmas.{List.length-map, Result.IfErr-weaker}}
 use Rattle.std.{proofs.lemmas.Slice.Zip.AllZip-long, specs.{List.concat, Prelude.{flat_map, IfErr}}}
-use Rattle.commands.proofs.MakeLemmas.{all_left, clash_left, early_left, one_done, one_streams}
-use Rattle.commands.proofs.TellingLemmas.{telling_command-done, telling_command-left}
-use Rattle.commands.proofs.TellingLemmas.{telling_command-streams, telling_command-text}
-use Rattle.commands.specs.AfterCall.{HasNumbers, IsCommandDone, IsCommandFault, IsLateFault}
-use Rattle.commands.specs.AfterCall.{IsNotBefore}
-use Rattle.commands.specs.Command.{AreSoundFiles, clash_from, Command, HoldsStreams}
-use Rattle.commands.specs.{Refusing.then_made, SentText.IsCommandText}
-use Rattle.commands.specs.SingleOutput.{clash_in, files_holding, first_input, IsEarlyFault}
-use Rattle.commands.specs.SingleOutput.{IsMaking, IsPassFault, most_frames, NeedsMemory}
-use Rattle.commands.specs.{SingleOutput.one_command, declared.fault.EditFault.EditFault}
-use Rattle.commands.specs.declared.fault.EditFault.TheVariants.{EqualNames}
+use Rattle.commands.proofs.{MakeLemmas.{one_run, one_streams}, TellingLemmas.telling_command-text}
+use Rattle.commands.specs.AfterCall.{IsLateFault, IsNotBefore}
+use Rattle.commands.specs.{Command.{AreSoundFiles, clash_from}, Refusing.then_made, Runs.IsRunOf}
+use Rattle.commands.specs.SentText.{IsCommandText}
+use Rattle.commands.specs.SingleOutput.{clash_in, first_input, IsEarlyFault, IsMaking, most_frames}
+use Rattle.commands.specs.SingleOutput.{NeedsMemory, one_command, WritesOutput}
+use Rattle.commands.specs.declared.fault.EditFault.{EditFault}
 use Rattle.cut_edits.proofs.HeadLemmas.{survey_without_head-had, survey_without_head-length}
 use Rattle.cut_edits.{proofs.HeadLemmas.survey_without_head-placed, specs.Exact.survey_without_head}
 use Rattle.frame_header.specs.Fields.{ClassFields}
 use Rattle.frame_writer.specs.Frames.{bytes_of_frames}
 use Rattle.join_edits.proofs.InputLemmas.{found-input, join-late, parts-all}
-use Rattle.join_edits.proofs.{PlanLemmas.alike-first, SourceLemmas.{sound, sources-inputs}}
+use Rattle.join_edits.proofs.PlanLemmas.{alike-first}
+use Rattle.join_edits.proofs.SourceLemmas.{join-numbers, sound, sources-inputs}
 use Rattle.join_edits.specs.Inputs.{AreInputsOfClass, AreJoinInputs, CanInputsBeJoined}
 use Rattle.join_edits.specs.Inputs.{class_of_first, frames_together, HasJoinNumbers, input_names}
 use Rattle.join_edits.specs.Inputs.{input_view, InputFields, part_in}
@@ -28,9 +25,8 @@ use Rattle.join_edits.specs.Laying.{AreSources, CanJoinBeWritten, join_bytes}
 use Rattle.laying.proofs.{NeedsFitLemmas.rows-alone, SurveyFrameLemmas.survey-had}
 use Rattle.laying.specs.{Relaid.{FilePart, part_frames, relaid_frames}, Surveys.CanBeRelaid}
 use Rattle.laying.specs.Written.{front_blocks}
-use Rattle.outside.proofs.FilesLemmas.{there_holds}
-use Rattle.outside.specs.Files.{Contents, Files, Holds, IfTold, OnlyTouches, Told, Untold}
-use Rattle.outside.specs.Seen.{Seen}
+use Rattle.outside.{proofs.FilesLemmas.there_holds, specs.Counts.NoneFell}
+use Rattle.outside.specs.{Files.{Contents, Files, Holds, IfTold, Told, Untold}, Seen.Seen}
 use Rattle.seam_plan.specs.{Seams.left_out_count, declared.run.Joint.Joint}
 use Rattle.seamless_edits.proofs.ReadFaultLemmas.{fault-later, read-early}
 use Rattle.seamless_edits.proofs.RunFileLemmas.{files-hold}
@@ -442,70 +438,26 @@ module _ (names : List (List ℕ)) where
       other-err IsLateFault joined_file seamless_file (join_parts f names)
       (join-late names f bytes held few)
 
--- if names clash, the command leaves everything as it was
-pub left-clash : (output : List ℕ) (names : List (List ℕ)) (place : ℕ) (now : Seen)
-    → clash_in (seamless_task names) output ≡ Some place
-    → IsCommandFault (seamless_command output names) now now (EqualNames place)
-left-clash output names place now clash =
-    grind (arith, telling_command-left, clash_left (seamless_task names) output place now clash)
+-- ---- runs of the command
 
-module _ (output : List ℕ) (names : List (List ℕ))
-    (free : clash_in (seamless_task names) output ≡ None) where
-  abbrev text : Contents → List ℕ
-  text f = seamless_text_or_none names (join_parts f names)
+-- the text of the command
+abbrev pub text_of : List (List ℕ) → Contents → List ℕ
+text_of names f = seamless_text_or_none names (join_parts f names)
 
-  abbrev silent : Command
-  silent = one_command (seamless_task names) output
-
-  -- after an early fault the command leaves what it may
-  pub left-early : (old new : Seen) (fault : EditFault)
-      → IsEarlyFault (seamless_task names) old new fault
-      → IsCommandFault (seamless_command output names) old new fault
-  left-early old new fault h = telling_command-left text silent old new fault
-      (early_left (seamless_task names) output free (seamless-late names) old new fault h)
-
-  module _ (some : 1 ≤ length names) (old new : Seen) (ready : Ready) (is : IsSeamlessReady names
-      old.files ready) (touches : OnlyTouches (output ∷ []) old.files new.files) where
-    making : IsMaking (seamless_task names) (made_of names old.files ready is) old.files
-    making = ready-making names some old.files ready is
-
-    -- if the file was written and no count rose, the command is done
-    pub left-done : ((bytes : List ℕ) → Holds old.files (first_input names) bytes
-        → new.files ≡ files_holding old.files output (made_of names old.files ready is bytes))
-        → new.counts ≡ old.counts → IsCommandDone (seamless_command output names) old new
-    left-done wrote counts =
-        telling_command-done text silent old new (one_done (seamless_task names) output
-        free (made_of names old.files ready is) old old new refl making touches done wrote counts)
-      where
-        done : Result (Unit {0}) EditFault
-        done = Ok tt
-
-    -- after a pass that ended early the command leaves what it may
-    pub left-part : (fault : EditFault)
-        → IsPassFault (made_of names old.files ready is) names output old new fault
-        → IsCommandFault (seamless_command output names) old new fault
-    left-part fault h =
-        telling_command-left text silent old new fault (all_left (seamless_task names) output free
-        (made_of names old.files ready is) old old new refl making touches refl failed h)
-      where
-        failed : Result (Unit {0}) EditFault
-        failed = Err fault
-
-  -- if the inputs are prepared, the output holds the streams that the command says
-  pub left-streams : (some : 1 ≤ length names) (files : Files) (ready : Ready)
-      → IsSeamlessReady names files ready → HoldsStreams (seamless_command output names) files
-  left-streams some files ready is =
-      telling_command-streams text silent files
-      (one_streams (seamless_task names) output free (made_of names files ready is) files
-      (ready-making names some files ready is) (ready-holds names some files ready is) done)
-    where
-      done : Result (Unit {0}) EditFault
-      done = Ok tt
-
--- ---- the numbers of a fault
-
--- the numbers of a fault of a join are numbers that a seamless join may return
-pub seamless-numbers : (output : List ℕ) (names : List (List ℕ)) (count : ℕ) (fault : EditFault)
-    → count ≡ length names → HasJoinNumbers count fault
-    → HasNumbers (seamless_command output names) fault
-seamless-numbers output names count fault all is = grind arith
+module _ (output : List ℕ) (names : List (List ℕ)) (free : clash_in (seamless_task names) output
+    ≡ None) (some : 1 ≤ length names) {old new : Seen} {r : Result (Unit {0}) EditFault} where
+  -- a call that wrote the run, or a part of it, is a run of the command without a text
+  pub written-run : (ready : Ready) (is : IsSeamlessReady names old.files ready)
+      → IfErr r (HasJoinNumbers (length names))
+      → WritesOutput (made_of names old.files ready is) names output old new r
+      → NoneFell old.counts new.counts
+      → IsRunOf (one_command (seamless_task names) output) old new r
+  written-run ready is numbers wrote fell =
+      let task = seamless_task names in
+      let made = made_of names old.files ready is in
+      let making = ready-making names some old.files ready is in
+      one_run task output free made making refl
+      (one_streams task output free made old.files making
+      (ready-holds names some old.files ready is) r)
+      (IfErr-weaker r _ _ (λ fault. join-numbers output names (length names) fault refl) numbers)
+      wrote fell

@@ -3,24 +3,22 @@ use Rattle.std.proofs.Common.{ap, arith, Err, inl, inr, length, List, map, None,
 use Rattle.std.proofs.Common.{Result, Some, subst, sym, take, ℕ, [], ◌+◌, ◌<◌, ◌∙◌, ◌∷◌, ◌≡◌, ◌≢◌}
 use Rattle.std.{proofs.Common.◌≤◌, specs.Prelude.{IfErr, ◌⊎◌}}
 use Rattle.bit_fields.specs.Bits.{AreBytes}
-use Rattle.commands.proofs.InputLemmas.{of_bytes_behind}
 use Rattle.commands.proofs.NamedLemmas.{first_at, lost_name, missed_name, unread_name}
-use Rattle.commands.proofs.{RefusingLemmas.{before_first, then_all, then_ok}, WhyLemmas.each_why}
-use Rattle.commands.specs.AfterCall.{end_offset, HasNumbers, HasSurveyNumbers, input_of}
-use Rattle.commands.specs.AfterCall.{IsCommandDone, IsCommandFault, IsEditRefusal, IsLateFault}
-use Rattle.commands.specs.AfterCall.{IsNotBefore, IsOutputUnfinished, IsWrittenTo, TakesMemory}
-use Rattle.commands.specs.AfterCall.{why_of}
+use Rattle.commands.proofs.RefusingLemmas.{then_all, then_ok}
+use Rattle.commands.proofs.{SurveyedLemmas.{BeginsWithSurvey, survey_left}, WhyLemmas.each_why}
+use Rattle.commands.specs.AfterCall.{HasNumbers, HasSurveyNumbers, IsCommandDone, IsCommandFault}
+use Rattle.commands.specs.AfterCall.{IsEditRefusal, IsLateFault, IsNotBefore, IsOutputUnfinished}
+use Rattle.commands.specs.AfterCall.{IsWrittenTo, TakesMemory, why_of}
 use Rattle.commands.specs.Command.{AreStreams, clash_from, clash_of, Command, HasAnswer}
 use Rattle.commands.specs.{Command.{HoldsStreams, Made, Output, written_files}, Refusing.then_made}
-use Rattle.commands.specs.SingleOutput.{IsFileFault, most_frames}
-use Rattle.commands.specs.declared.fault.EditFault.{EditFault}
+use Rattle.commands.specs.{SingleOutput.most_frames, declared.fault.EditFault.EditFault}
 use Rattle.commands.specs.declared.fault.EditFault.TheVariants.{EqualNames, Input, Memory}
-use Rattle.cut_edits.specs.Heads.{HasHeadNumbers, IsHeadFault}
+use Rattle.cut_edits.{proofs.HeadLemmas.head_is_file, specs.Heads.{HasHeadNumbers, IsHeadFault}}
 use Rattle.laying.specs.Laid.{LaidPart, stream_laid}
 use Rattle.outside.proofs.FilesLemmas.{there_holds, touches_more, touches_none}
-use Rattle.outside.specs.Counts.{EndedAt, HappenedTo}
+use Rattle.outside.specs.Counts.{HappenedTo}
 use Rattle.outside.specs.Files.{Contents, Files, Holds, IfTold, IsFileThere, OnlyTouches, Told}
-use Rattle.outside.specs.{Files.Untold, Seen.Seen}
+use Rattle.outside.specs.Seen.{Seen}
 use Rattle.requests.{proofs.NamesLemmas.names-length, specs.Names.piece_names}
 use Rattle.split_edits.proofs.PiecesLemmas.{name-here, names-all, names-first, outputs-are}
 use Rattle.split_edits.specs.Cutting.{Cutting, equal_names_or, input_pieces, input_streams}
@@ -30,14 +28,11 @@ use Rattle.split_edits.specs.Cutting.{split_command, split_result, surveyed_piec
 use Rattle.split_edits.specs.Cutting.{surveyed_streams, with_first}
 use Rattle.split_edits.specs.Steps.{ArePieces, HasPiecesNumbers, HasPlacesNumbers, IsPiecesFault}
 use Rattle.split_edits.specs.Steps.{IsPlacesFault, IsUnfinishedPart, IsWrittenPart, names_of_pieces}
-use Rattle.split_edits.specs.Steps.{piece_outputs, piece_part, pieces_of, PiecesStopShort}
-use Rattle.split_edits.specs.Steps.{SaysPlaces, with_outputs, with_part}
-use Rattle.split_edits.specs.declared.piece.PlannedPiece.{PlannedPiece}
-use Rattle.sync_survey.proofs.BytesFaultLemmas.{IsOfBytes, survey_fields-of_bytes}
-use Rattle.sync_survey.proofs.{FoldersLemmas.survey_of-short, SurveyedFileLemmas.survey_of-sound}
-use Rattle.sync_survey.specs.{Faults.{longest_file, SurveyFields}, Survey.survey_of}
-use Rattle.sync_survey.specs.declared.survey_fault.SurveyFault.{SurveyFault}
-use Rattle.sync_survey.specs.declared.survey_fault.SurveyFault.TheVariants.{Absent, Read}
+use Rattle.split_edits.specs.Steps.{piece_outputs, piece_part, pieces_of, SaysPlaces, with_outputs}
+use Rattle.split_edits.specs.{Steps.with_part, declared.piece.PlannedPiece.PlannedPiece}
+use Rattle.sync_survey.{proofs.SurveyedFileLemmas.survey_of-sound, specs.Faults.SurveyFields}
+use Rattle.sync_survey.specs.{Survey.survey_of, declared.survey_fault.SurveyFault.SurveyFault}
+use Rattle.sync_survey.specs.declared.survey_fault.SurveyFault.TheVariants.{Read}
 
 -- ---- what is laid from one place on
 
@@ -76,16 +71,6 @@ module _ {X : Type 0} (cut : Cutting X) (proper : IsProperCutting cut) where
   made-late : (prefix file : List ℕ) (s : SurveyFields) (f : Contents)
       → IfErr (then_made (cut.places f) (places_result cut prefix file s)) IsLateFault
   made-late prefix file s f = grind (arith, made-all)
-
-  by-late : (prefix file : List ℕ) (f : Contents) (r : Result SurveyFields SurveyFault)
-      → ((fault : SurveyFault) → r ≡ Err fault → IsOfBytes fault)
-      → IfErr (surveyed_pieces cut prefix (cut.places f) file r) IsLateFault
-  by-late prefix file f (Err fault) of_bytes = of_bytes_behind fault (of_bytes fault refl)
-  by-late prefix file f (Ok s) of_bytes = made-late prefix file s f
-
-  short-late : (prefix file : List ℕ) (f : Contents) → length file ≤ longest_file
-      → IfErr (input_pieces cut prefix (cut.places f) (Some file)) IsLateFault
-  short-late prefix file f few = grind (arith, survey_of-short, by-late, survey_fields-of_bytes)
 
   -- ---- no refusal comes before the sheet is read
 
@@ -160,75 +145,30 @@ module _ {X : Type 0} (cut : Cutting X) (proper : IsProperCutting cut) (input pr
     stays-touched : (old new : Files) → new ≡ old → OnlyTouches (piece_names prefix) old new
     stays-touched old new stays = rw stays (touches_none (piece_names prefix) old)
 
-    -- ---- the survey of the input
+    makes-bytes : (f : Contents) (bytes : List ℕ) (r : Result SurveyFields SurveyFault)
+        → f input ≡ Some bytes → survey_of bytes most_frames ≡ r
+        → command.makes f ≡ surveyed_pieces cut prefix (cut.places f) bytes r
+    makes-bytes f bytes r held is =
+        makes-where f (Some bytes) held ∙ ap (surveyed_pieces cut prefix (cut.places f) bytes) is
 
-    input-refused : (files : Files) (fault : SurveyFault) → IsFileThere files input
-        → ((bytes : List ℕ) → Holds files input bytes → survey_of bytes most_frames ≡ Err fault)
-        → HasAnswer command files (Err (Input 0 fault))
-    input-refused (Untold touched) fault there refused = tt
-    input-refused (Told f) fault there refused =
-        let held = there_holds f input there in
-        makes-where f (Some held.0) held.1
-        ∙ ap (surveyed_pieces cut prefix (cut.places f) held.0) (refused held.0 held.1)
-
-    input-missing : (files : Files) → IfTold files (λ f. f input ≡ None)
-        → HasAnswer command files (Err (Input 0 Absent))
-    input-missing (Untold touched) missing = tt
-    input-missing (Told f) missing = makes-where f None missing
-
-    input-takes : (files : Files) → IsFileThere files input
-        → ((bytes : List ℕ) → Holds files input bytes → length bytes ≤ longest_file)
-        → IfTold files (λ f. TakesMemory (command.makes f))
-    input-takes (Untold touched) there few = tt
-    input-takes (Told f) there few =
-        let held = there_holds f input there in
-        rw (makes-where f (Some held.0) held.1) (takes (input_pieces cut prefix (cut.places f)
-        (Some held.0)) (short-late cut proper prefix held.0 f (few held.0 held.1)))
-
-    module _ (old new : Seen) (fault : EditFault) where
-      -- a fault of the input leaves everything as it was
-      pub input-left : IsFileFault 0 most_frames input old new fault
-          → IsCommandFault command old new fault
-      input-left h = each_why (why_of fault) h (record {
-        rejected = λ r. record {
-          defined = rw r.1 (input-refused old.files r.0 r.2.there r.2.bytes);
-          stays = r.2.stays;
-        };
-        missing = λ m. record {
-          defined = rw m.is (input-missing old.files m.missing);
-          rose = missed_name command.inputs 0 refl m;
-          files = m.files;
-        };
-        unread = λ u. record {
-          names = apart;
-          before = before_first old.files command.makes fault u.is;
-          rose = unread_name command.inputs 0 refl u;
-          files = inl u.files;
-        };
-        shorter = λ l. record {
-          ended = lost_name command.inputs 0 refl l;
-          touches = stays-touched old.files new.files l.files;
-        };
-        unwritten = λ k w. absurd w;
-        unsent = λ w. absurd w;
-        no_memory = λ n.
-            record { names = apart; takes = input-takes old.files n.there n.few; stays = n.stays };
-      })
+    -- the command begins with the survey of its input
+    pub begins : BeginsWithSurvey command input
+    begins = record {
+      first = refl;
+      names = apart;
+      absent = λ f is. makes-where f None is;
+      refused = λ f bytes fault held is. makes-bytes f bytes (Err fault) held is;
+      takes = λ f bytes s held is.
+          rw (makes-bytes f bytes (Ok s) held is) (takes _ (made-late cut proper prefix bytes s f));
+    }
 
     -- ---- a surveyed input
 
     module _ (old mid new : Seen) (stays : mid ≡ old) (fault : EditFault) where
       -- a head that could not be read leaves everything as it was
       pub head-left : IsHeadFault input mid new fault → IsCommandFault command old new fault
-      head-left h = input-left old new fault (each_why (why_of fault) (rw stays at h) (record {
-        rejected = λ r. absurd r;
-        missing = λ m. absurd m;
-        unread = λ u. u;
-        shorter = λ l. l;
-        unwritten = λ k w. absurd w;
-        unsent = λ w. absurd w;
-        no_memory = λ n. absurd n;
-      }))
+      head-left h =
+          survey_left begins old new fault (head_is_file input old new fault (rw stays at h))
 
     module _ (s : SurveyFields) (old : Seen) (there : IsFileThere old.files input) (survey_is :
         (bytes : List ℕ) → Holds old.files input bytes → survey_of bytes most_frames ≡ Ok s) where
@@ -237,13 +177,8 @@ module _ {X : Type 0} (cut : Cutting X) (proper : IsProperCutting cut) (input pr
           × (command.makes f ≡ then_made (cut.places f) (places_result cut prefix bytes s))
       makes-then f told =
           let held = there_holds f input (rw told at there) in
-          let sound = survey_is held.0 (rw told held.1) in (
-            held.0,
-            held.1,
-            sound,
-            makes-where f (Some held.0) held.1
-                ∙ ap (surveyed_pieces cut prefix (cut.places f) held.0) sound,
-          )
+          let sound = survey_is held.0 (rw told held.1) in
+          (held.0, held.1, sound, makes-bytes f held.0 (Ok s) held.1 sound)
 
       behind-takes : IfTold old.files (λ f. TakesMemory (command.makes f))
       behind-takes = if-told old.files (λ f told. let made = makes-then f told in
@@ -426,15 +361,6 @@ module _ {X : Type 0} (cut : Cutting X) (proper : IsProperCutting cut) (input pr
             touches = first-touched k new h.touches;
           }
 
-          ended-name : (new : Seen) (fault : EditFault) → PiecesStopShort input old new fault
-              → EndedAt
-              (input_of (input ∷ more) fault) (end_offset fault) old.counts.ends new.counts.ends
-          ended-name new fault h =
-              subst (λ e. EndedAt (input_of (input ∷ more) e)
-              (end_offset e) old.counts.ends new.counts.ends) (sym h.is)
-              (subst (λ e. EndedAt (input_of (input ∷ []) e)
-              (end_offset e) old.counts.ends new.counts.ends) h.is h.ended.rose)
-
           split-left-here : (new : Seen) (fault : EditFault)
               → OnlyTouches (names_of_pieces pieces) old.files new.files
               → IsPiecesFault (pieces_of input laid_survey pieces) old new fault
@@ -445,16 +371,12 @@ module _ {X : Type 0} (cut : Cutting X) (proper : IsProperCutting cut) (input pr
             unread = λ u. record {
               names = apart;
               before = none-before (IsNotBefore fault);
-              rose = subst (λ e. HappenedTo (input_of (input ∷ more) e)
-                  old.counts.read_faults new.counts.read_faults) (sym u.is) u.rose;
+              rose = rw u.is u.rose;
               files = inr (u.place, part u.place new.files u.files);
             };
-            shorter = λ l. record {
-              ended = record {
-                rose = ended-name new fault l;
-                counts = l.ended.counts;
-                untold = l.ended.untold;
-              };
+            shorter = λ l. let ended = rw l.is at l.ended in record {
+              ended = rw l.is
+                  (record { rose = ended.rose; counts = ended.counts; untold = ended.untold });
               touches = names-touched old.files new.files only;
             };
             unwritten = λ k w. record {

@@ -1,10 +1,9 @@
 -- A clash of names, faults met before the output is created, and the second pass.
-use Rattle.std.proofs.Common.{ap, append-nil, ap₂, arith, length, List, map, None, refl, rules}
+use Rattle.std.proofs.Common.{ap, append-nil, ap₂, arith, length, List, map, None, refl}
 use Rattle.std.proofs.{Common.{string_bytes, sym, [], ◌∙◌, ◌∷◌, ◌≡◌, ◌≤◌}, lemmas.List.length-map}
 use Rattle.std.proofs.lemmas.Result.{IfErr-weaker}
-use Rattle.commands.proofs.MakeLemmas.{all_left, clash_left, early_left, one_done, one_streams}
-use Rattle.commands.{proofs.RefusingLemmas.err_with, specs.Command.clash_from}
-use Rattle.commands.specs.SingleOutput.{IsMaking, most_frames}
+use Rattle.commands.proofs.MakeLemmas.{clash_run, early_run, one_run, one_streams}
+use Rattle.commands.specs.{Command.clash_from, SingleOutput.{IsMaking, most_frames}}
 use Rattle.commands.specs.declared.fault.EditFault.TheVariants.{Memory}
 use Rattle.join_edits.proofs.InputLemmas.{found-input, inputs-join, join-late}
 use Rattle.join_edits.proofs.SourceLemmas.{inputs-hold, inputs-making, join-numbers, ready-written}
@@ -19,33 +18,17 @@ use Rattle.join_edits.proofs.join_file.join.Goals as goal
 
 pub returns-in-Some : goal.returns-in-Some
 returns-in-Some g c =
-    let names = map string_bytes c.args.inputs.now in
-    let clash = sym c.clash.ensures ∙ c.in-Some.is in
-    record {
-      done = tt;
-      left = clash_left (join_task names) c.args.output.now _ _ clash;
-      numbers = clash;
-      names = search rules;
-      streams = tt;
-      counts = search rules;
-    }
+    clash_run (join_task (map string_bytes c.args.inputs.now)) c.args.output.now _ _
+    (sym c.clash.ensures ∙ c.in-Some.is)
 
 pub returns-in_err-sources : goal.returns-in_err-sources
 returns-in_err-sources g c =
     let names = map string_bytes c.args.inputs.now in
-    let many = length c.args.inputs.now in
     let output = c.args.output.now in
-    let none = sym c.clash.ensures ∙ c.in_default.is in
     let met = c.in_err-sources.ensures in
-    record {
-      done = search rules;
-      left = err_with _ _ c.from_residual.ensures.1
-          (early_left (join_task names) output none (join-late names) _ _ _ met.refused);
-      numbers = grind (arith, err_with, join-numbers, length-map);
-      names = search rules;
-      streams = search rules;
-      counts = search rules;
-    }
+    early_run (join_task names) output (sym c.clash.ensures ∙ c.in_default.is) (join-late names) _
+    c.from_residual.ensures.1 met.refused (join-numbers output names _ _
+    (sym (length-map c.args.inputs.now string_bytes)) met.numbers) c.survey_all.ensures.reads.counts
 
 module _ (g : given.Over) (c : In_ok-sources g) where
   abbrev old : Files
@@ -100,16 +83,9 @@ returns-in_err-work g c =
     ap₂ seen_folder c.survey_all.ensures.reads.files c.in_ok-sources.ensures.reads.done in
     let found = rw (append-nil, named g at) at
     (found-input most_frames (inputs g at) [] _ _ (are g at) (some g at) stays) in
-    record {
-      done = search rules;
-      left = err_with _ _ c.from_residual-in_err-work.ensures.1
-          (early_left (join_task names) c.args.output.now
-          (sym c.clash.ensures ∙ c.in_default.is) (join-late names) _ _ Memory found);
-      numbers = search rules;
-      names = search rules;
-      streams = search rules;
-      counts = search rules;
-    }
+    early_run (join_task names) c.args.output.now (sym c.clash.ensures ∙ c.in_default.is)
+    (join-late names) Memory c.from_residual-in_err-work.ensures.1 found tt
+    c.survey_all.ensures.reads.counts
 
 pub write_joined-requires-clause-can : goal.write_joined-requires-clause-can
 write_joined-requires-clause-can g c =
@@ -124,12 +100,10 @@ returns g c =
     let many = length c.args.inputs.now in
     let at = (goal.at.returns g c).In_ok-sources in
     let free = sym c.clash.ensures ∙ c.in_default.is in
-    let mid = g.D.Folder.seen c.survey_all.new.folder in
     let same =
     ap₂ seen_folder c.survey_all.ensures.reads.files c.in_ok-sources.ensures.reads.done in
-    let made = making g at _ _ c.survey_all.ensures.reads.files c.deref-2.ensures.value _
+    let made = making g at _ _ refl c.deref-2.ensures.value _
     (rw c.deref.ensures.value at c.in_ok-work.ensures) in
-    let wrote = c.write_joined.ensures in
     let result = c.write_joined.result in
     let named-now : input_names (map input_view c.deref-2.result.now) ≡ names =
     rw c.deref-2.ensures.value (named g at) in
@@ -140,18 +114,13 @@ returns g c =
       ap length c.deref-2.ensures.value,
       length-map c.in_ok-sources.sources.items input_view,
     ) in
-    record {
-      done = one_done (join_task names) output free _ _ mid _ same made wrote.touches result
-          (rw named-now at wrote.written) wrote.done;
-      left = all_left (join_task names) output free _ _ mid _ same made wrote.touches refl result
-          (rw named-now at wrote.left);
-      numbers = IfErr-weaker result _ _
-          (λ fault. join-numbers output names many fault
-          (sym (length-map c.args.inputs.now string_bytes))) (rw long-now at wrote.numbers);
-      names = search rules;
-      streams = one_streams (join_task names) output free _ _
-          (rw (named g at) at (inputs-making (old g at) (inputs g at) (some g at) (are g at)))
-          (rw (named g at) at
-          (inputs-hold output (old g at) (inputs g at) (none g at) (can g at) (are g at))) result;
-      counts = search rules;
-    }
+    one_run (join_task names) output free _ made refl
+    (one_streams (join_task names) output free _ _
+    (rw (named g at) at (inputs-making (old g at) (inputs g at) (some g at) (are g at)))
+    (rw (named g at) at
+    (inputs-hold output (old g at) (inputs g at) (none g at) (can g at) (are g at))) result)
+    (IfErr-weaker result _ _ (λ fault. join-numbers output names many fault
+    (sym (length-map c.args.inputs.now string_bytes)))
+    (rw long-now at c.write_joined.ensures.numbers))
+    (rw (named-now, same) at c.write_joined.ensures.wrote)
+    (rw same at c.write_joined.ensures.counts)

@@ -1,6 +1,6 @@
 -- The output is created, and then written by a pass over the inputs, which stay.
-use Rattle.std.proofs.Common.{ap, arith, drop, flat_map, List, map, refl, subst, ℕ, [], ◌∙◌, ◌∷◌}
-use Rattle.std.proofs.Common.{◌≡◌, ◌≢◌}
+use Rattle.std.proofs.Common.{ap, arith, drop, flat_map, List, map, refl, rules, subst, ℕ, [], ◌∙◌}
+use Rattle.std.proofs.Common.{◌∷◌, ◌≡◌, ◌≢◌}
 use Rattle.commands.proofs.OutputLemmas.{not_begun, output_whole, pass_fault, touches_prefix}
 use Rattle.commands.proofs.OutputLemmas.{touches_whole}
 use Rattle.commands.specs.SingleOutput.{files_holding, first_input}
@@ -67,48 +67,50 @@ append_joined-requires-clause-join g c =
 pub append_joined-requires-clause-fits : goal.append_joined-requires-clause-fits
 append_joined-requires-clause-fits g c = grind (arith, fits)
 
-pub returns-in-Ok-append_joined-clause-written : goal.returns-in-Ok-append_joined-clause-written
-returns-in-Ok-append_joined-clause-written g c =
-    let at = (goal.at.returns-in-Ok-append_joined-clause-written g c).In-Ok in
+pub returns-in-Ok-append_joined-clause-wrote : goal.returns-in-Ok-append_joined-clause-wrote
+returns-in-Ok-append_joined-clause-wrote g c =
+    let at = (goal.at.returns-in-Ok-append_joined-clause-wrote g c).In-Ok in
     let output = c.args.output.now in
-    λ bytes holds.
-    output_whole _ (input_view c.input_at.result.now).name output (apart g at) (old g at) _ _
-    c.in-Ok.ensures.answer.created c.in-Ok-append_joined.ensures.written bytes
-    (rw c.input_at.ensures at holds)
-    ∙ ap (files_holding (old g at) output) (beside g at bytes)
+    let created = c.in-Ok.ensures.answer.created in
+    let written = c.in-Ok-append_joined.ensures.written in
+    record {
+      written = λ bytes holds.
+          output_whole _ (input_view c.input_at.result.now).name output (apart g at) (old g at) _ _
+          created written bytes (rw c.input_at.ensures at holds)
+          ∙ ap (files_holding (old g at) output) (beside g at bytes);
+      touches = touches_whole _ _ _ (apart g at) _ _ _ created written;
+      done = search rules;
+      left = tt;
+    }
 
-pub returns-in-Ok-append_joined-clause-touches : goal.returns-in-Ok-append_joined-clause-touches
-returns-in-Ok-append_joined-clause-touches g c = grind (arith, touches_whole, apart)
-
-pub returns-in-Err-clause-touches : goal.returns-in-Err-clause-touches
-returns-in-Err-clause-touches g c = grind (arith, touches_prefix, apart)
-
-pub returns-in-Err-clause-left : goal.returns-in-Err-clause-left
-returns-in-Err-clause-left g c =
-    let at = (goal.at.returns-in-Err-clause-left g c).In-Ok in
+pub returns-in-Err-clause-wrote : goal.returns-in-Err-clause-wrote
+returns-in-Err-clause-wrote g c =
+    let at = (goal.at.returns-in-Err-clause-wrote g c).In-Ok in
+    let created = c.in-Ok.ensures.answer.created in
     let cause = c.in-Err.ensures.cause in
     let part = appends-as_prefix _ _ (λ file holds. beside g at file) c.in-Err.ensures.prefix in
-    rw c.of_pass.ensures
-    (pass_fault _ (input_view c.input_at.result.now).name c.args.output.now (apart g at) _ _ _
-    c.in-Ok.ensures.answer.created (names g at)
-    (ap (λ l. first_input (input_names l)) c.input_at.ensures)
-    c.in-Err.stopped.place c.in-Err.stopped.fault cause.size
-    (g.D.Folder.seen c.args.folder.now).counts _ _ c.in-Ok.ensures.answer.done part cause.cause)
+    record {
+      written = tt;
+      touches = touches_prefix _ _ _ (apart g at) _ _ _ created c.in-Err.ensures.prefix;
+      done = tt;
+      left = rw c.of_pass.ensures
+          (pass_fault _ (input_view c.input_at.result.now).name c.args.output.now (apart g at) _ _ _
+          created (names g at) (ap (λ l. first_input (input_names l)) c.input_at.ensures)
+          c.in-Err.stopped.place c.in-Err.stopped.fault cause.size
+          (g.D.Folder.seen c.args.folder.now).counts _ _ c.in-Ok.ensures.answer.done part
+          cause.cause);
+    }
 
 -- the output wasn't created
-pub returns-in_default-clause-touches : goal.returns-in_default-clause-touches
-returns-in_default-clause-touches g c = grind (arith, fails_touches)
-
-pub returns-in_default-clause-left : goal.returns-in_default-clause-left
-returns-in_default-clause-left g c =
-    let inputs = map input_view c.args.inputs.now in
-    let old = (g.D.Folder.seen c.args.folder.now).files in (
-      refl,
-      record {
-        rose = c.in_default.ensures.answer.failed;
-        files = not_begun
-            (join_bytes old inputs c.args.work.now)
-            (first_input (input_names inputs)) c.args.output.now _ _
-            c.in_default.ensures.answer.kept;
-      },
-    )
+pub returns-in_default-clause-wrote : goal.returns-in_default-clause-wrote
+returns-in_default-clause-wrote g c =
+    let kept = c.in_default.ensures.answer.kept in
+    record {
+      written = tt;
+      touches = fails_touches _ _ c.args.output.now kept;
+      done = tt;
+      left = (
+        refl,
+        record { rose = c.in_default.ensures.answer.failed; files = not_begun _ _ _ _ _ kept },
+      );
+    }

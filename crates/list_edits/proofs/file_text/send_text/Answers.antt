@@ -1,10 +1,11 @@
 -- What the call leaves, given the survey, what was read besides, and what was sent of the text.
 use Rattle.std.{proofs.Common.{ap₂, List, subst, sym, ℕ, ◌∙◌, ◌≡◌}, specs.Prelude.{IfErr, OnOk}}
+use Rattle.commands.proofs.SurveyedLemmas.{survey_left}
 use Rattle.commands.specs.AfterCall.{HasNumbers, IsCommandDone, IsCommandFault}
 use Rattle.commands.specs.{Command.HoldsStreams, SingleOutput.{IsFileFault, most_frames}}
-use Rattle.list_edits.proofs.TextLemmas.{holds_streams, is_done, no_room, refused_run, says}
-use Rattle.list_edits.proofs.TextLemmas.{survey_left, told_by, unsent}
-use Rattle.list_edits.{proofs.file_text.send_text.Goals.In_ok-text, specs.TextCommand.text_command}
+use Rattle.list_edits.proofs.TextLemmas.{begins, holds_streams, is_done, no_room, refused_run, says}
+use Rattle.list_edits.proofs.{TextLemmas.{told_by, unsent}, file_text.send_text.Goals.In_ok-text}
+use Rattle.list_edits.specs.TextCommand.{text_command}
 use Rattle.outside.{proofs.CountsLemmas.only_reads_same, specs.Counts.{Counts, OnlyReads}}
 use Rattle.outside.specs.{Files.Holds, Seen.seen_folder}
 use Rattle.sync_survey.specs.Faults.{survey_view}
@@ -14,7 +15,7 @@ use Rattle.list_edits.proofs.file_text.send_text.Goals as goal
 pub returns-in_err-survey : goal.returns-in_err-survey
 returns-in_err-survey g c =
     let text = g.K.FileText.text in
-    let left = survey_left text c.args.input.now _ _ _ c.in_err-survey.ensures.refused in
+    let left = survey_left (begins text c.args.input.now) _ _ _ c.in_err-survey.ensures.refused in
     let reads = c.survey_at.ensures.reads in
     refused_run text c.args.input.now _ _ _ c.from_residual.result _ c.from_residual.ensures.1 left
     c.in_err-survey.ensures.numbers reads.files reads.counts
@@ -31,7 +32,7 @@ returns-in_err-text g c =
     (ap₂ seen_folder files counts) c.in_err-text.ensures.refused in
     let end = c.from_residual-in_err-text in
     refused_run text input _ _ _ end.result _ end.ensures.1
-    (survey_left text input _ _ _ refused) c.in_err-text.ensures.numbers
+    (survey_left (begins text input) _ _ _ refused) c.in_err-text.ensures.numbers
     (c.read.ensures.reads.files ∙ files)
     (subst (λ (n : Counts). OnlyReads n new.counts) counts c.read.ensures.reads.counts)
 

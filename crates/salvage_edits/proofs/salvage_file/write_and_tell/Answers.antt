@@ -1,12 +1,11 @@
 -- The second pass, and the text.
 use Rattle.std.proofs.Common.{ap, arith, length, List, refl, sym, ℕ, [], ◌∙◌, ◌∷◌, ◌≡◌}
-use Rattle.commands.proofs.MakeLemmas.{done-run, refused_run, source_apart}
-use Rattle.commands.{proofs.TellingLemmas.{says-all, says-prefix}, specs.AfterCall.IsCommandDone}
-use Rattle.commands.specs.{SentText.IsCommandText, declared.fault.EditFault.TheVariants.Sent}
-use Rattle.salvage_edits.proofs.CommandLemmas.{left-done, left-part, left-streams, numbers-pass}
-use Rattle.salvage_edits.proofs.CommandLemmas.{ready-order, ready-text}
+use Rattle.commands.proofs.MakeLemmas.{returned_run, source_apart}
+use Rattle.commands.proofs.TellingLemmas.{says-all, says-prefix, telling_run, unsent_run}
+use Rattle.commands.specs.{SentText.IsCommandText, SingleOutput.one_command}
+use Rattle.salvage_edits.proofs.CommandLemmas.{ready-order, ready-text, text_of, written_run}
 use Rattle.salvage_edits.proofs.salvage_file.write_and_tell.Goals.{After-send_report}
-use Rattle.salvage_edits.specs.{Ordered.report_text, Salvaged.salvage_command}
+use Rattle.salvage_edits.specs.{Ordered.report_text, Salvaged.{salvage_command, salvage_task}}
 use Rattle.sync_survey.specs.Row.{Row}
 use Rattle.salvage_edits.proofs.salvage_file.write_and_tell.Given as given
 use Rattle.salvage_edits.proofs.salvage_file.write_and_tell.Goals as goal
@@ -24,35 +23,21 @@ send_report-requires-clause-order g c = ready-order c.args.input.now
 
 pub returns-in_err-write_output-clause-run : goal.returns-in_err-write_output-clause-run
 returns-in_err-write_output-clause-run g c =
-    let old = g.D.Folder.seen c.args.folder.now in
-    let new = g.D.Folder.seen c.write_output.new.folder in
-    refused_run (salvage_command c.args.input.now c.args.output.now) old new _ _
-    c.requires.free c.from_residual.ensures.1
-    (left-part c.args.input.now c.args.output.now c.requires.free old old new c.args.work.now refl
-    c.requires.ready c.write_output.ensures.touches _
-    c.in_err-write_output.ensures.numbers c.in_err-write_output.ensures.left)
-    (numbers-pass c.args.input.now c.args.output.now _ c.in_err-write_output.ensures.numbers)
-    c.write_output.ensures.counts
-
--- the output is whole
-wrote : (g : given.Over) (c : After-send_report g)
-    → IsCommandDone (salvage_command c.args.input.now c.args.output.now)
-    (g.D.Folder.seen c.args.folder.now) (g.D.Folder.seen c.write_output.new.folder)
-wrote g c =
-    let old = g.D.Folder.seen c.args.folder.now in
-    left-done c.args.input.now c.args.output.now c.requires.free old old
-    (g.D.Folder.seen c.write_output.new.folder) c.args.work.now refl c.requires.ready
-    c.write_output.ensures.touches c.in_ok-write_output.ensures.written
-    c.in_ok-write_output.ensures.done
+    let input = c.args.input.now in
+    let output = c.args.output.now in
+    let met = c.in_err-write_output.ensures in
+    returned_run _ _ _ _ _ c.from_residual.ensures.1
+    (telling_run (text_of input) (one_command (salvage_task input) output)
+    (written_run input output c.requires.free c.args.work.now c.requires.ready met.numbers
+    met.wrote c.write_output.ensures.counts))
 
 pub returns-in-Ok-clause-run : goal.returns-in-Ok-clause-run
 returns-in-Ok-clause-run g c =
-    let old = g.D.Folder.seen c.args.folder.now in
-    let said = (goal.at.returns-in-Ok-clause-run g c).After-send_report in
-    done-run (salvage_command c.args.input.now c.args.output.now) old
-    (g.D.Folder.seen c.write_output.new.folder) c.requires.free (wrote g said)
-    (left-streams c.args.input.now c.args.output.now c.requires.free old.files c.args.work.now
-    c.requires.ready) c.write_output.ensures.counts
+    let input = c.args.input.now in
+    let output = c.args.output.now in
+    telling_run (text_of input) (one_command (salvage_task input) output)
+    (written_run input output c.requires.free c.args.work.now c.requires.ready tt
+    c.in_ok-write_output.ensures.wrote c.write_output.ensures.counts)
 
 -- the text of the command is the text of the report
 told : (g : given.Over) (c : After-send_report g) (all : List ℕ)
@@ -67,22 +52,19 @@ told g c all is =
 pub returns-in-Ok-clause-says : goal.returns-in-Ok-clause-says
 returns-in-Ok-clause-says g c =
     let said = (goal.at.returns-in-Ok-clause-says g c).After-send_report in
-    says-all (salvage_command c.args.input.now c.args.output.now)
-    (g.D.Folder.seen c.args.folder.now).files (g.T.Sink.heard c.args.out.now)
-    (g.T.Sink.heard c.send_report.new.out) _ (told g said) c.in-Ok.ensures.sent
-    c.in-Ok.ensures.cause.done
+    says-all (salvage_command c.args.input.now c.args.output.now) _ _ _ _ (told g said)
+    c.in-Ok.ensures.sent c.in-Ok.ensures.cause.done
 
 pub returns-in-Err-clause-run : goal.returns-in-Err-clause-run
 returns-in-Err-clause-run g c =
-    let said = (goal.at.returns-in-Err-clause-run g c).After-send_report in
-    refused_run (salvage_command c.args.input.now c.args.output.now)
-    (g.D.Folder.seen c.args.folder.now) (g.D.Folder.seen c.write_output.new.folder) _ Sent
-    c.requires.free refl (wrote g said) (λ e. absurd cc) c.write_output.ensures.counts
+    let input = c.args.input.now in
+    let output = c.args.output.now in
+    unsent_run (text_of input) (one_command (salvage_task input) output)
+    (written_run input output c.requires.free c.args.work.now c.requires.ready tt
+    c.in_ok-write_output.ensures.wrote c.write_output.ensures.counts)
 
 pub returns-in-Err-clause-says : goal.returns-in-Err-clause-says
 returns-in-Err-clause-says g c =
     let said = (goal.at.returns-in-Err-clause-says g c).After-send_report in
-    says-prefix (salvage_command c.args.input.now c.args.output.now)
-    (g.D.Folder.seen c.args.folder.now).files (g.T.Sink.heard c.args.out.now)
-    (g.T.Sink.heard c.send_report.new.out) _ (told g said) c.in-Err.ensures.prefix
-    c.in-Err.ensures.cause.failed
+    says-prefix (salvage_command c.args.input.now c.args.output.now) _ _ _ _ (told g said)
+    c.in-Err.ensures.prefix c.in-Err.ensures.cause.failed

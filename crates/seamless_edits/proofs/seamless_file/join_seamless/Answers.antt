@@ -1,42 +1,34 @@
 -- A clash of names, faults met before the output is created, and what comes after.
-use Rattle.std.proofs.Common.{ap, arith, length, List, map, rules, string_bytes, sym, ℕ, ◌∙◌, ◌≡◌}
+use Rattle.std.proofs.Common.{ap, arith, length, List, map, string_bytes, sym, ℕ, ◌∙◌, ◌≡◌}
 use Rattle.std.proofs.lemmas.List.{length-map}
-use Rattle.commands.proofs.{MakeLemmas.run-before, RefusingLemmas.err_with}
+use Rattle.commands.proofs.MakeLemmas.{clash_run, early_run, run-before}
+use Rattle.commands.{proofs.TellingLemmas.telling_run, specs.SingleOutput.one_command}
+use Rattle.join_edits.proofs.SourceLemmas.{join-numbers}
 use Rattle.join_edits.specs.Inputs.{input_names, input_view, InputFields}
-use Rattle.seamless_edits.proofs.SeamlessCommandLemmas.{left-clash, left-early, ready-names}
-use Rattle.seamless_edits.proofs.SeamlessCommandLemmas.{seamless-numbers}
-use Rattle.seamless_edits.specs.{Seamless.seamless_command, declared.seamless_file.Ready.Ready}
+use Rattle.seamless_edits.proofs.SeamlessCommandLemmas.{ready-names, seamless-late, text_of}
+use Rattle.seamless_edits.specs.Seamless.{seamless_command, seamless_task}
+use Rattle.seamless_edits.specs.declared.seamless_file.Ready.{Ready}
 use Rattle.seamless_edits.proofs.seamless_file.join_seamless.Given as given
 use Rattle.seamless_edits.proofs.seamless_file.join_seamless.Goals as goal
 
 pub returns-in-Some-clause-run : goal.returns-in-Some-clause-run
 returns-in-Some-clause-run g c =
-    let clash = sym c.clash.ensures ∙ c.in-Some.is in
-    record {
-      done = tt;
-      left = left-clash c.args.output.now (map string_bytes c.args.inputs.now)
-          c.in-Some.place (g.D.Folder.seen c.args.folder.now) clash;
-      numbers = clash;
-      names = search rules;
-      streams = tt;
-      counts = search rules;
-    }
+    let names = map string_bytes c.args.inputs.now in
+    let task = seamless_task names in
+    telling_run (text_of names) (one_command task c.args.output.now)
+    (clash_run task c.args.output.now _ _ (sym c.clash.ensures ∙ c.in-Some.is))
 
 pub returns-in_err-ready-clause-run : goal.returns-in_err-ready-clause-run
 returns-in_err-ready-clause-run g c =
     let names = map string_bytes c.args.inputs.now in
-    record {
-      done = search rules;
-      left = err_with _ _ c.from_residual.ensures.1
-          (left-early c.args.output.now names
-          (sym c.clash.ensures ∙ c.in_default.is) _ _ _ c.in_err-ready.ensures.refused);
-      numbers = err_with _ _ c.from_residual.ensures.1
-          (seamless-numbers c.args.output.now names _ _
-          (sym (length-map c.args.inputs.now string_bytes)) c.in_err-ready.ensures.numbers);
-      names = search rules;
-      streams = search rules;
-      counts = search rules;
-    }
+    let task = seamless_task names in
+    let output = c.args.output.now in
+    let met = c.in_err-ready.ensures in
+    telling_run (text_of names) (one_command task output)
+    (early_run task output (sym c.clash.ensures ∙ c.in_default.is) (seamless-late names) _
+    c.from_residual.ensures.1 met.refused (join-numbers output names _ _
+    (sym (length-map c.args.inputs.now string_bytes)) met.numbers)
+    c.prepare_all.ensures.reads.counts)
 
 -- there are as many prepared inputs as names
 items-long : (ready : Ready) (names : List (List ℕ))

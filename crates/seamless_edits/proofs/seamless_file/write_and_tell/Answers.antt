@@ -1,17 +1,17 @@
 -- The second pass, and the text.
-use Rattle.std.proofs.Common.{ap, arith, length, List, map, refl, sym, ℕ, ◌∙◌, ◌≡◌, ◌≤◌}
+use Rattle.std.proofs.Common.{ap, arith, length, List, map, sym, ℕ, ◌∙◌, ◌≡◌, ◌≤◌}
 use Rattle.std.proofs.lemmas.List.{length-map, take_at}
-use Rattle.commands.proofs.MakeLemmas.{done-run, refused_run}
-use Rattle.commands.proofs.TellingLemmas.{says-all, says-prefix}
-use Rattle.commands.specs.declared.fault.EditFault.TheVariants.{Sent}
+use Rattle.commands.proofs.MakeLemmas.{returned_run}
+use Rattle.commands.proofs.TellingLemmas.{says-all, says-prefix, telling_run, unsent_run}
+use Rattle.commands.specs.{Command.Command, SingleOutput.one_command}
 use Rattle.join_edits.specs.Inputs.{input_names, input_view, InputFields}
 use Rattle.seam_plan.specs.declared.run.Joint.{Joint}
-use Rattle.seamless_edits.proofs.SeamlessCommandLemmas.{joints-many, left-done, left-names}
-use Rattle.seamless_edits.proofs.SeamlessCommandLemmas.{left-part, left-streams, left_inputs}
-use Rattle.seamless_edits.proofs.SeamlessCommandLemmas.{ready-text, ready-writable}
-use Rattle.seamless_edits.proofs.SeamlessCommandLemmas.{seamless-numbers}
+use Rattle.seamless_edits.proofs.SeamlessCommandLemmas.{joints-many, left-names, left_inputs}
+use Rattle.seamless_edits.proofs.SeamlessCommandLemmas.{ready-text, ready-writable, text_of}
+use Rattle.seamless_edits.proofs.SeamlessCommandLemmas.{written-run}
 use Rattle.seamless_edits.proofs.seamless_file.write_and_tell.Goals.{After-deref}
-use Rattle.seamless_edits.specs.{Deciding.{from_places, left_out_of}, Seamless.seamless_command}
+use Rattle.seamless_edits.specs.Deciding.{from_places, left_out_of}
+use Rattle.seamless_edits.specs.Seamless.{seamless_command, seamless_task}
 use Rattle.seamless_edits.proofs.seamless_file.write_and_tell.Given as given
 use Rattle.seamless_edits.proofs.seamless_file.write_and_tell.Goals as goal
 
@@ -65,6 +65,9 @@ module _ (g : given.Over) (c : After-deref g) where
     ap length named,
   )
 
+  abbrev silent : Command
+  silent = one_command (seamless_task names) c.args.output.now
+
 pub write_joined-requires-clause-can : goal.write_joined-requires-clause-can
 write_joined-requires-clause-can g c =
     rw (now g c) (ready-writable (names g c) (g.D.Folder.seen c.args.folder.now).files
@@ -73,17 +76,12 @@ write_joined-requires-clause-can g c =
 pub returns-in_err-write_joined-clause-run : goal.returns-in_err-write_joined-clause-run
 returns-in_err-write_joined-clause-run g c =
     let at = (goal.at.returns-in_err-write_joined-clause-run g c).After-deref in
-    let old = g.D.Folder.seen c.args.folder.now in
-    let new = g.D.Folder.seen c.write_joined.new.folder in
-    let output = c.args.output.now in
-    let fault = c.in_err-write_joined.field-0.0 in
-    refused_run (seamless_command output (names g at)) old new _ fault
-    c.requires.free c.from_residual.ensures.1
-    (left-part output (names g at) c.requires.free (some g at) old new c.args.ready.now
-    c.requires.ready c.write_joined.ensures.touches fault
-    (rw (now g at, named g at) at c.in_err-write_joined.ensures.left))
-    (seamless-numbers output (names g at) _ fault (long-now g at)
-    c.in_err-write_joined.ensures.numbers) c.write_joined.ensures.counts
+    let met = c.in_err-write_joined.ensures in
+    returned_run _ _ _ _ _ c.from_residual.ensures.1
+    (telling_run (text_of (names g at)) (silent g at)
+    (written-run c.args.output.now (names g at) c.requires.free (some g at) c.args.ready.now
+    c.requires.ready (rw (long-now g at) at met.numbers) (rw (now g at, named g at) at met.wrote)
+    c.write_joined.ensures.counts))
 
 pub send_lines-requires-clause-inputs : goal.send_lines-requires-clause-inputs
 send_lines-requires-clause-inputs g c =
@@ -100,16 +98,10 @@ send_lines-requires-clause-inputs g c =
 pub returns-in-Ok-clause-run : goal.returns-in-Ok-clause-run
 returns-in-Ok-clause-run g c =
     let at = (goal.at.returns-in-Ok-clause-run g c).After-deref in
-    let old = g.D.Folder.seen c.args.folder.now in
-    let new = g.D.Folder.seen c.write_joined.new.folder in
-    let output = c.args.output.now in
-    done-run (seamless_command output (names g at)) old new c.requires.free
-    (left-done output (names g at) c.requires.free (some g at) old new c.args.ready.now
-    c.requires.ready c.write_joined.ensures.touches
-    (rw (now g at, named g at) at c.in_ok-write_joined.ensures.written)
-    c.in_ok-write_joined.ensures.done)
-    (left-streams output (names g at) c.requires.free (some g at) old.files c.args.ready.now
-    c.requires.ready) c.write_joined.ensures.counts
+    telling_run (text_of (names g at)) (silent g at)
+    (written-run c.args.output.now (names g at) c.requires.free (some g at) c.args.ready.now
+    c.requires.ready tt (rw (now g at, named g at) at c.in_ok-write_joined.ensures.wrote)
+    c.write_joined.ensures.counts)
 
 pub returns-in-Ok-clause-says : goal.returns-in-Ok-clause-says
 returns-in-Ok-clause-says g c =
@@ -127,16 +119,10 @@ returns-in-Ok-clause-says g c =
 pub returns-in-Err-clause-run : goal.returns-in-Err-clause-run
 returns-in-Err-clause-run g c =
     let at = (goal.at.returns-in-Err-clause-run g c).After-deref in
-    let old = g.D.Folder.seen c.args.folder.now in
-    let new = g.D.Folder.seen c.write_joined.new.folder in
-    let output = c.args.output.now in
-    refused_run (seamless_command output (names g at)) old new _ Sent
-    c.requires.free refl
-    (left-done output (names g at) c.requires.free (some g at) old new c.args.ready.now
-    c.requires.ready c.write_joined.ensures.touches
-    (rw (now g at, named g at) at c.in_ok-write_joined.ensures.written)
-    c.in_ok-write_joined.ensures.done)
-    (λ e. absurd cc) c.write_joined.ensures.counts
+    unsent_run (text_of (names g at)) (silent g at)
+    (written-run c.args.output.now (names g at) c.requires.free (some g at) c.args.ready.now
+    c.requires.ready tt (rw (now g at, named g at) at c.in_ok-write_joined.ensures.wrote)
+    c.write_joined.ensures.counts)
 
 pub returns-in-Err-clause-says : goal.returns-in-Err-clause-says
 returns-in-Err-clause-says g c =

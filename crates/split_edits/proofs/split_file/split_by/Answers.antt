@@ -1,13 +1,14 @@
 -- A clash of names, faults met before the first output is created, and the second pass.
 use Rattle.std.proofs.Common.{ap, ap₂, arith, length, List, map, None, Ok, refl, rules, subst, sym}
 use Rattle.std.proofs.{Common.{ℕ, ◌∙◌, ◌≡◌, ◌≤◌}, lemmas.Result.{IfErr-weaker, on_ok_weaker}}
-use Rattle.commands.{proofs.MakeLemmas.{names_free, no_clash, refused_run}, specs.Command.clash_of}
+use Rattle.commands.proofs.MakeLemmas.{names_free, no_clash, refused_run}
+use Rattle.commands.{proofs.SurveyedLemmas.survey_left, specs.Command.clash_of}
 use Rattle.frame_writer.proofs.WritingLemmas.{ok-both}
 use Rattle.laying.specs.Surveys.{CanBeRelaid}
 use Rattle.outside.proofs.CountsLemmas.{none_fell_by_reads, none_fell_then, only_reads_then}
 use Rattle.outside.specs.{Counts.NoneFell, Files.{Files, Holds}, Seen.{Seen, seen_folder}}
-use Rattle.split_edits.proofs.CommandLemmas.{clash-found, equal-left, head-left, head-numbers}
-use Rattle.split_edits.proofs.CommandLemmas.{input-left, memory-left, pieces-numbers, places-left}
+use Rattle.split_edits.proofs.CommandLemmas.{begins, clash-found, equal-left, head-left}
+use Rattle.split_edits.proofs.CommandLemmas.{head-numbers, memory-left, pieces-numbers, places-left}
 use Rattle.split_edits.proofs.CommandLemmas.{places-numbers, range-left, range-numbers, split-done}
 use Rattle.split_edits.proofs.CommandLemmas.{split-left, split-streams, survey-numbers}
 use Rattle.split_edits.proofs.PiecesLemmas.{can-be-written, fault-of-all}
@@ -46,7 +47,8 @@ returns-in_err-survey g c =
     let prefix = c.args.prefix.now in
     let none = free g (goal.at.returns-in_err-survey g c).After-survey_at in
     refused_run _ _ _ _ _ none c.from_residual.ensures.1
-    (input-left cut c.requires.proper input prefix none _ _ _ c.in_err-survey.ensures.refused)
+    (survey_left (begins cut c.requires.proper input prefix none) _ _ _
+    c.in_err-survey.ensures.refused)
     (survey-numbers cut input prefix _ c.in_err-survey.ensures.numbers)
     (none_fell_by_reads _ _ c.survey_at.ensures.reads.counts)
 
