@@ -1,7 +1,8 @@
 #!/usr/bin/env python3
 """Files joined without seams, as 'mp3edit join --seamless' joins them. It shares no code with the program that it helps to check.
 
-  seams.py join OUT IN..          writes OUT: the inputs joined in this order; and says for each input from the second on what is left out of it
+  seams.py join OUT IN..          writes OUT: the inputs joined in this order; and says for each input from the second on what is left out of
+                                  it, and how many of its other frames are lost
 
 The frames are written as one part. As in spans.py, a frame whose main data begin in the head is lost. Each input except the first loses
 frames at its front by the first of these rules that applies. It follows: its head and that of the input before it count, and if its first
@@ -50,6 +51,11 @@ class Input:
     def alike(self):
         """The part of each frame that is compared."""
         return [alike_part(need, frame) for need, frame in zip(self.needs, self.found.frames)]
+
+    def lost_text(self, count):
+        """What is said of the lost frames behind the first `count`."""
+        lost = sum(frame.lost for frame in self.found.frames[count:])
+        return f", {lost} frames lost" if lost else ""
 
 
 def alike_part(need, frame):
@@ -128,7 +134,7 @@ def run_of(inputs):
         run += moved
         written += source.alike()[count:]
         out.append(count)
-        lines.append(f"{source.name}: {said}")
+        lines.append(f"{source.name}: {said}{source.lost_text(count)}")
     if has_lead_in(inputs[0]) and not fits(run[1:], 0):
         run, out[0] = run[1:], 1
     return run, out, lines

@@ -14,5 +14,6 @@ pub mod RunPartLemmas
 pub mod RunFileLemmas
 pub mod SeamlessCommandLemmas
 pub mod LineLemmas
+pub mod LostLemmas
 pub mod FramePlaceLemmas
 pub mod ReadingLemmas

@@ -7,27 +7,23 @@ use Rattle.join_edits.specs.Inputs.{input_names, InputFields}
 use Rattle.outside.proofs.SentLemmas.{sent_more_on, sent_more_prefix}
 use Rattle.outside.specs.{BufferOutput.{SendsWaiting, SentPrefix}, Files.Sent}
 use Rattle.seam_plan.specs.declared.{run.Joint.Joint, seam.Seam.TheVariants.Follows}
-use Rattle.seamless_edits.specs.Seamless.{seam_line, seam_text}
+use Rattle.seamless_edits.specs.{Lines.Told, Seamless.seam_text}
 
-abbrev pub Told : Type 0
-Told = List ℕ × Joint
+-- the inputs whose lines are left
+abbrev pub left-from : List (List ℕ) → List Joint → List (List ℕ) → ℕ → List Told
+left-from names joints lost i =
+    zip (drop i (drop 1 names)) (zip (drop i joints) (drop i (drop 1 lost)))
 
-abbrev pub line_of : Told → List ℕ
-line_of j = seam_line j.0 j.1.seam
+after-first : (lists : List (List ℕ)) (i : ℕ) → drop i (drop 1 lists) ≡ drop (i + 1) lists
+after-first lists i = grind (arith, drop-drop i 1 lists)
 
--- the names and joints whose lines are left
-abbrev pub left-from : List (List ℕ) → List Joint → ℕ → List Told
-left-from inputs joints i = zip (drop i (drop 1 inputs)) (drop i joints)
-
-after-first : (inputs : List (List ℕ)) (i : ℕ) → drop i (drop 1 inputs) ≡ drop (i + 1) inputs
-after-first inputs i = grind (arith, drop-drop i 1 inputs)
-
--- what is left from a joint on is the joint with its name, and then the rest
-pub left-next : (inputs : List (List ℕ)) (joints : List Joint) (i : ℕ) (name : List ℕ) (j : Joint)
-    → drop (i + 1) inputs ≡ name ∷ drop (i + 1 + 1) inputs
-    → drop i joints ≡ j ∷ drop (i + 1) joints
-    → left-from inputs joints i ≡ (name, j) ∷ left-from inputs joints (i + 1)
-left-next inputs joints i name j named joint = grind (arith, after-first)
+-- what is left from an input on is the input, and then the rest
+pub left-next : (names : List (List ℕ)) (joints : List Joint) (lost : List (List ℕ)) (i : ℕ)
+    (t : Told) → drop (i + 1) names ≡ t.0 ∷ drop (i + 1 + 1) names
+    → drop i joints ≡ t.1.0 ∷ drop (i + 1) joints
+    → drop (i + 1) lost ≡ t.1.1 ∷ drop (i + 1 + 1) lost
+    → left-from names joints lost i ≡ t ∷ left-from names joints lost (i + 1)
+left-next names joints lost i t name joint numbers = grind (arith, after-first)
 
 -- the name of an input comes before the names of those after it
 pub name-next : (inputs : List InputFields) (n : ℕ) (i : InputFields)
@@ -35,22 +31,24 @@ pub name-next : (inputs : List InputFields) (n : ℕ) (i : InputFields)
     → drop n (input_names inputs) ≡ i.name ∷ drop (n + 1) (input_names inputs)
 name-next inputs n i is = grind (arith, drop-map)
 
-zip-none : (names : List (List ℕ)) (joints : List Joint) → joints ≡ [] → zip names joints ≡ []
-zip-none [] joints none = refl
-zip-none (name ∷ names) joints none = ap (zip (name ∷ names)) none
+zip-none : {X Y : Type 0} (xs : List X) (ys : List Y) → ys ≡ [] → zip xs ys ≡ []
+zip-none [] ys none = refl
+zip-none (x ∷ xs) ys none = ap (zip (x ∷ xs)) none
 
 -- nothing is left past the last joint
-pub left-none : (inputs : List (List ℕ)) (joints : List Joint) (i : ℕ) → length joints ≤ i
-    → left-from inputs joints i ≡ []
-left-none inputs joints i past = grind (arith, zip-none, drop_all)
+pub left-none : (names : List (List ℕ)) (joints : List Joint) (lost : List (List ℕ)) (i : ℕ)
+    → length joints ≤ i → left-from names joints lost i ≡ []
+left-none names joints lost i past =
+    zip-none (drop i (drop 1 names)) (zip (drop i joints) (drop i (drop 1 lost)))
+    (ap (λ (l : List Joint). zip l (drop i (drop 1 lost))) (drop_all i joints past))
 
 -- ---- one line
 
--- the line of an input that follows, after its name
-pub follows-line : (n : ℕ)
-    → codes ": follows, " ++ (decimal n ++ (codes " frames left out\n" ++ []))
-    ≡ codes ": " ++ (seam_text (Follows n) ++ codes "\n")
-follows-line n = grind (arith, append_assoc)
+-- an input that follows
+pub follows-line : (n : ℕ) (end : List ℕ)
+    → codes ": follows, " ++ (decimal n ++ (codes " frames left out" ++ end))
+    ≡ codes ": " ++ (seam_text (Follows n) ++ end)
+follows-line n end = grind (arith, append_assoc)
 
 -- the name, and the rest of the line after it
 module _ (waits name piece rest line mid : List ℕ) (s t u : Sent) (named : piece ≡ name)

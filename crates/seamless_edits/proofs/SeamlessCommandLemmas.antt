@@ -1,8 +1,9 @@
 -- What a seamless join leaves, given its steps.
 use Rattle.std.proofs.Common.{ap, append-nil, ap₂, arith, drop, length, List, map, None, Ok, Option}
-use Rattle.std.proofs.Common.{refl, Result, Some, subst, sym, unwrap_or, ℕ, [], ◌++◌, ◌+◌, ◌-◌, ◌<◌}
-use Rattle.std.proofs.{Common.{◌∙◌, ◌∷◌, ◌≡◌, ◌≤◌}, lemmas.{List.length-map, Result.IfErr-weaker}}
-use Rattle.std.{proofs.lemmas.Slice.Zip.AllZip-long, specs.{List.concat, Prelude.{flat_map, IfErr}}}
+use Rattle.std.proofs.Common.{refl, Result, Some, subst, sym, unwrap_or, vec_items, ℕ, [], ◌++◌}
+use Rattle.std.proofs.{Common.{◌+◌, ◌-◌, ◌<◌, ◌∙◌, ◌∷◌, ◌≡◌, ◌≤◌}, lemmas.List.length-map}
+use Rattle.std.{proofs.lemmas.{Result.IfErr-weaker, Slice.Zip.AllZip-long}, specs.List.concat}
+use Rattle.std.specs.Prelude.{flat_map, IfErr}
 use Rattle.commands.proofs.{MakeLemmas.{one_run, one_streams}, TellingLemmas.telling_command-text}
 use Rattle.commands.specs.AfterCall.{IsLateFault, IsNotBefore}
 use Rattle.commands.specs.{Command.{AreSoundFiles, clash_from}, Refusing.then_made, Runs.IsRunOf}
@@ -34,8 +35,8 @@ use Rattle.seamless_edits.proofs.SeamlessLemmas.{AllOf, AreHeads, seamless-writt
 use Rattle.seamless_edits.proofs.SeamlessLemmas.{whole_parts}
 use Rattle.seamless_edits.specs.Beginnings.{AreBeginnings, input_without_head, IsBeginning}
 use Rattle.seamless_edits.specs.Deciding.{broughts_in, CanBeDecided, FitAlone, FitsAlone}
-use Rattle.seamless_edits.specs.{Deciding.{from_places, IsJoinedOf, left_out_of}, Lines.joint_lines}
-use Rattle.seamless_edits.specs.Reading.{AreHeld, IsInputReadFault}
+use Rattle.seamless_edits.specs.{Deciding.{from_places, IsJoinedOf, left_out_of}, Lines.told_lines}
+use Rattle.seamless_edits.specs.{LostFrames.lost_in_input, Reading.{AreHeld, IsInputReadFault}}
 use Rattle.seamless_edits.specs.Seamless.{seamless_command, seamless_file, seamless_stream_or_none}
 use Rattle.seamless_edits.specs.Seamless.{seamless_task, seamless_text, seamless_text_or_none}
 use Rattle.seamless_edits.specs.SeamlessReady.{IsRunMade, IsSeamlessReady}
@@ -251,7 +252,8 @@ module _ (f : Contents) (i : InputFields) (inputs : List InputFields) (b : Begin
       decided is.run.plan made.work.info.items is.run.fits.fits is.run.info within
 
   -- the lines that are sent are the text
-  pub made-text : (names : List (List ℕ)) → joint_lines (drop 1 names) made.decided.joints.items
+  pub made-text : (names : List (List ℕ)) → told_lines (drop 1 names) made.decided.joints.items
+      (drop 1 (map lost_in_input (i ∷ inputs)))
       ≡ seamless_text names (whole_parts f (i ∷ inputs))
   made-text names = grind (arith, text-same, heads, of, decided)
 
@@ -371,11 +373,14 @@ module _ (names : List (List ℕ)) (some : 1 ≤ length names) where
   -- the text of the command is the text of what was decided
   pub ready-text : (files : Files) (ready : Ready) (output all : List ℕ)
       → IsSeamlessReady names files ready → IsCommandText (seamless_command output names) files all
-      → joint_lines (drop 1 names) ready.made.decided.joints.items ≡ all
+      → told_lines (drop 1 names) ready.made.decided.joints.items
+      (drop 1 (map vec_items ready.lost.items)) ≡ all
   ready-text files ready output all is text =
       let told = telling_command-text (λ f. seamless_text_or_none names (join_parts f names))
       (one_command (seamless_task names) output) files all text in
-      at files told.1 is.found is.bs (omega (arith, many names files ready is, some)) is.named
+      ap (λ (l : List (List ℕ)). told_lines (drop 1 names) ready.made.decided.joints.items
+      (drop 1 l)) is.lost
+      ∙ at files told.1 is.found is.bs (omega (arith, many names files ready is, some)) is.named
       is.are is.joined is.begun is.made ∙ sym told.2
     where
       told-same : (f g : Contents) → Told f ≡ Told g → f ≡ g
@@ -386,7 +391,8 @@ module _ (names : List (List ℕ)) (some : 1 ≤ length names) where
           → AreJoinInputs None most_frames fs inputs
           → CanInputsBeJoined inputs → AreBeginnings fs inputs bs
           → IsRunMade fs (map input_without_head inputs) bs ready.made
-          → joint_lines (drop 1 names) ready.made.decided.joints.items
+          → told_lines (drop 1 names) ready.made.decided.joints.items
+          (drop 1 (map lost_in_input inputs))
           ≡ seamless_text_or_none names (join_parts f names)
       at (Untold touched) e inputs bs some named are can begun made = absurd cc
       at (Told g) e [] bs some named are can begun made = absurd (omega (arith, some))

@@ -24,10 +24,10 @@ use Rattle.outside.specs.Files.{Contents}
 use Rattle.seam_plan.specs.{Decisions.IsJoint, Frames.needs_of}
 use Rattle.seam_plan.specs.Seams.{JointFrames, left_out_count, run_of, SeamlessJoin}
 use Rattle.seam_plan.specs.declared.{run.Joint.Joint, seam.Seam.Seam}
-use Rattle.seamless_edits.specs.Beginnings.{input_without_head}
+use Rattle.seamless_edits.{proofs.LostLemmas.lost-same, specs.Beginnings.input_without_head}
 use Rattle.seamless_edits.specs.Deciding.{brought_of, broughts_in, from_places, IsJoined}
 use Rattle.seamless_edits.specs.Deciding.{IsJoinedOf, left_out_counts, left_out_of, run_needs}
-use Rattle.seamless_edits.specs.Lines.{joint_lines}
+use Rattle.seamless_edits.specs.{Lines.told_lines, LostFrames.{lost_from, lost_in_input}}
 use Rattle.seamless_edits.specs.Numbers.{all_say, counted_delay, delay_after, ends_padding}
 use Rattle.seamless_edits.specs.Numbers.{first_head, info_kept, kept_with_delay, last_head}
 use Rattle.seamless_edits.specs.Numbers.{run_kept, short_delay}
@@ -43,8 +43,8 @@ use Rattle.seamless_edits.specs.declared.numbers.{Ends.Ends, Moved.Moved}
 use Rattle.side_info.specs.Side.{no_side}
 use Rattle.slot_plan.specs.declared.needs.{Need.Need, Placed.Placed}
 use Rattle.sync_survey.specs.Faults.{SurveyFields}
-use Rattle.sync_survey.specs.HeadApart.{apart_row, apart_rows, emptied_row, rows_set_apart}
-use Rattle.sync_survey.specs.{Row.Row, declared.places.Head.Head}
+use Rattle.sync_survey.specs.HeadApart.{apart_row, apart_rows, emptied_row, head_apart}
+use Rattle.sync_survey.specs.{HeadApart.rows_set_apart, Row.Row, declared.places.Head.Head}
 
 -- ---- what the inputs bring
 
@@ -338,15 +338,23 @@ module _ (f : Contents) (i : InputFields) (inputs : List InputFields) (b : Begin
   -- ---- the text
 
   lines-same : (others : List (List ℕ)) (joints : List JointFrames) (results : List Joint)
-      → AllZip IsJoint joints results → joint_lines others results ≡ seam_lines others joints
-  lines-same [] joints results are = refl
-  lines-same (n ∷ others) [] [] are = refl
-  lines-same (n ∷ others) (j ∷ joints) (r ∷ results) are = ap₂ (λ (m : Seam) (l : List ℕ).
-      seam_line n m ++ l) are.0.seam (lines-same others joints results are.1)
-  lines-same (n ∷ others) _ _ are = absurd are
+      (later : List InputFields) → AllZip IsJoint joints results
+      → told_lines others results (map lost_in_input later)
+      ≡ seam_lines others joints (whole_parts f later)
+  lines-same [] joints results later are = refl
+  lines-same (n ∷ others) [] [] later are = refl
+  lines-same (n ∷ others) (j ∷ joints) (r ∷ results) [] are = refl
+  lines-same (n ∷ others) (j ∷ joints) (r ∷ results) (x ∷ later) are =
+      ap₂ (λ (a b : List ℕ). a ++ b)
+      (ap (λ (m : Seam). seam_line n m (lost_from (left_out_count m) (lost_in_input x))) are.0.seam
+      ∙ ap (seam_line n j.seam)
+      (lost-same (left_out_count j.seam) (head_apart x.survey).frames))
+      (lines-same others joints results later are.1)
+  lines-same (n ∷ others) _ _ later are = absurd are
 
   -- the lines are the text of the join
-  pub text-same : (names : List (List ℕ)) → joint_lines (drop 1 names) d.joints.items
+  pub text-same : (names : List (List ℕ)) → told_lines (drop 1 names) d.joints.items
+      (drop 1 (map lost_in_input (i ∷ inputs)))
       ≡ seamless_text names (whole_parts f (i ∷ inputs))
   unfolding seamless_text
-  text-same names = lines-same (drop 1 names) joined.joints d.joints.items is.joints
+  text-same names = lines-same (drop 1 names) joined.joints d.joints.items inputs is.joints

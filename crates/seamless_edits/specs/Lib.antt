@@ -8,3 +8,4 @@ pub mod Numbers
 pub mod RunReady
 pub mod SeamlessReady
 pub mod Lines
+pub mod LostFrames

@@ -1,9 +1,16 @@
 -- The lines that say what becomes of each input after the first.
 use Rattle.std.specs.Prelude.{flat_map, List, zip, ℕ}
-use Rattle.seam_plan.specs.declared.run.Joint.{Joint}
-use Rattle.seamless_edits.specs.Seamless.{seam_line}
+use Rattle.seam_plan.specs.{Seams.left_out_count, declared.run.Joint.Joint}
+use Rattle.seamless_edits.specs.{LostFrames.lost_from, Seamless.seam_line}
 
--- the line of each input, with its name and what became of it
-abbrev pub joint_lines : List (List ℕ) → List Joint → List ℕ
-joint_lines names joints =
-    flat_map (λ (j : List ℕ × Joint). seam_line j.0 j.1.seam) (zip names joints)
+-- an input after the first: its name, what became of it, and the numbers of its lost frames
+abbrev pub Told : Type 0
+Told = List ℕ × (Joint × List ℕ)
+
+-- its line
+abbrev pub told_line : Told → List ℕ
+told_line t = seam_line t.0 t.1.0.seam (lost_from (left_out_count t.1.0.seam) t.1.1)
+
+-- the line of each input
+abbrev pub told_lines : List (List ℕ) → List Joint → List (List ℕ) → List ℕ
+told_lines names joints lost = flat_map told_line (zip names (zip joints lost))

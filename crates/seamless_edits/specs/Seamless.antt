@@ -23,12 +23,13 @@ use Rattle.laying.specs.{KeptFields.fields_of_head, LaidFiles.laid_file, Needs.n
 use Rattle.laying.specs.NeedsFit.{own_choice}
 use Rattle.laying.specs.Relaid.{FilePart, part_frames, part_rows, part_stream, relaid_frames}
 use Rattle.laying.specs.{Relaid.stream_with_lead_ins, Written.{front_blocks, info_for}}
+use Rattle.list_edits.specs.Totals.{lost_count}
 use Rattle.seam_plan.specs.Frames.{Brought, needs_of, RunFrame}
 use Rattle.seam_plan.specs.Seams.{JointFrames, left_out_count, run_of, seamless_join, SeamlessJoin}
 use Rattle.seam_plan.specs.declared.seam.Seam.{Seam, TheVariants.{Follows, LeadIn, Whole}}
 use Rattle.side_info.specs.{Side.side_bits, declared.{granule.Granule.Granule, side.Side.Side}}
 use Rattle.slot_plan.specs.{LeastPlan.least_plan, declared.needs.Placed.Placed}
-use Rattle.sync_survey.specs.{MainData.StreamFrame, Row.Row}
+use Rattle.sync_survey.specs.{HeadApart.head_apart, MainData.StreamFrame, Row.Row}
 
 -- ---- what an input brings
 
@@ -214,19 +215,34 @@ seam_text (Follows frames) = codes "follows, " ++ (decimal frames ++ codes " fra
 seam_text LeadIn = codes "lead-in left out"
 seam_text Whole = codes "whole"
 
--- the line of an input and its seam
-abbrev pub seam_line : List ℕ → Seam → List ℕ
-seam_line name seam = name ++ (codes ": " ++ (seam_text seam ++ codes "\n"))
+-- what a line says about this many lost frames; nothing if there is none
+abbrev pub lost_frames_text : ℕ → List ℕ
+lost_frames_text count =
+    if count == 0 then [] else codes ", " ++ (decimal count ++ codes " frames lost")
+
+-- the line of an input: its name, its seam, and how many of its frames are lost
+abbrev pub seam_line : List ℕ → Seam → ℕ → List ℕ
+seam_line name seam lost =
+    name ++ (codes ": " ++ (seam_text seam ++ (lost_frames_text lost ++ codes "\n")))
+
+-- How many lost frames of an input are written, as silence, if its first `from` frames are left
+-- out. They are lost in the file, or because they point into its head.
+abbrev pub written_lost : ℕ → FilePart → ℕ
+written_lost from p = lost_count (drop from (head_apart p.survey).frames)
+
+-- the line of an input with its name and what became of it
+abbrev pub joint_line : List ℕ × (JointFrames × FilePart) → List ℕ
+joint_line j = seam_line j.0 j.1.0.seam (written_lost (left_out_count j.1.0.seam) j.1.1)
 
 -- a line for each input after the first
-abbrev pub seam_lines : List (List ℕ) → List JointFrames → List ℕ
-seam_lines names joints =
-    flat_map (λ (j : List ℕ × JointFrames). seam_line j.0 j.1.seam) (zip names joints)
+abbrev pub seam_lines : List (List ℕ) → List JointFrames → List FilePart → List ℕ
+seam_lines names joints parts = flat_map joint_line (zip names (zip joints parts))
 
 -- the lines for these inputs
 unfoldable pub seamless_text : List (List ℕ) → List FilePart → List ℕ
 seamless_text names [] = []
-seamless_text names (first ∷ parts) = seam_lines (drop 1 names) (join_of_parts first parts).joints
+seamless_text names (first ∷ parts) =
+    seam_lines (drop 1 names) (join_of_parts first parts).joints parts
 
 -- ---- the command
 

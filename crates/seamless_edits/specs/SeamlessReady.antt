@@ -1,12 +1,12 @@
 -- What is prepared for a seamless join before its output is created.
-use Rattle.std.specs.Prelude.{List, map, None, ℕ, [], ◌≡◌}
+use Rattle.std.specs.Prelude.{List, map, None, vec_items, ℕ, [], ◌≡◌}
 use Rattle.commands.specs.SingleOutput.{most_frames}
 use Rattle.join_edits.specs.Inputs.{AreJoinInputs, CanInputsBeJoined, input_names, input_view}
 use Rattle.join_edits.specs.Inputs.{InputFields}
 use Rattle.outside.specs.Files.{Files}
 use Rattle.seamless_edits.specs.Beginnings.{AreBeginnings, input_without_head}
-use Rattle.seamless_edits.specs.{Deciding.IsRunDecided, RunReady.IsRunReady}
-use Rattle.seamless_edits.specs.declared.beginnings.Beginning.{Beginning}
+use Rattle.seamless_edits.specs.{Deciding.IsRunDecided, LostFrames.lost_in_input}
+use Rattle.seamless_edits.specs.{RunReady.IsRunReady, declared.beginnings.Beginning.Beginning}
 use Rattle.seamless_edits.specs.declared.seamless_file.{MadeRun.MadeRun, Ready.Ready}
 
 -- this was decided about inputs whose heads are set apart, and the run and the text are prepared
@@ -25,4 +25,5 @@ pub record IsSeamlessReady (names : List (List ℕ)) (files : Files) (ready : Re
   pub joined : CanInputsBeJoined found
   pub begun : AreBeginnings files found bs
   pub inputs : map input_view ready.inputs.items ≡ map input_without_head found
+  pub lost : map vec_items ready.lost.items ≡ map lost_in_input found
   pub made : IsRunMade files (map input_without_head found) bs ready.made

@@ -10,11 +10,10 @@ ghost use Rattle.laying.specs.Surveys.{CanBeRelaid};
 ghost use Rattle.laying.specs.KeptFields.{fields_of_head};
 ghost use Rattle.join_edits.specs.Inputs.{input_view, input_names, HasJoinNumbers};
 ghost use Rattle.seamless_edits.specs.Seamless.{is_side_blank, begins_blank};
-ghost use Rattle.seamless_edits.specs.Beginnings.{AreBeginnings, input_without_head};
+ghost use Rattle.seamless_edits.specs.Beginnings.{AreBeginnings};
 ghost use Rattle.seamless_edits.specs.Reading.{AreHeld, IsInputReadFault, StopsAtInput};
 
 use commands::EditFault;
-use cut_edits::set_apart;
 use info_header::Info;
 use join_edits::{JoinInput, Stopped, input_at};
 use laying::head_fields;
@@ -118,13 +117,4 @@ pub(crate) fn beginnings_of<D: Folder>(
         beginnings.push(Beginning { head, blank })?;
     }
     Ok(beginnings)
-}
-
-/// Sets the heads of all inputs apart from their streams.
-pub(crate) fn set_all_apart(inputs: &mut [JoinInput<'_>])
-    ensures { map input_view inputs.new ≡ map input_without_head (map input_view inputs.old) }
-{
-    for input in inputs.iter_mut() {
-        set_apart(&mut input.survey);
-    }
 }

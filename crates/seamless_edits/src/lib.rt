@@ -1,6 +1,7 @@
 //! Joining inputs without seams: which frames of each are left out, and what is said of it.
 #![tactic(auto)]
 
+mod apart;
 mod beginnings;
 mod decided;
 mod lines;

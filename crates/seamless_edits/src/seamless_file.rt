@@ -11,7 +11,8 @@ ghost use Rattle.seamless_edits.specs.Deciding.{CanBeDecided};
 ghost use Rattle.seamless_edits.specs.Seamless.{seamless_task, seamless_command};
 ghost use Rattle.seamless_edits.specs.SeamlessReady.{IsRunMade, IsSeamlessReady};
 
-use crate::beginnings::{Beginning, beginnings_of, set_all_apart};
+use crate::apart::set_all_apart;
+use crate::beginnings::{Beginning, beginnings_of};
 use crate::decided::{Decided, decide_all};
 use crate::lines::send_lines;
 use crate::planned::prepare_run;
@@ -28,11 +29,12 @@ struct MadeRun {
     sending: SendBuffer,
 }
 
-/// All that is prepared before the output is created: the inputs, with their heads set apart, and what is made from
-/// them.
+/// All that is prepared before the output is created: the inputs, with their heads set apart, the
+/// numbers of the lost frames of each, and what is made from them.
 #[derive(Drop)]
 struct Ready<'a> {
     inputs: Vec<JoinInput<'a>>,
+    lost: Vec<Vec<usize>>,
     made: MadeRun,
 }
 
@@ -87,9 +89,9 @@ fn prepare_all<'a, D: Folder>(
 {
     let mut inputs = survey_all(alloc, folder, names)?;
     let beginnings = beginnings_of(alloc, folder, &inputs)?;
-    set_all_apart(&mut inputs);
+    let lost = set_all_apart(alloc, &mut inputs)?;
     let made = make_ready(alloc, folder, &inputs, &beginnings)?;
-    Ok(Ready { inputs, made })
+    Ok(Ready { inputs, lost, made })
 }
 
 /// Writes the output, and then sends to `out` what became of each input. No names clash, and all is
@@ -118,7 +120,7 @@ fn write_and_tell<D: Folder, T: Sink>(
         (D.seen folder.old).files (T.heard out.old) (T.heard out.new)
         (answer_fault result) }
 {
-    let Ready { inputs, made } = ready;
+    let Ready { inputs, lost, made } = ready;
     let MadeRun {
         decided,
         work,
@@ -126,7 +128,7 @@ fn write_and_tell<D: Folder, T: Sink>(
     } = made;
     decided.leave_out(inputs);
     write_joined(folder, output, inputs, work)?;
-    match send_lines(inputs, decided.joints.as_slice(), sending, out) {
+    match send_lines(inputs, decided.joints.as_slice(), lost, sending, out) {
         Ok(()) => Ok(()),
         Err(Failed) => Err(EditFault::Sent),
     }
@@ -144,6 +146,9 @@ fn write_and_tell<D: Folder, T: Sink>(
 /// | `NAME: follows, X frames left out` | the X frames that it shares with the input before it, if the heads of both count, these frames are whole frames, and the played ones among them sound like the last frames before it |
 /// | `NAME: lead-in left out` | its lead-in, if the frames after it need one |
 /// | `NAME: whole` | nothing |
+///
+/// The line ends in `, K frames lost` where K frames of the input are lost and aren't left out: they
+/// are written as silence.
 ///
 /// Frames can join if there is room for their main data after the frames before them, the first of
 /// them in its own slot or in the least greater one. Finally, the lead-in of the first input is

@@ -49,6 +49,7 @@ Y_381 = fffb9000 be80 OF_800 ~417
 Y_447 = fffb9000 df80 OF_800 ~417
 Y_449 = fffb9000 e080 OF_800 ~417
 Y_450 = fffb9000 e100 OF_800 ~417
+Y_511 = fffb9000 ff80 OF_800 ~417
 # FIRST from 68 bytes before its area on, 000100010, 2200, so that 232 of its 300 bytes are in that,
 # and 149 of the next frame; and FIRST without those.
 FILLED_FROM_68 = fffb9000 220002580032000000004b000640000000096000c8000000012c0019 ~36 55*381 ~417
@@ -352,15 +353,15 @@ $ join --seamless o p01.mp3 p02.mp3
 > p02.mp3 INFO_FRONT TWO_OF_729 INFO_REST LEAD_IN_OF_G G_FROM_68
 > o INFO_FRONT AMONG_1146 INFO_REST Z_BEFORE_G LEAD_IN_FROM_381 G_FROM_449
 
-# Lost frames are written as empty ones. They aren't lead-ins: not all of their side information is
-# 0.
+# Lost frames are written as empty ones, and the line says how many. They aren't lead-ins: not all
+# of their side information is 0.
 
 LOST_IN_HEAD = fffb1000 1400 ~104
 # main data that begin in the head
 < z Z
 < b HEAD LOST_IN_HEAD Y_68
 $ join --seamless o z b
-| b: whole
+| b: whole, 1 frames lost
 > o INFO_FRONT AMONG_1146 INFO_REST Z LEAD_IN_FROM_381 Y_449
 
 LOST_AT_FRONT = fffb1000 2880 000800320000000001000640000000002000c800000000040019 ~104
@@ -368,7 +369,7 @@ LOST_AT_FRONT = fffb1000 2880 000800320000000001000640000000002000c8000000000400
 < z Z
 < b LOST_AT_FRONT Y_68
 $ join --seamless o z b
-| b: whole
+| b: whole, 1 frames lost
 > o INFO_FRONT AMONG_1146 INFO_REST Z LEAD_IN_FROM_381 Y_449
 
 # Of the 400 bytes of NEARER 40 are in the head of B. So none of them are heard.
@@ -376,7 +377,7 @@ $ join --seamless o z b
 < a A
 < b B
 $ join --seamless o a b
-| b: whole
+| b: whole, 1 frames lost
 > o INFO_FRONT THREE_OF_1459 INFO_REST FIRST SECOND Z_62
 
 # FIRST begins in the area of the lost frame, and leaves 81 bytes there for SECOND: 381 + 81 are
@@ -395,7 +396,7 @@ $ join --seamless o b a
 < x Z Z FULL_FROM_511
 < b B
 $ join --seamless o x b
-| b: whole
+| b: whole, 1 frames lost
 > o INFO_FRONT FOUR_OF_1876 INFO_REST Z Z_FROM_381 FULL_FROM_511 Z_11
 
 # It isn't filled from the file before either.
@@ -403,8 +404,44 @@ $ join --seamless o x b
 < a A
 < b SECOND
 $ join --seamless o a b
-| b: whole
+| b: whole, 1 frames lost
 > o INFO_FRONT THREE_OF_1459 INFO_REST FIRST SECOND Z_62
+
+# Of these frames the first points 382 bytes back, behind a head with an area of 381, so it is lost
+# in the file. The second, 400 bytes back, points into the head, and the third into the second. 382
+# is 101111110, bf00, and 400 is 110010000, c800.
+Y_382 = fffb9000 bf00 OF_800 ~417
+Y_400 = fffb9000 c800 OF_800 ~417
+LOST_TWO = HEAD Y_382 Y_400 Y_381
+# lost in the file, and because of the head
+< z Z
+< b LOST_TWO
+$ join --seamless o z b
+| b: whole, 2 frames lost
+> o INFO_FRONT FOUR_OF_1876 INFO_REST Z Z_FROM_381 Z_FROM_511 Y_511
+
+# Behind 400 of 511 and 381 bytes 492 are free: 111101100, f600.
+Z_FROM_492 = fffb9000 f600 ~417
+TEN_OF_4378 = 'Info' 0000000f0000000a0000111a 0c*10 24*10 3c*10 55*10 6d*10 86*10 9e*10 b6*10 cf*10 e7*10
+# each file has its own count, and the first has no line
+< b LOST_TWO
+< z Z
+$ join --seamless o b b z b
+| b: whole, 2 frames lost
+| z: whole
+| b: whole, 2 frames lost
+> o INFO_FRONT TEN_OF_4378 INFO_REST Z Z_FROM_381 Y_511 Z_FROM_492 Z_FROM_511 Y_511 Z_FROM_492 Z_FROM_511*2 Y_511
+
+# 511 bytes back is before the lead-in, whose area has 68, and 449, e080, at its front.
+LOST_FROM_511 = fffb9000 ff80 000800320000000001000640000000002000c800000000040019 ~417
+LONG_449 = fffb9000 e080 067c003200000000cf80064000000019f000c8000000033e0019 ~417
+LONG_511 = fffb9000 ff80 067c003200000000cf80064000000019f000c8000000033e0019 ~417
+# a lost frame behind a lead-in
+< z Z
+< b LEAD_IN LOST_FROM_511 LONG_449
+$ join --seamless o z b
+| b: lead-in left out, 1 frames lost
+> o INFO_FRONT THREE_OF_1459 INFO_REST Z Z_FROM_381 LONG_511
 
 # Only the block before the first file's frames is written.
 # tags, zeros and junk
@@ -758,6 +795,13 @@ $ join --seamless o a k
 | k: follows, 1 frames left out
 > o K_AND_K
 
+# one frame is left out, and another is lost
+< a K_FRONT LAME_3_100 240240 22*12 ~417 Z*4
+< k K_FRONT LAME_3_100 2402d0 22*12 ~417 Z Y_400 Z*2
+$ join --seamless o a k
+| k: follows, 1 frames left out, 1 frames lost
+> o K_AND_K
+
 # The frames that are left join in greater slots too. The same frame in another slot is alike.
 THREE_FRONT_K = fffb9000 ~36 'Info' 0000000f0000000300000684 00*100 00000039
 FULL_AT_224 = fffbc000 be80 OF_1762 ~731
@@ -809,7 +853,6 @@ $ join --seamless o a b
 # is there in its place. Behind G 377 bytes are left, 101111001, bc80; then 358 and 492.
 Y_377 = fffb9000 bc80 OF_800 ~417
 Z_358 = fffb9000 b300 ~417
-Y_511 = fffb9000 ff80 OF_800 ~417
 # the frames before a file whose lead-in was left out
 < g G
 < b TWO_FRONT LAME_3_100 2406c0 22*12 ~417 LEAD_IN Y_68

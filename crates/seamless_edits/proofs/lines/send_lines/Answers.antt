@@ -1,36 +1,66 @@
 -- Line by line, then what waits.
-use Rattle.std.proofs.Common.{arith, drop, List, map, subst, sym, zip, ℕ, ◌++◌, ◌+◌, ◌∙◌, ◌∷◌, ◌≡◌}
+use Rattle.std.proofs.Common.{ap, ap₂, arith, drop, get_or, length, List, map, subst, sym}
+use Rattle.std.proofs.Common.{vec_items, zip, ℕ, ◌++◌, ◌+◌, ◌<◌, ◌∙◌, ◌∷◌, ◌≡◌}
 use Rattle.std.specs.Prelude.{flat_map}
-use Rattle.join_edits.specs.Inputs.{input_names, input_view}
+use Rattle.join_edits.{proofs.StepLemmas.map-next, specs.Inputs.{input_names, input_view}}
 use Rattle.laying.proofs.RelayLemmas.{item-next}
 use Rattle.list_edits.proofs.ListingLemmas.{all_lines, line_failed, prefix_behind, said_more}
 use Rattle.list_edits.proofs.ListingLemmas.{said_none, sent_behind}
 use Rattle.outside.{proofs.BufferOutputLemmas.on_err, specs.BufferOutput.{SendsWaiting, SentPrefix}}
 use Rattle.seam_plan.specs.declared.run.Joint.{Joint}
-use Rattle.seamless_edits.proofs.LineLemmas.{left-from, left-next, left-none, line_of, name-next}
-use Rattle.seamless_edits.proofs.LineLemmas.{Told}
+use Rattle.seamless_edits.proofs.LineLemmas.{left-from, left-next, left-none, name-next}
 use Rattle.seamless_edits.proofs.lines.send_lines.Goals.{After-finish, After-push_line}
-use Rattle.seamless_edits.specs.Seamless.{seam_line}
+use Rattle.seamless_edits.specs.{Lines.{Told, told_line}, LostFrames.lost_from, Seamless.seam_line}
 use Rattle.seamless_edits.proofs.lines.send_lines.Given as given
 use Rattle.seamless_edits.proofs.lines.send_lines.Goals as goal
 
 pub loop-place-init : goal.loop-place-init
-loop-place-init g c = grind (arith, said_none, line_of, left-from)
+loop-place-init g c = grind (arith, said_none, told_line, left-from)
 
--- the name and the joint of a line, and those whose lines are left before it
+-- the input of a line, and those whose lines are left before it
 module _ (g : given.Over) (c : After-push_line g) where
-  abbrev inputs : List (List ℕ)
-  inputs = input_names (map input_view c.args.inputs.now)
+  abbrev names : List (List ℕ)
+  names = input_names (map input_view c.args.inputs.now)
 
   abbrev joints : List Joint
   joints = c.args.joints.now
 
-  abbrev told : Told
-  told = ((input_view c.input_at-input.result.now).name, c.index-joints-place.result)
+  abbrev lost : List (List ℕ)
+  lost = map vec_items c.args.lost.now
 
-  next : left-from inputs joints c.loop-place.place
-      ≡ told ∷ left-from inputs joints (c.loop-place.place + 1)
-  next = grind (arith, left-next, name-next, item-next)
+  abbrev all : List Told
+  all = zip (drop 1 names) (zip joints (drop 1 lost))
+
+  abbrev left : ℕ → List Told
+  left i = left-from names joints lost i
+
+  abbrev told : Told
+  told = (
+    (input_view c.input_at-input.result.now).name,
+    (c.index-joints-place.result, vec_items c.index-lost-place.result),
+  )
+
+  next : left c.loop-place.place ≡ told ∷ left (c.loop-place.place + 1)
+  next =
+      let place = c.loop-place.place in
+      let items = c.args.lost.now in
+      let within : place < length joints = omega (arith, c.loop-place-test.true) in
+      let there : place + 1 < length items = omega (arith, within, c.requires.lost) in
+      left-next names joints lost place told
+      (name-next (map input_view c.args.inputs.now) (place + 1)
+      (input_view c.input_at-input.result.now) c.input_at-input.ensures)
+      (item-next joints place c.index-joints-place.result within c.index-joints-place.is)
+      (map-next vec_items items (place + 1) c.index-lost-place.result there c.index-lost-place.is)
+
+  -- the joint, as it is read
+  abbrev joint : Joint
+  joint = get_or joints c.loop-place.place c.index-joints-place.result
+
+  line-is : seam_line told.0 joint.seam c.count_from-lost.result ≡ told_line told
+  line-is =
+      ap (seam_line told.0 joint.seam)
+      (c.count_from-lost.ensures ∙ ap₂ lost_from c.left_out.ensures c.as_slice.ensures.value)
+      ∙ ap (λ (j : Joint). told_line (told.0, (j, told.1.1))) (sym c.index-joints-place.is)
 
 pub loop-place-preserved : goal.loop-place-preserved
 loop-place-preserved g c =
@@ -39,14 +69,12 @@ loop-place-preserved g c =
     record {
       within = omega (arith, c.loop-place-test.true);
       done = c.in_ok-push_line.ensures.cause.done ∙ c.loop-place.invariant.done;
-      said = said_more line_of (zip (drop 1 (inputs g at)) (joints g at))
-          (left-from (inputs g at) (joints g at) i) (left-from (inputs g at) (joints g at) (i + 1))
-          (told g at) c.loop-place.buffer c.push_line.new.buffer _ _ _ c.loop-place.invariant.said
-          (next g at) (subst
-          (λ (j : Joint). SendsWaiting (c.loop-place.buffer ++ seam_line (told g at).0 j.seam)
+      said = said_more told_line (all g at) (left g at i) (left g at (i + 1)) (told g at)
+          c.loop-place.buffer c.push_line.new.buffer _ _ _ c.loop-place.invariant.said
+          (next g at) (subst (λ (l : List ℕ). SendsWaiting (c.loop-place.buffer ++ l)
           c.push_line.new.buffer
           (g.T.Sink.heard c.loop-place.out).sent (g.T.Sink.heard c.push_line.new.out).sent)
-          (sym c.index-joints-place.is) c.in_ok-push_line.ensures.passed);
+          (line-is g at) c.in_ok-push_line.ensures.passed);
     }
 
 pub returns-in_err-push_line-clause-prefix : goal.returns-in_err-push_line-clause-prefix
@@ -54,21 +82,20 @@ returns-in_err-push_line-clause-prefix g c =
     let at = (goal.at.returns-in_err-push_line-clause-prefix g c).After-push_line in
     let i = c.loop-place.place in
     on_err c.from_residual.result
-    (line_failed line_of (zip (drop 1 (inputs g at)) (joints g at))
-    (left-from (inputs g at) (joints g at) i) (left-from (inputs g at) (joints g at) (i + 1))
-    (told g at) c.loop-place.buffer _ _ _ c.loop-place.invariant.said (next g at)
-    (subst
-    (λ (j : Joint). SentPrefix (c.loop-place.buffer ++ seam_line (told g at).0 j.seam)
+    (line_failed told_line (all g at) (left g at i) (left g at (i + 1)) (told g at)
+    c.loop-place.buffer _ _ _ c.loop-place.invariant.said (next g at)
+    (subst (λ (l : List ℕ). SentPrefix (c.loop-place.buffer ++ l)
     (g.T.Sink.heard c.loop-place.out).sent
     (g.T.Sink.heard c.push_line.new.out).sent)
-    (sym c.index-joints-place.is) c.in_err-push_line.ensures.prefix))
+    (line-is g at) c.in_err-push_line.ensures.prefix))
 
 -- behind the loop all lines were sent or wait
 all-said : (g : given.Over) (c : After-finish g) → SendsWaiting
-    (flat_map line_of
-    (zip (drop 1 (input_names (map input_view c.args.inputs.now))) c.args.joints.now))
+    (flat_map told_line
+    (zip (drop 1 (input_names (map input_view c.args.inputs.now)))
+    (zip c.args.joints.now (drop 1 (map vec_items c.args.lost.now)))))
     c.loop-place.buffer (g.T.Sink.heard c.args.out.now).sent (g.T.Sink.heard c.loop-place.out).sent
-all-said g c = grind (arith, all_lines, line_of, left-from, left-none)
+all-said g c = grind (arith, all_lines, told_line, left-from, left-none)
 
 pub returns-clause-sent : goal.returns-clause-sent
 returns-clause-sent g c =

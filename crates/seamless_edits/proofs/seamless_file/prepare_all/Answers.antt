@@ -2,6 +2,7 @@
 use Rattle.std.proofs.Common.{ap, ap₂, arith, length, List, map, string_bytes, ◌∙◌, ◌≡◌, ◌≤◌}
 use Rattle.std.proofs.lemmas.List.{length-map, take_at, with_items_is}
 use Rattle.commands.proofs.RefusingLemmas.{err_with}
+use Rattle.commands.specs.declared.fault.EditFault.TheVariants.{Memory}
 use Rattle.join_edits.proofs.InputLemmas.{inputs-join}
 use Rattle.join_edits.specs.Inputs.{CanInputsBeJoined, input_names, input_view, InputFields}
 use Rattle.join_edits.specs.declared.inputs.JoinInput.{JoinInput}
@@ -10,7 +11,8 @@ use Rattle.seamless_edits.proofs.SeamlessCommandLemmas.{apart-decided, apart-nam
 use Rattle.seamless_edits.proofs.SeamlessCommandLemmas.{read-fault-early}
 use Rattle.seamless_edits.proofs.seamless_file.prepare_all.Goals.{After-deref-3, In_ok-inputs}
 use Rattle.seamless_edits.specs.Beginnings.{AreBeginnings, input_without_head}
-use Rattle.seamless_edits.specs.{Deciding.CanBeDecided, declared.beginnings.Beginning.Beginning}
+use Rattle.seamless_edits.specs.{Deciding.CanBeDecided, LostFrames.lost_in_input}
+use Rattle.seamless_edits.specs.declared.beginnings.Beginning.{Beginning}
 use Rattle.seamless_edits.proofs.seamless_file.prepare_all.Given as given
 use Rattle.seamless_edits.proofs.seamless_file.prepare_all.Goals as goal
 
@@ -59,6 +61,15 @@ returns-in_err-beginnings-clause-refused g c =
     c.in_ok-inputs.ensures.inputs
     (ap₂ seen_folder c.survey_all.ensures.reads.files c.in_ok-inputs.ensures.reads.done)
     (rw (c.deref.ensures.value, named g at) at c.in_err-beginnings.ensures.refused))
+
+pub returns-in_err-lost-clause-refused : goal.returns-in_err-lost-clause-refused
+returns-in_err-lost-clause-refused g c =
+    let at = (goal.at.returns-in_err-lost-clause-refused g c).In_ok-inputs in
+    err_with _ _ c.from_residual-in_err-lost.ensures.1
+    (read-fault-early (map string_bytes c.args.names.now) _ _ _ (found g at) Memory (named g at)
+    (some g at) c.in_ok-inputs.ensures.inputs
+    (ap₂ seen_folder c.survey_all.ensures.reads.files c.in_ok-inputs.ensures.reads.done)
+    (ap₂ seen_folder c.beginnings_of.ensures.reads.files c.in_ok-beginnings.ensures.reads.done))
 
 -- their heads are set apart
 module _ (g : given.Over) (c : After-deref-3 g) where
@@ -123,6 +134,10 @@ returns-clause-ready g c =
       joined = can g ready;
       begun = begun g now;
       inputs = grind (arith, with_items_is, new-long, new-is);
+      lost =
+          c.in_ok-lost.ensures.lost
+          ∙ ap (λ (l : List JoinInput). map lost_in_input (map input_view l))
+          c.deref_mut.ensures.value;
       made =
           grind (
             arith,

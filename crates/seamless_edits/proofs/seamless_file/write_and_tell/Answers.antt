@@ -112,7 +112,7 @@ returns-in-Ok-clause-says g c =
     ap (map input_view) (c.deref-2.ensures.value ∙ sym c.deref.ensures.value) in
     says-all (seamless_command output (names g at)) old
     (g.T.Sink.heard c.args.out.now) (g.T.Sink.heard c.send_lines.new.out) _
-    (λ all is. rw (other, now g at, named g at, c.as_slice.ensures.value)
+    (λ all is. rw (other, now g at, named g at, c.as_slice.ensures.value, c.deref-3.ensures.value)
     (ready-text (names g at) (some g at) old c.args.ready.now output all c.requires.ready is))
     c.in-Ok.ensures.sent c.in-Ok.ensures.cause.done
 
@@ -133,6 +133,6 @@ returns-in-Err-clause-says g c =
     ap (map input_view) (c.deref-2.ensures.value ∙ sym c.deref.ensures.value) in
     says-prefix (seamless_command output (names g at)) old
     (g.T.Sink.heard c.args.out.now) (g.T.Sink.heard c.send_lines.new.out) _
-    (λ all is. rw (other, now g at, named g at, c.as_slice.ensures.value)
+    (λ all is. rw (other, now g at, named g at, c.as_slice.ensures.value, c.deref-3.ensures.value)
     (ready-text (names g at) (some g at) old c.args.ready.now output all c.requires.ready is))
     c.in-Err.ensures.prefix c.in-Err.ensures.cause.failed
