@@ -1,14 +1,14 @@
 -- The inputs as sources of frames, and what is written from them.
 use Rattle.std.proofs.Common.{ap, append-nil, append_assoc, ap₂, arith, is_some, length, List, map}
-use Rattle.std.proofs.Common.{None, Ok, Option, refl, Result, Some, subst, sym, ℕ, [], ◌++◌, ◌+◌}
-use Rattle.std.proofs.{Common.{◌-◌, ◌∙◌, ◌∷◌, ◌≡◌, ◌≢◌, ◌≤◌}, lemmas.List.length-map}
+use Rattle.std.proofs.Common.{None, Ok, Option, refl, Result, Some, sym, ℕ, [], ◌++◌, ◌+◌, ◌-◌, ◌∙◌}
+use Rattle.std.proofs.{Common.{◌∷◌, ◌≡◌, ◌≢◌, ◌≤◌}, lemmas.List.length-map}
 use Rattle.std.proofs.lemmas.List.{Elements.{All-cons, All-nil}, FromFn.length-range_with_len}
 use Rattle.std.specs.{List.concat, Prelude.{flat_map, slice_get, unwrap_or}}
 use Rattle.commands.{proofs.MakeLemmas.{no_clash, other_name}, specs.AfterCall.HasNumbers}
 use Rattle.commands.specs.{Command.{AreSoundFiles, clash_from}, Refusing.then_made}
 use Rattle.commands.specs.SingleOutput.{first_input, IsMaking, most_frames}
 use Rattle.commands.specs.declared.fault.EditFault.{EditFault}
-use Rattle.frame_header.specs.{Fields.{ClassFields, IsSlot}, Tables.window_of}
+use Rattle.frame_header.specs.{Fields.ClassFields, Tables.window_of}
 use Rattle.frame_writer.specs.Frames.{bytes_of_frames}
 use Rattle.info_header.specs.InfoFrame.{info_frame}
 use Rattle.join_edits.proofs.{BehindLemmas.{rows-whole, within-whole}, InputLemmas.parts-all}
@@ -146,7 +146,7 @@ module _ (class : ClassFields) (output : List ℕ) (f : Contents) where
 -- ---- the file
 
 own_slots : AreSlots own_choice
-own_slots h slot is has = subst IsSlot (only_one h.slot slot has) is.slot
+own_slots h slot is has = rw (← (only_one h.slot slot has)) is.slot
 
 module _ (output : List ℕ) (f : Contents) (i : InputFields) (later : List InputFields)
     (can : CanInputsBeJoined (i ∷ later))
@@ -249,9 +249,7 @@ whole-is output (Told f) (i ∷ later) work some apart are ready file holds =
     work.info.items ready.plan.plan ready.info in
     let frames = relaid_frames (flat_map part_frames (map (part_in f) (i ∷ later)))
     (entries work.plan) in
-    subst (λ b. (concat (front_blocks b i.survey) ++ work.info.items) ++ bytes_of_frames frames
-    ≡ joined_file (map (part_in f) (i ∷ later)))
-    (ap (λ (o : Option (List ℕ)). unwrap_or o []) holds) told
+    rw (← (ap (λ (o : Option (List ℕ)). unwrap_or o []) holds)) told
 
 -- ---- the command, once all inputs have their surveys
 

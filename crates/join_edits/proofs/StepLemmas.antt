@@ -1,7 +1,7 @@
 -- Giving the inputs to the writer, one more at a time.
 use Rattle.std.proofs.Common.{append_assoc, arith, drop, get_or, length, List, map, refl}
-use Rattle.std.proofs.Common.{slice_index_or, subst, sym, ℕ, [], ◌++◌, ◌+◌, ◌-◌, ◌<◌, ◌∙◌, ◌∷◌, ◌≡◌}
-use Rattle.std.proofs.{Common.{◌≢◌, ◌≤◌}, lemmas.List.{drop-map, get_or-drop}}
+use Rattle.std.proofs.Common.{slice_index_or, sym, ℕ, [], ◌++◌, ◌+◌, ◌-◌, ◌<◌, ◌∙◌, ◌∷◌, ◌≡◌, ◌≢◌}
+use Rattle.std.proofs.{Common.◌≤◌, lemmas.List.{drop-map, get_or-drop}}
 use Rattle.std.specs.Prelude.{flat_map, slice_range, unwrap_or}
 use Rattle.frame_header.specs.{Fields.ClassFields, Tables.window_of}
 use Rattle.frame_writer.specs.Frames.{Frame, IsNextSettled, reach_of}
@@ -218,8 +218,7 @@ module _ {class : ClassFields} {key output : List ℕ} {whole : List ℕ → Lis
         → (IsNextSettled new.held → ⊥)
         → IsLaidTo class key output whole begun new first after later more
     next-laid new more is lays same reach unsettled =
-        subst (IsLaidTo class key output whole begun new first after later) is
-        (record {
+        rw (← is) (record {
           sources = here.sources.1;
           within = here.within.1;
           target = still_there files after output lays.passed output lays.files laid.target;
@@ -291,4 +290,4 @@ cause-named inputs place i output later size files before after fault is cause =
     grind (arith, drop-map, is) in
     let named : slice_index_or (input_names inputs) place [] ≡ i.name =
     grind (arith, here, get_or-drop)
-    in subst (λ n. HasPassCause (route n output size) files before after fault) (sym named) cause
+    in rw named cause

@@ -1,12 +1,9 @@
 -- The Info frame is about frames in the slots of the plan.
-use Rattle.std.proofs.{Common.{ap, arith, map, subst, sym, ◌∙◌, ◌≡◌}, lemmas.List.length-map}
-use Rattle.std.specs.Prelude.{slice_get, Some}
+use Rattle.std.proofs.{Common.{ap, arith, map, sym, ◌∙◌, ◌≡◌}, lemmas.List.length-map}
 use Rattle.info_header.specs.InfoFrame.{info_frame}
-use Rattle.join_edits.proofs.PlanLemmas.{alike-first, can-some, plan-few}
-use Rattle.join_edits.specs.Inputs.{input_view, InputFields}
-use Rattle.laying.specs.{Written.{info_for, plain_info}, declared.info.Kept.Kept}
+use Rattle.join_edits.{proofs.PlanLemmas.{alike-first, can-some, plan-few}, specs.Inputs.input_view}
+use Rattle.laying.specs.{Written.info_for, declared.info.Kept.Kept}
 use Rattle.slot_plan.specs.declared.needs.Placed.{Placed}
-use Rattle.sync_survey.specs.Row.{Row}
 use Rattle.join_edits.proofs.planned.prepare.Goals as goal
 
 pub input_at-requires : goal.input_at-requires
@@ -27,11 +24,7 @@ returns c =
       info = λ frames slots t is.
           let found = rw c.input_at.ensures at is in
           let same : i ≡ t = cc in
-          subst (λ (x : InputFields). (first : Row) → slice_get x.survey.frames 0 ≡ Some first
-          → c.info_bytes-info.result.items
-          ≡ info_frame first.header (plain_info x.survey.class frames))
-          same
-          (λ first found.
+          rw (← same) (λ first found.
           c.info_bytes-info.ensures first frames found
           (slots ∙ sym (ap (map (λ (p : Placed). p.slot)) c.placed.ensures))
           ∙ ap (λ (n : Kept).

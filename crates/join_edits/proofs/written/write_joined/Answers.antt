@@ -1,6 +1,6 @@
 -- The output is created, and then written by a pass over the inputs, which stay.
-use Rattle.std.proofs.Common.{ap, arith, drop, flat_map, List, map, refl, rules, subst, ℕ, [], ◌∙◌}
-use Rattle.std.proofs.Common.{◌∷◌, ◌≡◌, ◌≢◌}
+use Rattle.std.proofs.Common.{ap, arith, drop, flat_map, List, map, refl, rules, ℕ, [], ◌∙◌, ◌∷◌}
+use Rattle.std.proofs.Common.{◌≡◌, ◌≢◌}
 use Rattle.commands.proofs.OutputLemmas.{not_begun, output_whole, pass_fault, touches_prefix}
 use Rattle.commands.proofs.OutputLemmas.{touches_whole}
 use Rattle.commands.specs.SingleOutput.{files_holding, first_input}
@@ -38,7 +38,7 @@ module _ (g : given.Over) (c : In-Ok g) where
   sources = grind (arith, class-is)
 
   fits : FitsWork class inputs c.args.work.now
-  fits = subst (λ k. FitsWork k inputs c.args.work.now) class-is c.requires.can.fits
+  fits = rw (← class-is) c.requires.can.fits
 
   only : OnlyTouches (c.args.output.now ∷ []) old mid
   only = rw c.in-Ok.ensures.answer.created (emptied_touches _ _)
