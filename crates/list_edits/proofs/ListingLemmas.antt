@@ -1,7 +1,7 @@
 -- The lines of a text, line by line, and what is sent of them: the lines of entries, and a last
 -- one.
-use Rattle.std.proofs.Common.{ap, append-nil, append_assoc, List, subst, sym, ℕ, [], ◌++◌, ◌∙◌, ◌∷◌}
-use Rattle.std.proofs.{Common.◌≡◌, lemmas.Result.{on_err_weaker, on_ok_weaker}}
+use Rattle.std.proofs.Common.{ap, append-nil, append_assoc, List, sym, ℕ, [], ◌++◌, ◌∙◌, ◌∷◌, ◌≡◌}
+use Rattle.std.proofs.lemmas.Result.{on_err_weaker, on_ok_weaker}
 use Rattle.std.specs.Prelude.{flat_map, OnErr, OnOk, Result}
 use Rattle.outside.proofs.SentLemmas.{sent_more_on, sent_more_prefix, sent_none, sent_prefix_of}
 use Rattle.outside.proofs.SentLemmas.{sent_then_all, sent_then_prefix}
@@ -41,15 +41,14 @@ module _ {A : Type 0} (line : A → List ℕ) (all : List A) where
       → IsSaidTo line all left waits old now → left ≡ []
       → SendsWaiting (flat_map line all) waits old now
   all_lines left waits old now h is =
-      subst (λ text. SendsWaiting text waits old now)
-      (sym (h.lines ∙ ap (λ ts. h.done ++ flat_map line ts) is ∙ append-nil h.done)) h.sent
+      rw (h.lines ∙ ap (λ ts. h.done ++ flat_map line ts) is ∙ append-nil h.done) h.sent
 
   -- if a line failed, a prefix of all lines was sent
   pub line_failed : (left rest : List A) (t : A) (waits : List ℕ) (old now new : Sent)
       → IsSaidTo line all left waits old now → left ≡ t ∷ rest
       → SentPrefix (waits ++ line t) now new → SentPrefix (flat_map line all) old new
   line_failed left rest t waits old now new h is part =
-      subst (λ text. SentPrefix text old new) (sym (lines_split left rest t h.done is h.lines))
+      rw (lines_split left rest t h.done is h.lines)
       (sent_prefix_of (flat_map line rest) (sent_more_prefix (line t) h.sent part))
 
   module _ (last : List ℕ) where
@@ -81,7 +80,7 @@ module _ {A : Type 0} (line : A → List ℕ) (all : List A) where
         → SentPrefix (flat_map line all ++ last) old new
     last_failed left waits old now new h is part =
         let said = all_said left waits old now h is in
-        subst (λ text. SentPrefix text old new) (sym said.1) (sent_more_prefix last said.2 part)
+        rw said.1 (sent_more_prefix last said.2 part)
 
     -- with the last line the whole text was sent or waits
     pub last_more : (left : List A) (waits after : List ℕ) (old now new : Sent)
@@ -90,7 +89,7 @@ module _ {A : Type 0} (line : A → List ℕ) (all : List A) where
         → SendsWaiting (flat_map line all ++ last) after old new
     last_more left waits after old now new h is more =
         let said = all_said left waits old now h is in
-        subst (λ text. SendsWaiting text after old new) (sym said.1) (sent_more_on last said.2 more)
+        rw said.1 (sent_more_on last said.2 more)
 
 module _ {T E : Type 0} (r : Result T E) {text waits : List ℕ} {old now : Sent} (new : Sent)
     (so_far : SendsWaiting text waits old now) where

@@ -1,6 +1,6 @@
 -- What a command that sends a text of one file leaves, given the survey of its input.
-use Rattle.std.proofs.Common.{ap, ap₂, arith, Err, length, List, Ok, refl, Result, Some, subst, sym}
-use Rattle.std.{proofs.Common.{ℕ, [], ◌+◌, ◌∙◌, ◌≡◌}, specs.Prelude.{IfErr, OnErr, OnOk}}
+use Rattle.std.proofs.Common.{ap, ap₂, arith, Err, length, List, Ok, refl, Result, Some, sym, ℕ, []}
+use Rattle.std.{proofs.Common.{◌+◌, ◌∙◌, ◌≡◌}, specs.Prelude.{IfErr, OnErr, OnOk}}
 use Rattle.std.specs.Result.{IsErrAnd}
 use Rattle.commands.proofs.{MakeLemmas.{made-same, ok_made}, SurveyedLemmas.BeginsWithSurvey}
 use Rattle.commands.proofs.TellingLemmas.{says-all, says-prefix}
@@ -12,8 +12,8 @@ use Rattle.commands.specs.declared.fault.EditFault.TheVariants.{Memory, Sent as 
 use Rattle.list_edits.specs.TextCommand.{input_text, IsTextRun, surveyed_text, text_command}
 use Rattle.outside.{proofs.FilesLemmas.{there_holds, touches_none}, specs.BufferOutput.SentPrefix}
 use Rattle.outside.specs.Counts.{Counts, HasCause, OnlyReads}
-use Rattle.outside.specs.Files.{Contents, Files, Holds, IfTold, IsFileThere, OnlyTouches}
-use Rattle.outside.specs.{Files.{sent_and_more, Told, Untold}, Seen.{Heard, Seen, seen_folder}}
+use Rattle.outside.specs.Files.{Contents, Files, Holds, IfTold, IsFileThere, sent_and_more, Told}
+use Rattle.outside.specs.{Files.Untold, Seen.{Heard, Seen, seen_folder}}
 use Rattle.sync_survey.proofs.SurveyPartsLemmas.{survey_fields-allowed}
 use Rattle.sync_survey.proofs.SurveyedFileLemmas.{survey_of-parts}
 use Rattle.sync_survey.specs.{Faults.{IsWellFormed, SurveyFields}, Survey.survey_of}
@@ -69,7 +69,7 @@ module _ (text : List ℕ → SurveyFields → List ℕ) (input : List ℕ) wher
           (seen_folder new after)
       is_done = record {
         made = at files same gives;
-        touches = subst (λ fs. OnlyTouches [] files fs) (sym same) (touches_none [] files);
+        touches = rw same (touches_none [] files);
         counts = done;
       }
         where
@@ -92,7 +92,7 @@ module _ (text : List ℕ → SurveyFields → List ℕ) (input : List ℕ) wher
           at : (fs : Files) → HasAnswer (text_command text input) fs (Ok made_of)
               → IfTold fs (λ f. TakesMemory ((text_command text input).makes f))
           at (Untold touched) g = tt
-          at (Told f) g = subst TakesMemory (sym g) tt
+          at (Told f) g = rw g tt
 
     -- the command writes no output, so its streams hold
     pub holds_streams : HoldsStreams (text_command text input) files
@@ -102,7 +102,7 @@ module _ (text : List ℕ → SurveyFields → List ℕ) (input : List ℕ) wher
             → (made : Made) → ok_made made_of ≡ ok_made made
             → MakesStreams (text_command text input) f made
         none_written f bytes holds sound made e =
-            subst (MakesStreams (text_command text input) f) (made-same made_of made e)
+            rw (← (made-same made_of made e))
             (record { sources = ((bytes, holds, sound), tt); streams = tt })
 
         at : (fs : Files) → IsFileThere fs input

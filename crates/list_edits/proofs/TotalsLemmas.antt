@@ -1,7 +1,7 @@
 -- The totals of frames that are met in order.
 use Rattle.std.proofs.Common.{ap, ap₂, arith, Bool, drop, false, fold, get_or, length, List, max}
-use Rattle.std.proofs.Common.{min, None, Option, refl, Some, subst, sym, true, ℕ, [], ◌*◌, ◌+◌, ◌<◌}
-use Rattle.std.proofs.{Common.{◌∙◌, ◌∷◌, ◌≡◌, ◌≤◌}, lemmas.List.Sums.sum_by-cons}
+use Rattle.std.proofs.Common.{min, None, Option, refl, Some, sym, true, ℕ, [], ◌*◌, ◌+◌, ◌<◌, ◌∙◌}
+use Rattle.std.proofs.{Common.{◌∷◌, ◌≡◌, ◌≤◌}, lemmas.List.Sums.sum_by-cons}
 use Rattle.std.{proofs.lemmas.Option.slice_get_read, specs.List.filter}
 use Rattle.std.specs.Prelude.{if◌then◌else◌, slice_get, sum_by}
 use Rattle.frame_header.specs.Fields.{ClassFields}
@@ -53,8 +53,7 @@ pub at-first : (rows : List Row) (first : Row) (rate : ℕ) (h : HeaderTotals) (
 at-first rows first rate h s some is same header side =
     let there = slice_get_read rows (length rows) 0 first refl some is in
     let all = all-left rows first rate there same in
-    subst (λ (x : HeaderTotals). AreBefore rows rows x s) (sym header)
-    (subst (λ (x : SideTotals). AreBefore rows rows (no_headers rate) x) (sym side) all)
+    rw header (rw side all)
 
 -- ---- one more frame
 
@@ -96,10 +95,9 @@ pub before-next : (rows : List Row) (i : ℕ) (row : Row) (h g : HeaderTotals) (
     → AreBefore rows (drop i rows) h s → AreBefore rows (drop (i + 1) rows) g t
 before-next rows i row h g s t next header side before =
     let rest = drop (i + 1) rows in
-    let now = subst (λ (l : List Row). AreBefore rows l h s) next before in
+    let now = rw next at before in
     let more = before-more rows rest row h s now in
-    subst (λ (x : HeaderTotals). AreBefore rows rest x t) (sym header)
-    (subst (λ (x : SideTotals). AreBefore rows rest (with_header row.header h) x) (sym side) more)
+    rw header (rw side more)
 
 -- ---- what a frame adds with its side information
 

@@ -16,7 +16,6 @@ use Rattle.commands.specs.declared.fault.EditFault.TheVariants.{EqualNames, Inpu
 use Rattle.cut_edits.{proofs.HeadLemmas.head_is_file, specs.Heads.{HasHeadNumbers, IsHeadFault}}
 use Rattle.laying.specs.Laid.{LaidPart, stream_laid}
 use Rattle.outside.proofs.FilesLemmas.{there_holds, touches_more, touches_none}
-use Rattle.outside.specs.Counts.{HappenedTo}
 use Rattle.outside.specs.Files.{Contents, Files, Holds, IfTold, IsFileThere, OnlyTouches, Told}
 use Rattle.outside.specs.Seen.{Seen}
 use Rattle.requests.{proofs.NamesLemmas.names-length, specs.Names.piece_names}
@@ -93,7 +92,7 @@ module _ {X : Type 0} (cut : Cutting X) (proper : IsProperCutting cut) where
         let parts = then_ok (cut.between from to file s)
         (λ first. with_first first (piece_parts_from cut file s to tos)) ls e in
         let more = first-parts parts.0 (piece_parts_from cut file s to tos) ls parts.2 in
-        subst (Hold k) more.2 (
+        rw (← more.2) (
           proper.streams from to file s parts.0 octets survey_is parts.1,
           from-hold (k + 1) to tos more.0 more.1,
         )
@@ -380,8 +379,7 @@ module _ {X : Type 0} (cut : Cutting X) (proper : IsProperCutting cut) (input pr
               touches = names-touched old.files new.files only;
             };
             unwritten = λ k w. record {
-              rose = subst (λ n. HappenedTo n old.counts.write_faults new.counts.write_faults)
-                  (name-here prefix laid_survey pieces k few w.within named) w.rose;
+              rose = rw (← (name-here prefix laid_survey pieces k few w.within named)) w.rose;
               files = unfinished k new.files w.files;
             };
             unsent = λ w. absurd w;

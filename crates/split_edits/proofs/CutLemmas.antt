@@ -1,7 +1,7 @@
 -- What a file is cut into at positions, and at places of samples: no fault comes too early, and
 -- what is laid holds its stream.
 use Rattle.std.proofs.Common.{arith, Bool, cond, Err, length, List, None, Ok, Option, refl, Result}
-use Rattle.std.{proofs.Common.{Some, subst, ℕ, ◌≡◌}, specs.Prelude.{IfErr, IfSome, replicate}}
+use Rattle.std.{proofs.Common.{Some, ℕ, ◌≡◌}, specs.Prelude.{IfErr, IfSome, replicate}}
 use Rattle.commands.proofs.RefusingLemmas.{refusal_or-all, then_all, then_ok}
 use Rattle.commands.proofs.SheetLemmas.{sheet-all}
 use Rattle.commands.specs.AfterCall.{IsEditRefusal, IsLateFault, IsNotBefore}
@@ -80,8 +80,7 @@ frames-hold from to file s laid surveyed e =
     let same : own_slots_part parts.0 s ≡ laid = cc in
     let right = with_right None (replicate 36 0) (frame_at s.class (length s.frames) from)
     (frame_at s.class (length s.frames) to) s parts.0 refl parts.1 in
-    subst (λ (l : LaidPart). HoldsStream (file_laid l file s) (stream_laid l file s)) same
-    (chosen-holds parts.0 file s
+    rw (← same) (chosen-holds parts.0 file s
     (survey-had file most_frames s surveyed) right.some right.within right.extension)
 
 -- the cutting at positions is proper
@@ -128,10 +127,7 @@ exact-hold from to file s laid surveyed e =
     then_ok (file_span from to head s)
     (λ span. Ok (span_piece head span file (survey_without_head s))) laid e in
     let same : span_piece head parts.0 file (survey_without_head s) ≡ laid = cc in
-    subst (λ (l : LaidPart). HoldsStream (file_laid l file (survey_without_head s))
-    (stream_laid l file (survey_without_head s)))
-    same
-    (piece-holds head (head_long file s.head) parts.0 file (survey_without_head s)
+    rw (← same) (piece-holds head (head_long file s.head) parts.0 file (survey_without_head s)
     (survey_without_head-relaid file s surveyed)
     (span-survey_without_head s parts.0 (span-there from to head s parts.0 parts.1)))
 

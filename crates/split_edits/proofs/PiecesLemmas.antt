@@ -1,8 +1,8 @@
 -- Pieces, one more at a time, made from the places and written to the outputs.
 use Rattle.std.proofs.Common.{ap, append-nil, append_assoc, arith, bytes_eq, drop, Err, false}
 use Rattle.std.proofs.Common.{get_or, length, List, map, Ok, refl, Result, slice_index_or}
-use Rattle.std.proofs.Common.{string_bytes, subst, suc, sym, take, true, zero, ℕ, [], ◌++◌, ◌+◌}
-use Rattle.std.proofs.Common.{◌-◌, ◌<◌, ◌∙◌, ◌∷◌, ◌≡◌, ◌≢◌, ◌≤◌}
+use Rattle.std.proofs.Common.{string_bytes, suc, sym, take, true, zero, ℕ, [], ◌++◌, ◌+◌, ◌-◌, ◌<◌}
+use Rattle.std.proofs.Common.{◌∙◌, ◌∷◌, ◌≡◌, ◌≢◌, ◌≤◌}
 use Rattle.std.proofs.lemmas.List.{drop_all, get_or-take, length-map, take_all}
 use Rattle.std.proofs.lemmas.List.Elements.{All-cons, All-head, All-nil, All-tail, All-take}
 use Rattle.std.proofs.lemmas.List.{Folds.list_any_at, FromFn.take-map-range_with_len}
@@ -148,11 +148,11 @@ module _ (prefix : List ℕ) (s : SurveyFields) (pieces : List PlannedPiece)
   pub names-first : (k : ℕ) → length pieces ≤ 99 → ArePieces prefix s 1 pieces
       → All P (take (k + 1) (piece_names prefix)) → All P (take (k + 1) (names_of_pieces pieces))
   names-first k few are all =
-      subst (λ names. All P (take (k + 1) names)) (sym (names-prefix prefix s pieces few are))
+      rw (names-prefix prefix s pieces few are)
       (All-first P (k + 1) (length pieces) (piece_names prefix) all)
 
   -- what holds of all names of a prefix holds of the names of all pieces
   pub names-all : length pieces ≤ 99 → ArePieces prefix s 1 pieces → All P (piece_names prefix)
       → All P (names_of_pieces pieces)
-  names-all few are all = subst (All P) (sym (names-prefix prefix s pieces few are))
+  names-all few are all = rw (names-prefix prefix s pieces few are)
       (All-take P (length pieces) (piece_names prefix) all)

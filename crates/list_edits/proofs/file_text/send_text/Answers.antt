@@ -1,13 +1,13 @@
 -- What the call leaves, given the survey, what was read besides, and what was sent of the text.
-use Rattle.std.{proofs.Common.{ap₂, List, subst, sym, ℕ, ◌∙◌, ◌≡◌}, specs.Prelude.{IfErr, OnOk}}
+use Rattle.std.{proofs.Common.{ap₂, List, ℕ, ◌∙◌, ◌≡◌}, specs.Prelude.{IfErr, OnOk}}
 use Rattle.commands.proofs.SurveyedLemmas.{survey_left}
 use Rattle.commands.specs.AfterCall.{HasNumbers, IsCommandDone, IsCommandFault}
-use Rattle.commands.specs.{Command.HoldsStreams, SingleOutput.{IsFileFault, most_frames}}
+use Rattle.commands.specs.Command.{HoldsStreams}
 use Rattle.list_edits.proofs.TextLemmas.{begins, holds_streams, is_done, no_room, refused_run, says}
 use Rattle.list_edits.proofs.{TextLemmas.{told_by, unsent}, file_text.send_text.Goals.In_ok-text}
 use Rattle.list_edits.specs.TextCommand.{text_command}
-use Rattle.outside.{proofs.CountsLemmas.only_reads_same, specs.Counts.{Counts, OnlyReads}}
-use Rattle.outside.specs.{Files.Holds, Seen.seen_folder}
+use Rattle.outside.{proofs.CountsLemmas.only_reads_same, specs.{Counts.OnlyReads, Files.Holds}}
+use Rattle.outside.specs.Seen.{seen_folder}
 use Rattle.sync_survey.specs.Faults.{survey_view}
 use Rattle.list_edits.proofs.file_text.send_text.Given as given
 use Rattle.list_edits.proofs.file_text.send_text.Goals as goal
@@ -28,13 +28,12 @@ returns-in_err-text g c =
     let fault = c.in_err-text.field-0.0 in
     let files = c.survey_at.ensures.reads.files in
     let counts = c.in_ok-survey.ensures.reads.done in
-    let refused = subst (λ old. IsFileFault 0 most_frames input old new fault)
-    (ap₂ seen_folder files counts) c.in_err-text.ensures.refused in
+    let refused = rw (ap₂ seen_folder files counts) at c.in_err-text.ensures.refused in
     let end = c.from_residual-in_err-text in
     refused_run text input _ _ _ end.result _ end.ensures.1
     (survey_left (begins text input) _ _ _ refused) c.in_err-text.ensures.numbers
     (c.read.ensures.reads.files ∙ files)
-    (subst (λ (n : Counts). OnlyReads n new.counts) counts c.read.ensures.reads.counts)
+    (rw (← counts) c.read.ensures.reads.counts)
 
 -- the text of the input's bytes, where they are known, is the text from what was read
 text_is : (g : given.Over) (c : In_ok-text g) (bytes : List ℕ)
@@ -44,7 +43,7 @@ text_is : (g : given.Over) (c : In_ok-text g) (bytes : List ℕ)
 text_is g c bytes holds =
     let files = c.survey_at.ensures.reads.files in
     c.in_ok-text.ensures.text bytes
-    (subst (λ f. Holds f c.args.input.now bytes) (sym files) holds)
+    (rw files holds)
 
 -- neither files nor counts changed
 files_stay : (g : given.Over) (c : In_ok-text g)
@@ -59,7 +58,7 @@ only_read : (g : given.Over) (c : In_ok-text g) → OnlyReads
     (g.D.Folder.seen c.args.folder.now).counts (g.D.Folder.seen c.read.new.folder).counts
 only_read g c =
     let old = (g.D.Folder.seen c.args.folder.now).counts in
-    subst (λ (counts : Counts). OnlyReads old counts) (sym (counts_stay g c)) (only_reads_same old)
+    rw (counts_stay g c) (only_reads_same old)
 
 pub returns-in_err-buffer : goal.returns-in_err-buffer
 returns-in_err-buffer g c =

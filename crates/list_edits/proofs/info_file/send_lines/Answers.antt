@@ -1,9 +1,9 @@
 -- Line by line, then what waits.
-use Rattle.std.proofs.{Common.{arith, drop, subst, ◌++◌, ◌+◌, ◌∙◌}, lemmas.List.drop_all}
+use Rattle.std.proofs.{Common.{arith, drop, ◌+◌, ◌∙◌}, lemmas.List.drop_all}
 use Rattle.list_edits.proofs.InfoLemmas.{line-at}
 use Rattle.list_edits.proofs.ListingLemmas.{all_lines, line_failed, prefix_behind, said_more}
 use Rattle.list_edits.proofs.ListingLemmas.{said_none, sent_behind}
-use Rattle.outside.{proofs.BufferOutputLemmas.on_err, specs.BufferOutput.{SendsWaiting, SentPrefix}}
+use Rattle.outside.proofs.BufferOutputLemmas.{on_err}
 use Rattle.list_edits.proofs.info_file.send_lines.Goals as goal
 
 pub loop-line-init : goal.loop-line-init
@@ -20,9 +20,7 @@ loop-line-preserved g c =
           (drop (i + 1) lines) line c.loop-line.buffer c.push.new.self _ _ _
           c.loop-line.invariant.said (line-at lines i line
           (omega (arith, c.loop-line-test.true)) c.line-item.is)
-          (subst (λ l. SendsWaiting (c.loop-line.buffer ++ l) c.push.new.self
-          (g.T.Sink.heard c.loop-line.out).sent (g.T.Sink.heard c.push.new.sink).sent)
-          c.bytes.ensures c.in_ok-push.ensures.passed);
+          (rw (← c.bytes.ensures) c.in_ok-push.ensures.passed);
     }
 
 pub returns-in_err-push-clause-prefix : goal.returns-in_err-push-clause-prefix
@@ -34,8 +32,7 @@ returns-in_err-push-clause-prefix g c =
     (line_failed (λ l. l) lines (drop i lines) (drop (i + 1) lines) line c.loop-line.buffer _ _ _
     c.loop-line.invariant.said (line-at lines i line
     (omega (arith, c.loop-line-test.true)) c.line-item.is)
-    (subst (λ l. SentPrefix (c.loop-line.buffer ++ l) (g.T.Sink.heard c.loop-line.out).sent
-    (g.T.Sink.heard c.push.new.sink).sent) c.bytes.ensures c.in_err-push.ensures.prefix))
+    (rw (← c.bytes.ensures) c.in_err-push.ensures.prefix))
 
 pub returns-clause-sent : goal.returns-clause-sent
 returns-clause-sent g c =

@@ -1,7 +1,6 @@
 -- One frame more goes into the totals, until none is left.
-use Rattle.std.proofs.{Common.{ap, arith, subst}, lemmas.List.drop_all}
-use Rattle.list_edits.proofs.InfoLemmas.{row-at}
-use Rattle.list_edits.proofs.TotalsLemmas.{all-met, AreBefore, at-first, before-next}
+use Rattle.std.proofs.{Common.{ap, arith}, lemmas.List.drop_all}
+use Rattle.list_edits.proofs.{InfoLemmas.row-at, TotalsLemmas.{all-met, at-first, before-next}}
 use Rattle.list_edits.specs.declared.totals.{HeaderTotals.HeaderTotals, SideTotals.SideTotals}
 use Rattle.list_edits.proofs.totals.totals_of.Goals as goal
 
@@ -29,6 +28,6 @@ returns c =
     let none = drop_all i rows (omega (arith, c.loop-row-test.false)) in
     let headers = c.loop-row.headers in
     let sides = c.loop-row.sides in
-    let met = subst (λ l. AreBefore rows l headers sides) none before.before in
+    let met = rw none at before.before in
     all-met rows headers sides met (omega (arith, before.areas, c.loop-row-test.false))
     (omega (arith, before.lengths, c.loop-row-test.false))

@@ -1,14 +1,12 @@
 -- One more piece.
-use Rattle.std.proofs.Common.{ap, arith, drop, length, length-append, List, map, Ok, subst, sym}
-use Rattle.std.proofs.{Common.{take, [], ◌+◌, ◌-◌, ◌∙◌, ◌∷◌, ◌≡◌}, lemmas.List.map-append}
+use Rattle.std.proofs.Common.{ap, arith, drop, length, length-append, map, Ok, sym, take, [], ◌+◌}
+use Rattle.std.proofs.{Common.{◌-◌, ◌∙◌, ◌∷◌}, lemmas.List.map-append}
 use Rattle.std.proofs.lemmas.List.Elements.{All-drop, All-take}
-use Rattle.laying.proofs.RelayLemmas.{item-next}
-use Rattle.laying.specs.Laid.{IsWritableSelection, LaidPart, selected_part}
+use Rattle.laying.{proofs.RelayLemmas.item-next, specs.Laid.selected_part}
 use Rattle.laying.specs.declared.selected.Selected.{Selected}
-use Rattle.split_edits.proofs.PiecesLemmas.{fault-of-all, laid-is, laid_before, match_err}
-use Rattle.split_edits.proofs.PiecesLemmas.{pieces-push, place-laid, place-refused, places-laid}
-use Rattle.split_edits.proofs.piece.make_pieces.Goals.{After-to-item}
-use Rattle.split_edits.specs.{Cutting.piece_parts_from, Steps.piece_part}
+use Rattle.split_edits.proofs.PiecesLemmas.{fault-of-all, laid-is, match_err, pieces-push}
+use Rattle.split_edits.proofs.PiecesLemmas.{place-laid, place-refused, places-laid}
+use Rattle.split_edits.{proofs.piece.make_pieces.Goals.After-to-item, specs.Steps.piece_part}
 use Rattle.sync_survey.specs.Faults.{survey_view}
 use Rattle.split_edits.proofs.piece.make_pieces.Given as given
 use Rattle.split_edits.proofs.piece.make_pieces.Goals as goal
@@ -16,8 +14,8 @@ use Rattle.split_edits.proofs.piece.make_pieces.Goals as goal
 -- the place at which a piece ends is sound
 sound : (g : given.Over) (c : After-to-item g) → g.C.Cut.IsSound c.to-item.result
 sound g c =
-    subst g.C.Cut.IsSound (sym c.to-item.is)
-    (All-take g.C.Cut.IsSound (length c.args.places.now - 1) (drop 1 c.args.places.now)
+    rw c.to-item.is (All-take g.C.Cut.IsSound (length c.args.places.now - 1)
+    (drop 1 c.args.places.now)
     (All-drop g.C.Cut.IsSound 1 c.args.places.now c.requires.places.0)
     c.loop-to.to-index c.to-item.result (omega (arith, c.loop-to-test.true)))
 
@@ -40,18 +38,15 @@ loop-to-preserved g c =
                   arith,
                   at.invariant.many,
                   at.invariant.number,
-                )) c.in_ok-piece.ensures.name (subst
-                (IsWritableSelection (survey_view c.args.source.now.survey)) (sym
-                c.in_ok-piece.ensures.selected) c.in_ok-selected.ensures.writable),
+                )) c.in_ok-piece.ensures.name
+                (rw c.in_ok-piece.ensures.selected c.in_ok-selected.ensures.writable),
           );
       many = omega
           (arith, at.invariant.many, ap length items, length-append at.pieces.items (piece ∷ []));
       number = omega (arith, at.invariant.number);
       sound = sound g (goal.at.loop-to-preserved g c).After-to-item;
       laid = λ file s is.
-          subst (λ (done : List LaidPart).
-          laid_before done (piece_parts_from cut file s to (drop (at.to-index + 1) rest))
-          ≡ piece_parts_from cut file s c.index-places-0.result rest) (sym more)
+          rw more
           (place-laid cut file s at.to-index at.from.now rest (map piece_part at.pieces.items) _
           (at.invariant.laid file s is) to next (piece_part piece)
           (c.in_ok-selected.ensures.laid file s is

@@ -1,12 +1,11 @@
 -- A clash of names, faults met before the first output is created, and the second pass.
-use Rattle.std.proofs.Common.{ap, ap₂, arith, length, List, map, None, Ok, refl, rules, subst, sym}
-use Rattle.std.proofs.{Common.{ℕ, ◌∙◌, ◌≡◌, ◌≤◌}, lemmas.Result.{IfErr-weaker, on_ok_weaker}}
+use Rattle.std.proofs.Common.{ap, ap₂, arith, length, List, map, None, Ok, refl, rules, ℕ, ◌∙◌, ◌≡◌}
+use Rattle.std.proofs.{Common.◌≤◌, lemmas.Result.{IfErr-weaker, on_ok_weaker}}
 use Rattle.commands.proofs.MakeLemmas.{names_free, no_clash, refused_run}
 use Rattle.commands.{proofs.SurveyedLemmas.survey_left, specs.Command.clash_of}
 use Rattle.frame_writer.proofs.WritingLemmas.{ok-both}
-use Rattle.laying.specs.Surveys.{CanBeRelaid}
 use Rattle.outside.proofs.CountsLemmas.{none_fell_by_reads, none_fell_then, only_reads_then}
-use Rattle.outside.specs.{Counts.NoneFell, Files.{Files, Holds}, Seen.{Seen, seen_folder}}
+use Rattle.outside.specs.{Counts.NoneFell, Files.Holds, Seen.{Seen, seen_folder}}
 use Rattle.split_edits.proofs.CommandLemmas.{begins, clash-found, equal-left, head-left}
 use Rattle.split_edits.proofs.CommandLemmas.{head-numbers, memory-left, pieces-numbers, places-left}
 use Rattle.split_edits.proofs.CommandLemmas.{places-numbers, range-left, range-numbers, split-done}
@@ -15,8 +14,8 @@ use Rattle.split_edits.proofs.PiecesLemmas.{can-be-written, fault-of-all}
 use Rattle.split_edits.proofs.split_file.split_by.Goals.{After-as_slice, After-survey_at}
 use Rattle.split_edits.proofs.split_file.split_by.Goals.{In_ok-pieces}
 use Rattle.split_edits.specs.Cutting.{piece_parts, split_command}
-use Rattle.split_edits.specs.Steps.{ArePieces, IsSplitSource, piece_part, SaysPlaces}
-use Rattle.sync_survey.specs.Faults.{survey_view, SurveyFields}
+use Rattle.split_edits.specs.Steps.{IsSplitSource, piece_part, SaysPlaces}
+use Rattle.sync_survey.specs.Faults.{survey_view}
 use Rattle.split_edits.proofs.split_file.split_by.Given as given
 use Rattle.split_edits.proofs.split_file.split_by.Goals as goal
 
@@ -93,8 +92,7 @@ module _ (g : given.Over) (c : After-as_slice g) where
   mid = g.D.Folder.seen c.places.new.folder
 
   said : SaysPlaces (g.C.Cut.cutting c.args.cut.now) old.files (Ok c.as_slice.result.now)
-  said = subst (λ (files : Files). SaysPlaces (g.C.Cut.cutting c.args.cut.now) files
-      (Ok c.as_slice.result.now)) (c.read.ensures.reads.files ∙ c.survey_at.ensures.reads.files)
+  said = rw (← (c.read.ensures.reads.files ∙ c.survey_at.ensures.reads.files))
       (rw c.as_slice.ensures.value c.in_ok-places.ensures.places)
 
   stays : mid ≡ old
@@ -109,8 +107,7 @@ module _ (g : given.Over) (c : After-as_slice g) where
   known : (bytes : List ℕ) → Holds old.files c.args.input.now bytes
       → IsSplitSource (g.C.Cut.cutting c.args.cut.now) g.C.Cut.head c.in_ok-source.source bytes
       (survey_view c.in_ok-survey.survey)
-  known bytes holds = c.in_ok-source.ensures.source bytes (subst (λ (files : Files). Holds files
-      c.args.input.now bytes) (sym c.survey_at.ensures.reads.files) holds)
+  known bytes holds = c.in_ok-source.ensures.source bytes (rw c.survey_at.ensures.reads.files holds)
 
 pub returns-in_err-pieces : goal.returns-in_err-pieces
 returns-in_err-pieces g c =
@@ -157,8 +154,8 @@ write_pieces-requires-clause-split g c =
       laid = c.in_ok-source.ensures.laid;
       has = λ bytes holds.
           let is = known g at.After-as_slice bytes
-          (subst (λ (now : Seen). Holds now.files c.args.input.now bytes) same holds) in
-          subst (CanBeRelaid bytes) (sym is.survey) is.has;
+          (rw (← same) holds) in
+          rw is.survey is.has;
       few = omega (arith, some, ap length c.as_slice-2.ensures.value);
       ready = rw c.as_slice-2.ensures.value
           (can-be-written c.args.prefix.now c.args.input.now
@@ -180,7 +177,7 @@ returns g c =
     let survey = c.in_ok-survey.ensures in
     let pieces = c.in_ok-pieces.pieces.items in
     let named =
-    subst (λ (t : SurveyFields). ArePieces prefix t 1 pieces) by c.in_ok-pieces.ensures.pieces in
+    rw by at c.in_ok-pieces.ensures.pieces in
     let laid : (bytes : List ℕ) → Holds (old g at).files input bytes → piece_parts
     (g.C.Cut.cutting c.args.cut.now) bytes s c.as_slice.result.now ≡ Ok (map piece_part pieces) =
     λ bytes holds. c.in_ok-pieces.ensures.laid bytes s (known g at bytes holds) in

@@ -1,6 +1,6 @@
 -- One more piece is whole, or begun.
-use Rattle.std.proofs.Common.{arith, drop, length, refl, rules, string_bytes, subst, sym, take, []}
-use Rattle.std.proofs.{Common.{◌+◌, ◌∙◌, ◌∷◌, ◌≡◌, ◌≢◌}, lemmas.List.{length-take, take_all}}
+use Rattle.std.proofs.Common.{arith, drop, length, refl, rules, string_bytes, take, [], ◌+◌, ◌∙◌}
+use Rattle.std.proofs.{Common.{◌∷◌, ◌≡◌, ◌≢◌}, lemmas.List.{length-take, take_all}}
 use Rattle.commands.proofs.OutputLemmas.{not_begun, output_whole, pass_fault, touches_prefix}
 use Rattle.commands.proofs.OutputLemmas.{touches_whole}
 use Rattle.cut_edits.proofs.LaidPassLemmas.{relay-ready}
@@ -32,9 +32,7 @@ module _ (g : given.Over) (c : After-create g) where
 
   ready : (c.args.input.now ≢ string_bytes piece.name)
       × IsWritableSelection (survey_view c.args.survey.now) piece.selected
-  ready = subst (λ (p : PlannedPiece). (c.args.input.now ≢ string_bytes p.name)
-      × IsWritableSelection (survey_view c.args.survey.now) p.selected) (sym c.piece-item.is)
-      (c.requires.split.ready c.loop-piece.piece-index piece
+  ready = rw c.piece-item.is (c.requires.split.ready c.loop-piece.piece-index piece
       (omega (arith, c.loop-piece-test.true)))
 
   next : drop c.loop-piece.piece-index c.args.pieces.now

@@ -1,8 +1,4 @@
 -- The head that is lent is the one that was read.
-use Rattle.std.{proofs.Common.{Option, subst, ◌≡◌}, specs.Prelude.{OnErr, OnOk}}
-use Rattle.info_header.specs.declared.fields.Info.{Info}
-use Rattle.list_edits.specs.InfoText.{info_text}
-use Rattle.outside.specs.{BufferOutput.SentPrefix, Files.sent_and_more}
 use Rattle.sync_survey.specs.Faults.{survey_view}
 use Rattle.list_edits.proofs.info_file.FileInfoFileText.send.Goals as goal
 
@@ -12,9 +8,7 @@ returns-clause-sent g c =
     let s = survey_view c.args.survey.now in
     let old = heard c.args.out.now in
     let new = heard c.send_info.new.out in
-    subst (λ (h : Option Info).
-    OnOk c.send_info.result (new.sent ≡ sent_and_more old.sent (info_text h s)))
-    c.as_ref.ensures.value c.send_info.ensures.sent
+    rw (← c.as_ref.ensures.value) c.send_info.ensures.sent
 
 pub returns-clause-prefix : goal.returns-clause-prefix
 returns-clause-prefix g c =
@@ -22,6 +16,4 @@ returns-clause-prefix g c =
     let s = survey_view c.args.survey.now in
     let old = heard c.args.out.now in
     let new = heard c.send_info.new.out in
-    subst (λ (h : Option Info).
-    OnErr c.send_info.result (SentPrefix (info_text h s) old.sent new.sent))
-    c.as_ref.ensures.value c.send_info.ensures.prefix
+    rw (← c.as_ref.ensures.value) c.send_info.ensures.prefix

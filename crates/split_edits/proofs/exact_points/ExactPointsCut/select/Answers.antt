@@ -1,8 +1,8 @@
 -- The frames of the span, given the known survey and head.
-use Rattle.std.proofs.Common.{ap, inr, Option, subst, sym, ◌∙◌}
+use Rattle.std.proofs.Common.{ap, inr, Option, sym, ◌∙◌}
 use Rattle.cut_edits.specs.Exact.{file_span, span_piece}
 use Rattle.info_header.specs.declared.fields.Info.{Info}
-use Rattle.laying.specs.{Laid.selected_part, Surveys.CanBeRelaid}
+use Rattle.laying.specs.Laid.{selected_part}
 use Rattle.split_edits.proofs.CutLemmas.{exact-laid-is, exact-laid-refused, exact-points-refusal}
 use Rattle.split_edits.proofs.PiecesLemmas.{match_err}
 use Rattle.sync_survey.specs.Faults.{survey_view}
@@ -32,5 +32,5 @@ returns-clause-laid c = λ file s is.
     (selected_part c.in_ok-selected.selected)
     (ap (λ (h : Option Info). file_span from to h t) (sym c.as_ref-head.ensures.value)
     ∙ c.in_ok-span.ensures.span)
-    (c.in_ok-selected.ensures.laid file (subst (CanBeRelaid file) (sym is.survey) is.has)
+    (c.in_ok-selected.ensures.laid file (rw is.survey is.has)
     ∙ ap (λ (h : Option Info). span_piece h span file t) c.as_ref-head.ensures.value)
