@@ -1,6 +1,6 @@
 -- What the command leaves, given its steps.
-use Rattle.std.proofs.Common.{ap, ap₂, arith, Err, IfErr, inl, length, List, None, Ok, Option, refl}
-use Rattle.std.proofs.Common.{Result, slice_get, Some, subst, sym, ℕ, [], ◌∙◌, ◌∷◌, ◌≡◌, ◌≤◌}
+use Rattle.std.proofs.Common.{ap, ap₂, arith, Err, IfErr, length, List, None, Ok, Option, refl}
+use Rattle.std.proofs.Common.{Result, Some, sym, ℕ, [], ◌∙◌, ◌∷◌, ◌≡◌, ◌≤◌}
 use Rattle.std.{proofs.lemmas.List.length-map, specs.Result.IsErrAnd}
 use Rattle.bit_fields.specs.Bits.{AreBytes}
 use Rattle.commands.proofs.{MakeLemmas.pass_run, RefusingLemmas.before_first}
@@ -20,11 +20,11 @@ use Rattle.outside.specs.Files.{Contents, Files, Holds, IfTold, IsFileMissing, I
 use Rattle.outside.specs.{Files.Untold, Seen.{Seen, seen_folder}}
 use Rattle.salvage.proofs.LaidOutLemmas.{damaged_of-is, read-laid}
 use Rattle.salvage.proofs.ReadFaultLemmas.{damaged_of-short}
-use Rattle.salvage.specs.DamagedFiles.{damaged_by, damaged_fields, damaged_from, damaged_of}
-use Rattle.salvage.specs.DamagedFiles.{DamagedFields, excess_or_damaged, IsDamagedFault}
-use Rattle.salvage.specs.DamagedFiles.{IsDamagedOf, most_frames, no_frame_or_damaged}
-use Rattle.salvage.specs.{DamagedFiles.RefusesDamaged, EmptiedFrames.emptied_from}
-use Rattle.salvage.specs.{Text.salvage_text, Walk.first_frame, declared.mended.Mended.Mended}
+use Rattle.salvage.specs.DamagedFiles.{damaged_by, damaged_fields, damaged_of, DamagedFields}
+use Rattle.salvage.specs.DamagedFiles.{excess_or_damaged, IsDamagedFault, IsDamagedOf}
+use Rattle.salvage.specs.DamagedFiles.{no_frame_or_damaged, RefusesDamaged}
+use Rattle.salvage.specs.{EmptiedFrames.emptied_from, Text.salvage_text, Walk.first_frame}
+use Rattle.salvage.specs.declared.mended.Mended.{Mended}
 use Rattle.salvage_edits.proofs.HadLemmas.{damaged_fields-relaid}
 use Rattle.salvage_edits.proofs.OrderLemmas.{report-text-same, reports-order}
 use Rattle.salvage_edits.proofs.StreamLemmas.{salvaged-holds}
@@ -42,8 +42,7 @@ use Rattle.sync_survey.specs.declared.places.PlacedFrame.{PlacedFrame}
 use Rattle.sync_survey.specs.declared.survey_fault.SurveyFault.{SurveyFault}
 use Rattle.sync_survey.specs.declared.survey_fault.SurveyFault.TheVariants.{Absent}
 use Rattle.sync_survey.specs.declared.survey_fault.SurveyFault.TheVariants.{Memory as NoRoom, Read}
-use Rattle.sync_survey.specs.declared.survey_fault.SurveyFault.TheVariants.{Shrunk, TooLong}
-use Rattle.sync_survey.specs.declared.surveys.Survey.{Survey}
+use Rattle.sync_survey.specs.declared.survey_fault.SurveyFault.TheVariants.{Shrunk}
 
 -- ---- a file that may be read
 
@@ -66,20 +65,15 @@ read-where (Some file) bytes e = read-by file bytes (damaged_of file) refl e
 
 many-late : (file : List ℕ) (o : Option Row) (d : DamagedFields)
     → IfErr (salvaged_or_fault file (excess_or_damaged o d)) IsLateFault
-many-late file None d = tt
-many-late file (Some r) d = refl
+many-late file o d = grind arith
 
 no_frame_or_damaged-late : (file : List ℕ) (front_end : ℕ) (rows : List Row) (d : DamagedFields)
     → IfErr (salvaged_or_fault file (no_frame_or_damaged front_end rows d)) IsLateFault
-no_frame_or_damaged-late file front_end [] d = refl
-no_frame_or_damaged-late file front_end (r ∷ rows) d =
-    many-late file (slice_get (r ∷ rows) most_frames) d
+no_frame_or_damaged-late file front_end rows d = grind (arith, many-late)
 
 read-late : (file : List ℕ) (front_end : ℕ) (o : Option PlacedFrame)
     → IfErr (salvaged_or_fault file (damaged_by file front_end o)) IsLateFault
-read-late file front_end None = refl
-read-late file front_end (Some first) = no_frame_or_damaged-late file front_end
-    (damaged_from file front_end first).survey.frames (damaged_from file front_end first)
+read-late file front_end o = grind (arith, no_frame_or_damaged-late)
 
 damaged_fields-late : (file : List ℕ)
     → IfErr (salvaged_or_fault file (damaged_fields file)) IsLateFault
@@ -90,9 +84,7 @@ damaged_fields-late file = read-late file (front_end_of file) (first_frame file 
 pub salvage-late : (input : List ℕ) (f : Contents) (bytes : List ℕ) → f input ≡ Some bytes
     → length bytes ≤ longest_file → IfErr ((salvage_task input).makes f) IsLateFault
 salvage-late input f bytes held few =
-    subst (λ o. IfErr (input_salvaged o) IsLateFault) (sym held)
-    (subst (λ r. IfErr (salvaged_or_fault bytes r) IsLateFault)
-    (sym (damaged_of-short bytes few)) (damaged_fields-late bytes))
+    rw (held, damaged_of-short bytes few) (damaged_fields-late bytes)
 
 made-holds : (bytes new : List ℕ) (r : Result DamagedFields SurveyFault) → damaged_of bytes ≡ r
     → salvaged_or_fault bytes r ≡ Ok new → HoldsStream new (left_stream_or_none bytes r)
@@ -118,14 +110,11 @@ module _ (input : List ℕ) where
   refuses-bytes : (files : Files) (fault : SurveyFault) → IsFileThere files input
       → ((bytes : List ℕ) → Holds files input bytes → damaged_of bytes ≡ Err fault)
       → TaskRefuses (salvage_task input) files (Input 0 fault)
-  refuses-bytes (Untold touched) fault there is = tt
-  refuses-bytes (Told f) fault there is = let held = there_holds f input there in
-      ap input_salvaged held.1 ∙ ap (salvaged_or_fault held.0) (is held.0 held.1)
+  refuses-bytes files fault there is = grind (arith, there_holds)
 
   refuses-absent : (files : Files) → IsFileMissing files input
       → TaskRefuses (salvage_task input) files (Input 0 Absent)
-  refuses-absent (Untold touched) missing = tt
-  refuses-absent (Told f) missing = ap input_salvaged missing
+  refuses-absent files missing = grind arith
 
   module _ (files after : Files) (before counts : Counts) (same : after ≡ files) where
     rejected : (fault : SurveyFault) → RefusesDamaged input files before counts fault
@@ -154,9 +143,7 @@ module _ (input : List ℕ) where
   -- a fault of reading has the right numbers
   pub early-numbers : (fault : SurveyFault) → HasRightNumbers fault
       → HasTaskNumbers (salvage_task input) (input_edit_fault fault)
-  early-numbers (TooLong n) h = (omega arith, λ e. absurd cc, h, inl refl)
-  early-numbers NoRoom h = tt
-  early-numbers _ h = (omega arith, λ e. absurd cc, h, inl refl)
+  early-numbers fault h = grind arith
 
   -- running out of memory, once the input was read
   pub early-memory : (old new : Seen) (d : DamagedFields) → IsFileThere old.files input
@@ -173,9 +160,9 @@ module _ (input : List ℕ) where
       → IsErrAnd r (λ y. y ≡ fault) → ReadsDamaged {T = T} input (Err fault) old new
       → ReadsDamaged input r old new
   fault-on (Ok x) is reads = absurd is
-  fault-on {old = old} {new = new} (Err e) is reads = record {
-    refused = subst (IsEarlyFault (salvage_task input) old new) (sym is) reads.refused;
-    numbers = subst (HasTaskNumbers (salvage_task input)) (sym is) reads.numbers;
+  fault-on (Err e) is reads = record {
+    refused = rw is reads.refused;
+    numbers = rw is reads.numbers;
     done = tt;
     files = reads.files;
     counts = reads.counts;
@@ -200,8 +187,7 @@ module _ (input : List ℕ) where
   -- the file can be relaid by the survey of what was read
   mended-has : (files : Files) (m : Mended) (is : IsMended input files m) → (bytes : List ℕ)
       → Holds files input bytes → CanBeRelaid bytes (survey_view m.survey)
-  mended-has files m is bytes holds = subst (CanBeRelaid bytes) (sym is.survey)
-      (damaged_fields-relaid bytes
+  mended-has files m is bytes holds = rw is.survey (damaged_fields-relaid bytes
       is.of (damaged_of-is bytes is.of (is.read bytes holds)).1 is.laid)
 
   -- the work that was made from what is left is prepared for the pass
@@ -219,9 +205,7 @@ module _ (input : List ℕ) where
     layable = work_layable m.survey selected work.laid made input files there placed
         (mended-has files m is) own.writable;
     survey = ap survey_view made.survey_is ∙ is.survey;
-    selected = subst (λ (s : Survey). IsSelected own_choice (all_chosen (survey_view s))
-        (survey_view s) work.laid.selected) (sym made.survey_is) (subst (IsSelected own_choice
-        (all_chosen (survey_view m.survey)) (survey_view m.survey)) (sym made.selected_is) own);
+    selected = rw made.survey_is (rw made.selected_is own);
     unsaid = unsaid;
     reports = reports is.of is.emptied is.gaps;
   }

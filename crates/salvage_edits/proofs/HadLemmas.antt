@@ -1,8 +1,8 @@
 -- What is left of a damaged file, where emptied frames have no main data, is in the file as its
 -- survey says.
 use Rattle.std.proofs.Common.{arith, Bool, cond, drop, false, length, List, ltb, map, None, Ok}
-use Rattle.std.proofs.Common.{Option, refl, Some, subst, suc, sym, true, zero, ℕ, [], ◌++◌, ◌+◌}
-use Rattle.std.{proofs.{Common.{◌∷◌, ◌≡◌, ◌≤◌}, lemmas.List.map-append}, specs.List.cons_option}
+use Rattle.std.proofs.Common.{Option, refl, Some, suc, true, zero, ℕ, [], ◌++◌, ◌+◌, ◌∷◌, ◌≡◌, ◌≤◌}
+use Rattle.std.{proofs.lemmas.List.map-append, specs.List.cons_option}
 use Rattle.cut_edits.proofs.HeadLemmas.{emptied_whole}
 use Rattle.frame_header.specs.{Fields.ClassFields, Tables.{class_of, length_of}}
 use Rattle.laying.proofs.BlockLemmas.{block_more, blocks-append, ends-blocks}
@@ -68,8 +68,8 @@ module _ (file : List ℕ) where
 
   runs-paired : (head : Option Head) (ts : List PlacedThing)
       → ArePaired (judged_runs file head (runs_of ts))
-  runs-paired head ts = subst ArePaired (sym (runs-left file head ts))
-      (left-paired (record { place = head_area head; ended = 0 }) ts)
+  runs-paired head ts =
+      rw (runs-left file head ts) (left-paired (record { place = head_area head; ended = 0 }) ts)
 
   rows-whole : (class : ClassFields) (from to : ℕ) (rows : List Row) → to ≤ length file
       → RowsAreOfClass class rows → FramesAreLaid from rows to → ArePaired rows
@@ -132,8 +132,7 @@ module _ (file : List ℕ) where
   all-blocks first =
       let front = item_run Front file 0 in
       let found = things_from file first in
-      subst AreBlocks
-      (sym (map-append (block_bytes file) (blocks_of front.items) (blocks_of_things found)))
+      rw (map-append (block_bytes file) (blocks_of front.items) (blocks_of_things found))
       (blocks-append (map (block_bytes file) (blocks_of front.items))
       (map (block_bytes file) (blocks_of_things found))
       (ends-blocks Front file 0 front.items front.stop (item_run-ends Front file 0))
@@ -163,6 +162,5 @@ pub damaged_fields-relaid : (file : List ℕ) (d : DamagedFields) → damaged_fi
     → IsDamagedLaidOut d → CanBeRelaid file (emptied_survey d.survey)
 damaged_fields-relaid file d e laid =
     let is = damaged_fields-from file d e in
-    subst (λ (c : DamagedFields). CanBeRelaid file (emptied_survey c.survey)) is.same
-    (begun-had file (front_end_of file) is.first (first-whole file
-    (front_end_of file) is.first is.first_is) (subst IsDamagedLaidOut (sym is.same) laid))
+    rw (← is.same) (begun-had file (front_end_of file) is.first (first-whole file
+    (front_end_of file) is.first is.first_is) (rw is.same laid))

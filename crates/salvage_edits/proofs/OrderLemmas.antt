@@ -1,8 +1,7 @@
 -- Gaps and emptied frames are each in order of offset, and the text of the report is the text of
 -- what was read.
 use Rattle.std.proofs.Common.{ap₂, arith, Bool, cond, false, length, List, map, None, refl, Some}
-use Rattle.std.proofs.Common.{subst, sym, true, ℕ, [], ◌+◌, ◌∙◌, ◌∷◌, ◌≡◌, ◌≤◌}
-use Rattle.std.specs.List.{cons_option}
+use Rattle.std.{proofs.Common.{sym, true, ℕ, [], ◌+◌, ◌∙◌, ◌∷◌, ◌≡◌, ◌≤◌}, specs.List.cons_option}
 use Rattle.frame_header.specs.Tables.{class_of, length_of}
 use Rattle.salvage.specs.{DamagedFiles.DamagedFields, EmptiedFrames.emptied_from}
 use Rattle.salvage.specs.Progress.{GapsAreLaid, IsDamagedLaidOut}
@@ -45,9 +44,8 @@ emptied-rise from to number (r ∷ rows) laid =
 pub reports-order : (d : DamagedFields) (r : Report) → IsDamagedLaidOut d → IsReportOf d r
     → IsReportInOrder r
 reports-order d r laid reports = record {
-  gaps = subst (λ gs. RisesBy line_offset 0 (map First gs)) (sym reports.gaps)
-      (gaps-rise 0 d.survey.length d.gaps laid.gaps);
-  emptied = subst (λ es. RisesBy line_offset 0 (map Second es)) (sym reports.emptied)
+  gaps = rw reports.gaps (gaps-rise 0 d.survey.length d.gaps laid.gaps);
+  emptied = rw reports.emptied
       (rises_from line_offset 0 d.survey.first (map Second (emptied_from 0 d.survey.frames))
       (omega arith) (emptied-rise d.survey.first d.survey.length 0 d.survey.frames laid.frames));
 }

@@ -1,9 +1,9 @@
 -- The stream of the file that is written for a damaged one: what is left, run by run.
 use Rattle.std.proofs.Common.{ap, ap₂, arith, Bool, cond, false, length, List, map, Ok, Option}
-use Rattle.std.proofs.Common.{refl, subst, sym, true, ℕ, [], ◌++◌, ◌+◌, ◌∙◌, ◌∷◌, ◌≡◌}
+use Rattle.std.proofs.Common.{refl, sym, true, ℕ, [], ◌++◌, ◌+◌, ◌∙◌, ◌∷◌, ◌≡◌}
 use Rattle.std.specs.{List.enumerate_from, Prelude.{flat_map, slice_range}}
 use Rattle.cut_edits.proofs.ChosenLemmas.{chosen-holds}
-use Rattle.cut_edits.specs.Chosen.{chosen_file, chosen_stream, own_slots_plan}
+use Rattle.cut_edits.specs.Chosen.{chosen_stream, own_slots_plan}
 use Rattle.laying.{proofs.PlacesLemmas.range-whole, specs.Relaid.stream_with_lead_ins}
 use Rattle.salvage.proofs.{MendedLemmas.survey-mended, StreamLemmas.{payload_none, stream-told}}
 use Rattle.salvage.specs.{DamagedFiles.{damaged_fields, DamagedFields}, Progress.IsDamagedLaidOut}
@@ -112,6 +112,5 @@ module _ (file : List ℕ) (d : DamagedFields) (is : damaged_fields file ≡ Ok 
   pub salvaged-holds : HoldsStream (salvaged_file file d) (left_stream file d)
   unfolding salvaged_file
   salvaged-holds =
-      subst (HoldsStream (chosen_file (all_chosen own) file own)) (sym left-is)
-      (chosen-holds (all_chosen own) file own (damaged_fields-relaid file d is laid)
+      rw left-is (chosen-holds (all_chosen own) file own (damaged_fields-relaid file d is laid)
       (survey-mended d laid).some (omega arith) refl)

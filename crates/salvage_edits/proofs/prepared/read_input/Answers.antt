@@ -1,10 +1,8 @@
 -- A fault of reading is one of the only input; what was read is mended.
-use Rattle.std.proofs.{Common.{ap, ap₂, arith, length, subst, sym}, lemmas.List.length-map}
-use Rattle.commands.specs.SingleOutput.{HasTaskNumbers, IsEarlyFault}
+use Rattle.std.proofs.{Common.{ap, ap₂, arith, length}, lemmas.List.length-map}
 use Rattle.outside.specs.Seen.{seen_folder}
 use Rattle.salvage.specs.DamagedFiles.{damaged_view}
 use Rattle.salvage_edits.proofs.CommandLemmas.{early-fault, early-memory, early-numbers}
-use Rattle.salvage_edits.specs.Salvaged.{salvage_task}
 use Rattle.sync_survey.specs.{Faults.SurveyFields, HeadApart.emptied_row}
 use Rattle.salvage_edits.proofs.prepared.read_input.Goals as goal
 
@@ -12,14 +10,13 @@ pub returns-in-Err-clause-reads : goal.returns-in-Err-clause-reads
 returns-in-Err-clause-reads g c =
     let state = g.D.Folder.seen in
     record {
-      refused =
-          subst (IsEarlyFault (salvage_task c.args.input.now) (state c.args.folder.now)
-          (state c.read_damaged.new.folder)) (sym c.into.ensures)
+      refused = rw c.into.ensures
           (early-fault c.args.input.now (state c.args.folder.now).files
           (state c.read_damaged.new.folder).files (state c.args.folder.now).counts
           (state c.read_damaged.new.folder).counts c.read_damaged.ensures.files c.in-Err.fault
           c.in-Err.ensures.refused);
-      numbers = subst (HasTaskNumbers (salvage_task c.args.input.now)) (sym c.into.ensures)
+      numbers =
+          rw c.into.ensures
           (early-numbers c.args.input.now c.in-Err.fault c.in-Err.ensures.numbers);
       done = tt;
       files = c.read_damaged.ensures.files;
