@@ -1,7 +1,6 @@
 -- A sheet that is there and isn't too large.
-use Rattle.std.proofs.Common.{ap, Bool, cond, Err, false, length, List, nat_lt, None, Ok, Option}
-use Rattle.std.proofs.Common.{refl, Some, subst, true, ℕ, ◌∙◌, ◌≡◌, ◌≤◌}
-use Rattle.std.proofs.lemmas.Bool.{le-ltb, ltb-false}
+use Rattle.std.proofs.Common.{ap, arith, Bool, cond, Err, length, List, nat_lt, Ok, Option, Some, ℕ}
+use Rattle.std.proofs.{Common.{◌∙◌, ◌≡◌, ◌≤◌}, lemmas.Bool.{le-ltb, ltb-false}}
 use Rattle.commands.specs.{Sheet.sheet_in, declared.fault.EditFault.TheVariants.Refused}
 use Rattle.commands.specs.declared.fault.Refusal.TheVariants.{SheetTooLarge}
 use Rattle.cue_sheet.specs.Limits.{longest_sheet}
@@ -14,19 +13,11 @@ pub record IsSheet (o : Option (List ℕ)) (bytes : List ℕ) : Type 0 where
 small-sheet : (sheet bytes : List ℕ) (large : Bool) → nat_lt longest_sheet (length sheet) ≡ large
     → cond large (Err (Refused (SheetTooLarge (length sheet)))) (Ok sheet) ≡ Ok bytes
     → IsSheet (Some sheet) bytes
-small-sheet sheet bytes true is e = absurd cc
-small-sheet sheet bytes false is e =
-    let same : sheet ≡ bytes = cc in
-    record {
-      there = ap Some same;
-      small = subst (λ (l : List ℕ). length l ≤ longest_sheet) same
-          (ltb-false longest_sheet (length sheet) is);
-    }
+small-sheet sheet bytes large is e = grind (arith, ltb-false)
 
 -- a sheet that isn't refused is there, and isn't too long
 pub sheet-is : (o : Option (List ℕ)) (bytes : List ℕ) → sheet_in o ≡ Ok bytes → IsSheet o bytes
-sheet-is None bytes e = absurd cc
-sheet-is (Some sheet) bytes e = small-sheet sheet bytes (nat_lt longest_sheet (length sheet)) refl e
+sheet-is o bytes e = grind (arith, small-sheet)
 
 -- a sheet that is there and isn't too long isn't refused
 pub is-sheet : (o : Option (List ℕ)) (bytes : List ℕ) → IsSheet o bytes → sheet_in o ≡ Ok bytes

@@ -1,6 +1,6 @@
 -- A command that reads one file: the faults of its input, and what it makes of the file.
 use Rattle.std.proofs.Common.{ap, arith, Bool, Err, false, IfErr, length, List, Ok, Option, refl}
-use Rattle.std.proofs.Common.{Result, Some, subst, sym, unwrap_or, ℕ, [], ◌∙◌, ◌∷◌, ◌≡◌, ◌≤◌}
+use Rattle.std.proofs.Common.{Result, Some, sym, unwrap_or, ℕ, [], ◌∙◌, ◌∷◌, ◌≡◌, ◌≤◌}
 use Rattle.bit_fields.specs.Bits.{AreBytes}
 use Rattle.commands.proofs.NamedLemmas.{lost_name, missed_name, unread_name}
 use Rattle.commands.proofs.{RefusingLemmas.before_first, WhyLemmas.{each_refusal, each_why}}
@@ -12,8 +12,7 @@ use Rattle.commands.specs.SingleOutput.{IsFileFault, IsInputFault, IsMaking, IsP
 use Rattle.commands.specs.SingleOutput.{made_file, Making, most_frames, surveyed_result}
 use Rattle.commands.specs.{SingleOutput.TaskRefuses, declared.fault.EditFault.EditFault}
 use Rattle.commands.specs.declared.fault.{EditFault.TheVariants.{Input, Memory}, Refusal.Refusal}
-use Rattle.outside.specs.Files.{Contents, Files, Holds, IfTold, IsFileThere, Told, Untold}
-use Rattle.outside.specs.Seen.{Seen}
+use Rattle.outside.specs.{Files.{Contents, Files, Holds, IfTold, IsFileThere}, Seen.Seen}
 use Rattle.sync_survey.proofs.BytesFaultLemmas.{IsOfBytes, survey_fields-of_bytes}
 use Rattle.sync_survey.proofs.FoldersLemmas.{survey_of-short}
 use Rattle.sync_survey.proofs.SurveyedFileLemmas.{survey_of-parts, survey_of-sound}
@@ -128,21 +127,7 @@ module _ (make : Making) (stream : List ℕ → List StreamFrame) (refuses : Ref
       → ((bytes : List ℕ) → Holds files input bytes → AreBytes bytes)
       → ((bytes : List ℕ) → Holds files input bytes → make bytes s ≡ Ok (made bytes))
       → IsMaking (file_task make stream refuses input) made files
-  file_makes files made s there is octets makes =
-      record { there = there; makes = at files is octets makes }
-    where
-      at : (files : Files)
-          → ((bytes : List ℕ) → Holds files input bytes → survey_of bytes most_frames ≡ Ok s)
-          → ((bytes : List ℕ) → Holds files input bytes → AreBytes bytes)
-          → ((bytes : List ℕ) → Holds files input bytes → make bytes s ≡ Ok (made bytes))
-          → IfTold files (λ f. (bytes : List ℕ) → f input ≡ Some bytes
-          → AreBytes bytes × (input_result make (f input) ≡ Ok (made bytes)))
-      at (Untold touched) is octets makes = tt
-      at (Told f) is octets makes = λ bytes holds. (
-        octets bytes holds,
-        ap (input_result make) holds ∙ made-survey make bytes s (is bytes holds)
-            ∙ makes bytes holds,
-      )
+  file_makes files made s there is octets makes = grind (arith, made-survey)
 
 -- ---- what such a command has to satisfy
 
@@ -181,8 +166,7 @@ module _ (make : Making) (stream : List ℕ → List StreamFrame)
   file_streams f input bytes new held octets is =
       let parts = made_parts make bytes new (ap (input_result make) (sym held) ∙ is) in (
         ((bytes, held, survey_of-sound bytes most_frames parts.0 parts.1), tt),
-        subst (λ o. HoldsStream new (stream (unwrap_or o []))) (sym held)
-            (proper.streams bytes parts.0 new octets parts.1 parts.2),
+        rw held (proper.streams bytes parts.0 new octets parts.1 parts.2),
       )
 
   -- a command that reads one file is proper if what it makes is

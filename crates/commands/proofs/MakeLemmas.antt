@@ -117,8 +117,7 @@ module _ (task : Task) (output : List ℕ) (free : clash_in task output ≡ None
 
     module _ (old new : Seen) (fault : EditFault) where
       stays_touched : new.files ≡ old.files → OnlyTouches (output ∷ []) old.files new.files
-      stays_touched stays = subst (λ files. OnlyTouches (output ∷ []) old.files files) (sym stays)
-          (touches_none (output ∷ []) old.files)
+      stays_touched stays = rw stays (touches_none (output ∷ []) old.files)
 
       -- a fault met before the output is created is a fault of the command
       pub early_left : IsEarlyFault task old new fault

@@ -1,5 +1,5 @@
 -- The file that a fault is about, by its place among the inputs.
-use Rattle.std.proofs.Common.{List, refl, slice_index_or, subst, sym, ℕ, [], ◌∙◌, ◌∷◌, ◌≡◌}
+use Rattle.std.proofs.Common.{List, refl, slice_index_or, sym, ℕ, [], ◌∙◌, ◌∷◌, ◌≡◌}
 use Rattle.commands.proofs.WhyLemmas.{each_why}
 use Rattle.commands.specs.AfterCall.{HasPassNumbers, input_of, InputEndsEarly, why_of}
 use Rattle.commands.specs.SingleOutput.{first_input, IsPassFault, LosesInput, MissesAt}
@@ -35,8 +35,7 @@ first_at (name ∷ inputs) = refl
 source_name : (inputs : List (List ℕ)) (source : List ℕ) → first_input inputs ≡ source
     → (fault : EditFault) → HasPassNumbers fault
     → input_of (source ∷ []) fault ≡ input_of inputs fault
-source_name inputs source first (Input place f) is = subst (λ n. slice_index_or (source ∷ []) n []
-    ≡ slice_index_or inputs n []) (sym is.0) (sym first ∙ first_at inputs)
+source_name inputs source first (Input place f) is = rw is.0 (sym first ∙ first_at inputs)
 source_name inputs source first _ is = refl
 
 -- a fault of the pass over this input is one of all inputs

@@ -1,13 +1,12 @@
 -- The output is created and then written by a pass over the input.
-use Rattle.std.proofs.Common.{ap, inl, inr, length, List, Option, refl, slice_index_or, subst, sym}
-use Rattle.std.proofs.Common.{true, unwrap_or, ℕ, [], ◌++◌, ◌∙◌, ◌∷◌, ◌≡◌, ◌≢◌}
+use Rattle.std.proofs.Common.{ap, inl, inr, length, List, Option, refl, slice_index_or, sym, true}
+use Rattle.std.proofs.Common.{unwrap_or, ℕ, [], ◌++◌, ◌∙◌, ◌∷◌, ◌≡◌, ◌≢◌}
 use Rattle.commands.specs.PassFaults.{pass_edit_fault}
 use Rattle.commands.specs.SingleOutput.{files_holding, first_input, IsLeftShort, IsOutputBegun}
 use Rattle.commands.specs.SingleOutput.{IsPassFault}
 use Rattle.outside.proofs.FilesLemmas.{appended_touches, emptied_holds_other, emptied_told}
 use Rattle.outside.proofs.FilesLemmas.{emptied_touches, fails_told, touch_twice, touches_then}
-use Rattle.outside.proofs.FilesLemmas.{with_file_here, with_file_twice}
-use Rattle.outside.specs.Counts.{Counts, EndedAt, HappenedTo, NothingFailed}
+use Rattle.outside.{proofs.FilesLemmas.{with_file_here, with_file_twice}, specs.Counts.Counts}
 use Rattle.outside.specs.Files.{FailsToCreate, Files, Holds, is_some_byte, is_told, OnlyTouches}
 use Rattle.outside.specs.Files.{Told, Untold, with_appended_bytes, with_empty_file, with_file}
 use Rattle.outside.specs.Pass.{AppendsMadeBytes, AppendsPrefix, HasPassCause, route}
@@ -35,8 +34,7 @@ not_begun made input output (Untold touched) new failed file holds = absurd hold
 module _ (made : List ℕ → List ℕ) (input output : List ℕ) (apart : input ≢ output)
     (old mid new : Files) (created : mid ≡ with_empty_file old output) where
   held_mid : (file : List ℕ) → Holds old input file → Holds mid input file
-  held_mid file holds = subst (λ f. Holds f input file) (sym created)
-      (emptied_holds_other old output input file apart holds)
+  held_mid file holds = rw created (emptied_holds_other old output input file apart holds)
 
   files_holding-new : (bytes : List ℕ) → new ≡ with_appended_bytes mid output bytes
       → new ≡ files_holding old output bytes
@@ -74,8 +72,7 @@ module _ (made : List ℕ → List ℕ) (input output : List ℕ) (apart : input
   touches_new : (bytes : List ℕ) → new ≡ with_appended_bytes mid output bytes
       → OnlyTouches (output ∷ []) old new
   touches_new bytes is =
-      subst (λ files. OnlyTouches (output ∷ []) old files)
-      (sym (is ∙ ap (λ f. with_appended_bytes f output bytes) created))
+      rw (is ∙ ap (λ f. with_appended_bytes f output bytes) created)
       (touches_then (output ∷ []) old (with_empty_file old output)
       (with_appended_bytes (with_empty_file old output) output
       bytes) (emptied_touches old output)
@@ -98,19 +95,18 @@ module _ (made : List ℕ → List ℕ) (input output : List ℕ) (apart : input
       → IsPassFault made inputs output (seen_folder old before) (seen_folder new after)
       (pass_edit_fault place 0 fault)
   pass_fault inputs first place Read size before between after same part h = record {
-    rose = subst (λ c. HappenedTo (slice_index_or inputs place []) c.read_faults after.read_faults)
-        same h.0;
-    files = subst (λ n. IsOutputBegun made n output old new) (sym first) (output_prefix part);
+    rose = rw (← same) h.0;
+    files = rw first (output_prefix part);
   }
   pass_fault inputs first place (Shrunk from to) size before between after same part h = record {
-    rose = subst (λ c. EndedAt (slice_index_or inputs place []) to c.ends after.ends) same h.3;
-    counts = subst (λ c. NothingFailed c after) same h.4;
+    rose = rw (← same) h.3;
+    counts = rw (← same) h.4;
     untold = sym (ap is_told created ∙ emptied_told old output) ∙ h.0;
   }
   pass_fault inputs first place Write size before between after same part h = (
     refl,
     record {
-      rose = subst (λ c. HappenedTo output c.write_faults after.write_faults) same h.0;
-      files = subst (λ n. IsLeftShort made n output old new) (sym first) (output_short part);
+      rose = rw (← same) h.0;
+      files = rw first (output_short part);
     },
   )

@@ -1,13 +1,12 @@
 -- What is read from a sheet.
-use Rattle.std.proofs.Common.{ap, cond, Err, false, IfErr, length, List, nat_lt, None, Ok, Option}
-use Rattle.std.proofs.Common.{refl, Some, subst, sym, true, ℕ, ◌∙◌, ◌≡◌}
+use Rattle.std.proofs.Common.{ap, arith, cond, Err, false, IfErr, length, List, nat_lt, None, Ok}
+use Rattle.std.proofs.Common.{Option, refl, Some, sym, true, ℕ, ◌∙◌, ◌≡◌}
 use Rattle.commands.specs.{AfterCall.IsLateFault, Sheet.{HasSheetNumbers, IsSheetFault, sheet_in}}
 use Rattle.commands.specs.declared.fault.EditFault.{EditFault, TheVariants.{Input, Refused}}
 use Rattle.commands.specs.declared.fault.Refusal.TheVariants.{SheetTooLarge}
 use Rattle.cue_sheet.specs.Limits.{longest_sheet}
-use Rattle.outside.specs.Counts.{Counts, EndedAt, HappenedTo, NothingFailed}
-use Rattle.outside.specs.{Files.{Files, is_told}, ReadCauses.HasReadCause, Seen.seen_folder}
-use Rattle.outside.specs.declared.exact.ReadFault.{ReadFault}
+use Rattle.outside.specs.{Counts.Counts, Files.{Files, is_told}, ReadCauses.HasReadCause}
+use Rattle.outside.specs.{Seen.seen_folder, declared.exact.ReadFault.ReadFault}
 use Rattle.outside.specs.declared.exact.ReadFault.TheVariants.{Failed, Shrunk as ShrunkRead}
 use Rattle.sync_survey.specs.SurveyFaultKinds.{survey_fault_of}
 use Rattle.sync_survey.specs.declared.survey_fault.SurveyFault.TheVariants.{Absent}
@@ -36,29 +35,26 @@ module _ (sheet : List ℕ) (files mid last : Files) (before between after : Cou
       (Input 1 (survey_fault_of fault))
   read-fault Failed cause = record {
     is = refl;
-    rose = subst (λ k. HappenedTo sheet k.read_faults after.read_faults) same cause.0;
+    rose = rw (← same) cause.0;
     files = stays ∙ found;
   }
   read-fault (ShrunkRead first second) cause = record {
     first = first;
     second = second;
     is = refl;
-    rose = subst (λ k. EndedAt sheet second k.ends after.ends) same cause.3;
-    counts = subst (λ k. NothingFailed k after) same cause.4;
+    rose = rw (← same) cause.3;
+    counts = rw (← same) cause.4;
     untold = sym (ap is_told found) ∙ cause.0;
     files = stays ∙ found;
   }
 
   read-number : (fault : ReadFault) → HasReadCause sheet size mid between after fault
       → HasSheetNumbers (Input 1 (survey_fault_of fault))
-  read-number Failed cause = (refl, (λ e. cc), tt, (λ e. cc))
-  read-number (ShrunkRead first second) cause = (refl, (λ e. cc), cause.2, (λ e. cc))
+  read-number fault cause = grind arith
 
   -- a fault of reading is one of the sheet, with its cause, and has the number of the sheet
   pub read-stops : (fault : ReadFault) (edit : EditFault) → edit ≡ Input 1 (survey_fault_of fault)
       → HasReadCause sheet size mid between after fault
       → IsSheetFault sheet (seen_folder files before) (seen_folder last after) edit
       × HasSheetNumbers edit
-  read-stops fault edit is cause =
-      subst (λ e. IsSheetFault sheet (seen_folder files before) (seen_folder last after) e
-      × HasSheetNumbers e) (sym is) (read-fault fault cause, read-number fault cause)
+  read-stops fault edit is cause = rw is (read-fault fault cause, read-number fault cause)

@@ -1,6 +1,6 @@
 -- A command with a text leaves the same files as without.
-use Rattle.std.proofs.Common.{ap, arith, Err, IfErr, inl, inr, length, List, Ok, refl, Result}
-use Rattle.std.proofs.Common.{subst, sym, take, ℕ, ◌∙◌, ◌≡◌, ◌≤◌, ◌⊎◌}
+use Rattle.std.proofs.Common.{ap, arith, Err, IfErr, inl, inr, List, Ok, refl, Result, sym, ℕ, ◌∙◌}
+use Rattle.std.proofs.Common.{◌≡◌, ◌⊎◌}
 use Rattle.commands.proofs.WhyLemmas.{each_why}
 use Rattle.commands.specs.AfterCall.{HasNumbers, IsCommandDone, IsCommandFault, IsOutputUnfinished}
 use Rattle.commands.specs.AfterCall.{IsWrittenTo, TakesMemory}
@@ -21,13 +21,11 @@ text-parts text (Err fault) made e = absurd cc
 
 takes_text : (text : List ℕ) (r : Result Made EditFault) → TakesMemory r
     → TakesMemory (with_text text r)
-takes_text text (Ok made) takes = tt
-takes_text text (Err fault) takes = takes
+takes_text text r takes = grind arith
 
 all_text : (P : EditFault → Type 0) (text : List ℕ) (r : Result Made EditFault) → IfErr r P
     → IfErr (with_text text r) P
-all_text P text (Ok made) is = tt
-all_text P text (Err fault) is = is
+all_text P text r is = grind arith
 
 module _ (text : Contents → List ℕ) (command : Command) where
   abbrev told : Command
@@ -36,18 +34,15 @@ module _ (text : Contents → List ℕ) (command : Command) where
   -- a fault of the command is one of the command with the text
   telling_command-gives : (files : Files) (fault : EditFault)
       → HasAnswer command files (Err fault) → HasAnswer told files (Err fault)
-  telling_command-gives (Untold touched) fault is = tt
-  telling_command-gives (Told f) fault is = ap (with_text (text f)) is
+  telling_command-gives files fault is = grind arith
 
   takes_memory : (files : Files) → IfTold files (λ f. TakesMemory (command.makes f))
       → IfTold files (λ f. TakesMemory (told.makes f))
-  takes_memory (Untold touched) takes = tt
-  takes_memory (Told f) takes = takes_text (text f) (command.makes f) takes
+  takes_memory files takes = grind (arith, takes_text)
 
   all-told : (files : Files) (P : EditFault → Type 0)
       → IfTold files (λ f. IfErr (command.makes f) P) → IfTold files (λ f. IfErr (told.makes f) P)
-  all-told (Untold touched) P is = tt
-  all-told (Told f) P is = all_text P (text f) (command.makes f) is
+  all-told files P is = grind (arith, all_text)
 
   -- a command that is done is done with the text too
   telling_command-done : (old new : Seen) → IsCommandDone command old new
@@ -82,8 +77,7 @@ module _ (text : Contents → List ℕ) (command : Command) where
   module _ (old new : Seen) (fault : EditFault) where
     unread-to : (new.files ≡ old.files) ⊎ ((k : ℕ) × IsWrittenTo command k old.files new.files)
         → (new.files ≡ old.files) ⊎ ((k : ℕ) × IsWrittenTo told k old.files new.files)
-    unread-to (inl same) = inl same
-    unread-to (inr h) = inr (h.0, written-to h.0 old.files new.files h.1)
+    unread-to h = grind (arith, written-to)
 
     -- what the command leaves, it leaves with the text too
     telling_command-left : IsCommandFault command old new fault
@@ -108,7 +102,7 @@ module _ (text : Contents → List ℕ) (command : Command) where
     where
       by_text : (m made : Made) → command.makes f ≡ Ok m → (record m { text = text f }) ≡ made
           → MakesStreams told f made
-      by_text m made is same = subst (MakesStreams told f) same
+      by_text m made is same = rw (← same)
           (let held = holds m is in record { sources = held.sources; streams = held.streams })
 
       at : (r : Result Made EditFault) → command.makes f ≡ r → (made : Made)
@@ -179,8 +173,6 @@ module _ (command : Command) (files : Files) (old new : Heard) (text : List ℕ)
   pub says-prefix : SentPrefix text old.sent new.sent → Rose old.faults new.faults
       → SaysPrefix command files old new
   says-prefix part rose = record {
-    text = λ all is. subst (λ (t : List ℕ). (n : ℕ) × (n ≤ length t)
-        × (new.sent ≡ sent_and_more old.sent (take n t))) (same all is)
-        (part.count, part.within, part.sent);
+    text = λ all is. rw (← (same all is)) (part.count, part.within, part.sent);
     rose = rose;
   }

@@ -1,5 +1,5 @@
 -- The names that a command touches, however it ends: only those of its outputs.
-use Rattle.std.proofs.Common.{arith, inl, inr, subst, sym, take, ℕ, ◌+◌, ◌≡◌, ◌≢◌, ◌⊎◌}
+use Rattle.std.proofs.Common.{arith, inl, inr, take, ℕ, ◌+◌, ◌≡◌, ◌≢◌, ◌⊎◌}
 use Rattle.std.proofs.lemmas.List.Elements.{All-take}
 use Rattle.commands.{proofs.WhyLemmas.of_why, specs.AfterCall.{IsCommandFault, IsWrittenTo}}
 use Rattle.commands.specs.{Command.Command, declared.fault.EditFault.EditFault}
@@ -8,8 +8,7 @@ use Rattle.outside.specs.{Files.{Files, OnlyTouches}, Seen.Seen}
 
 module _ (command : Command) where
   stays_touched : (old new : Files) → new ≡ old → OnlyTouches command.outputs old new
-  stays_touched old new same = subst (λ files. OnlyTouches command.outputs old files) (sym same)
-      (touches_none command.outputs old)
+  stays_touched old new same = rw same (touches_none command.outputs old)
 
   first_touched : (k : ℕ) (old new : Files) → OnlyTouches (take (k + 1) command.outputs) old new
       → OnlyTouches command.outputs old new
