@@ -1,10 +1,10 @@
 -- The main data of frames, read area by area.
-use Rattle.std.proofs.Common.{ap, append-nil, append_assoc, ap₂, arith, Bool, cond, drop, eqb}
-use Rattle.std.proofs.Common.{false, flat_map, inl, inr, length, length-append, length-drop, List}
-use Rattle.std.proofs.Common.{min, Option, refl, replicate, slice_get, Some, suc, sum_by, sym, take}
-use Rattle.std.proofs.Common.{true, zero, ℕ, [], ◌*◌, ◌++◌, ◌+◌, ◌-◌, ◌/◌, ◌==◌, ◌∙◌, ◌∷◌, ◌≡◌, ◌≢◌}
-use Rattle.std.proofs.{Common.{◌≤◌, ◌⊎◌}, Math.Seq.drop-append-add, lemmas.Bool.ltb-false}
-use Rattle.std.proofs.lemmas.Bool.Decides.{eqb_tells}
+use Rattle.std.proofs.Common.{ap, append-nil, append_assoc, ap₂, arith, Bool, cond, drop, eqb, Err}
+use Rattle.std.proofs.Common.{false, flat_map, IfErr, inl, inr, length, length-append, length-drop}
+use Rattle.std.proofs.Common.{List, min, None, Ok, OnOk, Option, refl, replicate, Result, slice_get}
+use Rattle.std.proofs.Common.{Some, subst, suc, sum_by, sym, take, true, zero, ℕ, [], ◌*◌, ◌++◌}
+use Rattle.std.proofs.Common.{◌+◌, ◌-◌, ◌/◌, ◌==◌, ◌∙◌, ◌∷◌, ◌≡◌, ◌≢◌, ◌≤◌, ◌⊎◌}
+use Rattle.std.proofs.{Math.Seq.drop-append-add, lemmas.Bool.{ltb-false, Decides.eqb_tells}}
 use Rattle.std.proofs.lemmas.List.{drop-drop, length-replicate, length-take-le, nil_from_length}
 use Rattle.std.proofs.lemmas.List.{take-append-drop, Sums.sum_by-cons}
 use Rattle.bit_fields.proofs.BitsLemmas.{AreBelow-drop, AreBelow-take, AreBits-bits, bits-front}
@@ -15,10 +15,13 @@ use Rattle.frame_header.specs.Tables.{class_of, length_of, overhead_of, window_o
 use Rattle.frame_header.specs.declared.version.Version.{Version, TheVariants.One}
 use Rattle.laying.proofs.BeginLemmas.{begin-near}
 use Rattle.laying.proofs.SurveyFrameLemmas.{AreBytes-packed_bytes, bits-packed_bytes, main-place}
+use Rattle.laying.specs.Areas.{ReadsArea}
 use Rattle.laying.specs.Passing.{IsAreaOf, IsWindowOverFrames, IsWindowOverLast, skipped_area_bytes}
 use Rattle.laying.specs.{Relaid.{packed_bytes, payload_of}, Surveys.CanBeRelaid}
-use Rattle.outside.proofs.FilesLemmas.{there_holds}
-use Rattle.outside.specs.Files.{Files, Holds, IsFileThere, Told, Untold}
+use Rattle.outside.proofs.{CountsLemmas.only_reads_same, FilesLemmas.there_holds}
+use Rattle.outside.specs.{Counts.OnlyReads, Files.{Files, Holds, IsFileThere, Told, Untold}}
+use Rattle.outside.specs.{Pass.{HasPassCause, IsReadPassFault, Route}, Seen.Seen}
+use Rattle.outside.specs.declared.pass.PassFault.{PassFault, TheVariants.{Read, Shrunk, Write}}
 use Rattle.reservoir.specs.Window.{AreBitsPacked, IsWindowOver, main_bits}
 use Rattle.side_info.specs.{Side.{no_side, payload_bits, payload_bytes}, declared.side.Side.Side}
 use Rattle.sync_survey.{proofs.SurveyPartsLemmas.data-none_well, specs.Faults.SurveyFields}
@@ -230,6 +233,20 @@ pub last-next : (before after area input : List ℕ) (files : Files) (s : Survey
 last-next before after area input files s first i r found over has more =
     grind (arith, length-append, place-next, main-next, append_assoc)
 
+-- a window with one more area is over the areas up to this frame
+pub area-next : (before after input : List ℕ) (files now : Files) (s : SurveyFields) (first i : ℕ)
+    (r : Row) (offset : ℕ) (h : HeaderFields) → slice_get s.frames i ≡ Some r → now ≡ files
+    → offset ≡ r.offset → h ≡ r.header → IsWindowOverLast before input files s first i
+    → ReadsArea input now offset h before after → IsWindowOverLast after input now s first (i + 1)
+area-next before after input files now s first i r offset h found stay at header over read =
+    last-next before after read.area input now s first i r found
+    (subst (λ f. IsWindowOverLast before input f s first i) (sym stay) over)
+    (record {
+      long = read.long ∙ ap own_area header;
+      is = λ file holds. read.is file holds ∙ ap₂ (area_bytes file) at header;
+    })
+    read.over
+
 -- with no area read yet
 pub last-none : (window input : List ℕ) (files : Files) (s : SurveyFields) (first : ℕ)
     → (first ≡ 0 → ⊥) → IsWindowOver window []
@@ -311,6 +328,46 @@ pub main-first : (file : List ℕ) (head : Option Head) (rows : List Row)
     → main_bytes file head (take 0 rows) ≡ head_bytes file head
 unfolding main_bytes
 main-first file head rows = append-nil (head_bytes file head)
+
+-- if there is no head, an empty window is over the areas before the first frame
+pub over-none : (window input : List ℕ) (files : Files) (s : SurveyFields) (first : ℕ) → first ≡ 0
+    → s.head ≡ None → IsWindowOver window [] → IsWindowOverLast window input files s first first
+over-none window input files s first zeroth none held =
+    subst (λ n. IsWindowOverLast window input files s n n) (sym zeroth) (record {
+      main = [];
+      held = held;
+      long = sym (place-first s.head s.frames ∙ ap head_area none);
+      is = λ file holds. ([], refl, main-first file s.head s.frames ∙ ap (head_bytes file) none);
+    })
+
+-- a window with the area of the head is over the areas before the first frame
+pub over-head : (window area input : List ℕ) (files : Files) (s : SurveyFields) (first : ℕ)
+    (head : Head) → first ≡ 0 → s.head ≡ Some head → length area ≡ own_area head.header
+    → ((file : List ℕ) → Holds files input file → area ≡ area_bytes file head.offset head.header)
+    → IsWindowOver window area → IsWindowOverLast window input files s first first
+over-head window area input files s first head zeroth some long is held =
+    subst (λ n. IsWindowOverLast window input files s n n) (sym zeroth) (record {
+      main = area;
+      held = held;
+      long = omega (arith, long ∙ sym (place-first s.head s.frames ∙ ap head_area some));
+      is = λ file holds. (
+        [],
+        refl,
+        main-first file s.head s.frames ∙ ap (head_bytes file) some ∙ sym
+            (is file holds),
+      );
+    })
+
+-- where an input could be read nothing was counted, and where not, reads alone
+pub read-counts : {T : Type 0} (way : Route) (old new : Seen) (result : Result T PassFault)
+    → OnOk result (new.counts ≡ old.counts)
+    → IfErr result (HasPassCause way old.files old.counts new.counts)
+    → IfErr result IsReadPassFault → OnlyReads old.counts new.counts
+read-counts way old new (Ok x) done cause read =
+    subst (OnlyReads old.counts) (sym done) (only_reads_same old.counts)
+read-counts way old new (Err Read) done cause read = cause.1
+read-counts way old new (Err (Shrunk first second)) done cause read = cause.5
+read-counts way old new (Err Write) done cause read = absurd read
 
 -- the head is within the length
 pub head-within : (s : SurveyFields) (head : Head) → IsSurveyLaidOut s → s.head ≡ Some head

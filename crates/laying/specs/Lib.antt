@@ -4,6 +4,7 @@ pub mod Written
 pub mod Fits
 pub mod Laid
 pub mod Passing
+pub mod Areas
 pub mod Calls
 pub mod Copying
 pub mod Laws

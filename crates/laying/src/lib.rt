@@ -12,6 +12,7 @@
 //! part.
 #![tactic(auto)]
 
+mod areas;
 mod blocks;
 mod buffers;
 mod file;
@@ -24,6 +25,7 @@ mod parts;
 mod relay;
 mod selected;
 
+pub use areas::{AreaSource, read_before};
 pub use buffers::RelayBuffers;
 pub use info::{Kept, has_all, head_fields, info_bytes, info_for, kept_fields};
 pub use info_laws::slots_are_planned;
@@ -34,5 +36,5 @@ pub use laws::{
 };
 pub use needs_laws::{one_part_fits, part_fits, parts_fit};
 pub use parts::{Parts, append_needs};
-pub use relay::{Relay, first_held};
+pub use relay::Relay;
 pub use selected::Selected;

@@ -1,31 +1,30 @@
 //! The frames of a surveyed input, read once from beginning to end and passed to the writer of an
 //! output.
-ghost use Rattle.std.specs.Prelude.{◌≡◌, ◌⊎◌, false, if◌then◌else◌, ◌+◌, ◌-◌, ◌^◌, ◌<◌, ◌≤◌, ◌++◌, min, List, ℕ, [], length, take, drop, slice_get, Some, IfOk, IfErr, OnOk, OnErr};
-ghost use Rattle.frame_header.specs.Tables.{class_of, area_of, length_of, overhead_of, window_of};
+ghost use Rattle.std.specs.Prelude.{◌≡◌, if◌then◌else◌, ◌+◌, ◌-◌, ◌^◌, ◌<◌, ◌≤◌, ◌++◌, min, List, ℕ, [], length, take, IfOk, OnOk};
+ghost use Rattle.frame_header.specs.Tables.{class_of, area_of, length_of, overhead_of};
 ghost use Rattle.outside.specs.Files.{IsFileThere};
-ghost use Rattle.outside.specs.BufferOutput.{AppendsWaiting, AppendedPrefix};
-ghost use Rattle.outside.specs.Pass.{WritesMadeBytes, WritesPrefix, IsReadPassFault, route_of, HasPassCause};
-ghost use Rattle.side_info.specs.Side.{front_width, payload_bits, SideFits};
-ghost use Rattle.frame_writer.specs.Frames.{EndsInArea, held_bytes, bytes_of_frames, reach_of, reach_after_frame, IsNextSettled};
-ghost use Rattle.frame_writer.specs.Writing.{writing_of, IsNewQueue, AcceptsFrame, WritesPart};
+ghost use Rattle.outside.specs.Pass.{route_of};
+ghost use Rattle.side_info.specs.Side.{front_width};
+ghost use Rattle.frame_writer.specs.Frames.{held_bytes, bytes_of_frames, reach_of, IsNextSettled};
+ghost use Rattle.frame_writer.specs.Writing.{writing_of, IsNewQueue};
 ghost use Rattle.sync_survey.specs.Faults.{survey_view};
 ghost use Rattle.sync_survey.specs.MainData.{own_area, place, main_bytes, row_side};
-ghost use Rattle.sync_survey.specs.Survey.{AreWellPlaced};
-ghost use Rattle.reservoir.specs.Window.{IsWindowOver, window_size};
+ghost use Rattle.reservoir.specs.Window.{window_size};
 ghost use Rattle.laying.specs.Needs.{need_of};
 ghost use Rattle.laying.specs.Relaid.{payload_of, lead_in_before};
 ghost use Rattle.laying.specs.Fits.{placed_bytes, placed_area};
 ghost use Rattle.laying.specs.Calls.{IsRelayOpen, IsRelayAtFrame, IsNextFrame, HoldsUpTo, CanGiveFrame, RelayReadAnswer, GivesArea, CanCutData, TakesFrame, RelayFramesAnswer, ForwardAnswer, AddMadeAnswer};
-ghost use Rattle.laying.specs.Passing.{ReachesBack, IsRelayReady, AreGivenBytes, IsAreaOf, KeepsReach, IsWindowOverFrames, HoldsLastAreas, HoldsLastWithBytes, IsWindowOverLast, relay_frame, relay_planned_frame, planned_frames, own_reach, placed_reach, reach_behind_all, FitsRelayReach, GivesFrames, GivesPart};
+ghost use Rattle.laying.specs.Passing.{IsRelayReady, AreGivenBytes, KeepsReach, IsWindowOverFrames, HoldsLastAreas, relay_frame, relay_planned_frame, planned_frames, own_reach, placed_reach, reach_behind_all, FitsRelayReach};
 ghost use Rattle.laying.specs.Laid.{selected_frames, IsWritableSelection};
 ghost use Rattle.laying.specs.Places.{places_for, own_places};
 ghost use Rattle.frame_header.specs.Limits.{most_back, most_frame_length};
 ghost use Rattle.outside.specs.Feed.{most_given};
 ghost use Rattle.frame_writer.specs.Laid.{most_waiting};
 
+use crate::areas::{AreaSource, read_before};
 use crate::buffers::RelayBuffers;
 use crate::selected::Selected;
-use frame_header::Class;
+use frame_header::{Class, Header};
 use frame_writer::{Frame, FrameQueue};
 use outside::{Feed, Folder, Pass, PassFault, WriteBuffer};
 use reservoir::{Payload, Window};
@@ -194,114 +193,6 @@ impl<'a> Relay<'a> {
             (D.seen folder.new) result }
     {
         self.pass.fill(folder, at, count, feed)
-    }
-
-    /// Reads the area of frame `i` into the feed.
-    ///
-    /// # Errors
-    /// `Read` or `Shrunk` if the input can't be read.
-    #[inline(always)]
-    fn fill_area<D: Folder>(
-        &self,
-        folder: &mut D,
-        i: usize,
-        row: &Row,
-        feed: &mut Feed,
-    ) -> Result<(), PassFault>
-        requires ready { IsRelayReady self.now (D.seen folder.old).files feed.old }
-        requires found { slice_get (survey_view self.now.survey.now).frames i ≡ Some row.now }
-        ensures area { OnOk result (IsAreaOf feed.new.given self.now.pass.input.now
-            (D.seen folder.new).files row.now) }
-        ensures reads { RelayReadAnswer self.now feed.new (D.seen folder.old)
-            (D.seen folder.new) result }
-    {
-        let own = area_place(self.survey.class(), row);
-        self.fill(folder, own.at, own.size, feed)
-    }
-
-    /// Reads the area of the head, if there is one, into a window over no areas.
-    ///
-    /// # Errors
-    /// `Read` or `Shrunk` if the input can't be read.
-    fn read_head<D: Folder>(
-        &self,
-        folder: &mut D,
-        feed: &mut Feed,
-        window: &mut Window,
-    ) -> Result<(), PassFault>
-        requires ready { IsRelayReady self.now (D.seen folder.old).files feed.old }
-        requires none { IsWindowOver window.old [] }
-        ensures over { OnOk result (IsWindowOverFrames window.new self.now.pass.input.now
-            (D.seen folder.new).files (survey_view self.now.survey.now) 0) }
-        ensures reads { RelayReadAnswer self.now feed.new (D.seen folder.old)
-            (D.seen folder.new) result }
-    {
-        let Some(head) = self.survey.head() else {
-            return Ok(());
-        };
-        let area = head.header.area();
-        let at = head.offset + u64::from(head.header.overhead());
-        self.fill(folder, at, area as usize, feed)?;
-        window.push_area(feed.bytes());
-        Ok(())
-    }
-
-    /// Begins to read the areas of the frames from frame `first` on: reads the head's area if that
-    /// is the first frame of all.
-    ///
-    /// # Errors
-    /// `Read` or `Shrunk` if the input can't be read.
-    fn begin_at<D: Folder>(
-        &self,
-        folder: &mut D,
-        first: usize,
-        feed: &mut Feed,
-        window: &mut Window,
-    ) -> Result<(), PassFault>
-        requires ready { IsRelayReady self.now (D.seen folder.old).files feed.old }
-        requires none { IsWindowOver window.old [] }
-        ensures over { OnOk result (IsWindowOverLast window.new self.now.pass.input.now
-            (D.seen folder.new).files (survey_view self.now.survey.now) first first) }
-        ensures reads { RelayReadAnswer self.now feed.new (D.seen folder.old)
-            (D.seen folder.new) result }
-    {
-        if first == 0 {
-            self.read_head(folder, feed, window)
-        } else {
-            Ok(())
-        }
-    }
-
-    /// Fills the window, whatever it held, with the last 2,048 bytes of the areas of the head and
-    /// of all frames before frame `i`, or with all of them if there are fewer.
-    ///
-    /// # Errors
-    /// `Read` or `Shrunk` if the input can't be read.
-    fn read_before<D: Folder>(
-        &self,
-        folder: &mut D,
-        i: usize,
-        feed: &mut Feed,
-        window: &mut Window,
-    ) -> Result<(), PassFault>
-        requires ready { IsRelayReady self.now (D.seen folder.old).files feed.old }
-        requires within { i ≤ length (survey_view self.now.survey.now).frames }
-        ensures over { OnOk result (IsWindowOverFrames window.new self.now.pass.input.now
-            (D.seen folder.new).files (survey_view self.now.survey.now) i) }
-        ensures reads { RelayReadAnswer self.now feed.new (D.seen folder.old)
-            (D.seen folder.new) result }
-    {
-        window.clear();
-        let first = first_held(self.survey, i);
-        self.begin_at(folder, first, feed, window)?;
-        let rows = self.survey.frames();
-        let mut at = first;
-        while at < i {
-            self.fill_area(folder, at, &rows[at], feed)?;
-            window.push_area(feed.bytes());
-            at += 1;
-        }
-        Ok(())
     }
 
     /// Reads into the window the area that isn't in it yet.
@@ -570,7 +461,7 @@ impl<'a> Relay<'a> {
         ensures within { IfOk result (λ count. count ≤ length placed.now) }
         ensures stands { OnOk result (IsRelayOpen self.now (D.seen folder.new).files buffers.new) }
     {
-        self.read_before(folder, from, &mut buffers.feed, &mut buffers.window)?;
+        read_before(self, folder, from, &mut buffers.feed, &mut buffers.window)?;
         let rows = self.survey.frames();
         let count = places_for(rows.len() - from, placed);
         self.frames(folder, from, rows.len(), &placed[..count], buffers)?;
@@ -622,29 +513,42 @@ impl<'a> Relay<'a> {
             buffers.new.waiting buffers.new.feed (D.seen folder.old) (D.seen folder.new) result }
     {
         let from = selected.from;
-        self.read_before(folder, from, &mut buffers.feed, &mut buffers.window)?;
+        read_before(self, folder, from, &mut buffers.feed, &mut buffers.window)?;
         self.frames(folder, from, selected.to, selected.plan.placed(), buffers)?;
         self.finish(folder, &mut buffers.writer, &mut buffers.waiting)
     }
 }
 
-/// The frame from whose area on a window has to be filled before frame `i`: the areas from there up
-/// to frame `i` have at least 2,048 bytes, or it is the first frame of all.
-pub fn first_held(survey: &Survey, i: usize) -> usize
-    requires within { i ≤ length (survey_view survey.now).frames }
-    ensures before { result ≤ i }
-    ensures held { (result ≡ 0)
-        ⊎ (place (survey_view survey.now).head (survey_view survey.now).frames result
-        + window_size ≤ place (survey_view survey.now).head (survey_view survey.now).frames i) }
-{
-    let rows = survey.frames();
-    let mut first = i;
-    let mut bytes = 0;
-    while first > 0 && bytes < 2048 {
-        first -= 1;
-        bytes += rows[first].header().area();
+/// Reads through the feed.
+impl<'a> AreaSource for Relay<'a> {
+    type Buffer = Feed;
+
+    ghost way = { λ relay. route_of relay.pass };
+
+    ghost fields = { λ relay. survey_view relay.survey.now };
+
+    ghost CanRead = { IsRelayReady };
+
+    fn survey(&self) -> &Survey {
+        self.survey
     }
-    first
+
+    fn push_area<D: Folder>(
+        &self,
+        folder: &mut D,
+        offset: u64,
+        header: &Header,
+        feed: &mut Feed,
+        window: &mut Window,
+    ) -> Result<(), PassFault> {
+        let at = offset + u64::from(header.overhead());
+        self.fill(folder, at, header.area() as usize, feed)?;
+        window.push_area(feed.bytes());
+        Ok(())
+    }
+
+    ghost held = { λ relay files fed ready.
+        record { there = ready.pass.source; exact = ready.exact; laid = ready.laid } };
 }
 
 /// How many places of a plan `frames` frames take, together with their lead-ins.

@@ -8,13 +8,12 @@ use Rattle.frame_header.specs.{Fields.ClassFields, HeaderBits.header_bits, Table
 use Rattle.frame_writer.specs.Frames.{Frame}
 use Rattle.join_edits.specs.{Inputs.InputFields, Join.whole_part}
 use Rattle.laying.proofs.{RelayLemmas.found-at, SurveyFrameLemmas.{own-entry, own-stream}}
-use Rattle.laying.specs.{LaidFiles.{IsStreamEntry, stream_entry}, Relaid.survey_frame}
+use Rattle.laying.specs.{Areas.IsHeld, LaidFiles.{IsStreamEntry, stream_entry}, Relaid.survey_frame}
 use Rattle.laying.specs.Surveys.{AreWholeRows, CanBeRelaid, IsWholeRow}
 use Rattle.outside.proofs.FilesLemmas.{there_holds}
 use Rattle.outside.specs.Files.{Contents, Files, IfTold, Told, Untold}
 use Rattle.seam_plan.specs.{Frames.RunFrame, declared.run.FramePlace.FramePlace}
-use Rattle.seamless_edits.proofs.SoundLemmas.{sounds-tested}
-use Rattle.seamless_edits.specs.Reading.{AreHeld, IsHeld, IsMainDataOf}
+use Rattle.seamless_edits.{proofs.SoundLemmas.sounds-tested, specs.Reading.{AreHeld, IsMainDataOf}}
 use Rattle.seamless_edits.specs.Seamless.{run_frame, run_frames, sound_of}
 use Rattle.seamless_edits.specs.Sounds.{all_run_frames, AreOfClass, compared_side, frame_row}
 use Rattle.seamless_edits.specs.Sounds.{input_payload, IsFramePlace, payload_at_place, row_at}

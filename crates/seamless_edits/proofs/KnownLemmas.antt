@@ -7,11 +7,12 @@ use Rattle.std.specs.List.{list_all}
 use Rattle.bit_fields.proofs.BitsLemmas.{bits-append, bits-cons, bits-one, number-bits_of-below}
 use Rattle.bit_fields.specs.Bits.{bits, bits_of, number}
 use Rattle.join_edits.specs.Inputs.{input_names, InputFields}
+use Rattle.laying.specs.Areas.{IsHeld}
 use Rattle.outside.specs.{Files.Files, Pass.IsReadPassFault, declared.pass.PassFault.PassFault}
 use Rattle.outside.specs.declared.pass.PassFault.TheVariants.{Write}
 use Rattle.seamless_edits.proofs.FramePlaceLemmas.{get-index, known-at, map-get}
 use Rattle.seamless_edits.specs.Beginnings.{AreBeginnings, input_without_head, IsBeginning}
-use Rattle.seamless_edits.specs.{Deciding.from_places, Reading.{AreHeld, IsHeld}}
+use Rattle.seamless_edits.specs.{Deciding.from_places, Reading.AreHeld}
 use Rattle.seamless_edits.specs.declared.beginnings.Beginning.{Beginning}
 
 -- ---- one input

@@ -1,47 +1,20 @@
 -- Inputs that are read before there is an output.
-use Rattle.std.specs.Prelude.{IfErr, length, List, OnOk, Result, slice_get, slice_index_or, Some, ℕ}
-use Rattle.std.specs.Prelude.{[], ◌++◌, ◌<◌, ◌∷◌, ◌≡◌}
+use Rattle.std.specs.Prelude.{length, List, slice_get, slice_index_or, Some, ℕ, [], ◌<◌, ◌∷◌, ◌≡◌}
 use Rattle.commands.specs.AfterCall.{by_why, no_cause, why_of}
 use Rattle.commands.specs.SingleOutput.{LosesInput, ReadsNothing}
 use Rattle.commands.specs.declared.fault.EditFault.{EditFault}
-use Rattle.frame_header.specs.Fields.{HeaderFields}
 use Rattle.join_edits.specs.{Inputs.InputFields, declared.stopped.Stopped.Stopped}
-use Rattle.laying.specs.{Relaid.payload_of, Surveys.CanBeRelaid}
-use Rattle.outside.specs.{Counts.{Counts, OnlyReads}, Files.{Files, Holds, IsFileThere}}
-use Rattle.outside.specs.{Pass.{HasInputCause, IsReadPassFault}, Seen.Seen}
-use Rattle.outside.specs.declared.pass.PassFault.{PassFault}
-use Rattle.reservoir.specs.Window.{IsWindowOver}
+use Rattle.laying.specs.{Areas.IsHeld, Relaid.payload_of}
+use Rattle.outside.specs.{Counts.Counts, Files.{Files, Holds}}
+use Rattle.outside.specs.{Pass.{HasInputCause, IsReadPassFault, Route, route}, Seen.Seen}
 use Rattle.seamless_edits.specs.declared.main_data.Source.{Source}
-use Rattle.sync_survey.specs.{Faults.{survey_view, SurveyFields}, MainData.{area_bytes, own_area}}
-use Rattle.sync_survey.specs.{Row.Row, Survey.IsSurveyLaidOut}
+use Rattle.sync_survey.specs.{Faults.{survey_view, SurveyFields}, Row.Row}
 
 -- ---- one input
 
--- the input is there, and this is a survey by which its frames can be read
-pub record IsHeld (files : Files) (name : List ℕ) (s : SurveyFields) : Type 0 where
-  pub there : IsFileThere files name
-  pub exact : (file : List ℕ) → Holds files name file → CanBeRelaid file s
-  pub laid : IsSurveyLaidOut s
-
--- The input was read, or couldn't be; the files stay.
-pub record ReadsInput {T : Type 0} (source : Source) (old new : Seen)
-    (result : Result T PassFault) : Type 0 where
-  pub files : new.files ≡ old.files
-  pub done : OnOk result (new.counts ≡ old.counts)
-  pub counts : OnlyReads old.counts new.counts
-  pub cause : IfErr result
-      (HasInputCause source.name.now
-      (survey_view source.survey.now).length old.files old.counts new.counts)
-  pub read : IfErr result IsReadPassFault
-
--- The area of a frame with this header, at this offset, comes after what the window held. If the
--- input's content is known, it is the area in the input.
-pub record ReadsArea (input : List ℕ) (files : Files) (offset : ℕ) (h : HeaderFields)
-    (old new : List ℕ) : Type 0 where
-  pub area : List ℕ
-  pub long : length area ≡ own_area h
-  pub is : (file : List ℕ) → Holds files input file → area ≡ area_bytes file offset h
-  pub over : (main : List ℕ) → IsWindowOver old main → IsWindowOver new (main ++ area)
+-- the route of an input that is read before there is an output
+abbrev pub source_route : Source → Route
+source_route source = route source.name.now [] (survey_view source.survey.now).length
 
 -- the main data of frame i, if the input's content is known
 abbrev pub IsMainDataOf : List ℕ → Files → SurveyFields → ℕ → List ℕ → Type 0

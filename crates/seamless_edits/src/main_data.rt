@@ -1,15 +1,12 @@
 //! The main data of one frame of an input, read before there is an output.
-ghost use Rattle.std.specs.Prelude.{◌≡◌, ◌+◌, ◌<◌, ◌≤◌, ◌⊎◌, [], length, OnOk};
-ghost use Rattle.frame_header.specs.Tables.{class_of, length_of};
-ghost use Rattle.reservoir.specs.Window.{IsWindowOver, window_size};
+ghost use Rattle.std.specs.Prelude.{◌<◌, length, OnOk};
 ghost use Rattle.sync_survey.specs.Faults.{survey_view};
-ghost use Rattle.sync_survey.specs.MainData.{place};
-ghost use Rattle.laying.specs.Passing.{IsWindowOverFrames, IsWindowOverLast};
-ghost use Rattle.seamless_edits.specs.Reading.{IsHeld, ReadsInput, ReadsArea, IsMainDataOf};
+ghost use Rattle.laying.specs.Areas.{IsHeld, ReadsInput};
+ghost use Rattle.seamless_edits.specs.Reading.{IsMainDataOf, source_route};
 
 use arrayvec::ArrayVec;
 use frame_header::Header;
-use laying::first_held;
+use laying::{AreaSource, read_before};
 use outside::{Folder, PassFault, read_exact};
 use reservoir::Window;
 use sync_survey::{Row, Survey};
@@ -21,26 +18,28 @@ pub(crate) struct Source<'a> {
     pub survey: &'a Survey,
 }
 
-impl<'a> Source<'a> {
-    /// Adds to the window the area of a frame with this header, which begins at this offset.
-    ///
-    /// # Errors
-    /// `Read` or `Shrunk` if the input can't be read.
+impl<'a> AreaSource for Source<'a> {
+    type Buffer = ();
+
+    ghost way = { source_route };
+
+    ghost fields = { λ source. survey_view source.survey.now };
+
+    ghost CanRead = { λ source files none. IsHeld files source.name.now
+        (survey_view source.survey.now) };
+
+    fn survey(&self) -> &Survey {
+        self.survey
+    }
+
     fn push_area<D: Folder>(
         &self,
         folder: &mut D,
         offset: u64,
         header: &Header,
+        _: &mut (),
         window: &mut Window,
-    ) -> Result<(), PassFault>
-        requires held { IsHeld (D.seen folder.old).files self.now.name.now
-            (survey_view self.now.survey.now) }
-        requires within { offset + length_of (class_of header.now) header.now.slot
-            ≤ (survey_view self.now.survey.now).length }
-        ensures area { OnOk result (ReadsArea self.now.name.now (D.seen folder.old).files offset
-            header.now window.old window.new) }
-        ensures reads { ReadsInput self.now (D.seen folder.old) (D.seen folder.new) result }
-    {
+    ) -> Result<(), PassFault> {
         let at = offset + u64::from(header.overhead());
         let mut room = [0; 1441];
         let area = &mut room[..header.area() as usize];
@@ -49,65 +48,10 @@ impl<'a> Source<'a> {
         Ok(())
     }
 
-    /// Starts reading areas of frames at this first one: reads the head's area, if it is the first
-    /// frame of all and there is a head.
-    ///
-    /// # Errors
-    /// Those of `push_area`.
-    fn begin_at<D: Folder>(
-        &self,
-        folder: &mut D,
-        first: usize,
-        window: &mut Window,
-    ) -> Result<(), PassFault>
-        requires held { IsHeld (D.seen folder.old).files self.now.name.now
-            (survey_view self.now.survey.now) }
-        requires none { IsWindowOver window.old [] }
-        ensures over { OnOk result (IsWindowOverLast window.new self.now.name.now
-            (D.seen folder.old).files (survey_view self.now.survey.now) first first) }
-        ensures reads { ReadsInput self.now (D.seen folder.old) (D.seen folder.new) result }
-    {
-        if first > 0 {
-            return Ok(());
-        }
-        let Some(head) = self.survey.head() else {
-            return Ok(());
-        };
-        self.push_area(folder, head.offset, &head.header, window)
-    }
+    ghost held = { λ source files none is. is };
+}
 
-    /// Reads into the window, replacing what it held, the last 2,048 bytes of the areas of the head
-    /// and of all frames before frame `i`, or all if there are fewer.
-    ///
-    /// # Errors
-    /// Those of `push_area`.
-    fn read_before<D: Folder>(
-        &self,
-        folder: &mut D,
-        i: usize,
-        window: &mut Window,
-    ) -> Result<(), PassFault>
-        requires held { IsHeld (D.seen folder.old).files self.now.name.now
-            (survey_view self.now.survey.now) }
-        requires within { i ≤ length (survey_view self.now.survey.now).frames }
-        ensures over { OnOk result
-            (IsWindowOverFrames window.new self.now.name.now (D.seen folder.old).files
-            (survey_view self.now.survey.now) i) }
-        ensures reads { ReadsInput self.now (D.seen folder.old) (D.seen folder.new) result }
-    {
-        window.clear();
-        let first = first_held(self.survey, i);
-        self.begin_at(folder, first, window)?;
-        let rows = self.survey.frames();
-        let mut at = first;
-        while at < i {
-            let row = &rows[at];
-            self.push_area(folder, u64::from(row.offset()), &row.header(), window)?;
-            at += 1;
-        }
-        Ok(())
-    }
-
+impl<'a> Source<'a> {
     /// Puts the main data of frame `i` into a list, replacing its content. No frame is lost.
     ///
     /// # Errors
@@ -124,14 +68,15 @@ impl<'a> Source<'a> {
         requires within { i < length (survey_view self.now.survey.now).frames }
         ensures payload { OnOk result (IsMainDataOf self.now.name.now (D.seen folder.old).files
             (survey_view self.now.survey.now) i into.new.items) }
-        ensures reads { ReadsInput self.now (D.seen folder.old) (D.seen folder.new) result }
+        ensures reads { ReadsInput (source_route self.now) (D.seen folder.old)
+            (D.seen folder.new) result }
     {
         let row = &self.survey.frames()[i];
         if row.lost() {
             into.clear();
             return Ok(());
         }
-        self.read_before(folder, i + 1, window)?;
+        read_before(self, folder, i + 1, &mut (), window)?;
         let extent = row.extent();
         let area = row.header().area();
         window.payload(area, u32::from(extent.begin), extent.bits, into);

@@ -1,6 +1,7 @@
 -- The areas up to the frame's own are read, and its main data are cut out of them.
-use Rattle.std.proofs.Common.{ap, slice_get, Some, subst, sym, true, ◌∙◌, ◌≡◌}
+use Rattle.std.proofs.Common.{ap, slice_get, Some, subst, sym, true, ◌+◌, ◌∙◌, ◌≡◌}
 use Rattle.laying.proofs.{ReadLemmas.lost-is, RelayLemmas.read-at}
+use Rattle.laying.specs.Passing.{IsWindowOverFrames}
 use Rattle.seamless_edits.proofs.{FramePlaceLemmas.get-one, ReadingLemmas.{holds-data, HoldsData}}
 use Rattle.seamless_edits.proofs.main_data.Source.main_data.Goals.{After-from}
 use Rattle.sync_survey.specs.{Faults.survey_view, MainData.own_area, Row.Row}
@@ -31,7 +32,9 @@ held g c =
     (g.D.Folder.seen c.args.folder.now).files s c.args.i row
     (read-at c.frames.result.now s.frames c.args.i row c.requires.within c.frames.ensures
     c.index-frames-i.is)
-    (sym c.lost.ensures ∙ c.if-lost.false) c.requires.held.laid c.in_ok-read_before.ensures.over
+    (sym c.lost.ensures ∙ c.if-lost.false) c.requires.held.laid
+    (subst (λ f. IsWindowOverFrames c.read_before.new.window c.args.self.now.name.now f s
+    (c.args.i + 1)) c.read_before.ensures.reads.files c.in_ok-read_before.ensures.over)
     c.area-area.result c.from.result c.extent-extent.result.bits
     (c.area-area.ensures.area ∙ ap own_area c.header.ensures)
     (c.from.ensures ∙ c.extent-extent.ensures.begin) c.extent-extent.ensures.bits

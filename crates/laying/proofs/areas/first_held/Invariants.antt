@@ -1,7 +1,7 @@
 -- The bytes of the areas so far are those between the two frames.
 use Rattle.std.proofs.Common.{◌+◌, ◌≡◌, ◌≤◌}
 use Rattle.sync_survey.specs.{Faults.survey_view, MainData.place}
-use Rattle.laying.proofs.relay.first_held.Given as goal
+use Rattle.laying.proofs.areas.first_held.Given as goal
 
 abbrev pub invariant-loop-first : goal.invariant-loop-first
 invariant-loop-first l = record {
