@@ -11,9 +11,9 @@ use Rattle.commands.specs.{Refusing.then_made, SingleOutput.most_frames}
 use Rattle.commands.specs.declared.fault.EditFault.{EditFault}
 use Rattle.frame_header.specs.{Fields.ClassFields, Tables.window_of}
 use Rattle.job_words.specs.Request.{Join}
-use Rattle.join_edits.proofs.PartLemmas.{part-is}
-use Rattle.join_edits.specs.Join.{join_part, join_parts, join_parts_from, joined_plan}
-use Rattle.join_edits.specs.Join.{joined_stream, whole_part}
+use Rattle.join_edits.specs.Join.{joined_plan, joined_stream}
+use Rattle.joined_inputs.proofs.PartLemmas.{part-is}
+use Rattle.joined_inputs.specs.Parts.{join_part, join_parts, join_parts_from, whole_part}
 use Rattle.laying.proofs.{PartsLemmas.{parts-fit, parts-plan}, SurveyFrameLemmas.survey-had}
 use Rattle.laying.specs.Needs.{need_of, plan_input}
 use Rattle.laying.specs.NeedsFit.{IsFitPlanInput, IsPartOf, own_choice}

@@ -16,7 +16,8 @@ use Rattle.gain_edits.specs.Fade.{fade_task}
 use Rattle.job_words.specs.Request.{Cut, CutExact, Drill, Fade, Gain, Help, InfoFile, Join}
 use Rattle.job_words.specs.Request.{ListFile, Pack, Salvage, SplitAt, SplitBy, SplitExact, Undo}
 use Rattle.job_words.specs.Request.{Version}
-use Rattle.join_edits.specs.Join.{join_parts, join_task}
+use Rattle.join_edits.specs.Join.{join_task}
+use Rattle.joined_inputs.specs.Parts.{join_parts}
 use Rattle.laying.specs.Laid.{LaidPart}
 use Rattle.list_edits.specs.TextCommand.{input_text, surveyed_text}
 use Rattle.outside.specs.Files.{Contents}

@@ -8,7 +8,7 @@ use Rattle.commands.proofs.{MadeLemmas.makes-parts, RefusingLemmas.then_ok}
 use Rattle.commands.proofs.TellingLemmas.{text-parts}
 use Rattle.frame_header.specs.{Fields.{HeaderFields, SlotFields}, Tables.window_of}
 use Rattle.job_words.specs.Request.{Join}
-use Rattle.join_edits.specs.Join.{join_parts, join_parts_from}
+use Rattle.joined_inputs.specs.Parts.{join_parts, join_parts_from}
 use Rattle.laying.specs.{NeedsFit.own_choice, Relaid.{FilePart, part_stream, stream_with_lead_ins}}
 use Rattle.outside.specs.Files.{Contents}
 use Rattle.seam_plan.specs.{Frames.needs_of, Seams.run_of}

@@ -8,7 +8,8 @@ use Rattle.cut_edits.specs.Chosen.{AreUsualChoices, Chosen, chosen_needs, first_
 use Rattle.cut_edits.specs.Chosen.{own_slots_plan, placed_part}
 use Rattle.frame_header.specs.{Fields.{ClassFields, HeaderFields, SlotFields}, Tables.window_of}
 use Rattle.job_words.specs.Request.{IsSoundRequest, Request}
-use Rattle.join_edits.specs.Join.{join_parts, joined_plan, joined_stream}
+use Rattle.join_edits.specs.Join.{joined_plan, joined_stream}
+use Rattle.joined_inputs.specs.Parts.{join_parts}
 use Rattle.laying.specs.{Laid.stream_laid, Needs.need_of, NeedsFit.own_choice}
 use Rattle.laying.specs.Relaid.{AreParts, FilePart, part_needs, part_stream, stream_with_lead_ins}
 use Rattle.outside.specs.Files.{Contents}

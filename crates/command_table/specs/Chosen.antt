@@ -9,7 +9,7 @@ use Rattle.exact_span.specs.{Places.sample_at, PlayedPositions.{length_of_played
 use Rattle.exact_span.specs.{Spans.span_of, declared.exact_place.ExactPlace.ExactPlace}
 use Rattle.exact_span.specs.declared.exact_place.ExactPlace.TheVariants.{Place as Position}
 use Rattle.frame_header.specs.Tables.{class_of}
-use Rattle.join_edits.specs.Join.{join_parts}
+use Rattle.joined_inputs.specs.Parts.{join_parts}
 use Rattle.laying.specs.{KeptFields.fields_of_head, Relaid.{FilePart, part_stream}}
 use Rattle.outside.specs.Files.{Contents}
 use Rattle.seamless_edits.specs.Seamless.{run_parts}

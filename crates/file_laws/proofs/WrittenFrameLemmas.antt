@@ -36,8 +36,9 @@ use Rattle.info_header.specs.FileInfo.{all_bytes}
 use Rattle.job_words.specs.Request.{Cut, CutExact, Drill, Fade, Gain, Help, InfoFile, Join}
 use Rattle.job_words.specs.Request.{ListFile, Pack, Salvage, SplitAt, SplitBy, SplitExact, Undo}
 use Rattle.job_words.specs.Request.{Version}
-use Rattle.join_edits.specs.Join.{join_command, join_parts, joined_file, joined_frames, joined_plan}
+use Rattle.join_edits.specs.Join.{join_command, joined_file, joined_frames, joined_plan}
 use Rattle.join_edits.specs.Join.{joined_row_file}
+use Rattle.joined_inputs.specs.Parts.{join_parts}
 use Rattle.laying.proofs.{FittingFrameLemmas.{entries-hold, fitting-laid}, HoldLemmas.blocks-kept}
 use Rattle.laying.proofs.{LaidFileLemmas.laid-frames-stay, LaidLemmas.{first-there, laid-slots}}
 use Rattle.laying.{proofs.SurveyFrameLemmas.survey-had, specs.Fits.{FitsFromReach, IsFittingPlan}}

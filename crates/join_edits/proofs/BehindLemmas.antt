@@ -2,8 +2,8 @@
 use Rattle.std.proofs.Common.{arith, length, List, Option, refl, Some, ℕ, [], ◌-◌, ◌∷◌, ◌≡◌}
 use Rattle.std.specs.Prelude.{unwrap_or}
 use Rattle.frame_header.specs.Fields.{ClassFields}
-use Rattle.join_edits.specs.Inputs.{AreJoinInputs, InputFields, survey_rows}
-use Rattle.join_edits.specs.Laying.{AreFromsWithin, rest_rows}
+use Rattle.joined_inputs.specs.Inputs.{AreJoinInputs, InputFields, survey_rows}
+use Rattle.joined_inputs.specs.Laying.{AreFromsWithin, rest_rows}
 use Rattle.laying.proofs.PlacesLemmas.{range-whole}
 use Rattle.outside.specs.Files.{Files}
 

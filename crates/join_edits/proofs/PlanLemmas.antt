@@ -1,13 +1,15 @@
 -- The plan of all frames of several inputs.
 use Rattle.std.proofs.Common.{All, ap, arith, length, length-append, List, map, refl, suc, sym}
-use Rattle.std.proofs.Common.{take, zero, ℕ, [], ◌+◌, ◌<◌, ◌∷◌, ◌≡◌, ◌≤◌}
+use Rattle.std.proofs.Common.{take, zero, ℕ, [], ◌+◌, ◌∷◌, ◌≡◌, ◌≤◌}
 use Rattle.std.proofs.lemmas.List.{length-map, take-map, Elements.{All-cons, All-nil}}
 use Rattle.std.specs.Prelude.{◌↔◌}
 use Rattle.commands.specs.SingleOutput.{most_frames}
 use Rattle.frame_header.specs.{Fields.ClassFields, Limits.most_output_frames}
-use Rattle.join_edits.specs.Inputs.{AreInputsOfClass, CanInputsBeJoined, class_of_first}
-use Rattle.join_edits.specs.Inputs.{frames_together, InputFields, survey_rows}
-use Rattle.join_edits.specs.Laying.{IsPlanOf, least_plan_of, window_for}
+use Rattle.join_edits.specs.JoinReady.{IsPlanOf, least_plan_of}
+use Rattle.joined_inputs.proofs.InputLemmas.{can-some}
+use Rattle.joined_inputs.specs.Inputs.{AreInputsOfClass, CanInputsBeJoined, class_of_first}
+use Rattle.joined_inputs.specs.Inputs.{frames_together, InputFields, survey_rows}
+use Rattle.joined_inputs.specs.Laying.{window_for}
 use Rattle.laying.proofs.FitLemmas.{asked-plans, needs-flat, plans-fit}
 use Rattle.laying.proofs.PartsLemmas.{parts-fit, parts-plan}
 use Rattle.laying.proofs.PlacesLemmas.{plan-length, range-whole}
@@ -43,15 +45,6 @@ pub parts-few : {X : Type 0} (f : X → InputFields) (k : ℕ) (xs : List X)
     → length (needs_of_parts (survey_rows (map f (take k xs)))) ≤ most_frames
 parts-few f k xs can =
     grind (arith, needs-length (map f (take k xs)), take-map f k xs, taken k (map f xs))
-
--- inputs that can be joined are at least one
-pub can-some : (inputs : List InputFields) → CanInputsBeJoined inputs → 0 < length inputs
-can-some inputs can = grind arith
-
--- all inputs are of the first one's class
-pub alike-first : (i : InputFields) (inputs : List InputFields) → CanInputsBeJoined (i ∷ inputs)
-    → AreInputsOfClass i.survey.class (i ∷ inputs)
-alike-first i inputs can = grind arith
 
 -- ---- the plan
 

@@ -1,4 +1,3 @@
 -- What the contracts of this crate cite.
 pub mod Join
-pub mod Inputs
-pub mod Laying
+pub mod JoinReady

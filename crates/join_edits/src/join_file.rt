@@ -4,9 +4,8 @@ ghost use Rattle.commands.specs.Runs.{IsRunOf};
 ghost use Rattle.join_edits.specs.Join.{join_command};
 
 use crate::planned::prepare;
-use crate::surveys::survey_all;
-use crate::written::write_joined;
 use commands::{EditFault, clash};
+use joined_inputs::{survey_all, write_joined};
 use outside::Folder;
 use std::alloc::Global;
 

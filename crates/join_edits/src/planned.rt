@@ -1,13 +1,12 @@
-//! What a join prepares before its output is created: the plan of all frames, the Info frame, and
-//! all memory.
+//! What a join of all frames prepares before its output is created: the plan, the Info frame, and all
+//! memory.
 ghost use Rattle.std.specs.Prelude.{◌≡◌, map, IfOk};
 ghost use Rattle.laying.specs.Needs.{plan_input};
 ghost use Rattle.slot_plan.specs.Plans.{entries};
-ghost use Rattle.join_edits.specs.Inputs.{input_view, survey_rows, CanInputsBeJoined};
-ghost use Rattle.join_edits.specs.Laying.{IsPlanOf, IsJoinReady};
+ghost use Rattle.joined_inputs.specs.Inputs.{input_view, survey_rows, CanInputsBeJoined};
+ghost use Rattle.join_edits.specs.JoinReady.{IsPlanOf, IsJoinReady};
 
-use crate::inputs::{JoinInput, input_at};
-use arrayvec::ArrayVec;
+use joined_inputs::{JoinInput, JoinWork, input_at};
 use laying::{Kept, Parts, RelayBuffers, info_bytes};
 use slot_plan::{Keep, Plan, plan};
 use std::alloc::{AllocError, Global};
@@ -32,15 +31,6 @@ fn plan_all(alloc: Global, inputs: &[JoinInput<'_>]) -> Result<Plan, AllocError>
 {
     let parts = parts_of(alloc, inputs)?;
     plan(alloc, parts.needs(), parts.places(), &Keep)
-}
-
-/// The plan of all frames; the bytes of the Info frame before them, at most 1,441, with the header
-/// of the first frame; and the memory of the second pass.
-#[derive(Drop)]
-pub struct JoinWork {
-    pub plan: Plan,
-    pub info: ArrayVec<u8, 1441>,
-    pub buffers: RelayBuffers,
 }
 
 /// Prepares all that is needed before the output is created.

@@ -7,9 +7,9 @@ use Rattle.command_table.specs.Inputs.{AreInputs, FileInput, input_frames}
 use Rattle.commands.{proofs.RefusingLemmas.then_ok, specs.Refusing.then_made}
 use Rattle.commands.specs.{SingleOutput.most_frames, declared.fault.EditFault.EditFault}
 use Rattle.frame_header.specs.Fields.{ClassFields}
-use Rattle.join_edits.proofs.{InputLemmas.follows-may, PartLemmas.part-is}
-use Rattle.join_edits.specs.Inputs.{HasClassOfFirst}
-use Rattle.join_edits.specs.Join.{join_part, join_parts, join_parts_from, whole_part}
+use Rattle.joined_inputs.proofs.{InputLemmas.follows-may, PartLemmas.part-is}
+use Rattle.joined_inputs.specs.Inputs.{HasClassOfFirst}
+use Rattle.joined_inputs.specs.Parts.{join_part, join_parts, join_parts_from, whole_part}
 use Rattle.laying.specs.Relaid.{FilePart}
 use Rattle.legality.proofs.InputLemmas.{survey-input, survey-whole, whole-survey}
 use Rattle.outside.specs.Files.{Contents}

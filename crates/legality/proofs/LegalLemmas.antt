@@ -27,7 +27,8 @@ use Rattle.gain_edits.specs.Undo.{file_undo_steps, undo_change, undo_refuses}
 use Rattle.job_words.specs.Request.{Cut, CutExact, Drill, Fade, Gain, Help, InfoFile, Join}
 use Rattle.job_words.specs.Request.{ListFile, Pack, Request, Salvage, SplitAt, SplitBy, SplitExact}
 use Rattle.job_words.specs.Request.{Undo, Version}
-use Rattle.join_edits.specs.Join.{join_parts, join_task, joined_file}
+use Rattle.join_edits.specs.Join.{join_task, joined_file}
+use Rattle.joined_inputs.specs.Parts.{join_parts}
 use Rattle.laying.specs.{KeptFields.fields_of_head, Relaid.FilePart}
 use Rattle.legality.proofs.FadeLemmas.{fade-legal, legal-fade}
 use Rattle.legality.proofs.GainLemmas.{gain-legal, legal-gain, legal-undo, undo-legal, with-parts}

@@ -21,7 +21,7 @@ use Rattle.exact_span.specs.declared.{extensions.HeadCounts.HeadCounts, played.P
 use Rattle.frame_header.specs.{Fields.ClassFields, Limits.most_frames, Tables.samples_of}
 use Rattle.frame_header.specs.declared.version.Version.{Version, TheVariants.{One, Two, TwoFive}}
 use Rattle.info_header.specs.{Info.{field_place, flags_in, info_in}, declared.fields.Info.Info}
-use Rattle.join_edits.{proofs.PartLemmas.part-is, specs.Join.{join_part, join_parts_from}}
+use Rattle.joined_inputs.{proofs.PartLemmas.part-is, specs.Parts.{join_part, join_parts_from}}
 use Rattle.laying.specs.{KeptFields.fields_of_head, Relaid.{FilePart, part_stream}}
 use Rattle.laying.specs.Written.{head_info}
 use Rattle.outside.specs.Files.{AreOctets, Contents}

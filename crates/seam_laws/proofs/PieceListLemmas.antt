@@ -8,7 +8,7 @@ use Rattle.commands.proofs.{MadeLemmas.some-frames, RefusingLemmas.then_ok}
 use Rattle.cut_edits.{proofs.ChosenLemmas.IsRight, specs.Chosen.Chosen}
 use Rattle.frame_header.{proofs.HeaderLemmas.IsClass-class_of, specs.Fields.{ClassFields, IsClass}}
 use Rattle.frame_header.specs.Limits.{most_frames}
-use Rattle.join_edits.{proofs.PartLemmas.part-is, specs.Join.{join_part, join_parts_from}}
+use Rattle.joined_inputs.{proofs.PartLemmas.part-is, specs.Parts.{join_part, join_parts_from}}
 use Rattle.laying.proofs.{LaidLemmas.first-there, SurveyFrameLemmas.survey-had}
 use Rattle.laying.specs.{Laid.{file_laid, LaidPart}, Relaid.FilePart, Surveys.CanBeRelaid}
 use Rattle.outside.specs.Files.{Contents}

@@ -10,8 +10,8 @@ use Rattle.cut_edits.{proofs.HeadLemmas.survey_without_head-placed, specs.Exact.
 use Rattle.exact_span.specs.PlayedPositions.{counted_played, counted_positions, samples_in}
 use Rattle.exact_span.specs.declared.{extensions.HeadCounts.HeadCounts, played.Played.Played}
 use Rattle.frame_header.specs.Fields.{ClassFields}
-use Rattle.join_edits.proofs.PartLemmas.{part-is}
-use Rattle.join_edits.specs.Join.{join_part, join_parts, join_parts_from}
+use Rattle.joined_inputs.proofs.PartLemmas.{part-is}
+use Rattle.joined_inputs.specs.Parts.{join_part, join_parts, join_parts_from}
 use Rattle.laying.proofs.{HoldLemmas.all-length, NeedsFitLemmas.part-fits, PlacesLemmas.range-whole}
 use Rattle.laying.{proofs.SurveyFrameLemmas.{frames-of, survey-had}, specs.LaidFiles.stream_entry}
 use Rattle.laying.specs.{Needs.need_of, Relaid.{all_frames, FilePart, part_rows, part_stream}}

@@ -5,7 +5,7 @@ use Rattle.std.specs.Prelude.{true, zero, ℕ, [], ◌++◌, ◌∷◌, ◌≡�
 use Rattle.cut_edits.specs.Exact.{survey_without_head}
 use Rattle.exact_span.specs.declared.played.Played.{Played}
 use Rattle.frame_header.specs.Fields.{ClassFields}
-use Rattle.join_edits.specs.Join.{join_parts}
+use Rattle.joined_inputs.specs.Parts.{join_parts}
 use Rattle.laying.specs.Relaid.{FilePart, part_stream}
 use Rattle.outside.specs.Files.{AreOctets, Contents}
 use Rattle.seam_laws.specs.{PlayedParts.input_played, SeamlessLaws.{is_empty_frame, IsSamePosition}}

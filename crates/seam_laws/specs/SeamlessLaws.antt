@@ -7,7 +7,7 @@ use Rattle.commands.specs.SingleOutput.{most_frames}
 use Rattle.cue_sheet.specs.declared.place.Place.{Place}
 use Rattle.exact_span.specs.{PlayedPositions.samples_in, declared.played.Played.Played}
 use Rattle.frame_header.specs.{Fields.ClassFields, Tables.window_of}
-use Rattle.join_edits.specs.Join.{join_parts}
+use Rattle.joined_inputs.specs.Parts.{join_parts}
 use Rattle.laying.specs.Laid.{file_laid, frames_laid, info_laid, LaidPart, stream_laid}
 use Rattle.laying.specs.{LaidFiles.laid_file, Relaid.{FilePart, part_stream}, Written.front_blocks}
 use Rattle.outside.specs.Files.{Contents}

@@ -3,7 +3,7 @@ use Rattle.std.proofs.Common.{arith, Bool, cond, false, length, List, None, Opti
 use Rattle.std.proofs.{Common.{◌-◌, ◌∙◌, ◌∷◌, ◌≡◌, ◌≤◌}, lemmas.List.length-map}
 use Rattle.exact_span.specs.declared.overlap.Overlap.{Overlap}
 use Rattle.frame_header.specs.Fields.{ClassFields}
-use Rattle.join_edits.specs.Inputs.{InputFields}
+use Rattle.joined_inputs.specs.Inputs.{InputFields}
 use Rattle.outside.specs.Files.{Contents, Files, IfTold, Told, Untold}
 use Rattle.seam_plan.specs.Decisions.{CanFollow, frame_place, IsBroughtInput, IsRun, last_places}
 use Rattle.seam_plan.specs.{Frames.{Brought, RunFrame}, Seams.overlap_of}

@@ -7,8 +7,8 @@ use Rattle.std.{proofs.lemmas.List.Elements.{All-cons, All-nil}, specs.List.AllZ
 use Rattle.commands.specs.SingleOutput.{most_frames}
 use Rattle.exact_span.specs.PlayedPositions.{AreCounted, counted_positions}
 use Rattle.frame_header.specs.{Fields.ClassFields, Tables.window_of}
-use Rattle.join_edits.specs.Inputs.{AreInputsOfClass, CanInputsBeJoined, frames_together}
-use Rattle.join_edits.specs.{Inputs.InputFields, Laying.{AreFromsWithin, rest_rows}}
+use Rattle.joined_inputs.specs.Inputs.{AreInputsOfClass, CanInputsBeJoined, frames_together}
+use Rattle.joined_inputs.specs.{Inputs.InputFields, Laying.{AreFromsWithin, rest_rows}}
 use Rattle.laying.{proofs.NeedsFitLemmas.part-fits, specs.Needs.{need_of, needs_of_parts}}
 use Rattle.outside.specs.Files.{Contents, Files, IfTold, Told, Untold}
 use Rattle.seam_plan.specs.Decisions.{frame_places, IsJoinableInput, IsJoint}

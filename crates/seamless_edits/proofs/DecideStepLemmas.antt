@@ -9,8 +9,8 @@ use Rattle.std.{proofs.lemmas.List.FromFn.length-enumerate_from, specs.List.enum
 use Rattle.std.specs.Prelude.{zip}
 use Rattle.exact_span.specs.{PlayedPositions.counted_positions, declared.overlap.Overlap.Overlap}
 use Rattle.frame_header.specs.{Fields.ClassFields, Tables.window_of}
-use Rattle.join_edits.specs.{Inputs.InputFields, Join.whole_part}
-use Rattle.join_edits.specs.Laying.{AreFromsWithin, rest_rows}
+use Rattle.joined_inputs.specs.{Inputs.InputFields, Laying.{AreFromsWithin, rest_rows}}
+use Rattle.joined_inputs.specs.Parts.{whole_part}
 use Rattle.laying.specs.Needs.{need_of, needs_of_parts}
 use Rattle.outside.specs.Files.{Contents, Files, IfTold, Told, Untold}
 use Rattle.seam_plan.proofs.{FollowLemmas.joining_frames-sounds, RunSoundLemmas.class-append}

@@ -6,7 +6,7 @@ use Rattle.std.{proofs.lemmas.List.length-map, specs.List.enumerate_from}
 use Rattle.std.specs.Prelude.{All, slice_index_or, unwrap_or}
 use Rattle.frame_header.specs.{Fields.ClassFields, HeaderBits.header_bits, Tables.class_of}
 use Rattle.frame_writer.specs.Frames.{Frame}
-use Rattle.join_edits.specs.{Inputs.InputFields, Join.whole_part}
+use Rattle.joined_inputs.specs.{Inputs.InputFields, Parts.whole_part}
 use Rattle.laying.proofs.{RelayLemmas.found-at, SurveyFrameLemmas.{own-entry, own-stream}}
 use Rattle.laying.specs.{Areas.IsHeld, LaidFiles.{IsStreamEntry, stream_entry}, Relaid.survey_frame}
 use Rattle.laying.specs.Surveys.{AreWholeRows, CanBeRelaid, IsWholeRow}

@@ -6,7 +6,7 @@ use Rattle.std.proofs.lemmas.{Bool.{and_parts, eqb-true}, List.Folds.list_all-ap
 use Rattle.std.specs.List.{list_all}
 use Rattle.bit_fields.proofs.BitsLemmas.{bits-append, bits-cons, bits-one, number-bits_of-below}
 use Rattle.bit_fields.specs.Bits.{bits, bits_of, number}
-use Rattle.join_edits.specs.Inputs.{input_names, InputFields}
+use Rattle.joined_inputs.specs.Inputs.{input_names, InputFields}
 use Rattle.laying.specs.Areas.{IsHeld}
 use Rattle.outside.specs.{Files.Files, Pass.IsReadPassFault, declared.pass.PassFault.PassFault}
 use Rattle.outside.specs.declared.pass.PassFault.TheVariants.{Write}

@@ -3,7 +3,7 @@ use Rattle.std.proofs.Common.{ap, append_assoc, ap₂, arith, drop, length, List
 use Rattle.std.proofs.Common.{◌++◌, ◌+◌, ◌∙◌, ◌∷◌, ◌≡◌, ◌≤◌}
 use Rattle.std.{proofs.lemmas.List.{drop-drop, drop-map, drop_all}, specs.List.zip}
 use Rattle.std.specs.Prelude.{codes, decimal}
-use Rattle.join_edits.specs.Inputs.{input_names, InputFields}
+use Rattle.joined_inputs.specs.Inputs.{input_names, InputFields}
 use Rattle.outside.proofs.SentLemmas.{sent_more_on, sent_more_prefix}
 use Rattle.outside.specs.{BufferOutput.{SendsWaiting, SentPrefix}, Files.Sent}
 use Rattle.seam_plan.specs.declared.{run.Joint.Joint, seam.Seam.TheVariants.Follows}

@@ -4,7 +4,7 @@ use Rattle.std.proofs.Common.{length, List, map, nat_le, refl, suc, sym, take, t
 use Rattle.std.proofs.{Common.{◌++◌, ◌+◌, ◌<◌, ◌∙◌, ◌∷◌, ◌≡◌, ◌≤◌}, lemmas.Bool.{le-leb, lt-leb}}
 use Rattle.std.proofs.lemmas.List.{map-append, take_more, Sums.sum_by-cons}
 use Rattle.std.specs.List.{enumerate_from}
-use Rattle.join_edits.specs.Inputs.{InputFields}
+use Rattle.joined_inputs.specs.Inputs.{InputFields}
 use Rattle.list_edits.specs.Totals.{lost_count}
 use Rattle.seamless_edits.specs.Beginnings.{input_without_head}
 use Rattle.seamless_edits.specs.LostFrames.{lost_from, lost_in_input, lost_numbers}

@@ -4,7 +4,7 @@ use Rattle.commands.proofs.{NamedLemmas.{lost_name, unread_name}, WhyLemmas.each
 use Rattle.commands.specs.{AfterCall.IsNotBefore, PassFaults.pass_edit_fault}
 use Rattle.commands.specs.SingleOutput.{IsEarlyFault, NeedsMemory, Task}
 use Rattle.commands.specs.declared.fault.EditFault.{EditFault}
-use Rattle.join_edits.specs.{Inputs.HasJoinNumbers, declared.stopped.Stopped.Stopped}
+use Rattle.joined_inputs.specs.{Inputs.HasJoinNumbers, declared.stopped.Stopped.Stopped}
 use Rattle.outside.specs.{Counts.Counts, Files.{Files, IfTold}, Seen.Seen}
 use Rattle.seamless_edits.specs.Reading.{IsInputReadFault, StopsAmongInputs, StopsAtInput}
 

@@ -12,8 +12,8 @@ use Rattle.exact_span.proofs.{ExtensionLemmas.extension-length, SealLemmas.seale
 use Rattle.frame_header.specs.Fields.{ClassFields}
 use Rattle.frame_writer.specs.Frames.{Frame}
 use Rattle.info_header.specs.declared.fields.Info.{Info}
-use Rattle.join_edits.proofs.PartLemmas.{part-is}
-use Rattle.join_edits.specs.Join.{join_part, join_parts, join_parts_from}
+use Rattle.joined_inputs.proofs.PartLemmas.{part-is}
+use Rattle.joined_inputs.specs.Parts.{join_part, join_parts, join_parts_from}
 use Rattle.laying.proofs.{HoldLemmas.blocks-kept, LaidFileLemmas.laid-stream}
 use Rattle.laying.proofs.{LaidLemmas.first-there, SurveyFrameLemmas.survey-had}
 use Rattle.laying.specs.{LaidFiles.{HasInfoSizes, IsLaidFile, laid_file}, Laws.AreFramesOfStream}

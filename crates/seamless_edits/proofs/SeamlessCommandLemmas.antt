@@ -15,14 +15,14 @@ use Rattle.cut_edits.proofs.HeadLemmas.{survey_without_head-had, survey_without_
 use Rattle.cut_edits.{proofs.HeadLemmas.survey_without_head-placed, specs.Exact.survey_without_head}
 use Rattle.frame_header.specs.Fields.{ClassFields}
 use Rattle.frame_writer.specs.Frames.{bytes_of_frames}
-use Rattle.join_edits.proofs.InputLemmas.{found-input, join-late, parts-all}
-use Rattle.join_edits.proofs.PlanLemmas.{alike-first}
-use Rattle.join_edits.proofs.SourceLemmas.{join-numbers, sound, sources-inputs}
-use Rattle.join_edits.specs.Inputs.{AreInputsOfClass, AreJoinInputs, CanInputsBeJoined}
-use Rattle.join_edits.specs.Inputs.{class_of_first, frames_together, HasJoinNumbers, input_names}
-use Rattle.join_edits.specs.Inputs.{input_view, InputFields, part_in}
-use Rattle.join_edits.specs.Join.{join_parts, joined_file}
-use Rattle.join_edits.specs.Laying.{AreSources, CanJoinBeWritten, join_bytes}
+use Rattle.joined_inputs.proofs.InputLemmas.{alike-first, found-input, join-late, named-long}
+use Rattle.joined_inputs.proofs.InputLemmas.{parts-all}
+use Rattle.joined_inputs.proofs.SourceLemmas.{inputs-hold, inputs-making, join-numbers}
+use Rattle.joined_inputs.proofs.SourceLemmas.{sources-inputs}
+use Rattle.joined_inputs.specs.Inputs.{AreInputsOfClass, AreJoinInputs, CanInputsBeJoined}
+use Rattle.joined_inputs.specs.Inputs.{class_of_first, frames_together, HasJoinNumbers, input_names}
+use Rattle.joined_inputs.specs.Inputs.{input_view, InputFields, part_in, parts_of}
+use Rattle.joined_inputs.specs.{Laying.{AreSources, CanJoinBeWritten, join_bytes}, Parts.join_parts}
 use Rattle.laying.proofs.{NeedsFitLemmas.rows-alone, SurveyFrameLemmas.survey-had}
 use Rattle.laying.specs.{Relaid.{FilePart, part_frames, relaid_frames}, Surveys.CanBeRelaid}
 use Rattle.laying.specs.Written.{front_blocks}
@@ -37,7 +37,7 @@ use Rattle.seamless_edits.specs.Beginnings.{AreBeginnings, input_without_head, I
 use Rattle.seamless_edits.specs.Deciding.{broughts_in, CanBeDecided, FitAlone, FitsAlone}
 use Rattle.seamless_edits.specs.{Deciding.{from_places, IsJoinedOf, left_out_of}, Lines.told_lines}
 use Rattle.seamless_edits.specs.{LostFrames.lost_in_input, Reading.{AreHeld, IsInputReadFault}}
-use Rattle.seamless_edits.specs.Seamless.{seamless_command, seamless_file, seamless_stream_or_none}
+use Rattle.seamless_edits.specs.Seamless.{seamless_command, seamless_file, seamless_stream}
 use Rattle.seamless_edits.specs.Seamless.{seamless_task, seamless_text, seamless_text_or_none}
 use Rattle.seamless_edits.specs.SeamlessReady.{IsRunMade, IsSeamlessReady}
 use Rattle.seamless_edits.specs.declared.beginnings.Beginning.{Beginning}
@@ -285,7 +285,7 @@ module _ (names : List (List ℕ)) (files : Files) (ready : Ready)
   left_inputs = from_places (map input_view ready.inputs.items) (left_out_of ready.made.decided)
 
   many : length is.found ≡ length names
-  many = omega (arith, ap length is.named, length-map is.found (λ (i : InputFields). i.name))
+  many = named-long is.found is.named
 
   -- there is one joint fewer than inputs
   pub joints-many : length ready.made.decided.joints.items + 1 ≡ length names
@@ -322,53 +322,45 @@ module _ (names : List (List ℕ)) (some : 1 ≤ length names) where
       rw is.inputs (subst (λ ns. IsMaking (seamless_task ns) (join_bytes files
       (from_places (map input_without_head is.found) (left_out_of ready.made.decided))
       ready.made.work) files) is.named
-      (at files is.found is.bs (omega (arith, many names files ready is, some))
-      is.are is.joined is.begun is.made))
+      (inputs-making seamless_file seamless_stream _ files is.found
+      (omega (arith, many names files ready is, some)) is.are
+      (at files is.found is.bs is.are is.joined is.begun is.made)))
     where
       at : (fs : Files) (inputs : List InputFields) (bs : List Beginning)
-          → 1 ≤ length inputs → AreJoinInputs None most_frames fs inputs
-          → CanInputsBeJoined inputs → AreBeginnings fs inputs bs
-          → IsRunMade fs (map input_without_head inputs) bs ready.made
-          → IsMaking (seamless_task (input_names inputs)) (join_bytes fs
+          → AreJoinInputs None most_frames fs inputs → CanInputsBeJoined inputs
+          → AreBeginnings fs inputs bs → IsRunMade fs (map input_without_head inputs) bs ready.made
+          → (bytes : List ℕ) → Holds fs (first_input (input_names inputs)) bytes → join_bytes fs
           (from_places (map input_without_head inputs) (left_out_of ready.made.decided))
-          ready.made.work) fs
-      at fs [] bs some are can begun made = absurd (omega (arith, some))
-      at fs (i ∷ inputs) [] some are can begun made = absurd begun
-      at (Untold touched) (i ∷ inputs) (b ∷ bs) some are can begun made =
-          record { there = are.0.there; makes = tt }
-      at (Told f) (i ∷ inputs) (b ∷ bs) some are can begun made = record {
-        there = are.0.there;
-        makes = λ bytes held. (
-          are.0.octets bytes held,
-          ap (λ (r : Result (List FilePart) EditFault). then_made r
-              (λ parts. Ok (seamless_file parts)))
-              (parts-all 0 None most_frames f (i ∷ inputs) are
-              ∙ ap Ok (parts-whole-in None most_frames f (i ∷ inputs) are))
-              ∙ ap Ok (sym (made-file f i inputs b bs ready.made are can begun made bytes held)),
-        );
-      }
+          ready.made.work bytes ≡ seamless_file (parts_of fs inputs)
+      at fs [] bs are can begun made bytes held = let first = can.first in absurd cc
+      at fs (i ∷ inputs) [] are can begun made bytes held = absurd begun
+      at (Untold touched) (i ∷ inputs) (b ∷ bs) are can begun made bytes held = absurd held
+      at (Told f) (i ∷ inputs) (b ∷ bs) are can begun made bytes held =
+          made-file f i inputs b bs ready.made are can begun made bytes held
+          ∙ ap seamless_file (sym (parts-whole-in None most_frames f (i ∷ inputs) are))
 
-  -- the file holds the stream of the run
+  -- the file of the parts holds the stream of the run
   pub ready-holds : (files : Files) (ready : Ready) (is : IsSeamlessReady names files ready)
       → IfTold files (λ f. (bytes : List ℕ) → f (first_input names) ≡ Some bytes
-      → AreSoundFiles f names × HoldsStream (made_of names files ready is bytes)
+      → AreSoundFiles f names × HoldsStream (seamless_file (parts_of files is.found))
       ((seamless_task names).stream f))
-  ready-holds (Untold touched) ready is = tt
-  ready-holds (Told f) ready is = λ bytes held.
-      let parts = map (part_in f) is.found in
-      let all : join_parts f names ≡ Ok parts =
-      rw (← is.named) (parts-all 0 None most_frames f is.found is.are) in
-      let making = (ready-making (Told f) ready is).makes bytes held in
-      let made : made_of names (Told f) ready is bytes ≡ seamless_file parts = grind arith
-      in (
-        rw (← is.named) (sound None most_frames f is.found is.are),
-        subst (λ (l : List ℕ). HoldsStream l ((seamless_task names).stream f)) (sym made)
-            (subst (HoldsStream (seamless_file parts)) (sym (ap seamless_stream_or_none all))
-            (files-hold f names parts some all)),
-      )
+  ready-holds files ready is =
+      subst (λ (ns : List (List ℕ)). IfTold files (λ f. (bytes : List ℕ)
+      → f (first_input ns) ≡ Some bytes → AreSoundFiles f ns
+      × HoldsStream (seamless_file (parts_of files is.found)) ((seamless_task ns).stream f)))
+      is.named
+      (inputs-hold seamless_file seamless_stream files is.found is.are
+      (at files is.found (omega (arith, named-long is.found is.named, some)) is.are))
     where
-      ok-same : {a b : List ℕ} → ◌≡◌ {A = Result (List ℕ) EditFault} (Ok a) (Ok b) → a ≡ b
-      ok-same e = cc
+      at : (fs : Files) (inputs : List InputFields) → 1 ≤ length inputs
+          → AreJoinInputs None most_frames fs inputs → IfTold fs
+          (λ f. HoldsStream (seamless_file (parts_of fs inputs))
+          (seamless_stream (parts_of fs inputs)))
+      at (Untold touched) inputs some are = tt
+      at (Told f) inputs some are =
+          files-hold f (input_names inputs) (map (part_in f) inputs)
+          (omega (arith, length-map inputs (λ (i : InputFields). i.name), some))
+          (parts-all 0 None most_frames f inputs are)
 
   -- the text of the command is the text of what was decided
   pub ready-text : (files : Files) (ready : Ready) (output all : List ℕ)
@@ -408,10 +400,6 @@ module _ (names : List (List ℕ)) (some : 1 ≤ length names) where
 
 -- ---- what is left
 
-other-err : {A : Type 0} (P : EditFault → Type 0) (g h : A → List ℕ) (r : Result A EditFault)
-    → IfErr (then_made r (λ a. Ok (g a))) P → IfErr (then_made r (λ a. Ok (h a))) P
-other-err P g h r e = grind arith
-
 module _ (names : List (List ℕ)) where
   -- running out of memory after the survey is an early fault, since the first input is there
   pub memory-early : (old new : Seen) (inputs : List InputFields) → input_names inputs ≡ names
@@ -440,9 +428,7 @@ module _ (names : List (List ℕ)) where
   -- if the first input is there and not too long, only a late fault refuses the join
   pub seamless-late : (f : Contents) (bytes : List ℕ) → f (first_input names) ≡ Some bytes
       → length bytes ≤ longest_file → IfErr ((seamless_task names).makes f) IsLateFault
-  seamless-late f bytes held few =
-      other-err IsLateFault joined_file seamless_file (join_parts f names)
-      (join-late names f bytes held few)
+  seamless-late f bytes held few = join-late seamless_file names f bytes held few
 
 -- ---- runs of the command
 
@@ -460,10 +446,14 @@ module _ (output : List ℕ) (names : List (List ℕ)) (free : clash_in (seamles
       → IsRunOf (one_command (seamless_task names) output) old new r
   written-run ready is numbers wrote fell =
       let task = seamless_task names in
-      let made = made_of names old.files ready is in
-      let making = ready-making names some old.files ready is in
-      one_run task output free made making refl
-      (one_streams task output free made old.files making
+      one_run task output free (made_of names old.files ready is)
+      (ready-making names some old.files ready is) refl
+      (one_streams task output free (λ _. seamless_file (parts_of old.files is.found)) old.files
+      (subst (λ (ns : List (List ℕ)). IsMaking (seamless_task ns)
+      (λ _. seamless_file (parts_of old.files is.found)) old.files) is.named
+      (inputs-making seamless_file seamless_stream _ old.files is.found
+      (omega (arith, named-long is.found is.named, some)) is.are (λ _ _. refl)))
       (ready-holds names some old.files ready is) r)
-      (IfErr-weaker r _ _ (λ fault. join-numbers output names (length names) fault refl) numbers)
+      (IfErr-weaker r _ _ (λ fault. join-numbers seamless_file seamless_stream output names
+      (length names) fault refl) numbers)
       wrote fell

@@ -13,7 +13,7 @@ use Rattle.exact_span.specs.declared.played.Played.{Played}
 use Rattle.frame_header.specs.{Fields.{ClassFields, HeaderFields}, Tables.window_of}
 use Rattle.frame_writer.specs.Frames.{bytes_of_frames, Frame}
 use Rattle.info_header.specs.{InfoFrame.info_frame, declared.fields.Info.Info}
-use Rattle.join_edits.specs.{Inputs.{InputFields, part_in}, Join.whole_part, Laying.rest_rows}
+use Rattle.joined_inputs.specs.{Inputs.{InputFields, part_in}, Laying.rest_rows, Parts.whole_part}
 use Rattle.laying.proofs.{HoldLemmas.all-length, LaidLemmas.first-there}
 use Rattle.laying.specs.{Fits.{FitsFromReach, reach_behind}, KeptFields.fields_of_head}
 use Rattle.laying.specs.{LaidFiles.laid_file, Needs.{need_of, needs_of_parts}}

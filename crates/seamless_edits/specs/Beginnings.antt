@@ -1,7 +1,7 @@
 -- How inputs begin.
 use Rattle.std.specs.{List.AllZip, Prelude.{List, ℕ, ◌≡◌}}
 use Rattle.cut_edits.specs.Exact.{survey_without_head}
-use Rattle.join_edits.specs.Inputs.{InputFields}
+use Rattle.joined_inputs.specs.Inputs.{InputFields}
 use Rattle.laying.specs.KeptFields.{fields_of_head}
 use Rattle.outside.specs.Files.{Files, Holds}
 use Rattle.seamless_edits.specs.{Seamless.begins_blank, declared.beginnings.Beginning.Beginning}

@@ -5,8 +5,8 @@ use Rattle.std.specs.Prelude.{◌+◌, ◌<◌, ◌∷◌, ◌≡◌, ◌≤◌}
 use Rattle.commands.specs.SingleOutput.{most_frames}
 use Rattle.exact_span.specs.{PlayedPositions.counted_positions, declared.overlap.Overlap.Overlap}
 use Rattle.frame_header.specs.{Fields.ClassFields, Tables.window_of}
-use Rattle.join_edits.specs.Inputs.{CanInputsBeJoined, class_of_first, InputFields}
-use Rattle.join_edits.specs.Laying.{AreFromsWithin, rest_rows}
+use Rattle.joined_inputs.specs.Inputs.{CanInputsBeJoined, class_of_first, InputFields}
+use Rattle.joined_inputs.specs.Laying.{AreFromsWithin, rest_rows}
 use Rattle.laying.specs.Needs.{need_of, needs_of_parts}
 use Rattle.outside.specs.Files.{Contents, Files, IfTold}
 use Rattle.seam_plan.specs.Decisions.{alike_overlap, frame_places, IsBroughtInput, IsJoinableInput}

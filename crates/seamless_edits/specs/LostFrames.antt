@@ -1,6 +1,6 @@
 -- Which frames of the inputs are lost, and how many of them are written, as silence.
 use Rattle.std.specs.{List.enumerate_from, Prelude.{count_by, filter, List, map, nat_le, ℕ}}
-use Rattle.join_edits.specs.Inputs.{InputFields}
+use Rattle.joined_inputs.specs.Inputs.{InputFields}
 use Rattle.sync_survey.specs.{HeadApart.head_apart, Row.Row}
 
 -- the numbers of the lost frames among these, counted from 0

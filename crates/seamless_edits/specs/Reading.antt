@@ -3,7 +3,7 @@ use Rattle.std.specs.Prelude.{length, List, slice_get, slice_index_or, Some, ℕ
 use Rattle.commands.specs.AfterCall.{by_why, no_cause, why_of}
 use Rattle.commands.specs.SingleOutput.{LosesInput, ReadsNothing}
 use Rattle.commands.specs.declared.fault.EditFault.{EditFault}
-use Rattle.join_edits.specs.{Inputs.InputFields, declared.stopped.Stopped.Stopped}
+use Rattle.joined_inputs.specs.{Inputs.InputFields, declared.stopped.Stopped.Stopped}
 use Rattle.laying.specs.{Areas.IsHeld, Relaid.payload_of}
 use Rattle.outside.specs.{Counts.Counts, Files.{Files, Holds}}
 use Rattle.outside.specs.{Pass.{HasInputCause, IsReadPassFault, Route, route}, Seen.Seen}

@@ -2,8 +2,8 @@
 use Rattle.std.specs.Prelude.{IfSome, length, List, map, slice_get, Some, ℕ, [], ◌-◌, ◌∷◌, ◌≡◌}
 use Rattle.frame_writer.specs.Frames.{Frame}
 use Rattle.info_header.specs.InfoFrame.{info_frame}
-use Rattle.join_edits.specs.{Inputs.{class_of_first, InputFields}, Laying.{FitsWork, window_for}}
-use Rattle.join_edits.specs.declared.planned.JoinWork.{JoinWork}
+use Rattle.joined_inputs.specs.{Inputs.{class_of_first, InputFields}, Laying.{FitsWork, window_for}}
+use Rattle.joined_inputs.specs.declared.work.JoinWork.{JoinWork}
 use Rattle.laying.specs.{NeedsFit.own_choice, Written.slot_in}
 use Rattle.seamless_edits.specs.Deciding.{from_places, left_out_of, run_needs}
 use Rattle.seamless_edits.specs.Numbers.{info_kept, run_kept}

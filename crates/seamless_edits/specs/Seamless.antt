@@ -6,9 +6,8 @@ use Rattle.std.specs.Prelude.{Bool, bytes_eq, codes, decimal, drop, Err, false, 
 use Rattle.std.specs.Prelude.{if◌then◌else◌, is_some, length, List, map, nat_le, None, Ok, Option}
 use Rattle.std.specs.Prelude.{option_and_then, replicate, Result, slice_get, Some, take, zip, ℕ, []}
 use Rattle.std.specs.Prelude.{◌&&◌, ◌*◌, ◌++◌, ◌+◌, ◌-◌, ◌==◌, ◌∷◌}
-use Rattle.commands.specs.{Command.Command, Refusing.then_made}
-use Rattle.commands.specs.{SingleOutput.{first_input, one_command, Task}, WithText.telling_command}
-use Rattle.commands.specs.declared.fault.EditFault.{EditFault}
+use Rattle.commands.specs.{Command.Command, SingleOutput.{one_command, Task}}
+use Rattle.commands.specs.{WithText.telling_command, declared.fault.EditFault.EditFault}
 use Rattle.cut_edits.specs.Exact.{quality_of, survey_without_head}
 use Rattle.exact_span.specs.Extensions.{extension_of}
 use Rattle.exact_span.specs.PlayedPositions.{counted_positions, decoder_delay, played_of, rest_of}
@@ -18,7 +17,7 @@ use Rattle.frame_header.specs.{Fields.ClassFields, HeaderBits.header_bits}
 use Rattle.frame_header.specs.Tables.{class_of, window_of}
 use Rattle.frame_writer.specs.Frames.{Frame}
 use Rattle.info_header.specs.declared.fields.Info.{Info}
-use Rattle.join_edits.specs.Join.{join_parts, join_refuses}
+use Rattle.joined_inputs.specs.Parts.{join_parts, parts_task}
 use Rattle.laying.specs.{KeptFields.fields_of_head, LaidFiles.laid_file, Needs.need_of}
 use Rattle.laying.specs.NeedsFit.{own_choice}
 use Rattle.laying.specs.Relaid.{FilePart, part_frames, part_rows, part_stream, relaid_frames}
@@ -246,11 +245,6 @@ seamless_text names (first ∷ parts) =
 
 -- ---- the command
 
--- the stream of the inputs; empty if they are refused
-abbrev pub seamless_stream_or_none : Result (List FilePart) EditFault → List StreamFrame
-seamless_stream_or_none (Err fault) = []
-seamless_stream_or_none (Ok parts) = seamless_stream parts
-
 -- the text for the inputs; empty if they are refused
 abbrev pub seamless_text_or_none : List (List ℕ) → Result (List FilePart) EditFault → List ℕ
 seamless_text_or_none names (Err fault) = []
@@ -258,14 +252,7 @@ seamless_text_or_none names (Ok parts) = seamless_text names parts
 
 -- it takes the inputs that `join` takes, and refuses nothing more
 abbrev pub seamless_task : List (List ℕ) → Task
-seamless_task inputs = record {
-  source = first_input inputs;
-  inputs = inputs;
-  sources = inputs;
-  makes = λ files. then_made (join_parts files inputs) (λ parts. Ok (seamless_file parts));
-  stream = λ files. seamless_stream_or_none (join_parts files inputs);
-  refuses = join_refuses (length inputs);
-}
+seamless_task inputs = parts_task seamless_file seamless_stream inputs
 
 -- the file is made, and then the text is sent
 abbrev pub seamless_command : List ℕ → List (List ℕ) → Command

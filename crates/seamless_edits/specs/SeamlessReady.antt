@@ -1,8 +1,8 @@
 -- What is prepared for a seamless join before its output is created.
 use Rattle.std.specs.Prelude.{List, map, None, vec_items, ℕ, [], ◌≡◌}
 use Rattle.commands.specs.SingleOutput.{most_frames}
-use Rattle.join_edits.specs.Inputs.{AreJoinInputs, CanInputsBeJoined, input_names, input_view}
-use Rattle.join_edits.specs.Inputs.{InputFields}
+use Rattle.joined_inputs.specs.Inputs.{AreJoinInputs, CanInputsBeJoined, input_names, input_view}
+use Rattle.joined_inputs.specs.Inputs.{InputFields}
 use Rattle.outside.specs.Files.{Files}
 use Rattle.seamless_edits.specs.Beginnings.{AreBeginnings, input_without_head}
 use Rattle.seamless_edits.specs.{Deciding.IsRunDecided, LostFrames.lost_in_input}

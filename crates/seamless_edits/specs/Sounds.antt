@@ -2,7 +2,7 @@
 use Rattle.std.specs.Prelude.{All, Bool, bytes_eq, length, List, map, None, Option, option_and_then}
 use Rattle.std.specs.Prelude.{slice_get, Some, unwrap_or, ℕ, [], ◌&&◌, ◌<◌, ◌≡◌}
 use Rattle.frame_header.specs.{Fields.{ClassFields, HeaderFields}, HeaderBits.header_bits}
-use Rattle.join_edits.specs.{Inputs.InputFields, Join.whole_part}
+use Rattle.joined_inputs.specs.{Inputs.InputFields, Parts.whole_part}
 use Rattle.laying.specs.Relaid.{FilePart, payload_of}
 use Rattle.outside.specs.Files.{Contents}
 use Rattle.seam_plan.specs.{Frames.RunFrame, declared.run.FramePlace.FramePlace}

@@ -3,11 +3,11 @@ ghost use Rattle.std.specs.Prelude.{◌≡◌, ◌++◌, ◌∷◌, [], if◌the
 ghost use Rattle.sync_survey.specs.HeadApart.{head_apart};
 ghost use Rattle.sync_survey.specs.Faults.{survey_view};
 ghost use Rattle.cut_edits.specs.Exact.{survey_without_head};
-ghost use Rattle.join_edits.specs.Inputs.{input_view};
+ghost use Rattle.joined_inputs.specs.Inputs.{input_view};
 ghost use Rattle.seamless_edits.specs.Beginnings.{input_without_head};
 ghost use Rattle.seamless_edits.specs.LostFrames.{lost_numbers, lost_in_input, lost_from};
 
-use join_edits::JoinInput;
+use joined_inputs::JoinInput;
 use std::alloc::{AllocError, Global};
 use sync_survey::{Row, Survey};
 

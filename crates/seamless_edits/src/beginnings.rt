@@ -8,14 +8,14 @@ ghost use Rattle.sync_survey.specs.Faults.{survey_view};
 ghost use Rattle.sync_survey.specs.Survey.{IsSurveyLaidOut};
 ghost use Rattle.laying.specs.Surveys.{CanBeRelaid};
 ghost use Rattle.laying.specs.KeptFields.{fields_of_head};
-ghost use Rattle.join_edits.specs.Inputs.{input_view, input_names, HasJoinNumbers};
+ghost use Rattle.joined_inputs.specs.Inputs.{input_view, input_names, HasJoinNumbers};
 ghost use Rattle.seamless_edits.specs.Seamless.{is_side_blank, begins_blank};
 ghost use Rattle.seamless_edits.specs.Beginnings.{AreBeginnings};
 ghost use Rattle.seamless_edits.specs.Reading.{AreHeld, IsInputReadFault, StopsAtInput};
 
 use commands::EditFault;
 use info_header::Info;
-use join_edits::{JoinInput, Stopped, input_at};
+use joined_inputs::{JoinInput, Stopped, input_at};
 use laying::head_fields;
 use outside::Folder;
 use std::alloc::Global;

@@ -4,11 +4,11 @@ ghost use Rattle.outside.specs.Files.{sent_and_more};
 ghost use Rattle.outside.specs.BufferOutput.{SendsWaiting, SentPrefix};
 ghost use Rattle.outside.specs.Counts.{HasCause};
 ghost use Rattle.seamless_edits.specs.Seamless.{seam_text, lost_frames_text, seam_line};
-ghost use Rattle.join_edits.specs.Inputs.{input_view, input_names};
+ghost use Rattle.joined_inputs.specs.Inputs.{input_view, input_names};
 ghost use Rattle.seamless_edits.specs.Lines.{told_lines};
 
 use crate::apart::count_from;
-use join_edits::{JoinInput, input_at};
+use joined_inputs::{JoinInput, input_at};
 use list_edits::Line;
 use outside::{Failed, SendBuffer, Sink};
 use seam_plan::{Joint, Seam};

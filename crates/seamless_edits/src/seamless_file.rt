@@ -5,7 +5,7 @@ ghost use Rattle.commands.specs.Command.{clash_of};
 ghost use Rattle.commands.specs.SingleOutput.{IsEarlyFault};
 ghost use Rattle.commands.specs.Runs.{IsRunOf};
 ghost use Rattle.commands.specs.SentText.{SaysText, answer_fault};
-ghost use Rattle.join_edits.specs.Inputs.{input_view, input_names, HasJoinNumbers};
+ghost use Rattle.joined_inputs.specs.Inputs.{input_view, input_names, HasJoinNumbers};
 ghost use Rattle.seamless_edits.specs.Reading.{IsInputReadFault};
 ghost use Rattle.seamless_edits.specs.Deciding.{CanBeDecided};
 ghost use Rattle.seamless_edits.specs.Seamless.{seamless_task, seamless_command};
@@ -17,7 +17,7 @@ use crate::decided::{Decided, decide_all};
 use crate::lines::send_lines;
 use crate::planned::prepare_run;
 use commands::{EditFault, clash};
-use join_edits::{JoinInput, JoinWork, survey_all, write_joined};
+use joined_inputs::{JoinInput, JoinWork, survey_all, write_joined};
 use outside::{Failed, Folder, SendBuffer, Sink};
 use std::alloc::Global;
 

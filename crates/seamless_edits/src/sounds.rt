@@ -8,14 +8,14 @@ ghost use Rattle.side_info.specs.Side.{side_bits, SideFits};
 ghost use Rattle.outside.specs.Files.{IfTold};
 ghost use Rattle.outside.specs.Seen.{OnlyRead};
 ghost use Rattle.sync_survey.specs.MainData.{row_side};
-ghost use Rattle.join_edits.specs.Inputs.{input_view, input_names};
+ghost use Rattle.joined_inputs.specs.Inputs.{input_view, input_names};
 ghost use Rattle.seamless_edits.specs.Reading.{AreHeld, StopsAmongInputs};
 ghost use Rattle.seamless_edits.specs.Sounds.{without_slot, without_gain, compared_side, same_front, IsFramePlace, IsSourceAt, row_at, AreOfOneClass, all_run_frames, payload_at_place, same_sounds};
 
 use crate::main_data::Source;
 use arrayvec::ArrayVec;
 use frame_header::{Class, Header};
-use join_edits::{JoinInput, Stopped};
+use joined_inputs::{JoinInput, Stopped};
 use outside::Folder;
 use reservoir::Window;
 use seam_plan::{FramePlace, is_same_header};

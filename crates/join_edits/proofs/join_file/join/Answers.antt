@@ -5,13 +5,15 @@ use Rattle.std.proofs.lemmas.Result.{IfErr-weaker}
 use Rattle.commands.proofs.MakeLemmas.{clash_run, early_run, one_run, one_streams}
 use Rattle.commands.specs.{Command.clash_from, SingleOutput.{IsMaking, most_frames}}
 use Rattle.commands.specs.declared.fault.EditFault.TheVariants.{Memory}
-use Rattle.join_edits.proofs.InputLemmas.{found-input, inputs-join, join-late}
-use Rattle.join_edits.proofs.SourceLemmas.{inputs-hold, inputs-making, join-numbers, ready-written}
-use Rattle.join_edits.proofs.{SourceLemmas.written-making, join_file.join.Goals.In_ok-sources}
-use Rattle.join_edits.specs.Inputs.{AreJoinInputs, CanInputsBeJoined, input_names, input_view}
-use Rattle.join_edits.specs.{Inputs.InputFields, Join.join_task}
-use Rattle.join_edits.specs.Laying.{CanJoinBeWritten, IsJoinReady, join_bytes}
-use Rattle.join_edits.specs.declared.{inputs.JoinInput.JoinInput, planned.JoinWork.JoinWork}
+use Rattle.join_edits.proofs.JoinLemmas.{joined-hold, ready-written, written-making}
+use Rattle.join_edits.proofs.join_file.join.Goals.{In_ok-sources}
+use Rattle.join_edits.specs.{Join.{join_task, joined_file, joined_stream}, JoinReady.IsJoinReady}
+use Rattle.joined_inputs.proofs.InputLemmas.{found-input, inputs-join, join-late, named-long}
+use Rattle.joined_inputs.proofs.SourceLemmas.{inputs-making, join-numbers}
+use Rattle.joined_inputs.specs.Inputs.{AreJoinInputs, CanInputsBeJoined, input_names, input_view}
+use Rattle.joined_inputs.specs.Inputs.{InputFields, parts_of}
+use Rattle.joined_inputs.specs.Laying.{CanJoinBeWritten, join_bytes}
+use Rattle.joined_inputs.specs.declared.{inputs.JoinInput.JoinInput, work.JoinWork.JoinWork}
 use Rattle.outside.specs.{Files.Files, Seen.seen_folder}
 use Rattle.join_edits.proofs.join_file.join.Given as given
 use Rattle.join_edits.proofs.join_file.join.Goals as goal
@@ -26,8 +28,10 @@ returns-in_err-sources g c =
     let names = map string_bytes c.args.inputs.now in
     let output = c.args.output.now in
     let met = c.in_err-sources.ensures in
-    early_run (join_task names) output (sym c.clash.ensures ∙ c.in_default.is) (join-late names) _
-    c.from_residual.ensures.1 met.refused (join-numbers output names _ _
+    early_run (join_task names) output (sym c.clash.ensures ∙ c.in_default.is)
+    (join-late joined_file names) _
+    c.from_residual.ensures.1 (met.refused joined_file joined_stream)
+    (join-numbers joined_file joined_stream output names _ _
     (sym (length-map c.args.inputs.now string_bytes)) met.numbers) c.survey_all.ensures.reads.counts
 
 module _ (g : given.Over) (c : In_ok-sources g) where
@@ -44,12 +48,7 @@ module _ (g : given.Over) (c : In_ok-sources g) where
   named = c.in_ok-sources.ensures.names
 
   long : length inputs ≡ length c.args.inputs.now
-  long = omega (
-    arith,
-    ap length named,
-    length-map inputs (λ (i : InputFields). i.name),
-    length-map c.args.inputs.now string_bytes,
-  )
+  long = named-long inputs named ∙ length-map c.args.inputs.now string_bytes
 
   some : 1 ≤ length inputs
   some = omega (arith, c.requires.some, long)
@@ -84,7 +83,7 @@ returns-in_err-work g c =
     let found = rw (append-nil, named g at) at
     (found-input most_frames (inputs g at) [] _ _ (are g at) (some g at) stays) in
     early_run (join_task names) c.args.output.now (sym c.clash.ensures ∙ c.in_default.is)
-    (join-late names) Memory c.from_residual-in_err-work.ensures.1 found tt
+    (join-late joined_file names) Memory c.from_residual-in_err-work.ensures.1 found tt
     c.survey_all.ensures.reads.counts
 
 pub write_joined-requires-clause-can : goal.write_joined-requires-clause-can
@@ -116,10 +115,13 @@ returns g c =
     ) in
     one_run (join_task names) output free _ made refl
     (one_streams (join_task names) output free _ _
-    (rw (named g at) at (inputs-making (old g at) (inputs g at) (some g at) (are g at)))
+    (rw (named g at) at (inputs-making joined_file joined_stream
+    (λ _. joined_file (parts_of (old g at) (inputs g at))) (old g at) (inputs g at) (some g at)
+    (are g at) (λ _ _. refl)))
     (rw (named g at) at
-    (inputs-hold output (old g at) (inputs g at) (none g at) (can g at) (are g at))) result)
-    (IfErr-weaker result _ _ (λ fault. join-numbers output names many fault
+    (joined-hold output (old g at) (inputs g at) (none g at) (can g at) (are g at))) result)
+    (IfErr-weaker result _ _
+    (λ fault. join-numbers joined_file joined_stream output names many fault
     (sym (length-map c.args.inputs.now string_bytes)))
     (rw long-now at c.write_joined.ensures.numbers))
     (rw (named-now, same) at c.write_joined.ensures.wrote)

@@ -1,6 +1,6 @@
 -- The inputs before have become parts.
 use Rattle.std.proofs.Common.{map, take, ◌≡◌}
-use Rattle.join_edits.specs.Inputs.{input_view, survey_rows}
+use Rattle.joined_inputs.specs.Inputs.{input_view, survey_rows}
 use Rattle.laying.specs.Needs.{plan_input}
 use Rattle.join_edits.proofs.planned.parts_of.Given as goal
 

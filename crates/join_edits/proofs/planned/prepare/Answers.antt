@@ -1,7 +1,8 @@
 -- The Info frame is about frames in the slots of the plan.
 use Rattle.std.proofs.{Common.{ap, arith, map, sym, ◌∙◌, ◌≡◌}, lemmas.List.length-map}
 use Rattle.info_header.specs.InfoFrame.{info_frame}
-use Rattle.join_edits.{proofs.PlanLemmas.{alike-first, can-some, plan-few}, specs.Inputs.input_view}
+use Rattle.join_edits.proofs.PlanLemmas.{plan-few}
+use Rattle.joined_inputs.{proofs.InputLemmas.{alike-first, can-some}, specs.Inputs.input_view}
 use Rattle.laying.specs.{Written.info_for, declared.info.Kept.Kept}
 use Rattle.slot_plan.specs.declared.needs.Placed.{Placed}
 use Rattle.join_edits.proofs.planned.prepare.Goals as goal

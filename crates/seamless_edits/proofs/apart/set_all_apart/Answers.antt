@@ -1,7 +1,7 @@
 -- The head of one more survey is set apart, and its lost frames are listed.
 use Rattle.std.proofs.Common.{ap, arith, get_or, length, map, sym, vec_items, [], ◌<◌, ◌∙◌, ◌∷◌}
 use Rattle.std.proofs.lemmas.List.{get_or-map, length-map, map-append, map-set}
-use Rattle.join_edits.specs.Inputs.{input_view, InputFields}
+use Rattle.joined_inputs.specs.Inputs.{input_view, InputFields}
 use Rattle.seamless_edits.proofs.{KnownLemmas.apart-next, LostLemmas.lost-more}
 use Rattle.seamless_edits.specs.{Beginnings.input_without_head, LostFrames.lost_in_input}
 use Rattle.sync_survey.specs.Faults.{SurveyFields}

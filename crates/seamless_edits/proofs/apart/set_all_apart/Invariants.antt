@@ -1,6 +1,6 @@
 -- The heads of the surveys so far are set apart, and the numbers of their lost frames are listed.
 use Rattle.std.proofs.Common.{drop, map, take, vec_items, ◌++◌, ◌≡◌}
-use Rattle.join_edits.specs.Inputs.{input_view}
+use Rattle.joined_inputs.specs.Inputs.{input_view}
 use Rattle.seamless_edits.specs.{Beginnings.input_without_head, LostFrames.lost_in_input}
 use Rattle.seamless_edits.proofs.apart.set_all_apart.Given as goal
 

@@ -2,8 +2,8 @@
 use Rattle.std.proofs.Common.{ap, ap₂, arith, length, List, map, take, ℕ, ◌<◌, ◌∙◌}
 use Rattle.std.proofs.lemmas.List.{length-map, take_all}
 use Rattle.commands.proofs.RefusingLemmas.{err_with}
-use Rattle.join_edits.proofs.InputLemmas.{take-next}
-use Rattle.join_edits.specs.Inputs.{input_names, input_view, InputFields}
+use Rattle.joined_inputs.proofs.InputLemmas.{take-next}
+use Rattle.joined_inputs.specs.Inputs.{input_names, input_view, InputFields}
 use Rattle.outside.specs.Seen.{seen_folder}
 use Rattle.seamless_edits.proofs.KnownLemmas.{begun-more, known-here, named-at}
 use Rattle.seamless_edits.proofs.ReadFaultLemmas.{fault-later, stops-among, stops-fault}

@@ -1,6 +1,6 @@
 -- It is known how the inputs so far begin, and no file and no count changed.
 use Rattle.std.proofs.Common.{map, take, ◌≡◌}
-use Rattle.join_edits.specs.Inputs.{input_view}
+use Rattle.joined_inputs.specs.Inputs.{input_view}
 use Rattle.seamless_edits.specs.Beginnings.{AreBeginnings}
 use Rattle.seamless_edits.proofs.beginnings.beginnings_of.Given as goal
 

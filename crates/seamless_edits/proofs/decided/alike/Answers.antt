@@ -4,7 +4,7 @@ use Rattle.std.proofs.Common.{refl, rules, Some, subst, suc, sym, true, zero, �
 use Rattle.std.proofs.{Common.{◌∙◌, ◌∷◌, ◌≡◌, ◌≤◌}, lemmas.Bool.leb-true}
 use Rattle.std.proofs.lemmas.List.{drop_all, length-drop, length-map, Elements.All-drop}
 use Rattle.std.specs.Prelude.{nat_le}
-use Rattle.join_edits.specs.Inputs.{input_view, InputFields}
+use Rattle.joined_inputs.specs.Inputs.{input_view, InputFields}
 use Rattle.laying.specs.Needs.{need_of}
 use Rattle.outside.specs.Files.{Contents, Files, IfTold}
 use Rattle.seam_plan.specs.Decisions.{frame_place, last_places}

@@ -1,6 +1,6 @@
 -- The frames so far sound the same.
 use Rattle.std.proofs.Common.{drop, map, ◌+◌, ◌≡◌}
-use Rattle.join_edits.specs.Inputs.{input_view}
+use Rattle.joined_inputs.specs.Inputs.{input_view}
 use Rattle.outside.specs.Files.{IfTold}
 use Rattle.seamless_edits.{proofs.DecideLemmas.sounds_from, specs.Sounds.all_run_frames}
 use Rattle.seamless_edits.proofs.decided.alike.Given as goal

@@ -2,8 +2,8 @@
 use Rattle.std.proofs.Common.{ap₂, arith, false, get_or, length, List, map, None, refl, ◌<◌, ◌≡◌}
 use Rattle.std.proofs.lemmas.List.{length-map}
 use Rattle.commands.proofs.RefusingLemmas.{err_with}
-use Rattle.join_edits.proofs.PlanLemmas.{can-some}
-use Rattle.join_edits.specs.Inputs.{input_names, input_view, InputFields}
+use Rattle.joined_inputs.proofs.InputLemmas.{can-some}
+use Rattle.joined_inputs.specs.Inputs.{input_names, input_view, InputFields}
 use Rattle.outside.specs.Seen.{seen_folder}
 use Rattle.seamless_edits.proofs.DecideAllLemmas.{AreAllDecided, at-end, begun-at, can-begin-at}
 use Rattle.seamless_edits.proofs.{DecideAllLemmas.get-here, KnownLemmas.get-at}

@@ -1,6 +1,6 @@
 -- The inputs so far are decided.
 use Rattle.std.proofs.Common.{length, map, ◌≡◌, ◌≤◌}
-use Rattle.join_edits.specs.Inputs.{input_view}
+use Rattle.joined_inputs.specs.Inputs.{input_view}
 use Rattle.seamless_edits.specs.Deciding.{IsDecidingTo}
 use Rattle.seamless_edits.proofs.decided.decide_all.Given as goal
 

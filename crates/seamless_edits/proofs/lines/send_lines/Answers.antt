@@ -2,7 +2,7 @@
 use Rattle.std.proofs.Common.{ap, ap₂, arith, drop, get_or, length, List, map, subst, sym}
 use Rattle.std.proofs.Common.{vec_items, zip, ℕ, ◌++◌, ◌+◌, ◌<◌, ◌∙◌, ◌∷◌, ◌≡◌}
 use Rattle.std.specs.Prelude.{flat_map}
-use Rattle.join_edits.{proofs.StepLemmas.map-next, specs.Inputs.{input_names, input_view}}
+use Rattle.joined_inputs.{proofs.StepLemmas.map-next, specs.Inputs.{input_names, input_view}}
 use Rattle.laying.proofs.RelayLemmas.{item-next}
 use Rattle.list_edits.proofs.ListingLemmas.{all_lines, line_failed, prefix_behind, said_more}
 use Rattle.list_edits.proofs.ListingLemmas.{said_none, sent_behind}

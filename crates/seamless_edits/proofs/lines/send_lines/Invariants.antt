@@ -1,6 +1,6 @@
 -- The lines so far wait or were sent, and no write failed.
 use Rattle.std.{proofs.Common.{drop, length, map, vec_items, ◌≡◌, ◌≤◌}, specs.List.zip}
-use Rattle.join_edits.specs.Inputs.{input_names, input_view}
+use Rattle.joined_inputs.specs.Inputs.{input_names, input_view}
 use Rattle.list_edits.proofs.ListingLemmas.{IsSaidTo}
 use Rattle.seamless_edits.{proofs.LineLemmas.left-from, specs.Lines.told_line}
 use Rattle.seamless_edits.proofs.lines.send_lines.Given as goal

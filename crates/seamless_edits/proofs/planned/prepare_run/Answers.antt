@@ -4,8 +4,8 @@ use Rattle.std.proofs.{Common.{subst, sym, ℕ, [], ◌+◌, ◌∙◌, ◌∷�
 use Rattle.std.specs.Prelude.{slice_get}
 use Rattle.frame_header.specs.{Limits.most_output_frames, Tables.window_of}
 use Rattle.info_header.specs.InfoFrame.{info_frame}
-use Rattle.join_edits.specs.Inputs.{class_of_first, input_view, InputFields}
-use Rattle.join_edits.specs.declared.planned.JoinWork.{JoinWork}
+use Rattle.joined_inputs.specs.Inputs.{class_of_first, input_view, InputFields}
+use Rattle.joined_inputs.specs.declared.work.JoinWork.{JoinWork}
 use Rattle.laying.{proofs.PlacesLemmas.plan-length, specs.declared.info.Kept.Kept}
 use Rattle.seamless_edits.proofs.{KnownLemmas.get-at, RunPlanLemmas.fits-moved}
 use Rattle.seamless_edits.proofs.planned.prepare_run.Goals.{After-placed-placed}

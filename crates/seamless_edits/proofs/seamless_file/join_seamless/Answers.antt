@@ -1,13 +1,13 @@
 -- A clash of names, faults met before the output is created, and what comes after.
-use Rattle.std.proofs.Common.{ap, arith, length, List, map, string_bytes, sym, ℕ, ◌∙◌, ◌≡◌}
+use Rattle.std.proofs.Common.{arith, length, List, map, string_bytes, sym, ℕ, ◌∙◌, ◌≡◌}
 use Rattle.std.proofs.lemmas.List.{length-map}
 use Rattle.commands.proofs.MakeLemmas.{clash_run, early_run, run-before}
 use Rattle.commands.{proofs.TellingLemmas.telling_run, specs.SingleOutput.one_command}
-use Rattle.join_edits.proofs.SourceLemmas.{join-numbers}
-use Rattle.join_edits.specs.Inputs.{input_names, input_view, InputFields}
+use Rattle.joined_inputs.proofs.{InputLemmas.named-long, SourceLemmas.join-numbers}
+use Rattle.joined_inputs.specs.Inputs.{input_names, input_view}
 use Rattle.seamless_edits.proofs.SeamlessCommandLemmas.{ready-names, seamless-late, text_of}
-use Rattle.seamless_edits.specs.Seamless.{seamless_command, seamless_task}
-use Rattle.seamless_edits.specs.declared.seamless_file.Ready.{Ready}
+use Rattle.seamless_edits.specs.Seamless.{seamless_command, seamless_file, seamless_stream}
+use Rattle.seamless_edits.specs.{Seamless.seamless_task, declared.seamless_file.Ready.Ready}
 use Rattle.seamless_edits.proofs.seamless_file.join_seamless.Given as given
 use Rattle.seamless_edits.proofs.seamless_file.join_seamless.Goals as goal
 
@@ -26,7 +26,8 @@ returns-in_err-ready-clause-run g c =
     let met = c.in_err-ready.ensures in
     telling_run (text_of names) (one_command task output)
     (early_run task output (sym c.clash.ensures ∙ c.in_default.is) (seamless-late names) _
-    c.from_residual.ensures.1 met.refused (join-numbers output names _ _
+    c.from_residual.ensures.1 met.refused
+    (join-numbers seamless_file seamless_stream output names _ _
     (sym (length-map c.args.inputs.now string_bytes)) met.numbers)
     c.prepare_all.ensures.reads.counts)
 
@@ -34,12 +35,8 @@ returns-in_err-ready-clause-run g c =
 items-long : (ready : Ready) (names : List (List ℕ))
     → input_names (map input_view ready.inputs.items) ≡ names
     → length ready.inputs.items ≡ length names
-items-long ready names named = omega (
-  arith,
-  ap length named,
-  length-map (map input_view ready.inputs.items) (λ (i : InputFields). i.name),
-  length-map ready.inputs.items input_view,
-)
+items-long ready names named = sym (length-map ready.inputs.items input_view)
+    ∙ named-long (map input_view ready.inputs.items) named
 
 pub write_and_tell-requires-clause-some : goal.write_and_tell-requires-clause-some
 write_and_tell-requires-clause-some g c =

@@ -1,17 +1,18 @@
 -- Step by step, with the faults met before the output is created.
-use Rattle.std.proofs.Common.{ap, ap₂, arith, length, List, map, string_bytes, ◌∙◌, ◌≡◌, ◌≤◌}
+use Rattle.std.proofs.Common.{ap, ap₂, arith, length, List, map, string_bytes, sym, ◌∙◌, ◌≡◌, ◌≤◌}
 use Rattle.std.proofs.lemmas.List.{length-map, take_at, with_items_is}
 use Rattle.commands.proofs.RefusingLemmas.{err_with}
 use Rattle.commands.specs.declared.fault.EditFault.TheVariants.{Memory}
-use Rattle.join_edits.proofs.InputLemmas.{inputs-join}
-use Rattle.join_edits.specs.Inputs.{CanInputsBeJoined, input_names, input_view, InputFields}
-use Rattle.join_edits.specs.declared.inputs.JoinInput.{JoinInput}
+use Rattle.joined_inputs.proofs.InputLemmas.{inputs-join, named-long}
+use Rattle.joined_inputs.specs.Inputs.{CanInputsBeJoined, input_names, input_view, InputFields}
+use Rattle.joined_inputs.specs.declared.inputs.JoinInput.{JoinInput}
 use Rattle.outside.specs.{Files.Files, Seen.seen_folder}
 use Rattle.seamless_edits.proofs.SeamlessCommandLemmas.{apart-decided, apart-names, inputs-known}
 use Rattle.seamless_edits.proofs.SeamlessCommandLemmas.{read-fault-early}
 use Rattle.seamless_edits.proofs.seamless_file.prepare_all.Goals.{After-deref-3, In_ok-inputs}
 use Rattle.seamless_edits.specs.Beginnings.{AreBeginnings, input_without_head}
 use Rattle.seamless_edits.specs.{Deciding.CanBeDecided, LostFrames.lost_in_input}
+use Rattle.seamless_edits.specs.Seamless.{seamless_file, seamless_stream}
 use Rattle.seamless_edits.specs.declared.beginnings.Beginning.{Beginning}
 use Rattle.seamless_edits.proofs.seamless_file.prepare_all.Given as given
 use Rattle.seamless_edits.proofs.seamless_file.prepare_all.Goals as goal
@@ -19,6 +20,11 @@ use Rattle.seamless_edits.proofs.seamless_file.prepare_all.Goals as goal
 apart-long : (new items : List JoinInput) → map input_view new
     ≡ map input_without_head (map input_view items) → length new ≡ length items
 apart-long new items is = grind (arith, length-map)
+
+pub returns-in_err-inputs-clause-refused : goal.returns-in_err-inputs-clause-refused
+returns-in_err-inputs-clause-refused g c =
+    err_with _ _ c.from_residual.ensures.1
+    (c.in_err-inputs.ensures.refused seamless_file seamless_stream)
 
 -- the inputs have their surveys
 module _ (g : given.Over) (c : In_ok-inputs g) where
@@ -32,12 +38,7 @@ module _ (g : given.Over) (c : In_ok-inputs g) where
   named = c.in_ok-inputs.ensures.names
 
   long : length found ≡ length c.args.names.now
-  long = omega (
-    arith,
-    ap length named,
-    length-map found (λ (i : InputFields). i.name),
-    length-map c.args.names.now string_bytes,
-  )
+  long = named-long found named ∙ length-map c.args.names.now string_bytes
 
   some : 1 ≤ length found
   some = omega (arith, c.requires.some, long)
@@ -120,6 +121,15 @@ returns-in_err-made-clause-refused g c =
     (ap₂ seen_folder (c.beginnings_of.ensures.reads.files ∙ c.survey_all.ensures.reads.files)
     (c.in_ok-beginnings.ensures.reads.done ∙ c.in_ok-inputs.ensures.reads.done))
     (rw before at c.in_err-made.ensures.refused))
+
+pub returns-in_err-made-clause-numbers : goal.returns-in_err-made-clause-numbers
+returns-in_err-made-clause-numbers g c =
+    let at = goal.at.returns-in_err-made-clause-numbers g c in
+    let ready = at.In_ok-inputs in
+    let many : length c.deref-2.result.now ≡ length c.args.names.now =
+    apart-long c.deref-2.result.now (items g ready) (inputs-now g at.After-deref-3)
+    ∙ sym (length-map (items g ready) input_view) ∙ long g ready in
+    err_with _ _ c.from_residual-in_err-made.ensures.1 (rw many at c.in_err-made.ensures.numbers)
 
 pub returns-clause-ready : goal.returns-clause-ready
 returns-clause-ready g c =

@@ -1,10 +1,11 @@
 -- The second pass, and the text.
-use Rattle.std.proofs.Common.{ap, arith, length, List, map, sym, ℕ, ◌∙◌, ◌≡◌, ◌≤◌}
+use Rattle.std.proofs.Common.{ap, arith, length, List, map, refl, sym, ℕ, ◌∙◌, ◌≡◌, ◌≤◌}
 use Rattle.std.proofs.lemmas.List.{length-map, take_at}
 use Rattle.commands.proofs.MakeLemmas.{returned_run}
 use Rattle.commands.proofs.TellingLemmas.{says-all, says-prefix, telling_run, unsent_run}
 use Rattle.commands.specs.{Command.Command, SingleOutput.one_command}
-use Rattle.join_edits.specs.Inputs.{input_names, input_view, InputFields}
+use Rattle.joined_inputs.proofs.InputLemmas.{named-long}
+use Rattle.joined_inputs.specs.Inputs.{input_names, input_view, InputFields}
 use Rattle.seam_plan.specs.declared.run.Joint.{Joint}
 use Rattle.seamless_edits.proofs.SeamlessCommandLemmas.{joints-many, left-names, left_inputs}
 use Rattle.seamless_edits.proofs.SeamlessCommandLemmas.{ready-text, ready-writable, text_of}
@@ -34,19 +35,15 @@ module _ (g : given.Over) (c : After-deref g) where
       c.deref_mut.ensures.value
 
   names-long : length names ≡ length c.args.ready.now.inputs.items
-  names-long = omega (
-    arith,
-    length-map (map input_view c.args.ready.now.inputs.items) (λ (i : InputFields). i.name),
-    length-map c.args.ready.now.inputs.items input_view,
-  )
+  names-long = sym (named-long (map input_view c.args.ready.now.inputs.items) refl)
+      ∙ length-map c.args.ready.now.inputs.items input_view
 
   new-long : length c.leave_out.new.inputs ≡ length c.args.ready.now.inputs.items
   new-long = omega (
     arith,
     length-map c.leave_out.new.inputs input_view,
     ap length new-is,
-    length-map left (λ (i : InputFields). i.name),
-    ap length named,
+    named-long left named,
     names-long,
   )
 
@@ -61,8 +58,7 @@ module _ (g : given.Over) (c : After-deref g) where
     arith,
     length-map c.deref.result.now input_view,
     ap length now,
-    length-map left (λ (i : InputFields). i.name),
-    ap length named,
+    named-long left named,
   )
 
   abbrev silent : Command

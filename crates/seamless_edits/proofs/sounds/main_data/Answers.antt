@@ -1,7 +1,7 @@
 -- The main data of the frame of the input, or why the input can't be read.
 use Rattle.std.proofs.Common.{ap, arith, length, map, refl, subst, [], ◌<◌}
 use Rattle.std.proofs.lemmas.List.{length-map}
-use Rattle.join_edits.specs.Inputs.{input_names, input_view, InputFields}
+use Rattle.joined_inputs.specs.Inputs.{input_names, input_view, InputFields}
 use Rattle.seamless_edits.proofs.FramePlaceLemmas.{frame-within, get-index, input-within, known-at}
 use Rattle.seamless_edits.proofs.FramePlaceLemmas.{map-get, payload-told}
 use Rattle.seamless_edits.{proofs.ReadFaultLemmas.stops-among, specs.Reading.IsMainDataOf}

@@ -1,6 +1,6 @@
 -- Two frames sound alike if header, side information and main data are the same.
 use Rattle.std.proofs.Common.{ap, ap₂, bytes_eq, map, subst, sym, ◌∙◌, ◌≡◌}
-use Rattle.join_edits.specs.Inputs.{input_view}
+use Rattle.joined_inputs.specs.Inputs.{input_view}
 use Rattle.outside.specs.Files.{IfTold}
 use Rattle.seamless_edits.proofs.FramePlaceLemmas.{class-first, class-here, places-compared}
 use Rattle.seamless_edits.proofs.FramePlaceLemmas.{places-differ}

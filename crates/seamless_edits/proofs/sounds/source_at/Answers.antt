@@ -1,6 +1,6 @@
 -- The input is at its place.
 use Rattle.std.proofs.Common.{refl}
-use Rattle.join_edits.specs.Inputs.{input_view}
+use Rattle.joined_inputs.specs.Inputs.{input_view}
 use Rattle.laying.proofs.RelayLemmas.{found-at}
 use Rattle.seamless_edits.proofs.FramePlaceLemmas.{map-get}
 use Rattle.seamless_edits.proofs.sounds.source_at.Goals as goal

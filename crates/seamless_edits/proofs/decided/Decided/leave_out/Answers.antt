@@ -1,7 +1,7 @@
 -- One more input begins behind what is left out of it.
 use Rattle.std.proofs.Common.{ap, arith, drop, get_or, length, map, set, sym, ◌+◌, ◌<◌, ◌∙◌, ◌∷◌}
 use Rattle.std.proofs.{Common.◌≡◌, lemmas.List.{get_or-map, length-map, map-set}}
-use Rattle.join_edits.specs.Inputs.{input_view, InputFields}
+use Rattle.joined_inputs.specs.Inputs.{input_view, InputFields}
 use Rattle.seamless_edits.{proofs.KnownLemmas.from-next, specs.Deciding.left_out_of}
 use Rattle.seamless_edits.proofs.decided.Decided.leave_out.Goals as goal
 

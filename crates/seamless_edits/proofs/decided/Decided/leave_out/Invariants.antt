@@ -1,6 +1,6 @@
 -- The inputs so far begin behind what is left out of them.
 use Rattle.std.proofs.Common.{drop, map, take, ◌++◌, ◌≡◌}
-use Rattle.join_edits.specs.Inputs.{input_view}
+use Rattle.joined_inputs.specs.Inputs.{input_view}
 use Rattle.seamless_edits.specs.Deciding.{from_places, left_out_of}
 use Rattle.seamless_edits.proofs.decided.Decided.leave_out.Given as goal
 

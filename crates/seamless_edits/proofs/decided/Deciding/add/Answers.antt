@@ -4,7 +4,7 @@ use Rattle.std.proofs.Common.{map, None, Some, sym, take, ℕ, ◌++◌, ◌-◌
 use Rattle.std.proofs.lemmas.{List.{drop_at, length-map, take_all, take_at}, Slice.Zip.AllZip-long}
 use Rattle.std.specs.Prelude.{slice_get}
 use Rattle.exact_span.specs.PlayedPositions.{AreCounted, counted_positions}
-use Rattle.join_edits.specs.Inputs.{input_view, InputFields}
+use Rattle.joined_inputs.specs.Inputs.{input_view, InputFields}
 use Rattle.laying.specs.Needs.{need_of}
 use Rattle.seamless_edits.proofs.DecideAllLemmas.{all-of-one, get-here, input-few, input-of}
 use Rattle.seamless_edits.proofs.DecideAllLemmas.{is-next}

@@ -1,0 +1,5 @@
+-- The lemmas of this crate.
+pub mod InputLemmas
+pub mod PartLemmas
+pub mod SourceLemmas
+pub mod StepLemmas

@@ -1,0 +1,174 @@
+-- The ID3v2 blocks of the first input and the Info frame, the frames of all inputs, and then what
+-- waits.
+use Rattle.std.proofs.Common.{append-nil, arith, flat_map, length, List, map, refl, rules, sym, ℕ}
+use Rattle.std.{proofs.Common.{[], ◌++◌, ◌∷◌, ◌≡◌, ◌≢◌}, specs.List.concat}
+use Rattle.cut_edits.proofs.LaidPassLemmas.{appends-as_prefix}
+use Rattle.frame_writer.specs.Frames.{bytes_of_frames}
+use Rattle.joined_inputs.proofs.SourceLemmas.{first-source, sources-beside, told-beside}
+use Rattle.joined_inputs.proofs.StepLemmas.{cause-named, named-first, source-ready, told_frames}
+use Rattle.joined_inputs.proofs.written.append_joined.Goals.{After-append_front}
+use Rattle.joined_inputs.specs.{Inputs.{input_view, InputFields}, Laying.join_bytes}
+use Rattle.laying.specs.{Relaid.relaid_frames, Written.front_blocks}
+use Rattle.outside.proofs.BufferOutputLemmas.{err_at, passed_there}
+use Rattle.outside.proofs.FilesLemmas.{appended_there, appended_touches, touches_none}
+use Rattle.outside.proofs.PassLemmas.{cause_behind, cause_later, prefix_as, prefix_then, writes_all}
+use Rattle.outside.proofs.PassLemmas.{writes_as, writes_end, writes_then}
+use Rattle.outside.specs.Files.{Files, Holds, OnlyTouches}
+use Rattle.outside.specs.Pass.{AppendsMadeBytes, WritesMadeBytes, WritesPrefix}
+use Rattle.outside.specs.declared.pass.PassFault.{PassFault}
+use Rattle.slot_plan.specs.{Plans.entries, declared.needs.Placed.Placed}
+use Rattle.sync_survey.specs.Faults.{survey_view}
+use Rattle.joined_inputs.proofs.written.append_joined.Given as given
+use Rattle.joined_inputs.proofs.written.append_joined.Goals as goal
+
+pub append_front-requires-clause-ready : goal.append_front-requires-clause-ready
+append_front-requires-clause-ready g c = grind (arith, source-ready, first-source)
+
+-- the blocks, the Info frame and all frames are the file
+module _ (g : given.Over) (c : After-append_front g) where
+  abbrev old : Files
+  old = (g.D.Folder.seen c.args.folder.now).files
+
+  abbrev inputs : List InputFields
+  inputs = map input_view c.args.inputs.now
+
+  abbrev whole : List ℕ → List ℕ
+  whole = join_bytes old inputs c.args.work.now
+
+  abbrev front : List ℕ → List ℕ
+  front file =
+      concat (front_blocks file (survey_view c.args.first.now.survey.now)) ++ c.as_slice.result.now
+
+  abbrev frames : Files → List Placed → List ℕ
+  frames mid placed = bytes_of_frames (relaid_frames (told_frames mid inputs) placed)
+
+  all : (mid : Files) (placed : List Placed) → placed ≡ entries c.args.work.now.plan
+      → OnlyTouches (c.args.first.now.pass.output.now ∷ []) old mid
+      → (file : List ℕ) → Holds old c.args.first.now.pass.input.now file
+      → front file ++ frames mid placed ≡ whole file
+  all mid placed is only file holds = grind (arith, told-beside, flat_map)
+
+  -- the front, and then the frames, or a part of them
+  module _ (mid : Files) (placed : List Placed) (is : placed ≡ entries c.args.work.now.plan)
+      {waiting : List ℕ} (none : waiting ≡ [])
+      (begins : AppendsMadeBytes
+      c.args.first.now.pass.input.now c.args.first.now.pass.output.now front old
+      mid)
+    where
+      begun : WritesMadeBytes c.args.first.now.pass front [] waiting old mid
+      begun = rw none (record {
+        piece = begins.bytes;
+        is = begins.is;
+        passed = record {
+          passed = begins.bytes;
+          split = sym (append-nil begins.bytes);
+          files = begins.files;
+        };
+      })
+
+      apart : c.args.first.now.pass.input.now ≢ c.args.first.now.pass.output.now
+      apart = c.requires.join.apart
+
+      only : OnlyTouches (c.args.first.now.pass.output.now ∷ []) old mid
+      only = rw begins.files (appended_touches old c.args.first.now.pass.output.now begins.bytes)
+
+      both : {after : List ℕ} {new : Files}
+          → WritesMadeBytes c.args.first.now.pass (λ file. frames mid placed) waiting after mid new
+          → WritesMadeBytes c.args.first.now.pass whole [] after old new
+      both rest =
+          let pass = c.args.first.now.pass in
+          writes_as pass whole (all mid placed is only) (writes_then pass apart begun rest)
+
+      part : {new : Files} {fault : PassFault}
+          → WritesPrefix c.args.first.now.pass (λ file. frames mid placed) waiting mid new fault
+          → WritesPrefix c.args.first.now.pass whole [] old new fault
+      part rest =
+          let pass = c.args.first.now.pass in
+          appends-as_prefix _ whole (all mid placed is only) (prefix_then pass apart begun rest)
+
+pub returns-in-Err : goal.returns-in-Err
+returns-in-Err g c =
+    let at = (goal.at.returns-in-Err g c).After-append_front in
+    let placed = entries c.args.work.now.plan in
+    let first = old g at in
+    let none = touches_none (c.args.first.now.pass.output.now ∷ []) first in
+    record {
+      written = tt;
+      prefix = prefix_as c.args.first.now.pass (whole g at) (λ _. frames g at first placed)
+          (λ file holds. sym (all g at first placed refl none file holds)) c.in-Err.ensures.prefix;
+      done = tt;
+      cause = record {
+        within = named-first c.requires.join.are;
+        size = _;
+        cause = cause-named (map input_view c.args.inputs.now) 0 _ _ _ _ _ _ _ _
+            c.requires.join.are c.in-Err.ensures.cause;
+      };
+    }
+
+pub lay_all-requires-clause-join : goal.lay_all-requires-clause-join
+lay_all-requires-clause-join g c =
+    let join = c.requires.join in
+    let files = c.in_default.ensures.written.files in
+    record {
+      from = join.from;
+      later = join.later;
+      are = join.are;
+      length = join.length;
+      apart = join.apart;
+      sources = sources-beside _ _ _ _ _ (rw files (appended_touches _ _ _)) join.sources;
+      target = rw files (appended_there _ _ _);
+    }
+
+pub returns-in_err-lay_all : goal.returns-in_err-lay_all
+returns-in_err-lay_all g c =
+    let w = (goal.at.returns-in_err-lay_all g c).After-append_front in
+    let mid = (g.D.Folder.seen c.append_front.new.folder).files in
+    let front = c.in_default.ensures.written in
+    let h = c.in_err-lay_all.ensures.cause in
+    let rest = part g w mid c.placed.result.now c.placed.ensures c.in_default.ensures.none front
+    c.in_err-lay_all.ensures.prefix in
+    record {
+      written = search rules;
+      prefix = err_at c.from_residual.result _ c.from_residual.ensures.1 rest;
+      done = search rules;
+      cause = search (arith, err_at, cause_later);
+    }
+
+pub finish-requires : goal.finish-requires
+finish-requires g c = passed_there c.in_ok-lay_all.ensures.written.passed
+
+pub returns-in-Ok : goal.returns-in-Ok
+returns-in-Ok g c =
+    let w = (goal.at.returns-in-Ok g c).After-append_front in
+    let mid = (g.D.Folder.seen c.append_front.new.folder).files in
+    let rest = both g w mid c.placed.result.now c.placed.ensures c.in_default.ensures.none
+    c.in_default.ensures.written c.in_ok-lay_all.ensures.written in
+    record {
+      written = writes_all c.args.first.now.pass (whole g w) rest c.in-Ok.ensures.appended;
+      prefix = tt;
+      done = search rules;
+      cause = tt;
+    }
+
+pub returns-in-Err-finish : goal.returns-in-Err-finish
+returns-in-Err-finish g c =
+    let w = (goal.at.returns-in-Err-finish g c).After-append_front in
+    let mid = (g.D.Folder.seen c.append_front.new.folder).files in
+    let front = c.in_default.ensures.written in
+    let frames = c.in_ok-lay_all.ensures in
+    let rest = both g w mid c.placed.result.now c.placed.ensures c.in_default.ensures.none front
+    frames.written in
+    record {
+      written = tt;
+      prefix = writes_end c.args.first.now.pass (whole g w) rest c.in-Err-finish.ensures.prefix;
+      done = tt;
+      cause = record {
+        within = named-first c.requires.join.are;
+        size = _;
+        cause = cause-named (map input_view c.args.inputs.now) 0 _ _ _ _ _ _ _ _ c.requires.join.are
+            (cause_later _ _ _ c.args.first.now.pass.output.now front.bytes _ _ _
+            c.in-Err-finish.fault front.files c.in_default.ensures.done
+            (cause_behind frames.written _ _ _ _ frames.done c.in-Err-finish.fault
+            c.in-Err-finish.ensures.cause));
+      };
+    }

@@ -1,0 +1,4 @@
+-- What the contracts of this crate cite.
+pub mod Parts
+pub mod Inputs
+pub mod Laying

@@ -1,0 +1,15 @@
+//! The inputs of a join: their surveys, and the second pass over them, which writes its output.
+#![tactic(auto)]
+
+mod inputs;
+mod laid;
+mod stopped;
+mod surveys;
+mod work;
+mod written;
+
+pub use inputs::{JoinInput, input_at};
+pub use stopped::Stopped;
+pub use surveys::survey_all;
+pub use work::JoinWork;
+pub use written::write_joined;
