@@ -1,46 +1,40 @@
 -- The lines of the inputs, in order.
-use Rattle.std.proofs.Common.{ap, append_assoc, ap₂, arith, drop, length, List, refl, subst, ℕ, []}
-use Rattle.std.proofs.Common.{◌++◌, ◌+◌, ◌∙◌, ◌∷◌, ◌≡◌, ◌≤◌}
-use Rattle.std.{proofs.lemmas.List.{drop-drop, drop-map, drop_all}, specs.List.zip}
+use Rattle.std.proofs.Common.{append_assoc, ap₂, arith, drop, length, List, refl, subst, ℕ, []}
+use Rattle.std.proofs.{Common.{◌++◌, ◌+◌, ◌∙◌, ◌∷◌, ◌≡◌, ◌≤◌}, lemmas.List.{drop-map, drop_all}}
 use Rattle.std.specs.Prelude.{codes, decimal}
 use Rattle.joined_inputs.specs.Inputs.{input_names, InputFields}
 use Rattle.outside.proofs.SentLemmas.{sent_more_on, sent_more_prefix}
 use Rattle.outside.specs.{BufferOutput.{SendsWaiting, SentPrefix}, Files.Sent}
-use Rattle.seam_plan.specs.declared.{run.Joint.Joint, seam.Seam.TheVariants.Follows}
-use Rattle.seamless_edits.specs.{Lines.Told, Seamless.seam_text}
+use Rattle.seam_plan.specs.{Seams.left_out_count, declared.run.Joint.Joint}
+use Rattle.seam_plan.specs.declared.seam.Seam.TheVariants.{Follows}
+use Rattle.seamless_edits.specs.{Lines.told_by, LostFrames.lost_from, Seamless.seam_text}
 
--- the inputs whose lines are left
-abbrev pub left-from : List (List ℕ) → List Joint → List (List ℕ) → ℕ → List Told
-left-from names joints lost i =
-    zip (drop i (drop 1 names)) (zip (drop i joints) (drop i (drop 1 lost)))
+-- ---- what is told
 
-after-first : (lists : List (List ℕ)) (i : ℕ) → drop i (drop 1 lists) ≡ drop (i + 1) lists
-after-first lists i = grind (arith, drop-drop i 1 lists)
+-- an input is told before those after it
+pub told-cons : {names ns : List (List ℕ)} {joints js : List Joint} {lost ls : List (List ℕ)}
+    {name : List ℕ} {joint : Joint} {numbers : List ℕ} → names ≡ name ∷ ns → joints ≡ joint ∷ js
+    → lost ≡ numbers ∷ ls → told_by names joints lost ≡ record {
+      name = name;
+      seam = joint.seam;
+      lost = lost_from (left_out_count joint.seam) numbers;
+    } ∷ told_by ns js ls
+told-cons named joined counted = rw (named, joined, counted) refl
 
--- what is left from an input on is the input, and then the rest
-pub left-next : (names : List (List ℕ)) (joints : List Joint) (lost : List (List ℕ)) (i : ℕ)
-    (t : Told) → drop (i + 1) names ≡ t.0 ∷ drop (i + 1 + 1) names
-    → drop i joints ≡ t.1.0 ∷ drop (i + 1) joints
-    → drop (i + 1) lost ≡ t.1.1 ∷ drop (i + 1 + 1) lost
-    → left-from names joints lost i ≡ t ∷ left-from names joints lost (i + 1)
-left-next names joints lost i t name joint numbers = grind (arith, after-first)
+told-none : (names : List (List ℕ)) (lost : List (List ℕ)) → told_by names [] lost ≡ []
+told-none [] lost = refl
+told-none (name ∷ names) lost = refl
+
+-- past the last joint nothing is told
+pub told-past : (names : List (List ℕ)) (joints : List Joint) (lost : List (List ℕ)) (i : ℕ)
+    → length joints ≤ i → told_by names (drop i joints) lost ≡ []
+told-past names joints lost i past = rw (drop_all i joints past) (told-none names lost)
 
 -- the name of an input comes before the names of those after it
 pub name-next : (inputs : List InputFields) (n : ℕ) (i : InputFields)
     → drop n inputs ≡ i ∷ drop (n + 1) inputs
     → drop n (input_names inputs) ≡ i.name ∷ drop (n + 1) (input_names inputs)
 name-next inputs n i is = grind (arith, drop-map)
-
-zip-none : {X Y : Type 0} (xs : List X) (ys : List Y) → ys ≡ [] → zip xs ys ≡ []
-zip-none [] ys none = refl
-zip-none (x ∷ xs) ys none = ap (zip (x ∷ xs)) none
-
--- nothing is left past the last joint
-pub left-none : (names : List (List ℕ)) (joints : List Joint) (lost : List (List ℕ)) (i : ℕ)
-    → length joints ≤ i → left-from names joints lost i ≡ []
-left-none names joints lost i past =
-    zip-none (drop i (drop 1 names)) (zip (drop i joints) (drop i (drop 1 lost)))
-    (ap (λ (l : List Joint). zip l (drop i (drop 1 lost))) (drop_all i joints past))
 
 -- ---- one line
 

@@ -27,7 +27,7 @@ use Rattle.seam_plan.specs.declared.{run.Joint.Joint, seam.Seam.Seam}
 use Rattle.seamless_edits.{proofs.LostLemmas.lost-same, specs.Beginnings.input_without_head}
 use Rattle.seamless_edits.specs.Deciding.{brought_of, broughts_in, from_places, IsJoined}
 use Rattle.seamless_edits.specs.Deciding.{IsJoinedOf, left_out_counts, left_out_of, run_needs}
-use Rattle.seamless_edits.specs.{Lines.told_lines, LostFrames.{lost_from, lost_in_input}}
+use Rattle.seamless_edits.specs.{Lines.{told_by, told_lines}, LostFrames.{lost_from, lost_in_input}}
 use Rattle.seamless_edits.specs.Numbers.{all_say, counted_delay, delay_after, ends_padding}
 use Rattle.seamless_edits.specs.Numbers.{first_head, info_kept, kept_with_delay, last_head}
 use Rattle.seamless_edits.specs.Numbers.{run_kept, short_delay}
@@ -35,9 +35,9 @@ use Rattle.seamless_edits.specs.RunReady.{IsRunInfo, last_length, moved_of, plan
 use Rattle.seamless_edits.specs.Seamless.{begins_blank, delay_of_run, join_of_parts, later_parts}
 use Rattle.seamless_edits.specs.Seamless.{part_brought, part_from, part_says_gain}
 use Rattle.seamless_edits.specs.Seamless.{part_without_head, run_lead_ins, run_parts, run_plan}
-use Rattle.seamless_edits.specs.Seamless.{seam_line, seam_lines, seamless_file, seamless_frames}
-use Rattle.seamless_edits.specs.Seamless.{seamless_info, seamless_padding, seamless_row_file}
-use Rattle.seamless_edits.specs.{Seamless.seamless_text, Sounds.whole_in}
+use Rattle.seamless_edits.specs.Seamless.{seamless_file, seamless_frames, seamless_info}
+use Rattle.seamless_edits.specs.Seamless.{seamless_padding, seamless_row_file, seamless_text}
+use Rattle.seamless_edits.specs.{Seamless.{told_line, told_of, ToldInput}, Sounds.whole_in}
 use Rattle.seamless_edits.specs.declared.{beginnings.Beginning.Beginning, decided.Decided.Decided}
 use Rattle.seamless_edits.specs.declared.numbers.{Ends.Ends, Moved.Moved}
 use Rattle.side_info.specs.Side.{no_side}
@@ -337,24 +337,28 @@ module _ (f : Contents) (i : InputFields) (inputs : List InputFields) (b : Begin
 
   -- ---- the text
 
-  lines-same : (others : List (List ℕ)) (joints : List JointFrames) (results : List Joint)
+  abbrev told : List ℕ → Seam → ℕ → ToldInput
+  told name seam lost = record { name = name; seam = seam; lost = lost }
+
+  told-same : (others : List (List ℕ)) (joints : List JointFrames) (results : List Joint)
       (later : List InputFields) → AllZip IsJoint joints results
-      → told_lines others results (map lost_in_input later)
-      ≡ seam_lines others joints (whole_parts f later)
-  lines-same [] joints results later are = refl
-  lines-same (n ∷ others) [] [] later are = refl
-  lines-same (n ∷ others) (j ∷ joints) (r ∷ results) [] are = refl
-  lines-same (n ∷ others) (j ∷ joints) (r ∷ results) (x ∷ later) are =
-      ap₂ (λ (a b : List ℕ). a ++ b)
-      (ap (λ (m : Seam). seam_line n m (lost_from (left_out_count m) (lost_in_input x))) are.0.seam
-      ∙ ap (seam_line n j.seam)
-      (lost-same (left_out_count j.seam) (head_apart x.survey).frames))
-      (lines-same others joints results later are.1)
-  lines-same (n ∷ others) _ _ later are = absurd are
+      → told_by others results (map lost_in_input later)
+      ≡ told_of others joints (whole_parts f later)
+  told-same [] joints results later are = refl
+  told-same (n ∷ others) [] [] later are = refl
+  told-same (n ∷ others) (j ∷ joints) (r ∷ results) [] are = refl
+  told-same (n ∷ others) (j ∷ joints) (r ∷ results) (x ∷ later) are =
+      ap₂ (λ (t : ToldInput) (ts : List ToldInput). t ∷ ts)
+      (ap (λ (m : Seam). told n m (lost_from (left_out_count m) (lost_in_input x))) are.0.seam
+      ∙ ap (told n j.seam) (lost-same (left_out_count j.seam) (head_apart x.survey).frames))
+      (told-same others joints results later are.1)
+  told-same (n ∷ others) _ _ later are = absurd are
 
   -- the lines are the text of the join
   pub text-same : (names : List (List ℕ)) → told_lines (drop 1 names) d.joints.items
       (drop 1 (map lost_in_input (i ∷ inputs)))
       ≡ seamless_text names (whole_parts f (i ∷ inputs))
   unfolding seamless_text
-  text-same names = lines-same (drop 1 names) joined.joints d.joints.items inputs is.joints
+  text-same names =
+      ap (flat_map told_line)
+      (told-same (drop 1 names) joined.joints d.joints.items inputs is.joints)

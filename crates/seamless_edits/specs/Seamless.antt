@@ -219,29 +219,41 @@ abbrev pub lost_frames_text : ℕ → List ℕ
 lost_frames_text count =
     if count == 0 then [] else codes ", " ++ (decimal count ++ codes " frames lost")
 
+-- an input after the first, as its line tells it: its name, what became of it, and how many of its
+-- lost frames are written, as silence
+pub record ToldInput : Type 0 where
+  pub name : List ℕ
+  pub seam : Seam
+  pub lost : ℕ
+
 -- the line of an input: its name, its seam, and how many of its frames are lost
 abbrev pub seam_line : List ℕ → Seam → ℕ → List ℕ
 seam_line name seam lost =
     name ++ (codes ": " ++ (seam_text seam ++ (lost_frames_text lost ++ codes "\n")))
+
+-- the line that tells this
+abbrev pub told_line : ToldInput → List ℕ
+told_line t = seam_line t.name t.seam t.lost
 
 -- How many lost frames of an input are written, as silence, if its first `from` frames are left
 -- out. They are lost in the file, or because they point into its head.
 abbrev pub written_lost : ℕ → FilePart → ℕ
 written_lost from p = lost_count (drop from (head_apart p.survey).frames)
 
--- the line of an input with its name and what became of it
-abbrev pub joint_line : List ℕ × (JointFrames × FilePart) → List ℕ
-joint_line j = seam_line j.0 j.1.0.seam (written_lost (left_out_count j.1.0.seam) j.1.1)
+-- what is told of inputs with these names, given what became of each
+abbrev pub told_of : List (List ℕ) → List JointFrames → List FilePart → List ToldInput
+told_of (name ∷ names) (j ∷ joints) (p ∷ parts) = record {
+  name = name;
+  seam = j.seam;
+  lost = written_lost (left_out_count j.seam) p;
+} ∷ told_of names joints parts
+told_of _ _ _ = []
 
 -- a line for each input after the first
-abbrev pub seam_lines : List (List ℕ) → List JointFrames → List FilePart → List ℕ
-seam_lines names joints parts = flat_map joint_line (zip names (zip joints parts))
-
--- the lines for these inputs
 unfoldable pub seamless_text : List (List ℕ) → List FilePart → List ℕ
 seamless_text names [] = []
 seamless_text names (first ∷ parts) =
-    seam_lines (drop 1 names) (join_of_parts first parts).joints parts
+    flat_map told_line (told_of (drop 1 names) (join_of_parts first parts).joints parts)
 
 -- ---- the command
 

@@ -1,21 +1,21 @@
 -- Line by line, then what waits.
 use Rattle.std.proofs.Common.{ap, ap₂, arith, drop, get_or, length, List, map, subst, sym}
-use Rattle.std.proofs.Common.{vec_items, zip, ℕ, ◌++◌, ◌+◌, ◌<◌, ◌∙◌, ◌∷◌, ◌≡◌}
-use Rattle.std.specs.Prelude.{flat_map}
+use Rattle.std.proofs.Common.{vec_items, ℕ, ◌++◌, ◌+◌, ◌<◌, ◌∙◌, ◌∷◌, ◌≡◌}
 use Rattle.joined_inputs.{proofs.StepLemmas.map-next, specs.Inputs.{input_names, input_view}}
 use Rattle.laying.proofs.RelayLemmas.{item-next}
 use Rattle.list_edits.proofs.ListingLemmas.{all_lines, line_failed, prefix_behind, said_more}
 use Rattle.list_edits.proofs.ListingLemmas.{said_none, sent_behind}
 use Rattle.outside.{proofs.BufferOutputLemmas.on_err, specs.BufferOutput.{SendsWaiting, SentPrefix}}
-use Rattle.seam_plan.specs.declared.run.Joint.{Joint}
-use Rattle.seamless_edits.proofs.LineLemmas.{left-from, left-next, left-none, name-next}
+use Rattle.seam_plan.specs.{Seams.left_out_count, declared.run.Joint.Joint}
+use Rattle.seamless_edits.proofs.LineLemmas.{name-next, told-cons, told-past}
 use Rattle.seamless_edits.proofs.lines.send_lines.Goals.{After-finish, After-push_line}
-use Rattle.seamless_edits.specs.{Lines.{Told, told_line}, LostFrames.lost_from, Seamless.seam_line}
+use Rattle.seamless_edits.specs.{Lines.{told_by, told_lines}, LostFrames.lost_from}
+use Rattle.seamless_edits.specs.Seamless.{seam_line, told_line, ToldInput}
 use Rattle.seamless_edits.proofs.lines.send_lines.Given as given
 use Rattle.seamless_edits.proofs.lines.send_lines.Goals as goal
 
 pub loop-place-init : goal.loop-place-init
-loop-place-init g c = grind (arith, said_none, told_line, left-from)
+loop-place-init g c = grind (arith, said_none, told_line, told_by)
 
 -- the input of a line, and those whose lines are left before it
 module _ (g : given.Over) (c : After-push_line g) where
@@ -28,17 +28,21 @@ module _ (g : given.Over) (c : After-push_line g) where
   abbrev lost : List (List ℕ)
   lost = map vec_items c.args.lost.now
 
-  abbrev all : List Told
-  all = zip (drop 1 names) (zip joints (drop 1 lost))
+  abbrev all : List ToldInput
+  all = told_by (drop 1 names) joints (drop 1 lost)
 
-  abbrev left : ℕ → List Told
-  left i = left-from names joints lost i
+  abbrev left : ℕ → List ToldInput
+  left i = told_by (drop (i + 1) names) (drop i joints) (drop (i + 1) lost)
 
-  abbrev told : Told
-  told = (
-    (input_view c.input_at-input.result.now).name,
-    (c.index-joints-place.result, vec_items c.index-lost-place.result),
-  )
+  abbrev line : Joint → ToldInput
+  line j = record {
+    name = (input_view c.input_at-input.result.now).name;
+    seam = j.seam;
+    lost = lost_from (left_out_count j.seam) (vec_items c.index-lost-place.result);
+  }
+
+  abbrev told : ToldInput
+  told = line c.index-joints-place.result
 
   next : left c.loop-place.place ≡ told ∷ left (c.loop-place.place + 1)
   next =
@@ -46,7 +50,7 @@ module _ (g : given.Over) (c : After-push_line g) where
       let items = c.args.lost.now in
       let within : place < length joints = omega (arith, c.loop-place-test.true) in
       let there : place + 1 < length items = omega (arith, within, c.requires.lost) in
-      left-next names joints lost place told
+      told-cons
       (name-next (map input_view c.args.inputs.now) (place + 1)
       (input_view c.input_at-input.result.now) c.input_at-input.ensures)
       (item-next joints place c.index-joints-place.result within c.index-joints-place.is)
@@ -56,11 +60,11 @@ module _ (g : given.Over) (c : After-push_line g) where
   abbrev joint : Joint
   joint = get_or joints c.loop-place.place c.index-joints-place.result
 
-  line-is : seam_line told.0 joint.seam c.count_from-lost.result ≡ told_line told
+  line-is : seam_line told.name joint.seam c.count_from-lost.result ≡ told_line told
   line-is =
-      ap (seam_line told.0 joint.seam)
+      ap (seam_line told.name joint.seam)
       (c.count_from-lost.ensures ∙ ap₂ lost_from c.left_out.ensures c.as_slice.ensures.value)
-      ∙ ap (λ (j : Joint). told_line (told.0, (j, told.1.1))) (sym c.index-joints-place.is)
+      ∙ ap (λ (j : Joint). told_line (line j)) (sym c.index-joints-place.is)
 
 pub loop-place-preserved : goal.loop-place-preserved
 loop-place-preserved g c =
@@ -91,11 +95,10 @@ returns-in_err-push_line-clause-prefix g c =
 
 -- behind the loop all lines were sent or wait
 all-said : (g : given.Over) (c : After-finish g) → SendsWaiting
-    (flat_map told_line
-    (zip (drop 1 (input_names (map input_view c.args.inputs.now)))
-    (zip c.args.joints.now (drop 1 (map vec_items c.args.lost.now)))))
+    (told_lines (drop 1 (input_names (map input_view c.args.inputs.now))) c.args.joints.now
+    (drop 1 (map vec_items c.args.lost.now)))
     c.loop-place.buffer (g.T.Sink.heard c.args.out.now).sent (g.T.Sink.heard c.loop-place.out).sent
-all-said g c = grind (arith, all_lines, told_line, left-from, left-none)
+all-said g c = grind (arith, all_lines, told_line, told-past)
 
 pub returns-clause-sent : goal.returns-clause-sent
 returns-clause-sent g c =

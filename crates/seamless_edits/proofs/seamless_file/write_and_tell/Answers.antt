@@ -1,9 +1,9 @@
 -- The second pass, and the text.
-use Rattle.std.proofs.Common.{ap, arith, length, List, map, refl, sym, ℕ, ◌∙◌, ◌≡◌, ◌≤◌}
-use Rattle.std.proofs.lemmas.List.{length-map, take_at}
+use Rattle.std.proofs.Common.{ap, arith, drop, length, List, map, refl, sym, vec_items, ℕ, ◌∙◌, ◌≡◌}
+use Rattle.std.proofs.{Common.◌≤◌, lemmas.List.{length-map, take_at}}
 use Rattle.commands.proofs.MakeLemmas.{returned_run}
 use Rattle.commands.proofs.TellingLemmas.{says-all, says-prefix, telling_run, unsent_run}
-use Rattle.commands.specs.{Command.Command, SingleOutput.one_command}
+use Rattle.commands.specs.{Command.Command, SentText.IsCommandText, SingleOutput.one_command}
 use Rattle.joined_inputs.proofs.InputLemmas.{named-long}
 use Rattle.joined_inputs.specs.Inputs.{input_names, input_view, InputFields}
 use Rattle.seam_plan.specs.declared.run.Joint.{Joint}
@@ -11,7 +11,7 @@ use Rattle.seamless_edits.proofs.SeamlessCommandLemmas.{joints-many, left-names,
 use Rattle.seamless_edits.proofs.SeamlessCommandLemmas.{ready-text, ready-writable, text_of}
 use Rattle.seamless_edits.proofs.SeamlessCommandLemmas.{written-run}
 use Rattle.seamless_edits.proofs.seamless_file.write_and_tell.Goals.{After-deref}
-use Rattle.seamless_edits.specs.Deciding.{from_places, left_out_of}
+use Rattle.seamless_edits.specs.{Deciding.{from_places, left_out_of}, Lines.told_lines}
 use Rattle.seamless_edits.specs.Seamless.{seamless_command, seamless_task}
 use Rattle.seamless_edits.proofs.seamless_file.write_and_tell.Given as given
 use Rattle.seamless_edits.proofs.seamless_file.write_and_tell.Goals as goal
@@ -61,6 +61,19 @@ module _ (g : given.Over) (c : After-deref g) where
     named-long left named,
   )
 
+  -- the lines that are sent are the text of the command
+  lines-text : {known : List InputFields} {joints : List Joint} {lost : List (List ℕ)}
+      → known ≡ map input_view c.deref.result.now
+      → joints ≡ c.args.ready.now.made.decided.joints.items
+      → lost ≡ map vec_items c.args.ready.now.lost.items → (all : List ℕ)
+      → IsCommandText (seamless_command c.args.output.now names)
+      (g.D.Folder.seen c.args.folder.now).files all
+      → told_lines (drop 1 (input_names known)) joints (drop 1 lost) ≡ all
+  lines-text are joined counted all is =
+      rw (are, now, named, joined, counted)
+      (ready-text names some (g.D.Folder.seen c.args.folder.now).files c.args.ready.now
+      c.args.output.now all c.requires.ready is)
+
   abbrev silent : Command
   silent = one_command (seamless_task names) c.args.output.now
 
@@ -104,12 +117,10 @@ returns-in-Ok-clause-says g c =
     let at = (goal.at.returns-in-Ok-clause-says g c).After-deref in
     let old = (g.D.Folder.seen c.args.folder.now).files in
     let output = c.args.output.now in
-    let other : map input_view c.deref-2.result.now ≡ map input_view c.deref.result.now =
-    ap (map input_view) (c.deref-2.ensures.value ∙ sym c.deref.ensures.value) in
     says-all (seamless_command output (names g at)) old
     (g.T.Sink.heard c.args.out.now) (g.T.Sink.heard c.send_lines.new.out) _
-    (λ all is. rw (other, now g at, named g at, c.as_slice.ensures.value, c.deref-3.ensures.value)
-    (ready-text (names g at) (some g at) old c.args.ready.now output all c.requires.ready is))
+    (lines-text g at (ap (map input_view) (c.deref-2.ensures.value ∙ sym c.deref.ensures.value))
+    c.as_slice.ensures.value (ap (map vec_items) c.deref-3.ensures.value))
     c.in-Ok.ensures.sent c.in-Ok.ensures.cause.done
 
 pub returns-in-Err-clause-run : goal.returns-in-Err-clause-run
@@ -125,10 +136,8 @@ returns-in-Err-clause-says g c =
     let at = (goal.at.returns-in-Err-clause-says g c).After-deref in
     let old = (g.D.Folder.seen c.args.folder.now).files in
     let output = c.args.output.now in
-    let other : map input_view c.deref-2.result.now ≡ map input_view c.deref.result.now =
-    ap (map input_view) (c.deref-2.ensures.value ∙ sym c.deref.ensures.value) in
     says-prefix (seamless_command output (names g at)) old
     (g.T.Sink.heard c.args.out.now) (g.T.Sink.heard c.send_lines.new.out) _
-    (λ all is. rw (other, now g at, named g at, c.as_slice.ensures.value, c.deref-3.ensures.value)
-    (ready-text (names g at) (some g at) old c.args.ready.now output all c.requires.ready is))
+    (lines-text g at (ap (map input_view) (c.deref-2.ensures.value ∙ sym c.deref.ensures.value))
+    c.as_slice.ensures.value (ap (map vec_items) c.deref-3.ensures.value))
     c.in-Err.ensures.prefix c.in-Err.ensures.cause.failed
