@@ -1,9 +1,10 @@
 -- No form takes an empty word.
-use Rattle.std.proofs.Common.{arith, Bool, false, length, List, None, refl, Some, suc, true, zero}
-use Rattle.std.proofs.{Common.{ℕ, [], ◌-◌, ◌∷◌, ◌≡◌}, lemmas.Bool.and_parts}
+use Rattle.std.proofs.Common.{arith, Bool, drop, false, length, List, None, refl, Some, suc, true}
+use Rattle.std.proofs.{Common.{zero, ℕ, [], ◌-◌, ◌∷◌, ◌≡◌}, lemmas.Bool.and_parts}
 use Rattle.std.proofs.lemmas.List.Elements.{All-append, All-cons, All-contains, All-from_recursion}
 use Rattle.std.proofs.lemmas.List.{Elements.{All-replicate, All-weaker}, Sums.AllPass-from_list_all}
-use Rattle.std.specs.{List.{All, list_all}, Prelude.{Contains, IsErr, min, replicate}}
+use Rattle.std.specs.List.{All, list_all}
+use Rattle.std.specs.Prelude.{Contains, Err, if◌then◌else◌, IsErr, min, Ok, replicate, Result}
 use Rattle.cue_sheet.specs.{Digits.number_in, Places.place_of}
 use Rattle.exact_span.specs.Places.{back_of, clock_of, exact_place_of, instant_of, lone_seconds_of}
 use Rattle.exact_span.specs.Places.{millis_of, sample_of}
@@ -12,9 +13,10 @@ use Rattle.job_words.specs.Flags.{flag_kinds, given_kinds}
 use Rattle.job_words.specs.Forms.{Form, form_kinds, forms, front_kinds_of, kinds_for, last_kind}
 use Rattle.job_words.specs.Forms.{Shape, shapes}
 use Rattle.job_words.specs.Kinds.{Channel, Count, Exact, fits_kind, Fixed, Kind, Name, Place, Rate}
-use Rattle.job_words.specs.Kinds.{Seed, Steps}
-use Rattle.job_words.specs.Words.{have_kinds, job_of, longest_fit, shape_in, shape_kinds}
-use Rattle.job_words.specs.{Words.shape_reading, declared.flags.Flag.Flag}
+use Rattle.job_words.specs.{Kinds.{Seed, Steps}, Request.Request}
+use Rattle.job_words.specs.Words.{count_before, form_words, have_kinds, job_of, keeps_of, later_by}
+use Rattle.job_words.specs.Words.{longest_fit, plain_job_of, shape_in, shape_kinds, shape_reading}
+use Rattle.job_words.specs.declared.flags.Flag.{Flag}
 use Rattle.job_words.specs.declared.flags.Flag.TheVariants.{Back, Least, Seamless, Tagless}
 use Rattle.job_words.specs.declared.flags.Flag.TheVariants.{Wrapping}
 
@@ -97,10 +99,10 @@ none_empty (kind ∷ kinds) (word ∷ words) needs all (suc k, within, at) =
     (and_parts (fits_kind kind word) (have_kinds kinds words) all).1
     (k, omega (arith, within), at)
 
--- words of which one is empty are bad
-pub empty_is_bad : (words : List (List ℕ)) → Contains words [] → IsErr (job_of words)
-unfolding job_of
-empty_is_bad words member =
+-- words of a form of which one is empty are bad
+plain_empty_is_bad : (words : List (List ℕ)) → Contains words [] → IsErr (plain_job_of words)
+unfolding plain_job_of
+plain_empty_is_bad words member =
     elim (shape_in (shapes forms) words) as (λ o. shape_in (shapes forms) words ≡ o
     → IsErr (shape_reading o words (longest_fit (shapes forms) words))) [
       | Some shape ↦ λ is.
@@ -110,3 +112,27 @@ empty_is_bad words member =
           (listed_form forms shape first.0)) first.1 member)
       | None ↦ λ none. refl
     ] refl
+
+later_is_bad : (count : ℕ) (r : Result Request ℕ) → IsErr r → IsErr (later_by count r)
+later_is_bad count (Ok asked) bad = bad
+later_is_bad count (Err place) bad = refl
+
+both_have : (keeps : Bool) (first : List ℕ) (rest : List (List ℕ)) → Contains rest []
+    → Contains (drop (if keeps then 1 else 0) (first ∷ rest)) []
+both_have true first rest member = member
+both_have false first rest (k, within, at) = (suc k, omega (arith, within), at)
+
+-- the empty word isn't `-n`
+behind_too : (words : List (List ℕ)) → Contains words [] → Contains (form_words words) []
+behind_too [] member = member
+behind_too ([] ∷ rest) member = member
+behind_too ((byte ∷ more) ∷ rest) (zero, within, at) = absurd cc
+behind_too ((byte ∷ more) ∷ rest) (suc k, within, at) =
+    both_have (keeps_of ((byte ∷ more) ∷ rest)) (byte ∷ more) rest (k, omega (arith, within), at)
+
+-- words of which one is empty are bad
+pub empty_is_bad : (words : List (List ℕ)) → Contains words [] → IsErr (job_of words)
+unfolding job_of
+empty_is_bad words member =
+    later_is_bad (count_before words) (plain_job_of (form_words words))
+    (plain_empty_is_bad (form_words words) (behind_too words member))

@@ -1,7 +1,8 @@
 -- How the program's words are read by the forms that they can have.
 use Rattle.std.specs.{Cmp.Lexicographic.pointwise, List.common_prefix_len}
-use Rattle.std.specs.Prelude.{Bool, Contains, Err, find, fold, IsTrue, length, List, map, max, None}
-use Rattle.std.specs.Prelude.{Ok, Option, Result, Some, take, ℕ, ◌+◌, ◌-◌, ◌<◌, ◌≡◌, ◌≤◌}
+use Rattle.std.specs.Prelude.{Bool, bytes_eq, codes, Contains, drop, Err, false, find, fold}
+use Rattle.std.specs.Prelude.{if◌then◌else◌, IsTrue, length, List, map, max, None, Ok, Option}
+use Rattle.std.specs.Prelude.{Result, Some, take, ℕ, [], ◌+◌, ◌-◌, ◌<◌, ◌∷◌, ◌≡◌, ◌≤◌}
 use Rattle.job_words.specs.Forms.{forms, kinds_for, Shape, shape_request, shapes}
 use Rattle.job_words.specs.{Kinds.{fits_kind, Kind}, Request.Request}
 
@@ -36,9 +37,34 @@ shape_reading None words longest = Err (1 + longest)
 abbrev pub table_reading : List Shape → List (List ℕ) → Result Request ℕ
 table_reading table words = shape_reading (shape_in table words) words (longest_fit table words)
 
--- what the program's words ask for, or the place of the bad word
+-- what the words of a form ask for, or the place of the bad word
+unfoldable pub plain_job_of : List (List ℕ) → Result Request ℕ
+plain_job_of words = table_reading (shapes forms) words
+
+-- ---- the word that keeps what is there
+
+-- the first word is `-n`
+abbrev pub keeps_of : List (List ℕ) → Bool
+keeps_of [] = false
+keeps_of (first ∷ words) = bytes_eq first (codes "-n")
+
+-- how many words stand before those of the form
+abbrev pub count_before : List (List ℕ) → ℕ
+count_before words = if keeps_of words then 1 else 0
+
+-- the words of the form: those behind `-n`, or all of them
+abbrev pub form_words : List (List ℕ) → List (List ℕ)
+form_words words = drop (count_before words) words
+
+-- the same reading of words that begin so many places later
+abbrev pub later_by : ℕ → Result Request ℕ → Result Request ℕ
+later_by count (Ok asked) = Ok asked
+later_by count (Err place) = Err (place + count)
+
+-- What the program's words ask for, or the place of the bad word. A form
+-- may stand behind `-n`, which changes nothing of what is asked for.
 unfoldable pub job_of : List (List ℕ) → Result Request ℕ
-job_of words = table_reading (shapes forms) words
+job_of words = later_by (count_before words) (plain_job_of (form_words words))
 
 -- ---- the reading as relations
 

@@ -8,4 +8,4 @@ mod kinds;
 mod words;
 
 pub use jobs::Job;
-pub use words::job;
+pub use words::{job, keeps};

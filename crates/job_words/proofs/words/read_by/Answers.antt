@@ -28,10 +28,13 @@ here c = c.read.ensures.answer
 
 pub returns-in-Ok : goal.returns-in-Ok
 returns-in-Ok c =
-    accepted (map form_given c.args.forms.now)
-    (map string_bytes c.args.words.now) c.loop-form.form-index help_form
-    c.loop-form.place (rw length-map c.loop-form-test.true) c.loop-form.invariant.0 _
-    (sym (ap request_result c.in-Ok.is) ∙ here (goal.at.returns-in-Ok c).After-read)
+    record {
+      reading = accepted (map form_given c.args.forms.now)
+          (map string_bytes c.args.words.now) c.loop-form.form-index help_form
+          c.loop-form.place (rw length-map c.loop-form-test.true) c.loop-form.invariant.0 _
+          (sym (ap request_result c.in-Ok.is) ∙ here (goal.at.returns-in-Ok c).After-read);
+      few = tt;
+    }
 
 pub loop-form-preserved : goal.loop-form-preserved
 loop-form-preserved c =
@@ -50,6 +53,10 @@ pub returns : goal.returns
 returns c =
     let table = map form_given c.args.forms.now in
     let whole : take c.loop-form.form-index table ≡ table = grind (arith, take_all, length-map) in
-    sym c.loop-form.invariant.0
-    ∙ ap (λ (table : List Form). table_reading (shapes table) (map string_bytes c.args.words.now))
-    whole
+    record {
+      reading = sym c.loop-form.invariant.0
+          ∙ ap
+          (λ (table : List Form). table_reading (shapes table) (map string_bytes c.args.words.now))
+          whole;
+      few = c.loop-form.invariant.1;
+    }
