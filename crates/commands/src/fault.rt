@@ -55,6 +55,8 @@ pub enum Refusal {
     Curve(EnvelopeFault),
     /// The point in this line of the sheet of a fade, counted from 1, isn't after the one before it.
     CurveNotRising(u32),
+    /// Something is there under the name of this output, counted from 0, and is to be kept.
+    Exists(u32),
 }
 
 /// Why a command wasn't done.

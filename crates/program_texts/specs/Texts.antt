@@ -8,9 +8,9 @@ use Rattle.commands.specs.declared.fault.EditFault.TheVariants.{Memory as OutOfM
 use Rattle.commands.specs.declared.fault.EditFault.TheVariants.{Sent as NotSent, Write}
 use Rattle.commands.specs.declared.fault.Refusal.{Refusal}
 use Rattle.commands.specs.declared.fault.Refusal.TheVariants.{BadTag, BadUndo, Curve}
-use Rattle.commands.specs.declared.fault.Refusal.TheVariants.{CurveNotRising, Differ, GainRange}
-use Rattle.commands.specs.declared.fault.Refusal.TheVariants.{Joint, Mono, NoRate, NoUndo}
-use Rattle.commands.specs.declared.fault.Refusal.TheVariants.{OutputTooLong, Range, Sheet}
+use Rattle.commands.specs.declared.fault.Refusal.TheVariants.{CurveNotRising, Differ, Exists}
+use Rattle.commands.specs.declared.fault.Refusal.TheVariants.{GainRange, Joint, Mono, NoRate}
+use Rattle.commands.specs.declared.fault.Refusal.TheVariants.{NoUndo, OutputTooLong, Range, Sheet}
 use Rattle.commands.specs.declared.fault.Refusal.TheVariants.{SheetTooLarge, Span, TagTooLarge}
 use Rattle.commands.specs.declared.fault.Refusal.TheVariants.{UndoRange, Unfit}
 use Rattle.cue_sheet.specs.declared.cue_fault.CueFault.{CueFault}
@@ -89,50 +89,54 @@ curve_parts NoPoints = Text (codes ": no points\n") ∷ []
 -- running out of memory isn't a fault of this sheet either
 curve_parts NoCurveMemory = []
 
--- the parts of the line of a refusal, by the names of the inputs; a sheet is input 1
-abbrev pub refusal_parts : Refusal → List (List ℕ) → List LinePart
-refusal_parts (GainRange offset granule channel gain) inputs =
+-- the parts of the line of a refusal, by the names of
+-- the inputs and of the outputs; a sheet is input 1
+abbrev pub refusal_parts : Refusal → List (List ℕ) → List (List ℕ) → List LinePart
+refusal_parts (GainRange offset granule channel gain) inputs outputs =
     Text (codes "gain ") ∷ Number gain ∷ Text (codes " out of range at ") ∷ Number offset
     ∷ Text (codes ", granule ") ∷ Number granule
     ∷ Text (codes ", channel ") ∷ Number channel ∷ Text (codes "\n") ∷ []
-refusal_parts Mono inputs = Text (codes "one channel only\n") ∷ []
-refusal_parts (Joint offset) inputs =
+refusal_parts Mono inputs outputs = Text (codes "one channel only\n") ∷ []
+refusal_parts (Joint offset) inputs outputs =
     Text (codes "joint stereo at ") ∷ Number offset ∷ Text (codes "\n") ∷ []
-refusal_parts (TagTooLarge length) inputs =
+refusal_parts (TagTooLarge length) inputs outputs =
     Text (codes "tag too large, ") ∷ Number length ∷ Text (codes "\n") ∷ []
-refusal_parts (BadTag offset) inputs =
+refusal_parts (BadTag offset) inputs outputs =
     Text (codes "bad tag at ") ∷ Number offset ∷ Text (codes "\n") ∷ []
-refusal_parts NoUndo inputs = Text (codes "no undo item\n") ∷ []
-refusal_parts (BadUndo offset) inputs =
+refusal_parts NoUndo inputs outputs = Text (codes "no undo item\n") ∷ []
+refusal_parts (BadUndo offset) inputs outputs =
     Text (codes "bad undo item at ") ∷ Number offset ∷ Text (codes "\n") ∷ []
-refusal_parts (UndoRange sum) inputs =
+refusal_parts (UndoRange sum) inputs outputs =
     Text (codes "undo sum ") ∷ Signed sum ∷ Text (codes " is out of range\n") ∷ []
-refusal_parts (OutputTooLong length) inputs =
+refusal_parts (OutputTooLong length) inputs outputs =
     Text (codes "output too long, ") ∷ Number length ∷ Text (codes " bytes\n") ∷ []
-refusal_parts (Range from to frames) inputs =
+refusal_parts (Range from to frames) inputs outputs =
     Text (codes "range ") ∷ Number from ∷ Text (codes " to ") ∷ Number to ∷ Text (codes " of ")
     ∷ Number frames ∷ Text (codes " frames\n") ∷ []
-refusal_parts (Span from to samples) inputs =
+refusal_parts (Span from to samples) inputs outputs =
     Text (codes "range ") ∷ Number from ∷ Text (codes " to ") ∷ Number to ∷ Text (codes " of ")
     ∷ Number samples ∷ Text (codes " samples\n") ∷ []
-refusal_parts (NoRate rate) inputs = Text (codes "no rate ") ∷ Number rate ∷ Text (codes "\n") ∷ []
-refusal_parts (Unfit frame) inputs =
+refusal_parts (NoRate rate) inputs outputs =
+    Text (codes "no rate ") ∷ Number rate ∷ Text (codes "\n") ∷ []
+refusal_parts (Unfit frame) inputs outputs =
     Text (codes "frame ") ∷ Number frame ∷ Text (codes " does not fit\n") ∷ []
-refusal_parts (Differ place) inputs =
+refusal_parts (Differ place) inputs outputs =
     Name (name_in inputs place) ∷ Text (codes ": other class than the first input\n") ∷ []
-refusal_parts (SheetTooLarge size) inputs = Name (name_in inputs 1)
+refusal_parts (SheetTooLarge size) inputs outputs = Name (name_in inputs 1)
     ∷ Text (codes ": sheet too large, ") ∷ Number size ∷ Text (codes " bytes\n") ∷ []
-refusal_parts (Sheet fault) inputs = Name (name_in inputs 1) ∷ sheet_parts fault
-refusal_parts (Curve fault) inputs = Name (name_in inputs 1) ∷ curve_parts fault
-refusal_parts (CurveNotRising number) inputs = Name (name_in inputs 1)
+refusal_parts (Sheet fault) inputs outputs = Name (name_in inputs 1) ∷ sheet_parts fault
+refusal_parts (Curve fault) inputs outputs = Name (name_in inputs 1) ∷ curve_parts fault
+refusal_parts (CurveNotRising number) inputs outputs = Name (name_in inputs 1)
     ∷ Text (codes ": not rising at line ") ∷ Number number ∷ Text (codes "\n") ∷ []
+refusal_parts (Exists place) inputs outputs =
+    Name (name_in outputs place) ∷ Text (codes ": exists\n") ∷ []
 
 -- the parts of the line of a fault, by the names of the inputs and of the outputs
 abbrev pub fault_parts : EditFault → List (List ℕ) → List (List ℕ) → List LinePart
 fault_parts (EqualNames place) inputs outputs =
     Name (name_in inputs place) ∷ Text (codes ": input is an output\n") ∷ []
 fault_parts (Input place fault) inputs outputs = Name (name_in inputs place) ∷ input_parts fault
-fault_parts (Refused refusal) inputs outputs = refusal_parts refusal inputs
+fault_parts (Refused refusal) inputs outputs = refusal_parts refusal inputs outputs
 fault_parts (Write place) inputs outputs =
     Name (name_in outputs place) ∷ Text (codes ": write fault\n") ∷ []
 fault_parts NotSent inputs outputs = Text (codes "standard output: write fault\n") ∷ []
@@ -214,6 +218,7 @@ help_text =
     ++ (codes "                         a frame whose main data can't be read becomes empty\n"
     ++ (codes "  --help, -h             print this help\n"
     ++ (codes "  --version              print the version\n"
+    ++ (codes "  -n COMMAND             run COMMAND, but refuse it and write nothing if a file that it would write exists\n"
     ++ (codes "An output that exists is overwritten without asking. No input is written to.\n"
     ++ (codes "examples:\n"
     ++ (codes "  mp3edit gain -g -2 song.mp3 quieter.mp3       3 dB quieter\n"
@@ -221,7 +226,7 @@ help_text =
     ++ (codes "  mp3edit split album.mp3 disc/ -c album.cue    disc/01.mp3, disc/02.mp3 and so on, one for each track\n"
     ++ (codes "status: 0 done; 1 refused; 2 bad arguments; 3 a file is absent, or reading or writing failed;\n"
     ++ (codes "        4 out of memory\n"
-    ++ codes "manual: man mp3edit, and MANUAL.md among the documents (such as /usr/local/share/doc/mp3edit/docs)\n")))))))))))))))))))))))))))))))))))))))))))))))))))))
+    ++ codes "manual: man mp3edit, and MANUAL.md among the documents (such as /usr/local/share/doc/mp3edit/docs)\n"))))))))))))))))))))))))))))))))))))))))))))))))))))))
 
 -- the program's name and version
 unfoldable pub version_text : List ℕ

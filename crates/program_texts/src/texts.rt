@@ -42,7 +42,7 @@ pub fn status(fault: &EditFault) -> u8
 }
 
 /// What the program does, form by form, and the statuses.
-static HELP: [&str; 55] = [
+static HELP: [&str; 56] = [
     "usage: mp3edit COMMAND\n",
     "  list IN                list what is in the MP3 file IN: tags, junk, the Xing or Info frame (head), and frames\n",
     "  info IN                describe IN in a few lines, including how many steps down and up its gains can go\n",
@@ -90,6 +90,7 @@ static HELP: [&str; 55] = [
     "                         a frame whose main data can't be read becomes empty\n",
     "  --help, -h             print this help\n",
     "  --version              print the version\n",
+    "  -n COMMAND             run COMMAND, but refuse it and write nothing if a file that it would write exists\n",
     "An output that exists is overwritten without asking. No input is written to.\n",
     "examples:\n",
     "  mp3edit gain -g -2 song.mp3 quieter.mp3       3 dB quieter\n",
@@ -244,7 +245,7 @@ fn name_in<'a>(names: &[&'a str], place: u32) -> &'a str
 // The line of a gain that would leave its range.
 fn gain_line<'a>(offset: u64, granule: u8, channel: u8, gain: u8) -> LineParts<'a>
     ensures { map line_part_of result.items ≡ refusal_parts
-        (Refusal.GainRange offset granule channel gain) [] }
+        (Refusal.GainRange offset granule channel gain) [] [] }
 {
     line(&[
         LinePart::Text("gain "),
@@ -261,7 +262,7 @@ fn gain_line<'a>(offset: u64, granule: u8, channel: u8, gain: u8) -> LineParts<'
 
 // The line of a sum of steps that an undo item can't have.
 fn undo_sum_line<'a>(sum: i32) -> LineParts<'a>
-    ensures { map line_part_of result.items ≡ refusal_parts (Refusal.UndoRange sum) [] }
+    ensures { map line_part_of result.items ≡ refusal_parts (Refusal.UndoRange sum) [] [] }
 {
     line(&[
         LinePart::Text("undo sum "),
@@ -315,10 +316,10 @@ fn curve_parts<'a>(name: &'a str, fault: &EnvelopeFault) -> LineParts<'a>
     }
 }
 
-// The parts of the line of a refusal, by the names of the inputs.
-fn refusal_parts<'a>(refusal: &Refusal, inputs: &[&'a str]) -> LineParts<'a>
+// The parts of the line of a refusal, by the names of the inputs and of the outputs.
+fn refusal_parts<'a>(refusal: &Refusal, inputs: &[&'a str], outputs: Outputs<'a>) -> LineParts<'a>
     ensures { map line_part_of result.items ≡ refusal_parts refusal.now
-        (map (λ name. name.now) inputs.now) }
+        (map (λ name. name.now) inputs.now) (names_of_outputs outputs.entry) }
 {
     let sheet = name_in(inputs, SHEET);
     match *refusal {
@@ -349,6 +350,7 @@ fn refusal_parts<'a>(refusal: &Refusal, inputs: &[&'a str]) -> LineParts<'a>
         Refusal::CurveNotRising(number) => {
             named_line(sheet, ": not rising at line ", u64::from(number), "\n")
         }
+        Refusal::Exists(place) => line(&[outputs.named(place), LinePart::Text(": exists\n")]),
     }
 }
 
@@ -360,7 +362,7 @@ fn fault_parts<'a>(fault: &EditFault, inputs: &[&'a str], outputs: Outputs<'a>) 
     match *fault {
         EditFault::EqualNames(place) => name_line(name_in(inputs, place), ": input is an output\n"),
         EditFault::Input(place, fault) => input_parts(name_in(inputs, place), &fault),
-        EditFault::Refused(refusal) => refusal_parts(&refusal, inputs),
+        EditFault::Refused(refusal) => refusal_parts(&refusal, inputs, outputs),
         EditFault::Write(place) => line(&[outputs.named(place), LinePart::Text(": write fault\n")]),
         EditFault::Sent => text_line("standard output: write fault\n"),
         EditFault::Memory => text_line("out of memory\n"),
@@ -370,12 +372,12 @@ fn fault_parts<'a>(fault: &EditFault, inputs: &[&'a str], outputs: Outputs<'a>) 
 /// Sends the line of a fault, by the names of the inputs and of the outputs, without allocating
 /// memory. It stops at the first write that fails, and doesn't return that one did.
 ///
-/// NAME is the name of the input or, for Write, of the output at the place in the fault; for SheetTooLarge and the faults of a
-/// sheet, Line, NotRising, NoTracks and NoPoints, it is the name of input 1. O is an offset in bytes, N a number of bytes or
-/// frames, L a line's number from 1, I a frame's number from 0, G a granule's and C a channel's from 0, and F and T are frame
-/// numbers too. In UndoRange S is a number of steps, with `-` before it where it is negative; in Shrunk F and S are lengths in
-/// bytes; in NoRate B is a bit rate in kbit/s as it was asked for, in BackPointer a main_data_begin, and P the bytes of main data
-/// before it; in Overrun B and R are bits; V is a gain.
+/// NAME is the name of the input or, for Exists and Write, of the output at the place in the fault; for SheetTooLarge and the
+/// faults of a sheet, Line, NotRising, NoTracks and NoPoints, it is the name of input 1. O is an offset in bytes, N a number of
+/// bytes or frames, L a line's number from 1, I a frame's number from 0, G a granule's and C a channel's from 0, and F and T
+/// are frame numbers too. In UndoRange S is a number of steps, with `-` before it where it is negative; in Shrunk F and S are
+/// lengths in bytes; in NoRate B is a bit rate in kbit/s as it was asked for, in BackPointer a main_data_begin, and P the bytes
+/// of main data before it; in Overrun B and R are bits; V is a gain.
 ///
 /// | fault | line |
 /// |---|---|
@@ -413,6 +415,7 @@ fn fault_parts<'a>(fault: &EditFault, inputs: &[&'a str], outputs: Outputs<'a>) 
 /// | NotRising(L) | `NAME: not rising at line L` |
 /// | NoTracks | `NAME: no tracks` |
 /// | NoPoints | `NAME: no points` |
+/// | Exists | `NAME: exists` |
 /// | Write | `NAME: write fault` |
 /// | Sent | `standard output: write fault` |
 /// | Memory | `out of memory` |
