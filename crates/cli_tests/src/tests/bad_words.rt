@@ -241,6 +241,25 @@ drill 1 20001 => bad word 3
 drill 1 000001 => bad word 3
 drill 1 1 a => bad word 4
 
+# `-n` stands before a form, once.
+-n => bad word 2
+-n -n list a => bad word 2
+list -n a => bad word 2
+list a -n => bad word 3
+gain -n -g 2 a o => bad word 2
+gain -g 2 -n a o => bad word 4
+-n gain -g 300 a o => bad word 4
+-n cut a 0 => bad word 5
+-n list => bad word 3
+-N list a => bad word 1
+--n list a => bad word 1
+-ns s => bad word 1
+-n x => bad word 2
+-n '' => bad word 2
+-n gain -w -u a o => bad word 4
+-n join o => bad word 4
+-n split a p 0 => bad word 6
+
 # The other forms, and none.
 => bad word 1
 lisp a => bad word 1

@@ -75,7 +75,7 @@ static RATE_LINES: [Line; 2] = [
 ];
 
 /// Faults of commands with several files.
-static SEVERAL_LINES: [Line; 6] = table! {
+static SEVERAL_LINES: [Line; 7] = table! {
     Line { fault, status, line }
     (EditFault::Refused(Refusal::Differ(1)), 1, b"c.mp3: other class than the first input\n")
     (EditFault::Refused(Refusal::SheetTooLarge(65_537)), 1, b"c.mp3: sheet too large, 65537 bytes\n")
@@ -83,6 +83,7 @@ static SEVERAL_LINES: [Line; 6] = table! {
     (EditFault::Refused(Refusal::Sheet(CueFault::NotRising(9))), 1, b"c.mp3: not rising at line 9\n")
     (EditFault::Refused(Refusal::Sheet(CueFault::NoTracks)), 1, b"c.mp3: no tracks\n")
     (EditFault::EqualNames(1), 1, b"c.mp3: input is an output\n")
+    (EditFault::Refused(Refusal::Exists(0)), 1, b"b.mp3: exists\n")
 };
 
 /// A sink of 100 bytes.
@@ -123,27 +124,28 @@ fn lines(rt: HostRuntime) -> Result<(), Fail> {
     Ok(())
 }
 
-/// A piece that couldn't be written, counted from 0, and its line.
+/// A fault of a piece of a split, and its line.
 struct PieceLine {
-    piece: u32,
+    fault: EditFault,
     line: &'static [u8],
 }
 
 /// Names of pieces are counted from 1, and an output that isn't one of them has no name.
-static PIECES: [PieceLine; 4] = table! {
-    PieceLine { piece, line }
-    (0, b"p01.mp3: write fault\n")
-    (9, b"p10.mp3: write fault\n")
-    (98, b"p99.mp3: write fault\n")
-    (99, b": write fault\n")
+static PIECES: [PieceLine; 6] = table! {
+    PieceLine { fault, line }
+    (EditFault::Write(0), b"p01.mp3: write fault\n")
+    (EditFault::Write(9), b"p10.mp3: write fault\n")
+    (EditFault::Write(98), b"p99.mp3: write fault\n")
+    (EditFault::Write(99), b": write fault\n")
+    (EditFault::Refused(Refusal::Exists(1)), b"p02.mp3: exists\n")
+    (EditFault::Refused(Refusal::Exists(98)), b"p99.mp3: exists\n")
 };
 
 #[test]
 fn lines_of_pieces(rt: HostRuntime) -> Result<(), Fail> {
     for case in &PIECES {
         let mut err = new_sink(rt.alloc())?;
-        let fault = EditFault::Write(case.piece);
-        send_fault(&mut err, &fault, &["a.mp3"], &Outputs::Pieces("p"));
+        send_fault(&mut err, &case.fault, &["a.mp3"], &Outputs::Pieces("p"));
         assert_eq!(rt; err.sent(), case.line);
     }
     Ok(())

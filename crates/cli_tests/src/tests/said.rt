@@ -54,6 +54,7 @@ const USAGE: &[u8] = b"usage: mp3edit COMMAND
                          a frame whose main data can't be read becomes empty
   --help, -h             print this help
   --version              print the version
+  -n COMMAND             run COMMAND, but refuse it and write nothing if a file that it would write exists
 An output that exists is overwritten without asking. No input is written to.
 examples:
   mp3edit gain -g -2 song.mp3 quieter.mp3       3 dB quieter
@@ -76,7 +77,7 @@ struct Said {
 const FAULT: &[u8] = b"standard output: write fault\n";
 
 // A frame of 174 bytes of main data takes 261 bytes at 80 kbit/s, and the Info frame 208.
-static SAID: [Said; 8] = table! {
+static SAID: [Said; 12] = table! {
     Said { words, is_failing, status, text, line }
     (&["drill", "1", "1"], false, 0, b"1 frames, 417 bytes in, 469 bytes out, 0 lead-ins\n", b"")
     (&["drill", "1", "1"], true, 3, b"", FAULT)
@@ -86,6 +87,10 @@ static SAID: [Said; 8] = table! {
     (&["-h"], true, 3, b"", FAULT)
     (&["--version"], false, 0, b"mp3edit 0.1.0\n", b"")
     (&["--version"], true, 3, b"", FAULT)
+    (&["-n", "drill", "1", "1"], false, 0, b"1 frames, 417 bytes in, 469 bytes out, 0 lead-ins\n", b"")
+    (&["-n", "--help"], false, 0, USAGE, b"")
+    (&["-n", "-h"], false, 0, USAGE, b"")
+    (&["-n", "--version"], false, 0, b"mp3edit 0.1.0\n", b"")
 };
 
 /// The status of a run, and what it sent to both sinks.

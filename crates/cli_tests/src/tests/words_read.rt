@@ -1,10 +1,12 @@
 //! Words that have a form, and what they ask for.
 
-use crate::tests::reading::{join_words, split_words};
+use crate::tests::reading::{join_words, owned, split_words};
 use arrayvec::ArrayVec;
 use cue_sheet::Place;
+use job_words::keeps;
 use mp3_cli::{Job, job};
 use std::test::Fail;
+use test_files::table;
 
 pub static ROWS: &str = "
 # Steps.
@@ -72,6 +74,25 @@ split a p 0.0 7 EOF => SplitAt { input: \"a\", prefix: \"p\", places: [Time(0, 1
 # Joins.
 join o a => Join { seamless: false, output: \"o\", inputs: [\"a\"] }
 join --seamless o a b => Join { seamless: true, output: \"o\", inputs: [\"a\", \"b\"] }
+
+# Forms behind `-n`.
+-n --help => Help
+-n -h => Help
+-n --version => Version
+-n list a => List { input: \"a\" }
+-n info ./-n => Info { input: \"./-n\" }
+-n gain -s s -w -l 0 2 a o => Gain { shift: Shift { channels: Left, steps: 2, wrap: true }, tags: false, input: \"a\", output: \"o\" }
+-n gain -u a o => Undo { input: \"a\", output: \"o\" }
+-n cut --least a 0 1 o => Cut { from: Frame(0), to: Frame(1), least: true, input: \"a\", output: \"o\" }
+-n cut --exact a 0 1 o => CutExact { input: \"a\", from: Place(Frame(0)), to: Place(Frame(1)), output: \"o\" }
+-n pack --constant 160 a o => Pack { mode: Constant(160), input: \"a\", output: \"o\" }
+-n split a p 0 1 EOF => SplitAt { input: \"a\", prefix: \"p\", places: [Frame(0), Frame(1), End] }
+-n split --exact a p 0 1s => SplitExact { input: \"a\", prefix: \"p\", places: [Place(Frame(0)), Millis(1000)] }
+-n split a p -c s => SplitBy { exact: false, input: \"a\", prefix: \"p\", sheet: \"s\" }
+-n join --seamless o a b => Join { seamless: true, output: \"o\", inputs: [\"a\", \"b\"] }
+-n drill 1 2 => Drill { seed: 1, count: 2 }
+-n fade --back a o s => Fade { back: true, input: \"a\", output: \"o\", sheet: \"s\" }
+-n salvage a o => Salvage { input: \"a\", output: \"o\" }
 ";
 
 #[test]
@@ -103,6 +124,35 @@ fn joins(rt: HostRuntime) -> Result<(), Fail> {
             inputs: &words[2..],
         };
         assert_eq!(rt; job(&words), Ok(wanted));
+    }
+    Ok(())
+}
+
+/// Words, and whether the first is `-n`.
+struct First {
+    words: &'static [&'static str],
+    keeps: bool,
+}
+
+static FIRST_WORDS: [First; 10] = table! {
+    First { words, keeps }
+    (&[], false)
+    (&[""], false)
+    (&["-n"], true)
+    (&["-n", "list", "a"], true)
+    (&["-n", "-n", "list", "a"], true)
+    (&["-n", "x"], true)
+    (&["list", "-n"], false)
+    (&["-N", "list", "a"], false)
+    (&["--n", "list", "a"], false)
+    (&["-ns", "s"], false)
+};
+
+#[test]
+fn first_words(rt: HostRuntime) -> Result<(), Fail> {
+    for case in &FIRST_WORDS {
+        let words = owned(rt.alloc(), case.words)?;
+        assert_eq!(rt; keeps(&words), case.keeps, "{:?}", case.words);
     }
     Ok(())
 }
