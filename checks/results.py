@@ -110,8 +110,9 @@ FORMS += [
 ]
 
 
-def judge_words(words):
-    """Refuses the first word that fits no form, or, if a word is missing, the position after the last one."""
+def judge_words(words, before):
+    """Refuses the first word that fits no form, or, if a word is missing, the position after the last one. Before these words there are some
+    that are counted too."""
     longest = 0
     for kinds, most in FORMS:
         kinds_of_words = kinds + kinds[-1:] * (most - 1)
@@ -123,7 +124,7 @@ def judge_words(words):
         if len(kinds) <= len(words) == count:
             return
         longest = max(longest, count)
-    raise Answer(2, f"bad word {longest + 1}")
+    raise Answer(2, f"bad word {before + longest + 1}")
 
 
 # ---- positions and sheets
@@ -377,9 +378,15 @@ COMMANDS = {
 
 
 def result_of(words, files):
+    before = 1 if words[:1] == ["-n"] else 0
+    words = words[before:]
     try:
-        judge_words(words)
-        return COMMANDS[words[0]](words, files)
+        judge_words(words, before)
+        result = COMMANDS[words[0]](words, files)
+        for it in result.outputs if before else ():
+            if it in files:
+                raise Answer(1, f"{it}: exists")
+        return result
     except Answer as it:
         return Result(it.args[0], line=f"{it.args[1]}\n")
     except frames.Unfit as it:
@@ -387,7 +394,8 @@ def result_of(words, files):
 
 
 def main(words):
-    result = result_of(words, {it: Path(it).read_bytes() for it in words if Path(it).is_file()})
+    names = [*words, *(f"{it}{number:02}.mp3" for it in words for number in range(1, 100))]
+    result = result_of(words, {it: Path(it).read_bytes() for it in names if Path(it).is_file()})
     for it, data in result.outputs.items():
         print(f"{it}: {len(data)} bytes")
     print(end=result.text)
