@@ -11,3 +11,5 @@ pub mod SurveyedLemmas
 pub mod SheetLemmas
 pub mod FoundSheetLemmas
 pub mod TouchLemmas
+pub mod LikeLemmas
+pub mod KeptLemmas

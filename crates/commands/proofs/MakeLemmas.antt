@@ -12,17 +12,16 @@ use Rattle.commands.specs.Command.{AreSoundFiles, clash_from, clash_of, Command,
 use Rattle.commands.specs.Command.{HoldsStreams, LacksBytes, Made, MakesStreams}
 use Rattle.commands.specs.{Command.{partly_written_files, written_files}, Inputs.names_of}
 use Rattle.commands.specs.Runs.{IsRunOf}
-use Rattle.commands.specs.SingleOutput.{clash_in, command_result, files_holding, first_input}
-use Rattle.commands.specs.SingleOutput.{HasTaskNumbers, HoldsLess, HoldsPrefix, IsEarlyFault}
-use Rattle.commands.specs.SingleOutput.{IsMaking, IsPassFault, IsProperTask, one_command, Task}
-use Rattle.commands.specs.SingleOutput.{task_result, TaskRefuses, WritesOutput}
-use Rattle.commands.specs.declared.fault.EditFault.{EditFault, TheVariants.EqualNames}
-use Rattle.commands.specs.declared.inputs.Inputs.{Inputs}
+use Rattle.commands.specs.SingleOutput.{clash_in, command_result, first_input, HasTaskNumbers}
+use Rattle.commands.specs.SingleOutput.{HoldsLess, HoldsPrefix, IsEarlyFault, IsMaking, IsPassFault}
+use Rattle.commands.specs.SingleOutput.{IsProperTask, one_command, Task, task_result, TaskRefuses}
+use Rattle.commands.specs.{SingleOutput.WritesOutput, declared.fault.EditFault.EditFault}
+use Rattle.commands.specs.declared.{fault.EditFault.TheVariants.EqualNames, inputs.Inputs.Inputs}
 use Rattle.outside.proofs.CountsLemmas.{none_fell_by_reads, none_fell_same}
 use Rattle.outside.proofs.FilesLemmas.{bytes_eq_same, there_holds, touches_none}
 use Rattle.outside.specs.Counts.{NoneFell, OnlyReads}
-use Rattle.outside.specs.Files.{Contents, Files, Holds, IfTold, IsFileThere, OnlyTouches, Told}
-use Rattle.outside.specs.{Files.Untold, Seen.Seen}
+use Rattle.outside.specs.Files.{Contents, Files, files_holding, Holds, IfTold, IsFileThere}
+use Rattle.outside.specs.{Files.{OnlyTouches, Told, Untold}, Seen.Seen}
 use Rattle.sync_survey.specs.Faults.{HoldsStream, longest_file}
 
 abbrev pub ok_made : Made → Result Made EditFault
@@ -140,12 +139,12 @@ module _ (task : Task) (output : List ℕ) (free : clash_in task output ≡ None
   -- ---- the second pass
 
   module _ (file : List ℕ → List ℕ) where
-    abbrev whole_made : List ℕ → Made
+    abbrev pub whole_made : List ℕ → Made
     whole_made bytes =
         record { outputs = record { name = output; bytes = file bytes } ∷ []; text = [] }
 
     -- what is made of a source whose content is known
-    gives_made : (f : Contents) → IsMaking task file (Told f) → (bytes : List ℕ)
+    pub gives_made : (f : Contents) → IsMaking task file (Told f) → (bytes : List ℕ)
         × (f task.source ≡ Some bytes) × ((one_command task output).makes f ≡ Ok (whole_made bytes))
     gives_made f making = grind (arith, there_holds, makes_free)
 
@@ -222,7 +221,7 @@ module _ (task : Task) (output : List ℕ) (free : clash_in task output ≡ None
         shorter = λ l. record { ended = l; touches = touches };
         unwritten = λ k w. rw w.0 (record {
           rose = w.1.rose;
-          files = unfinished_part old.files new.files making (rw first at w.1.files) touches;
+          files = inl (unfinished_part old.files new.files making (rw first at w.1.files) touches);
         });
         unsent = λ w. absurd w;
         no_memory = λ w. absurd w;
@@ -292,12 +291,6 @@ pub refused_run : (command : Command) (old new : Seen) (r : Result (Unit {0}) Ed
     → IsCommandFault command old new fault → HasNumbers command fault
     → NoneFell old.counts new.counts → IsRunOf command old new r
 refused_run command old new r fault none is left numbers fell = grind arith
-
--- a run from a moment is also a run from an earlier one, if no file and no count changed in between
-pub run-before : (command : Command) (old mid new : Seen) (r : Result (Unit {0}) EditFault)
-    → mid.files ≡ old.files → mid.counts ≡ old.counts → IsRunOf command mid new r
-    → IsRunOf command old new r
-run-before command old mid new r files counts ran = grind arith
 
 -- a call that returned this fault is a run if the call ended with it
 pub returned_run : (command : Command) (old new : Seen) (r : Result (Unit {0}) EditFault)

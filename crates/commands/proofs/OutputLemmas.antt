@@ -1,28 +1,15 @@
 -- The output is created and then written by a pass over the input.
-use Rattle.std.proofs.Common.{ap, inl, inr, length, List, Option, refl, slice_index_or, sym, true}
-use Rattle.std.proofs.Common.{unwrap_or, ℕ, [], ◌++◌, ◌∙◌, ◌∷◌, ◌≡◌, ◌≢◌}
+use Rattle.std.proofs.Common.{ap, inl, inr, length, List, refl, slice_index_or, sym, ℕ, [], ◌∙◌}
+use Rattle.std.proofs.Common.{◌∷◌, ◌≡◌, ◌≢◌}
 use Rattle.commands.specs.PassFaults.{pass_edit_fault}
-use Rattle.commands.specs.SingleOutput.{files_holding, first_input, IsLeftShort, IsOutputBegun}
-use Rattle.commands.specs.SingleOutput.{IsPassFault}
-use Rattle.outside.proofs.FilesLemmas.{appended_touches, emptied_holds_other, emptied_told}
-use Rattle.outside.proofs.FilesLemmas.{emptied_touches, fails_told, touch_twice, touches_then}
-use Rattle.outside.{proofs.FilesLemmas.{with_file_here, with_file_twice}, specs.Counts.Counts}
-use Rattle.outside.specs.Files.{FailsToCreate, Files, Holds, is_some_byte, is_told, OnlyTouches}
-use Rattle.outside.specs.Files.{Told, Untold, with_appended_bytes, with_empty_file, with_file}
+use Rattle.commands.specs.SingleOutput.{first_input, IsLeftShort, IsOutputBegun, IsPassFault}
+use Rattle.outside.proofs.FilesLemmas.{created_and_appended, emptied_holds_other, emptied_told}
+use Rattle.outside.{proofs.FilesLemmas.{fails_told, holding_touches}, specs.Counts.Counts}
+use Rattle.outside.specs.Files.{FailsToCreate, Files, files_holding, Holds, is_told, OnlyTouches}
+use Rattle.outside.specs.Files.{Told, Untold, with_appended_bytes, with_empty_file}
 use Rattle.outside.specs.Pass.{AppendsMadeBytes, AppendsPrefix, HasPassCause, route}
 use Rattle.outside.specs.{Seen.seen_folder, declared.pass.PassFault.PassFault}
 use Rattle.outside.specs.declared.pass.PassFault.TheVariants.{Read, Shrunk, Write}
-
--- created empty and then appended to, the output holds these bytes
-with_appended_bytes-with_empty_file : (files : Files) (name bytes : List ℕ)
-    → with_appended_bytes (with_empty_file files name) name bytes ≡ files_holding files name bytes
-unfolding with_appended_bytes with_empty_file files_holding
-with_appended_bytes-with_empty_file (Untold touched) name bytes =
-    ap Untold (touch_twice touched name true (is_some_byte bytes) true refl)
-with_appended_bytes-with_empty_file (Told f) name bytes =
-    ap (λ (held : Option (List ℕ)). Told (with_file (with_file f name []) name
-    (unwrap_or held [] ++ bytes))) (with_file_here f name [])
-    ∙ ap Told (with_file_twice f name [] bytes)
 
 -- if the output wasn't created, it is left short
 pub not_begun : (made : List ℕ → List ℕ) (input output : List ℕ) (old new : Files)
@@ -40,7 +27,7 @@ module _ (made : List ℕ → List ℕ) (input output : List ℕ) (apart : input
       → new ≡ files_holding old output bytes
   files_holding-new bytes is =
       is ∙ ap (λ f. with_appended_bytes f output bytes) created
-      ∙ with_appended_bytes-with_empty_file old output bytes
+      ∙ created_and_appended old output bytes
 
   -- with all bytes appended, it holds what was made of the input
   pub output_whole : AppendsMadeBytes input output made mid new → (file : List ℕ)
@@ -71,12 +58,7 @@ module _ (made : List ℕ → List ℕ) (input output : List ℕ) (apart : input
 
   touches_new : (bytes : List ℕ) → new ≡ with_appended_bytes mid output bytes
       → OnlyTouches (output ∷ []) old new
-  touches_new bytes is =
-      rw (is ∙ ap (λ f. with_appended_bytes f output bytes) created)
-      (touches_then (output ∷ []) old (with_empty_file old output)
-      (with_appended_bytes (with_empty_file old output) output
-      bytes) (emptied_touches old output)
-      (appended_touches (with_empty_file old output) output bytes))
+  touches_new bytes is = rw (files_holding-new bytes is) (holding_touches old output bytes)
 
   -- if all bytes were appended, only the output was touched
   pub touches_whole : AppendsMadeBytes input output made mid new → OnlyTouches (output ∷ []) old new

@@ -1,8 +1,10 @@
 -- The names that a command touches, however it ends: only those of its outputs.
-use Rattle.std.proofs.Common.{arith, inl, inr, take, ℕ, ◌+◌, ◌≡◌, ◌≢◌, ◌⊎◌}
+use Rattle.std.proofs.Common.{ap, inl, inr, take, ℕ, ◌+◌, ◌≡◌, ◌≢◌, ◌⊎◌}
 use Rattle.std.proofs.lemmas.List.Elements.{All-take}
-use Rattle.commands.{proofs.WhyLemmas.of_why, specs.AfterCall.{IsCommandFault, IsWrittenTo}}
-use Rattle.commands.specs.{Command.Command, declared.fault.EditFault.EditFault}
+use Rattle.commands.proofs.WhyLemmas.{of_why}
+use Rattle.commands.specs.AfterCall.{IsCommandFault, IsOutputUnasked, IsOutputUnfinished}
+use Rattle.commands.specs.{AfterCall.{IsOutputUnwritten, IsWrittenTo, why_of}, Command.Command}
+use Rattle.commands.specs.declared.fault.EditFault.{EditFault}
 use Rattle.outside.proofs.FilesLemmas.{touches_more, touches_none}
 use Rattle.outside.specs.{Files.{Files, OnlyTouches}, Seen.Seen}
 
@@ -22,7 +24,25 @@ module _ (command : Command) where
     unread_touched (inl same) = stays_touched old.files new.files same
     unread_touched (inr wrote) = first_touched wrote.0 old.files new.files wrote.1.touches
 
+    unwritten_touched : (k : ℕ) → IsOutputUnwritten command k old new
+        → OnlyTouches command.outputs old.files new.files
+    unwritten_touched k w = at w.files
+      where
+        at : IsOutputUnfinished command k old.files new.files
+            ⊎ IsOutputUnasked command k old.files new.files
+            → OnlyTouches command.outputs old.files new.files
+        at (inl part) = first_touched k old.files new.files part.touches
+        at (inr none) = stays_touched old.files new.files none.stays
+
     -- a command that fails touches only its outputs
     pub left_touched : IsCommandFault command old new fault
         → OnlyTouches command.outputs old.files new.files
-    left_touched h = grind (arith, of_why, stays_touched, unread_touched, first_touched)
+    left_touched h = of_why (why_of fault) h (record {
+      rejected = λ l. stays_touched old.files new.files (ap (λ (s : Seen). s.files) l.stays);
+      missing = λ l. stays_touched old.files new.files l.files;
+      unread = λ l. unread_touched l.files;
+      shorter = λ l. l.touches;
+      unwritten = unwritten_touched;
+      unsent = λ l. l.touches;
+      no_memory = λ l. stays_touched old.files new.files (ap (λ (s : Seen). s.files) l.stays);
+    })

@@ -8,7 +8,7 @@ use Rattle.commands.specs.FaultKinds.{by_kind, HasRightNumbers, IsFromOutside, k
 use Rattle.commands.specs.declared.fault.EditFault.{EditFault}
 use Rattle.commands.specs.declared.fault.EditFault.TheVariants.{EqualNames, Input, Memory, Refused}
 use Rattle.commands.specs.declared.fault.{EditFault.TheVariants.{Sent, Write}, Refusal.Refusal}
-use Rattle.commands.specs.declared.fault.Refusal.TheVariants.{Differ}
+use Rattle.commands.specs.declared.fault.Refusal.TheVariants.{Differ, Exists}
 use Rattle.outside.specs.Counts.{EndedAt, HappenedTo, NothingFailed}
 use Rattle.outside.specs.{Files.{Files, IfTold, is_told, OnlyTouches, Told}, Seen.Seen}
 use Rattle.sync_survey.specs.declared.survey_fault.SurveyFault.{SurveyFault}
@@ -163,11 +163,24 @@ pub record IsInputShorter (command : Command) (old new : Seen) (fault : EditFaul
   pub ended : InputEndsEarly command.inputs old new fault
   pub touches : OnlyTouches command.outputs old.files new.files
 
--- a call that creates this output or writes to it failed
+-- the refusal is that of an output that is there, and isn't before this one
+abbrev pub IsThereFrom : ℕ → EditFault → Type 0
+IsThereFrom k (Refused (Exists place)) = k ≤ place
+IsThereFrom k _ = ⊥
+
+-- A command that keeps what is there could not ask for this output. It isn't refused, unless since
+-- this output or one behind it is there; and nothing was created.
+pub record IsOutputUnasked (command : Command) (k : ℕ) (old new : Files) : Type 0 where
+  pub keeps : command.keeps ≡ true
+  pub before : IfTold old (λ f. IfErr (command.makes f) (IsThereFrom k))
+  pub stays : new ≡ old
+
+-- a call that asks for this output, creates it or writes to it failed
 pub record IsOutputUnwritten (command : Command) (k : ℕ) (old new : Seen) : Type 0 where
   pub rose : HappenedTo
       (slice_index_or command.outputs k []) old.counts.write_faults new.counts.write_faults
   pub files : IsOutputUnfinished command k old.files new.files
+      ⊎ IsOutputUnasked command k old.files new.files
 
 -- equal names, an absent first input and one that is too long are found before any memory is taken
 abbrev pub is_before_memory : EditFault → Bool

@@ -33,6 +33,8 @@ pub record Command : Type 0 where
   pub streams : Contents → List (List StreamFrame)
   -- which refusals it can give
   pub refuses : Refusal → Bool
+  -- whether it keeps what is there: it asks for its outputs before it creates the first
+  pub keeps : Bool
 
 -- ---- names
 

@@ -11,3 +11,4 @@ pub mod SentText
 pub mod WithText
 pub mod Sheet
 pub mod Answers
+pub mod Kept

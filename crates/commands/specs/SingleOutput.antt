@@ -11,9 +11,8 @@ use Rattle.commands.specs.{FaultKinds.HasRightNumbers, declared.fault.EditFault.
 use Rattle.commands.specs.declared.fault.EditFault.TheVariants.{EqualNames, Input, Memory, Refused}
 use Rattle.commands.specs.declared.fault.Refusal.{Refusal}
 use Rattle.outside.specs.Counts.{EndedAt, HappenedTo, NothingFailed}
-use Rattle.outside.specs.Files.{Contents, Files, Holds, IfTold, is_told, IsFileMissing, IsFileThere}
-use Rattle.outside.specs.Files.{OnlyTouches, Told, Untold, with_file, with_touch}
-use Rattle.outside.specs.Seen.{OnFile, Seen}
+use Rattle.outside.specs.Files.{Contents, Files, files_holding, Holds, IfTold, is_told}
+use Rattle.outside.specs.{Files.{IsFileMissing, IsFileThere, OnlyTouches}, Seen.{OnFile, Seen}}
 use Rattle.sync_survey.specs.Faults.{HoldsStream, longest_file, SurveyFields}
 use Rattle.sync_survey.specs.{MainData.StreamFrame, Survey.survey_of}
 use Rattle.sync_survey.specs.declared.survey_fault.SurveyFault.{SurveyFault}
@@ -106,17 +105,13 @@ one_command task output = record {
   outputs = output ∷ [];
   sources = task.sources;
   always = Some [];
+  keeps = false;
   makes = λ files. command_result output (task_result task output files);
   streams = λ files. task.stream files ∷ [];
   refuses = task.refuses;
 }
 
 -- ---- its steps
-
--- the files once the name holds these bytes; if the contents aren't known, the name was touched
-unfoldable pub files_holding : Files → List ℕ → List ℕ → Files
-files_holding (Told f) name bytes = Told (with_file f name bytes)
-files_holding (Untold touched) name bytes = Untold (with_touch touched name true)
 
 -- the file is there, and its survey is refused if `allowed` frames are allowed
 pub record RefusesFile (allowed : ℕ) (name : List ℕ) (old new : Seen)

@@ -1,10 +1,12 @@
 //! The common body of all commands that make one file.
 ghost use Rattle.std.specs.Prelude.{◌≡◌, IfOk, IfErr, OnOk};
 ghost use Rattle.outside.specs.Counts.{OnlyReads};
+ghost use Rattle.commands.specs.Kept.{asked_of};
 ghost use Rattle.commands.specs.Runs.{IsRunOf};
 ghost use Rattle.commands.specs.Inputs.{names_of};
 ghost use Rattle.commands.specs.SingleOutput.{Task, one_command, IsEarlyFault, HasTaskNumbers, IsMaking, IsProperTask};
 
+use crate::asking::ask_all;
 use crate::fault::EditFault;
 use crate::inputs::Inputs;
 use crate::output::{OutputPass, write_output};
@@ -54,6 +56,8 @@ pub trait Edit {
 /// - `EqualNames` with the number, counted from 0, of the first input that has the output's name, byte for
 ///   byte;
 /// - the errors of `prepare`. Nothing was created then;
+/// - in a folder that keeps what is there, `Refused(Exists(0))` if the output is there, or `Write(0)` if the call that asks
+///   for it failed. Nothing was created then;
 /// - `Input(0, ..)` with `Read` or `Shrunk`, and `Write(0)`, while the output is created and written. It is
 ///   then as it was or holds a prefix of its bytes, and with `Write(0)` not all of them.
 ///
@@ -67,7 +71,7 @@ pub fn make_one<E: Edit, D: Folder>(
     requires legal { E.IsLegal edit.now }
     requires proper { IsProperTask (E.task edit.now) }
     // The sources are well-formed, and the output holds its stream.
-    ensures { IsRunOf (one_command (E.task edit.now) output.now)
+    ensures { IsRunOf (asked_of D.keeping (one_command (E.task edit.now) output.now))
         (D.seen folder.old)
         (D.seen folder.new) result }
 {
@@ -76,5 +80,6 @@ pub fn make_one<E: Edit, D: Folder>(
         return Err(EditFault::EqualNames(place));
     }
     let mut work = edit.prepare(alloc, folder)?;
+    ask_all(folder, &[output])?;
     write_output(folder, inputs.source, output, &mut work)
 }

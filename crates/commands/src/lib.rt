@@ -2,6 +2,7 @@
 //! an input, the bytes of a sheet, and the common body of the commands that make one file.
 #![tactic(auto)]
 
+mod asking;
 mod edit;
 mod fault;
 mod inputs;
@@ -9,6 +10,7 @@ mod output;
 mod sheet;
 mod surveys;
 
+pub use asking::ask_all;
 pub use edit::{Edit, make_one};
 pub use fault::{EditFault, Refusal};
 pub use frame_header::MOST_FRAMES;

@@ -1,6 +1,7 @@
 //! The commands `cut`, `pack` and `cut_exact` over a folder.
 ghost use Rattle.cue_sheet.specs.Places.{IsPlace};
 ghost use Rattle.exact_span.specs.Places.{IsExactPlace};
+ghost use Rattle.commands.specs.Kept.{asked_of};
 ghost use Rattle.commands.specs.Runs.{IsRunOf};
 ghost use Rattle.cut_edits.specs.Chosen.{cut_command, pack_command};
 ghost use Rattle.cut_edits.specs.Exact.{exact_command};
@@ -45,7 +46,7 @@ pub fn cut<D: Folder>(
     requires from { IsPlace from.now }
     requires to { IsPlace to.now }
     // The input is well-formed, and the output holds at most one lead-in and then exactly the chosen frames of its stream.
-    ensures { IsRunOf (cut_command from.now to.now least input.now output.now)
+    ensures { IsRunOf (asked_of D.keeping (cut_command from.now to.now least input.now output.now))
         (D.seen folder.old)
         (D.seen folder.new) result }
 {
@@ -73,7 +74,7 @@ pub fn pack<D: Folder>(
     output: &str,
 ) -> Result<(), EditFault>
     // The input is well-formed, and the output holds its stream.
-    ensures { IsRunOf (pack_command input.now output.now)
+    ensures { IsRunOf (asked_of D.keeping (pack_command input.now output.now))
         (D.seen folder.old)
         (D.seen folder.new) result }
 {
@@ -120,7 +121,7 @@ pub fn cut_exact<D: Folder>(
     requires from { IsExactPlace from.now }
     requires to { IsExactPlace to.now }
     // The input is well-formed, and the output holds at most one lead-in and then exactly the frames of the span.
-    ensures { IsRunOf (exact_command from.now to.now input.now output.now)
+    ensures { IsRunOf (asked_of D.keeping (exact_command from.now to.now input.now output.now))
         (D.seen folder.old)
         (D.seen folder.new) result }
 {

@@ -54,6 +54,7 @@ drill_command seed count = record {
   outputs = [];
   sources = [];
   always = Some (drill_text seed count);
+  keeps = false;
   makes = λ files. Ok (record { outputs = []; text = drill_text seed count });
   streams = λ files. [];
   refuses = λ refusal. false;

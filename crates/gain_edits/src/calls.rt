@@ -1,4 +1,5 @@
 //! The commands `gain` and `undo` over a folder.
+ghost use Rattle.commands.specs.Kept.{asked_of};
 ghost use Rattle.commands.specs.Runs.{IsRunOf};
 ghost use Rattle.gain_edits.specs.Gain.{gain_command};
 ghost use Rattle.gain_edits.specs.Undo.{undo_command};
@@ -43,7 +44,7 @@ pub fn gain<D: Folder>(
     tags: bool,
 ) -> Result<(), EditFault>
     // The input is well-formed, and the output holds its stream with each gain moved.
-    ensures { IsRunOf (gain_command shift.now tags input.now output.now)
+    ensures { IsRunOf (asked_of D.keeping (gain_command shift.now tags input.now output.now))
         (D.seen folder.old)
         (D.seen folder.new) result }
 {
@@ -71,7 +72,7 @@ pub fn undo<D: Folder>(
     output: &str,
 ) -> Result<(), EditFault>
     // The input is well-formed, and the output holds its stream with each gain moved back.
-    ensures { IsRunOf (undo_command input.now output.now)
+    ensures { IsRunOf (asked_of D.keeping (undo_command input.now output.now))
         (D.seen folder.old)
         (D.seen folder.new) result }
 {

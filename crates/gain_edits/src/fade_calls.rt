@@ -1,4 +1,5 @@
 //! The command `fade` over a folder.
+ghost use Rattle.commands.specs.Kept.{asked_of};
 ghost use Rattle.commands.specs.Runs.{IsRunOf};
 ghost use Rattle.gain_edits.specs.Fade.{fade_command};
 
@@ -37,7 +38,7 @@ pub fn fade<D: Folder>(
     back: bool,
 ) -> Result<(), EditFault>
     // The input is well-formed, and the output holds its stream with each frame's gains moved by its steps.
-    ensures { IsRunOf (fade_command sheet.now back input.now output.now)
+    ensures { IsRunOf (asked_of D.keeping (fade_command sheet.now back input.now output.now))
         (D.seen folder.old)
         (D.seen folder.new) result }
 {

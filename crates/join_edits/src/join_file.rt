@@ -1,10 +1,11 @@
 //! The join command over a folder.
 ghost use Rattle.std.specs.Prelude.{◌≤◌, length, map, string_bytes};
+ghost use Rattle.commands.specs.Kept.{asked_of};
 ghost use Rattle.commands.specs.Runs.{IsRunOf};
 ghost use Rattle.join_edits.specs.Join.{join_command};
 
 use crate::planned::prepare;
-use commands::{EditFault, clash};
+use commands::{EditFault, ask_all, clash};
 use joined_inputs::{survey_all, write_joined};
 use outside::Folder;
 use std::alloc::Global;
@@ -21,7 +22,8 @@ use std::alloc::Global;
 /// the output's, byte for byte; then for each input in order `Input` with its number and the fault
 /// of its survey, which allows as many frames as the inputs before it leave of 2,900,000, and
 /// `Differ` with its number if its version, frequency or channels differ from the first input's.
-/// After these nothing was created. A file may be named twice.
+/// Then, in a folder that keeps what is there, `Refused(Exists(0))` if the output is there, and `Write(0)` if the call that asks
+/// for it failed. After these nothing was created. A file may be named twice.
 ///
 /// `Input` with `Read` and `Write(0)` are returned only if a call of that kind failed, `Input` with
 /// `Absent` only if that input isn't there, and any other result only if no call failed. `Input`
@@ -38,7 +40,7 @@ pub fn join<D: Folder>(
     requires some { 1 ≤ length inputs.now }
     requires few { length inputs.now ≤ 64 }
     // The inputs are well-formed, and the output holds the lead-ins and exactly the frames of their streams.
-    ensures { IsRunOf (join_command output.now (map string_bytes inputs.now))
+    ensures { IsRunOf (asked_of D.keeping (join_command output.now (map string_bytes inputs.now)))
         (D.seen folder.old)
         (D.seen folder.new) result }
 {
@@ -47,5 +49,6 @@ pub fn join<D: Folder>(
     }
     let sources = survey_all(alloc, folder, inputs)?;
     let mut work = prepare(alloc, &sources)?;
+    ask_all(folder, &[output])?;
     write_joined(folder, output, &sources, &mut work)
 }

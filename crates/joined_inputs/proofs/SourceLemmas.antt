@@ -14,7 +14,7 @@ use Rattle.joined_inputs.specs.{Inputs.told_contents, Laying.{AreSources, IsSour
 use Rattle.joined_inputs.specs.Parts.{parts_task}
 use Rattle.laying.{proofs.SurveyFrameLemmas.survey-had, specs.Relaid.FilePart}
 use Rattle.outside.proofs.FilesLemmas.{there_holds}
-use Rattle.outside.specs.Files.{Contents, Files, Holds, IfTold, OnlyTouches, Told, Untold}
+use Rattle.outside.specs.Files.{Contents, Files, Holds, IfTold, LeavesAllBut, Told, Untold}
 use Rattle.sync_survey.proofs.SurveyedFileLemmas.{survey_of-sound}
 use Rattle.sync_survey.specs.{Faults.{HoldsStream, SurveyFields}, MainData.StreamFrame}
 
@@ -56,7 +56,7 @@ first-class is first = let first = rw is at first in cc
 
 -- a source stays a source if only the output changes
 source-beside : (output : List ℕ) (old new : Files) (name : List ℕ) (s : SurveyFields)
-    → OnlyTouches (output ∷ []) old new → IsSource output old name s
+    → LeavesAllBut (output ∷ []) old new → IsSource output old name s
     → IsSource output new name s × (told_contents new name ≡ told_contents old name)
 source-beside output (Told f) (Told g) name s only source =
     let same =
@@ -74,7 +74,7 @@ source-beside output _ _ name s only source = absurd only
 
 module _ (class : ClassFields) (output : List ℕ) (old new : Files) where
   -- all sources stay sources if only the output changes
-  pub sources-beside : (inputs : List InputFields) → OnlyTouches (output ∷ []) old new
+  pub sources-beside : (inputs : List InputFields) → LeavesAllBut (output ∷ []) old new
       → AreSources class output old inputs → AreSources class output new inputs
   sources-beside [] only are = tt
   sources-beside (i ∷ inputs) only are = (
@@ -83,7 +83,7 @@ module _ (class : ClassFields) (output : List ℕ) (old new : Files) where
   )
 
   -- the frames of sources stay the same if only the output changes
-  pub told-beside : (inputs : List InputFields) → OnlyTouches (output ∷ []) old new
+  pub told-beside : (inputs : List InputFields) → LeavesAllBut (output ∷ []) old new
       → AreSources class output old inputs → parts_of new inputs ≡ parts_of old inputs
   told-beside [] only are = refl
   told-beside (i ∷ inputs) only are = grind (arith, source-beside, told-beside inputs only are.1)

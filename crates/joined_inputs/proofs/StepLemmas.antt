@@ -20,9 +20,9 @@ use Rattle.laying.specs.Passing.{IsRelayReady, LaysFrames, LaysPart, needs_from}
 use Rattle.laying.specs.Places.{own_places, places_for}
 use Rattle.laying.specs.Relaid.{all_frames, part_frames, relaid_frames}
 use Rattle.laying.specs.declared.relay.Relay.{Relay}
-use Rattle.outside.proofs.FilesLemmas.{appended_touches}
+use Rattle.outside.proofs.FilesLemmas.{appended_leaves}
 use Rattle.outside.{proofs.PassLemmas.{input_held, input_holds, still_there}, specs.Counts.Counts}
-use Rattle.outside.specs.{Feed.{Fed, IsFedFrom}, Files.{Files, Holds, IsFileThere, OnlyTouches}}
+use Rattle.outside.specs.{Feed.{Fed, IsFedFrom}, Files.{Files, Holds, IsFileThere, LeavesAllBut}}
 use Rattle.outside.specs.{Pass.{HasPassCause, route}, declared.pass.PassFault.PassFault}
 use Rattle.slot_plan.specs.declared.needs.{Need.Need, Placed.Placed}
 use Rattle.sync_survey.specs.Faults.{survey_view, SurveyFields}
@@ -170,7 +170,7 @@ module _ {class : ClassFields} {key output : List ℕ} {whole : List ℕ → Lis
   pub next-source : IsSource output files i.name s
   next-source =
       let sofar = here.lays.lays in
-      let touches : OnlyTouches (output ∷ []) first files = grind (arith, appended_touches) in
+      let touches : LeavesAllBut (output ∷ []) first files = grind (arith, appended_leaves) in
       (sources-beside class output first files (i ∷ later) touches here.sources).0.0
 
   -- the input has the class of those before it

@@ -27,6 +27,7 @@ text_command text input = record {
   outputs = [];
   sources = input ∷ [];
   always = None;
+  keeps = false;
   makes = λ files. input_text text (files input);
   streams = λ files. [];
   refuses = λ refusal. false;

@@ -1,5 +1,7 @@
 -- The lemmas of this crate.
 pub mod LegalLemmas
+pub mod OtherFileLemmas
+pub mod KeptRunLemmas
 pub mod RunLemmas
 pub mod WrittenLemmas
 pub mod FewestLemmas

@@ -1,71 +1,99 @@
 -- What a run is follows from how its command ends, or from a bad word.
-use Rattle.std.proofs.Common.{ap, arith, Err, List, lit≤, Ok, refl, subst, sym, ℕ, [], ◌≡◌}
-use Rattle.std.specs.Prelude.{IfSome, IsErr, ◌↔◌}
+use Rattle.std.proofs.Common.{ap, arith, Bool, Err, inr, List, lit≤, Ok, refl, subst, sym, ℕ, []}
+use Rattle.std.{proofs.Common.{◌||◌, ◌∙◌, ◌≡◌}, specs.Prelude.{IfSome, IsErr, ◌↔◌}}
 use Rattle.command_table.specs.Table.{command_of}
-use Rattle.commands.specs.Command.{HoldsStreams}
-use Rattle.job_words.specs.{Request.{IsSoundRequest, Request}, Words.job_of}
+use Rattle.commands.proofs.KeptLemmas.{asked_done, asked_streams}
+use Rattle.commands.specs.Command.{Command, HoldsStreams}
+use Rattle.job_words.specs.{Request.{IsSoundRequest, Request}, Words.{job_of, keeps_of}}
 use Rattle.mp3_cli.proofs.FewestLemmas.{fewest-bytes}
-use Rattle.mp3_cli.proofs.RunLemmas.{at_most, bad_word_defined, counts_kept, is_accepted}
-use Rattle.mp3_cli.proofs.RunLemmas.{is_defined, kept, not_two, quiet, says_always, silent, touched}
-use Rattle.mp3_cli.proofs.WrittenLemmas.{written-streams}
-use Rattle.mp3_cli.specs.Run.{always_of, AnswersBadWord, AnswersWords, CommandAnswers, IsLegalBy}
-use Rattle.mp3_cli.specs.Run.{IsOutcome, outcome, outputs_asked, ProgramRun, World, world}
+use Rattle.mp3_cli.proofs.KeptRunLemmas.{asked-always, asked-outputs, keeps-all, keeps-same}
+use Rattle.mp3_cli.proofs.KeptRunLemmas.{only-new}
+use Rattle.mp3_cli.proofs.RunLemmas.{all-or-nothing, at_most, bad_word_defined, counts_kept}
+use Rattle.mp3_cli.proofs.RunLemmas.{is_accepted, is_defined, is_done, kept, not_two, quiet}
+use Rattle.mp3_cli.proofs.{RunLemmas.{says_always, silent, touched}, WrittenLemmas.written-streams}
+use Rattle.mp3_cli.specs.Run.{always_of, AnswersBadWord, AnswersWords, CommandAnswers, CommandEnds}
+use Rattle.mp3_cli.specs.Run.{IsLegalBy, IsOutcome, kept_command_of, outcome, outputs_asked}
+use Rattle.mp3_cli.specs.Run.{ProgramRun, RunOfWords, World, world, world_kept}
 use Rattle.outside.{proofs.FilesLemmas.touches_none, specs.Counts.NoneFell}
-use Rattle.outside.specs.{Files.{IfTold, OnlyTouches, sent_and_more}, Seen.{Heard, Seen}}
+use Rattle.outside.specs.Files.{Contents, IfTold, OnlyTouches, sent_and_more, Told}
+use Rattle.outside.specs.Seen.{Heard, Seen}
+
+told-same : (f g : Contents) → Told f ≡ Told g → f ≡ g
+told-same f g e = cc
 
 -- a run with the words of a command ends as the command does
-pub command_ran : (words : List (List ℕ)) (asked : Request) → job_of words ≡ Ok asked
-    → IsSoundRequest asked → (old new : World) (status : ℕ)
-    → CommandAnswers (command_of asked) old new status
-    → (status ≡ 0 → HoldsStreams (command_of asked) old.folder.files)
-    → NoneFell old.folder.counts new.folder.counts → ProgramRun words old new status
-command_ran words asked is sound old new status all streams fell =
-    let command = command_of asked in
-    let folder = old.folder in
-    let after = new.folder in record {
-      statuses = at_most command folder after old.out new.out old.err new.err status all;
-      bad_word = subst (λ r. (status ≡ 2) ↔ IsErr r) (sym is) (
-        (λ two.
-            absurd (not_two command folder after old.out new.out old.err new.err status all two)),
-        (λ bad. absurd cc),
-      );
-      answers = subst (AnswersWords old new status) (sym is) all;
-      defined = is_defined words asked is folder after old.out new.out old.err new.err status all;
-      accepted = λ files told calls found. is_accepted words asked is folder after
-          old.out new.out old.err new.err status all files told calls.0 calls.1 calls.2 found;
-      streams = written-streams words asked is sound folder after
-          old.out new.out old.err new.err status all streams;
-      fewest = fewest-bytes words asked is folder after old.out new.out old.err new.err status all;
-      touches = subst (λ r. OnlyTouches (outputs_asked r) folder.files after.files) (sym is)
-          (touched command folder after old.out new.out old.err new.err status all);
-      kept = kept command folder after old.out new.out old.err new.err status all;
-      failed = counts_kept command folder after old.out new.out old.err new.err status all;
-      quiet = quiet command folder after old.out new.out old.err new.err status all;
-      silent = silent command folder after old.out new.out old.err new.err status all;
-      text = λ zero_is.
-          subst (λ r. IfSome (always_of r) (λ text. new.out.sent ≡ sent_and_more old.out.sent text))
-          (sym is)
-          (says_always command folder after old.out new.out old.err new.err status all zero_is);
-      counts = fell;
-    }
+module _ (keeps : Bool) (words : List (List ℕ)) (asked : Request) (is : job_of words ≡ Ok asked)
+    {old new : World} {status : ℕ}
+    (all : CommandAnswers (kept_command_of keeps asked) old new status) where
+  abbrev command : Command
+  command = kept_command_of keeps asked
+
+  -- so it is a run of these words
+  pub command_ran : IsSoundRequest asked → (status ≡ 0 → HoldsStreams command old.folder.files)
+      → NoneFell old.folder.counts new.folder.counts → RunOfWords keeps words old new status
+  command_ran sound streams fell =
+      let folder = old.folder in
+      let after = new.folder in
+      let done = is_done command folder after old.out new.out old.err new.err status all in
+      record {
+        statuses = at_most command folder after old.out new.out old.err new.err status all;
+        bad_word = subst (λ r. (status ≡ 2) ↔ IsErr r) (sym is) (
+          (λ two. absurd
+              (not_two command folder after old.out new.out old.err new.err status all two)),
+          (λ bad. absurd cc),
+        );
+        answers = subst (AnswersWords keeps old new status) (sym is) all;
+        defined = is_defined keeps words asked is folder after old.out new.out old.err new.err
+            status all;
+        accepted = λ files told calls found. is_accepted keeps words asked is folder after
+            old.out new.out old.err new.err status all files told calls.0 calls.1 calls.2 found;
+        streams = λ zero_is. written-streams words asked is sound
+            (asked_done (command_of asked) keeps (done zero_is))
+            (asked_streams (command_of asked) keeps (done zero_is) (streams zero_is));
+        fewest = λ zero_is. fewest-bytes words asked is
+            (asked_done (command_of asked) keeps (done zero_is));
+        touches = subst (λ r. OnlyTouches (outputs_asked r) folder.files after.files) (sym is)
+            (subst (λ names. OnlyTouches names folder.files after.files)
+            (asked-outputs keeps (command_of asked))
+            (touched command folder after old.out new.out old.err new.err status all));
+        kept = kept command folder after old.out new.out old.err new.err status all;
+        failed = counts_kept command folder after old.out new.out old.err new.err status all;
+        quiet = quiet command folder after old.out new.out old.err new.err status all;
+        silent = silent command folder after old.out new.out old.err new.err status all;
+        text = λ zero_is.
+            subst (λ r. IfSome (always_of r)
+            (λ text. new.out.sent ≡ sent_and_more old.out.sent text)) (sym is)
+            (subst (λ o. IfSome o (λ text. new.out.sent ≡ sent_and_more old.out.sent text))
+            (asked-always keeps (command_of asked))
+            (says_always command folder after old.out new.out old.err new.err status all zero_is));
+        counts = fell;
+        keeps_all = λ keep. keeps-all (command_of asked) folder after all.fault
+            (subst
+            (λ k. CommandEnds (kept_command_of k asked) folder after old.out new.out all.fault)
+            keep all.ends);
+        all_or_nothing = λ keep before now told is_now calls.
+            all-or-nothing keeps words asked is folder after old.out new.out old.err new.err status
+            all before told keep now is_now calls;
+      }
 
 -- a run with a bad word ends as a bad word does
-pub word_refused : (words : List (List ℕ)) (place : ℕ) → job_of words ≡ Err place
+pub word_refused : (keeps : Bool) (words : List (List ℕ)) (place : ℕ) → job_of words ≡ Err place
     → (old new : World) → AnswersBadWord place old new 2
-    → NoneFell old.folder.counts new.folder.counts → ProgramRun words old new 2
-word_refused words place is old new all fell = record {
+    → NoneFell old.folder.counts new.folder.counts → RunOfWords keeps words old new 2
+word_refused keeps words place is old new all fell = record {
   statuses = lit≤ tt;
   bad_word = subst (λ r. (◌≡◌ {A = ℕ} 2 2) ↔ IsErr r) (sym is) ((λ two. refl), (λ bad. refl));
-  answers = subst (AnswersWords old new 2) (sym is) all;
+  answers = subst (AnswersWords keeps old new 2) (sym is) all;
   defined = λ low.
-      subst (λ (f : Seen). IfTold old.folder.files (λ files. IsOutcome (outcome words files) old
+      subst
+      (λ (f : Seen). IfTold old.folder.files (λ files. IsOutcome (outcome keeps words files) old
       (world f new.out new.err) 2)) (sym all.stays)
-      (subst (λ (h : Heard). IfTold old.folder.files (λ files. IsOutcome (outcome words files) old
-      (world old.folder h new.err) 2)) (sym all.silent)
-      (bad_word_defined words old.folder place old.out old.err new.err is all.line));
+      (subst (λ (h : Heard). IfTold old.folder.files (λ files. IsOutcome (outcome keeps words files)
+      old (world old.folder h new.err) 2)) (sym all.silent)
+      (bad_word_defined keeps words old.folder place old.out is all.line));
   accepted = λ files told calls found. (
     (λ zero_is. absurd (omega (arith, zero_is))),
-    (λ legal. absurd (subst (IsLegalBy files) is legal)),
+    (λ legal. absurd (subst (IsLegalBy files) is legal.legal)),
   );
   streams = λ zero_is. absurd (omega (arith, zero_is));
   fewest = λ zero_is. absurd (omega (arith, zero_is));
@@ -79,4 +107,20 @@ word_refused words place is old new all fell = record {
   silent = λ some other. ap (λ (h : Heard). h.sent) all.silent;
   text = λ zero_is. absurd (omega (arith, zero_is));
   counts = fell;
+  keeps_all = λ keep.
+      keeps-same old.folder.files new.folder.files (ap (λ (s : Seen). s.files) all.stays);
+  all_or_nothing = λ keep before after told is_now calls.
+      inr (told-same after before
+      (sym is_now ∙ ap (λ (s : Seen). s.files) all.stays ∙ told));
+}
+
+-- with `-n` no name is touched but by making a new file
+pub program_ran : (keeping : Bool) (words : List (List ℕ)) (old new : World) (status : ℕ)
+    → RunOfWords (keeping || keeps_of words) words (world_kept (keeps_of words) old)
+    (world_kept (keeps_of words) new) status → ProgramRun keeping words old new status
+program_ran keeping words old new status ran = record {
+  run = ran;
+  only_new = λ keep. only-new (outputs_asked (job_of words)) old.folder.files new.folder.files
+      (subst (λ k. OnlyTouches (outputs_asked (job_of words)) (world_kept k old).folder.files
+      (world_kept k new).folder.files) keep ran.touches);
 }

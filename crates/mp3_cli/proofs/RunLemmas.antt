@@ -1,35 +1,40 @@
 -- What `run` promises, from how a command ends.
-use Rattle.std.proofs.Common.{ap, arith, Err, false, inl, inr, List, None, Ok, Option, refl, Result}
-use Rattle.std.proofs.Common.{Some, subst, sym, ℕ, [], ◌↔◌, ◌∙◌, ◌≡◌, ◌≢◌, ◌≤◌, ◌⊎◌}
+use Rattle.std.proofs.Common.{ap, arith, Bool, Err, false, inl, inr, List, None, Ok, Option, refl}
+use Rattle.std.proofs.Common.{Result, Some, subst, sym, true, ℕ, [], ◌↔◌, ◌∙◌, ◌≡◌, ◌≢◌, ◌≤◌, ◌⊎◌}
 use Rattle.std.proofs.{Math.Seq.take-nil, lemmas.Option.same_Some}
 use Rattle.std.specs.Prelude.{IfErr, IfSome, IsErrOf, OnOk}
 use Rattle.chosen_streams.proofs.NamedLemmas.{one_made}
 use Rattle.command_table.specs.Table.{command_of}
+use Rattle.commands.proofs.KeptLemmas.{as_kept, asked_says, kept_numbers, none_like, unless-ok}
+use Rattle.commands.proofs.{LikeLemmas.{done-like, left-like, streams-like}, MakeLemmas.made-same}
 use Rattle.commands.proofs.TouchLemmas.{left_touched}
 use Rattle.commands.specs.AfterCall.{by_why, HasNumbers, IsCommandDone, IsCommandFault}
 use Rattle.commands.specs.AfterCall.{IsCommandRefused, left_cases, Missing, NoMemory, Rejected}
 use Rattle.commands.specs.AfterCall.{Shorter, Unread, Unsent, Unwritten, Why, why_of}
-use Rattle.commands.specs.Command.{clash_of, Command, HasAnswer, Made, written_files}
-use Rattle.commands.specs.{FaultKinds.{by_kind, InputKind, IsAbsent, kind_of}, Runs.IsRunOf}
-use Rattle.commands.specs.SentText.{answer_fault, IsCommandText, SaysText}
-use Rattle.commands.specs.SingleOutput.{one_command, Task, task_result}
+use Rattle.commands.specs.Command.{AreStreams, clash_of, Command, HasAnswer, HoldsStreams, Made}
+use Rattle.commands.specs.Command.{Output, written_files}
+use Rattle.commands.specs.{FaultKinds.{by_kind, InputKind, IsAbsent, kind_of}, Kept.asked_of}
+use Rattle.commands.specs.{Runs.IsRunOf, SentText.{answer_fault, IsCommandText, SaysText}}
+use Rattle.commands.specs.SingleOutput.{most_frames, one_command, Task, task_result}
 use Rattle.commands.specs.declared.fault.EditFault.{EditFault}
 use Rattle.commands.specs.declared.fault.EditFault.TheVariants.{EqualNames, Input, Memory}
 use Rattle.commands.specs.declared.fault.EditFault.TheVariants.{Sent as NotSent}
 use Rattle.drill.specs.Drilled.{IsDrillFault}
 use Rattle.job_words.specs.{Request.Request, Words.job_of}
-use Rattle.list_edits.specs.TextCommand.{IsTextRun, text_command}
-use Rattle.mp3_cli.proofs.LegalLemmas.{legal-by}
-use Rattle.mp3_cli.specs.Run.{command_fault_line, command_outcome, CommandAnswers, CommandEnds}
-use Rattle.mp3_cli.specs.Run.{fault_status, GetsLine, IsLegal, IsLegalBy, IsOutcome, job_outcome}
-use Rattle.mp3_cli.specs.Run.{made_outcome, outcome, world}
+use Rattle.list_edits.specs.TextCommand.{input_text, IsTextRun, surveyed_text, text_command}
+use Rattle.mp3_cli.proofs.{KeptRunLemmas.kept-accepts, LegalLemmas.legal-by}
+use Rattle.mp3_cli.specs.Run.{AllOrNothing, command_fault_line, command_outcome, CommandAnswers}
+use Rattle.mp3_cli.specs.Run.{CommandEnds, fault_status, GetsLine, IsLegalBy, IsLegalKept}
+use Rattle.mp3_cli.specs.Run.{IsOutcome, job_outcome, kept_command_of, made_outcome, NoCallFailed}
+use Rattle.mp3_cli.specs.Run.{outcome, OutputsAreMissing, world}
 use Rattle.outside.{proofs.FilesLemmas.{sent_nothing, touches_none}, specs.Counts.Rose}
 use Rattle.outside.specs.Files.{Contents, Files, IfTold, is_told, OnlyTouches, Sent, sent_and_more}
 use Rattle.outside.specs.{Files.{Told, Untold}, Seen.{Heard, Seen}}
 use Rattle.program_texts.specs.Texts.{bad_word_line, cause_status, fixed_text_command, GotLine}
 use Rattle.program_texts.specs.Texts.{GotPrefix, GotWhole}
 use Rattle.split_edits.{proofs.PartsLemmas.split-parts, specs.Cutting.{Cutting, split_command}}
-use Rattle.sync_survey.specs.Faults.{SurveyFields}
+use Rattle.sync_survey.specs.{Faults.SurveyFields, Survey.survey_of}
+use Rattle.sync_survey.specs.declared.survey_fault.SurveyFault.{SurveyFault}
 
 -- ---- statuses
 
@@ -253,26 +258,29 @@ module _ (command : Command) (old new : Seen) (out_old out_new err_old err_new :
 
 -- ---- of words
 
+contents-same : (f g : Contents) → Told f ≡ Told g → f ≡ g
+contents-same f g e = cc
+
 -- what follows where the folder's contents are known
 pub if_told : (files : Files) {P : Contents → Type 0} → ((f : Contents) → files ≡ Told f → P f)
     → IfTold files P
 if_told (Untold names) each = tt
 if_told (Told f) each = each f refl
 
-outcome-words : (words : List (List ℕ)) (f : Contents) (r : Result Request ℕ) → job_of words ≡ r
-    → outcome words f ≡ job_outcome f r
+outcome-words : (keeps : Bool) (words : List (List ℕ)) (f : Contents) (r : Result Request ℕ)
+    → job_of words ≡ r → outcome keeps words f ≡ job_outcome keeps f r
 unfolding outcome
-outcome-words words f r is = ap (job_outcome f) is
+outcome-words keeps words f r is = ap (job_outcome keeps f) is
 
 -- for a bad word, the outcome is what the definition says
-pub bad_word_defined : (words : List (List ℕ)) (old : Seen) (place : ℕ)
-    (out err_old err_new : Heard) → job_of words ≡ Err place
+pub bad_word_defined : (keeps : Bool) (words : List (List ℕ)) (old : Seen) (place : ℕ)
+    (out : Heard) {err_old err_new : Heard} → job_of words ≡ Err place
     → GetsLine err_old err_new (bad_word_line place) → IfTold old.files
-    (λ f. IsOutcome (outcome words f) (world old out err_old) (world old out err_new) 2)
-bad_word_defined words old place out err_old err_new is line =
+    (λ f. IsOutcome (outcome keeps words f) (world old out err_old) (world old out err_new) 2)
+bad_word_defined keeps words old place out {err_old} {err_new} is line =
     if_told old.files (λ f told.
     subst (λ o. IsOutcome o (world old out err_old) (world old out err_new) 2)
-    (sym (outcome-words words f (Err place) is))
+    (sym (outcome-words keeps words f (Err place) is))
     (record {
       status_is = refl;
       files_are = told;
@@ -280,32 +288,154 @@ bad_word_defined words old place out err_old err_new is line =
       line_is = line;
     }))
 
-module _ (words : List (List ℕ)) (asked : Request) (is : job_of words ≡ Ok asked) (old new : Seen)
-    (out_old out_new err_old err_new : Heard) (status : ℕ)
-    (all : CommandAnswers (command_of asked) (world old out_old err_old)
+module _ (keeps : Bool) (words : List (List ℕ)) (asked : Request) (is : job_of words ≡ Ok asked)
+    (old new : Seen) (out_old out_new err_old err_new : Heard) (status : ℕ)
+    (all : CommandAnswers (kept_command_of keeps asked) (world old out_old err_old)
     (world new out_new err_new) status) where
   -- up to status 2 the outcome is what the definition says
-  pub is_defined : status ≤ 2 → IfTold old.files (λ f. IsOutcome (outcome words f)
+  pub is_defined : status ≤ 2 → IfTold old.files (λ f. IsOutcome (outcome keeps words f)
       (world old out_old err_old) (world new out_new err_new) status)
   is_defined low =
       if_told old.files (λ f told.
       subst (λ o. IsOutcome o (world old out_old err_old) (world new out_new err_new) status)
-      (sym (outcome-words words f (Ok asked) is))
-      (as_defined (command_of asked) old new out_old out_new err_old err_new status all f told low))
+      (sym (outcome-words keeps words f (Ok asked) is))
+      (as_defined (kept_command_of keeps asked) old new out_old out_new err_old err_new status all
+      f told low))
 
-  -- where no call failed and memory didn't run out,
-  -- status 0 comes exactly if words and files are legal
+  -- where no call failed and memory didn't run out, status 0 comes exactly if words and files are
+  -- legal, and no output is there where what is there is kept
   pub is_accepted : (f : Contents) → old.files ≡ Told f
       → (Rose old.counts.read_faults.times new.counts.read_faults.times → ⊥)
       → (Rose old.counts.write_faults.times new.counts.write_faults.times → ⊥)
-      → (Rose out_old.faults out_new.faults → ⊥) → status ≢ 4 → (status ≡ 0) ↔ IsLegal words f
+      → (Rose out_old.faults out_new.faults → ⊥) → status ≢ 4
+      → (status ≡ 0) ↔ IsLegalKept keeps words f
   is_accepted f told reads writes sends found =
-      let law = legal-by (Ok asked) f in (
-        (λ zero_is. subst (IsLegalBy f) (sym is) (law.1 (made_where_done (command_of asked) old new
-            out_old out_new err_old err_new status all f told zero_is))),
-        (λ legal. done_where_made (command_of asked) old new out_old out_new err_old err_new status
-            all f told reads writes sends found (law.0 (subst (IsLegalBy f) is legal))),
+      let law = legal-by (Ok asked) f in
+      let command = command_of asked in
+      let takes = kept-accepts keeps command f in (
+        (λ zero_is.
+            let kept = takes.1 (made_where_done (kept_command_of keeps asked) old new
+            out_old out_new err_old err_new status all f told zero_is) in record {
+              legal = subst (IsLegalBy f) (sym is) (law.1 kept.0);
+              missing = λ keep. subst (OutputsAreMissing f) (sym is) (kept.1 keep);
+            }),
+        (λ legal. done_where_made (kept_command_of keeps asked) old new out_old out_new err_old
+            err_new status all f told reads writes sends found (takes.0 (
+              law.0 (subst (IsLegalBy f) is legal.legal),
+              λ keep. subst (OutputsAreMissing f) is (legal.missing keep),
+            ))),
       )
+
+  -- ---- where what is there is kept
+
+  -- either the command was done, and none of its outputs was there, or nothing was created
+  pub all-or-nothing : (before : Contents) → old.files ≡ Told before → keeps ≡ true
+      → (after : Contents) → new.files ≡ Told after
+      → NoCallFailed (world old out_old err_old) (world new out_new err_new)
+      → AllOrNothing words before after status
+  all-or-nothing before told keep after now calls =
+      by_case (kept_command_of keeps asked) old new out_old out_new err_old err_new status all
+      (λ zero_is e.
+      let made =
+      made_where_done (kept_command_of keeps asked) old new out_old out_new err_old err_new
+      status all before told zero_is in
+      let made-kept = (kept-accepts keeps (command_of asked) before).1 made in
+      inl (zero_is, subst (OutputsAreMissing before) (sym is) (made-kept.1 keep)))
+      (λ fault why e w reason left. nothing-by fault why e reason left)
+    where
+      same : new.files ≡ old.files → AllOrNothing words before after status
+      same stays = inr (contents-same after before (sym now ∙ stays ∙ told))
+
+      nothing-by : (fault : EditFault) (why : Why) → all.fault ≡ Some fault → why_of fault ≡ why
+          → by_why (left_cases (kept_command_of keeps asked) old new fault) why
+          → AllOrNothing words before after status
+      nothing-by fault Rejected e reason left = same (ap (λ (s : Seen). s.files) left.stays)
+      nothing-by fault Missing e reason left = same left.files
+      nothing-by fault Unread e reason left = absurd (calls.0 left.rose.0)
+      nothing-by fault Shorter e reason left = absurd (told_twice (kept_command_of keeps asked) old
+          new out_old out_new err_old err_new status all before told left.ended.untold)
+      nothing-by fault (Unwritten k) e reason left = absurd (calls.1 left.rose.0)
+      nothing-by fault Unsent e reason left =
+          absurd (calls.2 (sent_rose (kept_command_of keeps asked)
+          old.files out_old out_new fault reason (says_here (kept_command_of keeps asked) old new
+          out_old out_new err_old err_new status all (Some fault) e)))
+      nothing-by fault NoMemory e reason left = same (ap (λ (s : Seen). s.files) left.stays)
+
+-- ---- a command that makes no file
+
+-- what such a command is where what is there is kept
+module _ (keeps : Bool) (command : Command)
+    (none : (f : Contents) (made : Made) → command.makes f ≡ Ok made → made.outputs ≡ []) where
+  -- it ends in the same way
+  pub asked_ends : {old new : Seen} {out_old out_new : Heard} (fault : Option EditFault)
+      → CommandEnds command old new out_old out_new fault
+      → CommandEnds (asked_of keeps command) old new out_old out_new fault
+  asked_ends {old} {new} {out_old} {out_new} fault ends = at keeps
+    where
+      at : (keeps : Bool) → CommandEnds (asked_of keeps command) old new out_old out_new fault
+      at false = ends
+      at true = record {
+        says = asked_says true command old.files out_old out_new fault ends.says;
+        done = λ e. done-like command (as_kept command) (λ keep. refl) old new
+            (none_like command none old.files) (ends.done e);
+        left = left-where fault ends.left;
+        numbers = numbers-where fault ends.numbers;
+        names = ends.names;
+      }
+        where
+          left-where : (fault : Option EditFault) → IfSome fault (IsCommandFault command old new)
+              → IfSome fault (IsCommandFault (asked_of true command) old new)
+          left-where None left = tt
+          left-where (Some e) left = left-like command (as_kept command) (λ keep. refl) old new
+              (none_like command none old.files) e left
+
+          numbers-where : (fault : Option EditFault) → IfSome fault (HasNumbers command)
+              → IfSome fault (HasNumbers (asked_of true command))
+          numbers-where None numbers = tt
+          numbers-where (Some e) numbers = kept_numbers command e numbers
+
+  -- it holds the same streams
+  pub asked_holds : (files : Files) → HoldsStreams command files
+      → HoldsStreams (asked_of keeps command) files
+  asked_holds files holds = at keeps
+    where
+      at : (keeps : Bool) → HoldsStreams (asked_of keeps command) files
+      at false = holds
+      at true = streams-like command (as_kept command) files (none_like command none files) holds
+
+-- a command that sends a text of one file makes no file
+pub text_makes-none : (text : List ℕ → SurveyFields → List ℕ) (input : List ℕ) (f : Contents)
+    (made : Made) → (text_command text input).makes f ≡ Ok made → made.outputs ≡ []
+text_makes-none text input f made is = of (f input) is
+  where
+    by : (file : List ℕ) (r : Result SurveyFields SurveyFault)
+        → surveyed_text (text file) r ≡ Ok made → made.outputs ≡ []
+    by file (Ok s) e = sym (ap (λ (m : Made). m.outputs) (made-same _ made e))
+    by file (Err fault) e = absurd cc
+
+    of : (o : Option (List ℕ)) → input_text text o ≡ Ok made → made.outputs ≡ []
+    of None e = absurd cc
+    of (Some file) e = by file (survey_of file most_frames) e
+
+-- a command that only sends a text makes no file
+pub fixed_makes-none : (text : List ℕ) (f : Contents) (made : Made)
+    → (fixed_text_command text).makes f ≡ Ok made → made.outputs ≡ []
+fixed_makes-none text f made is = sym (ap (λ (m : Made). m.outputs) (made-same _ made is))
+
+-- a command that only sends a text holds no stream
+pub fixed_streams : {T E : Type 0} (keeps : Bool) (text : List ℕ) (files : Files) (r : Result T E)
+    → OnOk r (HoldsStreams (asked_of keeps (fixed_text_command text)) files)
+fixed_streams keeps text files (Err fault) = tt
+fixed_streams keeps text files (Ok x) = asked_holds keeps (fixed_text_command text)
+    (fixed_makes-none text) files (at files)
+  where
+    at : (files : Files) → HoldsStreams (fixed_text_command text) files
+    at (Untold t) = tt
+    at (Told f) = λ made is. record {
+      sources = tt;
+      streams = subst (λ (outputs : List Output). AreStreams outputs [])
+          (sym (fixed_makes-none text f made is)) tt;
+    }
 
 -- ---- a command without a text
 
@@ -325,6 +455,15 @@ module _ (command : Command) (no_text : IsSilent command) (files : Files) (out :
   says_nothing (Ok x) numbers = grind (arith, text_is, sent_nothing)
   says_nothing (Err NotSent) numbers = absurd (numbers no_text.always)
   says_nothing (Err _) numbers = refl
+
+-- a command without a text has none where what is there is kept
+pub asked_silent : (keeps : Bool) {command : Command} → IsSilent command
+    → IsSilent (asked_of keeps command)
+asked_silent false silent = silent
+asked_silent true {command} silent = record {
+  always = silent.always;
+  silent = λ f made is. silent.silent f made (unless-ok f (command.makes f) made is);
+}
 
 -- how a command ends, from what it promises
 pub told_ends : {T : Type 0} (command : Command) (r : Result T EditFault) (old new : Seen)

@@ -1,17 +1,17 @@
 -- What the program does, from its words and the files that are there.
-use Rattle.std.specs.Prelude.{Err, IfOk, IfSome, IsErr, List, None, Ok, Option, Result, Some, ℕ, []}
-use Rattle.std.specs.Prelude.{◌↔◌, ◌∷◌, ◌≡◌, ◌≢◌, ◌≤◌}
+use Rattle.std.specs.Prelude.{Bool, Err, false, IfOk, IfSome, IsErr, List, None, Ok, Option, Result}
+use Rattle.std.specs.Prelude.{Some, true, ℕ, [], ◌||◌, ◌↔◌, ◌∷◌, ◌≡◌, ◌≢◌, ◌≤◌, ◌⊎◌}
 use Rattle.chosen_streams.specs.Exact.{ConsistsOf}
 use Rattle.command_table.specs.{Chosen.Frames, Table.{chosen_of, command_of}}
 use Rattle.commands.specs.AfterCall.{HasNumbers, IsCommandDone, IsCommandFault}
 use Rattle.commands.specs.Command.{AreSoundFiles, clash_of, Command, Made, written_files}
-use Rattle.commands.specs.{SentText.SaysText, declared.fault.EditFault.EditFault}
-use Rattle.commands.specs.declared.fault.EditFault.TheVariants.{EqualNames}
-use Rattle.job_words.specs.{Request.{Pack, Request}, Words.job_of}
+use Rattle.commands.specs.{Kept.{asked_of, first_there, made_names}, SentText.SaysText}
+use Rattle.commands.specs.declared.fault.EditFault.{EditFault, TheVariants.EqualNames}
+use Rattle.job_words.specs.{Request.{Pack, Request}, Words.{job_of, keeps_of}}
 use Rattle.legality.specs.{Laws.AcceptsFiles, Legal.IsLegalFor}
 use Rattle.outside.specs.Counts.{NoneFell, Rose}
-use Rattle.outside.specs.Files.{Contents, Files, IfTold, OnlyTouches, sent_and_more, Told}
-use Rattle.outside.specs.Seen.{Heard, Seen}
+use Rattle.outside.specs.Files.{Contents, Files, IfTold, keeping_files, OnlyMade, OnlyTouches}
+use Rattle.outside.specs.{Files.{sent_and_more, Told, Untold, worse_touch}, Seen.{Heard, Seen}}
 use Rattle.pack_edits.specs.Fewest.{WritesFewest}
 use Rattle.program_texts.specs.Texts.{bad_word_line, fault_line, GotLine, status_of}
 use Rattle.sync_survey.specs.Faults.{IsWellFormed, stream_of}
@@ -46,6 +46,19 @@ pub record World : Type 0 where
 abbrev pub world : Seen → Heard → Heard → World
 world folder out err = record { folder = folder; out = out; err = err }
 
+-- files, seen as those of a folder that keeps what is there if it is used so
+abbrev pub files_kept : Bool → Files → Files
+files_kept true files = keeping_files files
+files_kept false files = files
+
+-- a folder, seen so
+abbrev pub seen_kept : Bool → Seen → Seen
+seen_kept keeps folder = record folder { files = files_kept keeps folder.files }
+
+-- the world, with its folder seen so
+abbrev pub world_kept : Bool → World → World
+world_kept keeps w = record w { folder = seen_kept keeps w.folder }
+
 -- How a command ended, with this fault or none: it was done, and its
 -- text was sent, or the fault has its cause, its numbers and what it
 -- leaves. Equal names are found no matter what else is at fault.
@@ -72,10 +85,15 @@ pub record AnswersBadWord (place : ℕ) (old new : World) (status : ℕ) : Type 
   pub silent : new.out ≡ old.out
   pub stays : new.folder ≡ old.folder
 
+-- the command that is asked for, which keeps what is there or doesn't
+abbrev pub kept_command_of : Bool → Request → Command
+kept_command_of keeps asked = asked_of keeps (command_of asked)
+
 -- the program did what the words ask for, as a command or as a bad word
-abbrev pub AnswersWords : World → World → ℕ → Result Request ℕ → Type 0
-AnswersWords old new status (Ok asked) = CommandAnswers (command_of asked) old new status
-AnswersWords old new status (Err place) = AnswersBadWord place old new status
+abbrev pub AnswersWords : Bool → World → World → ℕ → Result Request ℕ → Type 0
+AnswersWords keeps old new status (Ok asked) =
+    CommandAnswers (kept_command_of keeps asked) old new status
+AnswersWords keeps old new status (Err place) = AnswersBadWord place old new status
 
 -- the names of the files that the words ask to write; for a split, the 99 that it may write
 abbrev pub outputs_asked : Result Request ℕ → List (List ℕ)
@@ -113,14 +131,14 @@ abbrev pub command_outcome : Command → Contents → Outcome
 command_outcome command files = made_outcome command files (command.makes files)
 
 -- the outcome of what is asked for, or of a bad word
-abbrev pub job_outcome : Contents → Result Request ℕ → Outcome
-job_outcome files (Ok asked) = command_outcome (command_of asked) files
-job_outcome files (Err place) =
+abbrev pub job_outcome : Bool → Contents → Result Request ℕ → Outcome
+job_outcome keeps files (Ok asked) = command_outcome (kept_command_of keeps asked) files
+job_outcome keeps files (Err place) =
     record { status = 2; text = []; line = bad_word_line place; files = files }
 
--- what these words make of these files
-unfoldable pub outcome : List (List ℕ) → Contents → Outcome
-outcome words files = job_outcome files (job_of words)
+-- what these words make of these files, where what is there is kept or isn't
+unfoldable pub outcome : Bool → List (List ℕ) → Contents → Outcome
+outcome keeps words files = job_outcome keeps files (job_of words)
 
 -- all is as defined: the status, the files, what standard output got, and the
 -- line that standard error got, or a prefix of it where a write failed there
@@ -155,6 +173,40 @@ IsAccepted words files = IsAcceptedBy files (job_of words)
 abbrev pub LegalWordsAreAccepted : Type 0
 LegalWordsAreAccepted =
     (words : List (List ℕ)) (files : Contents) → IsLegal words files ↔ IsAccepted words files
+
+-- ---- what is kept
+
+-- none of the names of the files that the command makes is there
+abbrev pub OutputsAreMissing : Contents → Result Request ℕ → Type 0
+OutputsAreMissing files (Ok asked) = IfOk ((command_of asked).makes files)
+    (λ made. first_there files 0 (made_names made) ≡ None)
+OutputsAreMissing files (Err place) = Unit {0}
+
+-- What the words ask for is legal, and where what is there is kept, nothing that the command would
+-- write is there.
+pub record IsLegalKept (keeps : Bool) (words : List (List ℕ)) (files : Contents) : Type 0 where
+  pub legal : IsLegal words files
+  pub missing : keeps ≡ true → OutputsAreMissing files (job_of words)
+
+-- each name that was there has the bytes that it had
+abbrev pub KeepsContents : Contents → Contents → Type 0
+KeepsContents old new = (name bytes : List ℕ) → old name ≡ Some bytes → new name ≡ Some bytes
+
+-- each name that was there has the bytes that it had, where these are known
+abbrev pub KeepsEachFile : Files → Files → Type 0
+KeepsEachFile old new = IfTold old (λ before. IfTold new (λ after. KeepsContents before after))
+
+-- Where the contents of the files aren't known: each name was touched as before, or only a new file
+-- was made under it.
+abbrev pub OnlyMakesNew : Files → Files → Type 0
+OnlyMakesNew (Untold old) (Untold new) = (name : List ℕ)
+    → (new.names name ≡ old.names name) ⊎ (new.names name ≡ worse_touch (old.names name) OnlyMade)
+OnlyMakesNew _ _ = Unit {0}
+
+-- the command was done, and all its outputs are new; or no output was created
+abbrev pub AllOrNothing : List (List ℕ) → Contents → Contents → ℕ → Type 0
+AllOrNothing words old new status =
+    ((status ≡ 0) × OutputsAreMissing old (job_of words)) ⊎ (new ≡ old)
 
 -- ---- the streams
 
@@ -197,24 +249,27 @@ NoCallFailed old new =
     × (Rose old.folder.counts.write_faults.times new.folder.counts.write_faults.times → ⊥)
     × (Rose old.out.faults new.out.faults → ⊥)
 
--- what a run of the program with these words is, by the world before and after it, and its status
-pub record ProgramRun (words : List (List ℕ)) (old new : World) (status : ℕ) : Type 0 where
+-- What a run of the program with these words is, by the world before and after it, and its status.
+-- What is there is kept where the words begin with `-n`, or the folder does so itself.
+pub record RunOfWords (keeps : Bool) (words : List (List ℕ)) (old new : World)
+    (status : ℕ) : Type 0 where
   -- the statuses are 0 to 4
   pub statuses : status ≤ 4
   -- refused words give status 2, and nothing else does
   pub bad_word : (status ≡ 2) ↔ IsErr (job_of words)
   -- over every folder, even one whose contents aren't known: the command was done, or there is a
   -- fault with its status, its line with its numbers, its cause and what it leaves
-  pub answers : AnswersWords old new status (job_of words)
+  pub answers : AnswersWords keeps old new status (job_of words)
   -- with status 0, 1 or 2 all is as defined, whether or not a call failed
   pub defined : status ≤ 2
-      → IfTold old.folder.files (λ files. IsOutcome (outcome words files) old new status)
+      → IfTold old.folder.files (λ files. IsOutcome (outcome keeps words files) old new status)
   -- Where no call of the folder and no write to standard output failed, and
   -- memory didn't run out, exactly what is legal is done: the words ask for a
   -- command, no input is an output, each input that is read as a stream is
-  -- there, no longer than allowed and well-formed, and the choices are legal.
+  -- there, no longer than allowed and well-formed, and the choices are legal;
+  -- and where what is there is kept, no output is there.
   pub accepted : (files : Contents) → old.folder.files ≡ Told files → NoCallFailed old new
-      → status ≢ 4 → ((status ≡ 0) ↔ IsLegal words files)
+      → status ≢ 4 → ((status ≡ 0) ↔ IsLegalKept keeps words files)
   -- each output is there, with its name, well-formed, and its stream is exactly the
   -- frames that the job chooses from its inputs: part by part at most one silent
   -- lead-in and then the frames, or the input's frames alone where only gains move
@@ -241,3 +296,20 @@ pub record ProgramRun (words : List (List ℕ)) (old new : World) (status : ℕ)
       → IfSome (always_of (job_of words)) (λ text. new.out.sent ≡ sent_and_more old.out.sent text)
   -- the counts of what failed don't fall
   pub counts : NoneFell old.folder.counts new.folder.counts
+  -- where what is there is kept, and the folder's contents are known, each file that was there has
+  -- the bytes that it had, with every status, and whatever fails
+  pub keeps_all : keeps ≡ true → KeepsEachFile old.folder.files new.folder.files
+  -- and where no call failed, either all outputs are written, and all are new, or none is created
+  pub all_or_nothing : keeps ≡ true → (before after : Contents) → old.folder.files ≡ Told before
+      → new.folder.files ≡ Told after → NoCallFailed old new
+      → AllOrNothing words before after status
+
+-- What a run of the program with these words is, over a folder that keeps what is there or doesn't.
+-- With `-n` the folder is seen as one that does.
+pub record ProgramRun (keeping : Bool) (words : List (List ℕ)) (old new : World)
+    (status : ℕ) : Type 0 where
+  pub run : RunOfWords (keeping || keeps_of words) words (world_kept (keeps_of words) old)
+      (world_kept (keeps_of words) new) status
+  -- with `-n`, over every folder, even one whose contents aren't known, and with every status: no
+  -- name was touched but by making a new file
+  pub only_new : keeps_of words ≡ true → OnlyMakesNew old.folder.files new.folder.files

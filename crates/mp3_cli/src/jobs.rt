@@ -1,6 +1,7 @@
 //! What each job does, and the names of its files.
 ghost use Rattle.std.specs.Prelude.{◌≡◌, ◌≤◌, length, map, string_bytes, OnOk};
 ghost use Rattle.outside.specs.Counts.{NoneFell};
+ghost use Rattle.commands.specs.Kept.{asked_of};
 ghost use Rattle.commands.specs.Command.{HoldsStreams};
 ghost use Rattle.commands.specs.SentText.{answer_fault};
 ghost use Rattle.commands.specs.Runs.{IsRunOf};
@@ -112,7 +113,8 @@ fn split_by_sheet<D: Folder>(
     prefix: &str,
     sheet: &str,
 ) -> Result<(), EditFault>
-    ensures { IsRunOf (command_of (SplitBy exact input.now prefix.now sheet.now))
+    ensures { IsRunOf
+        (asked_of D.keeping (command_of (SplitBy exact input.now prefix.now sheet.now)))
         (D.seen folder.old)
         (D.seen folder.new) result }
 {
@@ -135,13 +137,14 @@ fn join_files<D: Folder, T: Sink>(
 ) -> Result<(), EditFault>
     requires some { 1 ≤ length inputs.now }
     requires few { length inputs.now ≤ 64 }
-    ensures ends { CommandEnds (command_of (Join seamless output.now (map string_bytes inputs.now)))
+    ensures ends { CommandEnds (asked_of D.keeping (command_of
+        (Join seamless output.now (map string_bytes inputs.now))))
         (D.seen folder.old)
         (D.seen folder.new)
         (T.heard out.old) (T.heard out.new)
         (answer_fault result) }
-    ensures streams { OnOk result (HoldsStreams
-        (command_of (Join seamless output.now (map string_bytes inputs.now)))
+    ensures streams { OnOk result (HoldsStreams (asked_of D.keeping
+        (command_of (Join seamless output.now (map string_bytes inputs.now))))
         (D.seen folder.old).files) }
     ensures counts { NoneFell (D.seen folder.old).counts (D.seen folder.new).counts }
 {
@@ -167,12 +170,13 @@ pub(crate) fn do_job<D: Folder, T: Sink>(
     out: &mut T,
 ) -> Result<(), EditFault>
     requires sound { IsSoundRequest (job_request job) }
-    ensures ends { CommandEnds (command_of (job_request job.entry))
+    ensures ends { CommandEnds (asked_of D.keeping (command_of (job_request job.entry)))
         (D.seen folder.old)
         (D.seen folder.new)
         (T.heard out.old) (T.heard out.new)
         (answer_fault result) }
-    ensures streams { OnOk result (HoldsStreams (command_of (job_request job.entry))
+    ensures streams { OnOk result
+        (HoldsStreams (asked_of D.keeping (command_of (job_request job.entry)))
         (D.seen folder.old).files) }
     ensures counts { NoneFell (D.seen folder.old).counts (D.seen folder.new).counts }
 {

@@ -94,7 +94,7 @@ fn answer<D: Folder, T: Sink, E: Sink>(
     out: &mut T,
     err: &mut E,
 ) -> u8
-    ensures run { IfOk words (λ v. ProgramRun (map string_bytes v.items)
+    ensures run { IfOk words (λ v. ProgramRun D.keeping (map string_bytes v.items)
         (world (D.seen folder.old)
         (T.heard out.old) (E.heard err.old))
         (world (D.seen folder.new)
@@ -121,7 +121,7 @@ fn answer_on_streams<D: Folder>(
     out: &mut StdSink<Stdout>,
     err: &mut StdSink<Stderr>,
 ) -> ExitCode
-    ensures run { IfOk words (λ v. ProgramRun (map string_bytes v.items)
+    ensures run { IfOk words (λ v. ProgramRun D.keeping (map string_bytes v.items)
         (world (D.seen folder.old) (stream_heard out.old) (stream_heard err.old))
         (world (D.seen folder.new) (stream_heard out.new) (stream_heard err.new))
         (exit_status result)) }

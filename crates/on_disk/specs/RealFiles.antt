@@ -8,7 +8,7 @@ use Rattle.std.specs.declared.io.traits.SeekFrom.TheVariants.{End}
 use Rattle.on_disk.specs.{Names.touched_in, NotedFiles.is_noted}
 use Rattle.on_disk.specs.declared.{disk.DiskFolder.DiskFolder, stream.StdSink.StdSink}
 use Rattle.on_disk.specs.declared.system.{FileFacts.FileFacts, FileId.FileId}
-use Rattle.on_disk.specs.declared.system.Purpose.TheVariants.{Creating, Reading}
+use Rattle.on_disk.specs.declared.system.Purpose.TheVariants.{Creating, Making, Reading}
 use Rattle.on_disk.specs.declared.system.opened.Opened.{Opened}
 use Rattle.outside.specs.{Counts.Counts, Files.{Files, Untold, untold_bytes}}
 use Rattle.outside.specs.Seen.{Heard, heard_sink, Seen, seen_folder}
@@ -19,7 +19,7 @@ disk_counts folder = folder.tally
 
 -- what is known of real files: only which names may have been touched
 abbrev pub disk_files : {R File Dir : Type 0} → DiskFolder R File Dir → Files
-disk_files folder = Untold (touched_in folder.touched)
+disk_files folder = Untold (record { keeps = false; names = touched_in folder.touched })
 
 -- what is seen of the folder
 abbrev pub disk_seen : {R File Dir : Type 0} → DiskFolder R File Dir → Seen
@@ -62,6 +62,10 @@ pub record IsOpenToWrite {File : Type 0} (opened : Opened File) : Type 0 where
 -- the file that is open for appending had no bytes when it was created
 abbrev pub CreatedIsEmpty : {R File Dir : Type 0} → DiskFolder R File Dir → Type 0
 CreatedIsEmpty folder = IfSome folder.created (λ opened. IsOpenToWrite opened)
+
+-- the file that is open for appending was made by the call that opened it
+abbrev pub CreatedIsNew : {R File Dir : Type 0} → DiskFolder R File Dir → Type 0
+CreatedIsNew folder = IfSome folder.created (λ opened. opened.purpose ≡ Making)
 
 -- the device and the inode number of the file that is open for appending aren't noted
 abbrev pub CreatedIsNotNoted : {R File Dir : Type 0} → DiskFolder R File Dir → Type 0

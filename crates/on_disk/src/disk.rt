@@ -4,16 +4,17 @@ ghost use Rattle.std.specs.IoError.{error_kind};
 ghost use Rattle.on_disk.specs.declared.system.Purpose.{Purpose};
 ghost use Rattle.std.specs.declared.io.ErrorKind.{ErrorKind};
 ghost use Rattle.std.specs.Io.KnownBytes.{Keeps, WriteAppends};
-ghost use Rattle.on_disk.specs.Names.{touched_in};
+ghost use Rattle.on_disk.specs.Names.{touched_in, is_touched};
 ghost use Rattle.on_disk.specs.NotedFiles.{is_noted};
 ghost use Rattle.on_disk.specs.RealFiles.{OnlyFound, OnlyWrote, HasNoBytes};
-ghost use Rattle.outside.specs.Files.{Untold, with_empty_file, with_appended_bytes, FailsToCreate, Holds, IsFileThere, IsFileMissing, AreOctets};
+ghost use Rattle.outside.specs.Files.{untouched_files, with_empty_file, with_new_file, with_appended_bytes, FailsToCreate, FailsToMake, Holds, IsFileThere, IsFileMissing, AreOctets};
 ghost use Rattle.outside.specs.Counts.{no_counts, with_miss, with_end, with_read_fault, with_write_fault, OnlyReads, OnlyWrites, NothingFailed, HappenedTo, EndedAt};
-ghost use Rattle.outside.specs.Answers.{FindAnswer, ReadAnswer, CreateAnswer, WriteAnswer};
+ghost use Rattle.outside.specs.Answers.{FindAnswer, ReadAnswer, ThereAnswer, CreateAnswer, MakeAnswer, WriteAnswer};
 
 use crate::noted::{CreateAction, NotedFiles, create_action_of};
 use crate::system::{
     Described, FileFacts, Looked, Opened, is_open, look, open_to_append, open_to_create,
+    open_to_make, stands,
 };
 use crate::touched::TouchedNames;
 use outside::{Failed, FindFault, Folder, Tally};
@@ -44,12 +45,12 @@ pub struct DiskFolder<'a, R: Files> {
 }
 
 impl<'a, R: Files> DiskFolder<'a, R> {
-    ghost use Rattle.on_disk.specs.RealFiles.{disk_counts, disk_files, found_name, found_file, created_name, created_bytes, EndsAt, ReadsWhole, ReadsOpen, AppendsOpen, LeavesOthers, FoundIsNoted, FoundIsRegular, CreatedIsNotNoted, CreatedIsEmpty, StayNoted};
+    ghost use Rattle.on_disk.specs.RealFiles.{disk_counts, disk_files, found_name, found_file, created_name, created_bytes, EndsAt, ReadsWhole, ReadsOpen, AppendsOpen, LeavesOthers, FoundIsNoted, FoundIsRegular, CreatedIsNew, CreatedIsNotNoted, CreatedIsEmpty, StayNoted};
 
     /// A folder with all counts 0 that has touched no name. It takes no memory.
     pub fn new(rt: &'a R, alloc: Global) -> Self
         ensures counts { disk_counts result ≡ no_counts }
-        ensures untouched { disk_files result ≡ Untold (λ _. false) }
+        ensures untouched { disk_files result ≡ untouched_files }
     {
         DiskFolder {
             rt,
@@ -138,7 +139,7 @@ impl<'a, R: Files> DiskFolder<'a, R> {
     // this folder found it before. The name must be noted first, since the system may make a file
     // and still fail.
     fn make_empty(&mut self, name: &str) -> Result<(), Failed>
-        requires noted_first { IsTrue (touched_in self.now.touched name.now) }
+        requires noted_first { IsTrue (is_touched (touched_in self.now.touched name.now)) }
         ensures tally { disk_counts self.new ≡ disk_counts self.old }
         ensures touched { self.new.touched ≡ self.old.touched }
         ensures opened { OnOk result (created_name self.new ≡ Some name.now) }
@@ -166,8 +167,52 @@ impl<'a, R: Files> DiskFolder<'a, R> {
         ensures found { self.new.found ≡ self.old.found }
         ensures noted { self.new.noted ≡ self.old.noted }
     {
-        self.touched.add(self.alloc, name)?;
+        self.touched.add_created(self.alloc, name)?;
         self.make_empty(name)
+    }
+
+    // Makes a file of this name and keeps it open. The name must be noted first, as for
+    // `make_empty`.
+    fn make_new(&mut self, name: &str) -> Result<(), Failed>
+        requires noted_first { IsTrue (is_touched (touched_in self.now.touched name.now)) }
+        ensures tally { disk_counts self.new ≡ disk_counts self.old }
+        ensures touched { self.new.touched ≡ self.old.touched }
+        ensures opened { OnOk result (created_name self.new ≡ Some name.now) }
+        ensures fresh { OnOk result (CreatedIsNew self.new) }
+        ensures found { self.new.found ≡ self.old.found }
+        ensures noted { self.new.noted ≡ self.old.noted }
+    {
+        let kept = String::from_str(self.alloc, name)?;
+        let file = open_to_make(self.rt, name)?.describe()?;
+        self.created = Some(Opened::of(kept, file));
+        Ok(())
+    }
+
+    // Notes the name as one that is to be made, makes its file, and keeps it open.
+    fn touch_and_make(&mut self, name: &str) -> Result<(), Failed>
+        ensures tally { disk_counts self.new ≡ disk_counts self.old }
+        ensures made { OnOk result (disk_files self.new
+            ≡ with_new_file (disk_files self.old) name.now) }
+        ensures kept { OnErr result (FailsToMake name.now (disk_files self.old)
+            (disk_files self.new)) }
+        ensures opened { OnOk result (created_name self.new ≡ Some name.now) }
+        ensures fresh { OnOk result (CreatedIsNew self.new) }
+        ensures found { self.new.found ≡ self.old.found }
+        ensures noted { self.new.noted ≡ self.old.noted }
+    {
+        self.touched.add_made(self.alloc, name)?;
+        self.make_new(name)
+    }
+
+    // Whether the file of this name may be written to: if it was to be created, or if it was made
+    // and is still open. A file that was made isn't opened again, since another may have its name
+    // by then.
+    fn may_write(&self, name: &str) -> bool
+        ensures touched { IsTrue result
+            → IsTrue (is_touched (touched_in self.now.touched name.now)) }
+    {
+        self.touched.was_created(name)
+            || self.touched.was_made(name) && is_open(&self.created, name)
     }
 
     // Appends a prefix of the bytes to the file of this name.
@@ -252,9 +297,15 @@ fn only_regular(answer: io::Result<Looked<'_>>) -> Result<Looked<'_>, FindFault>
 }
 
 impl<'a, R: Files> Folder for DiskFolder<'a, R> {
-    ghost use Rattle.on_disk.specs.RealFiles.{disk_seen, disk_counts, disk_files, found_name, found_file, created_name, created_bytes, EndsAt, ReadsWhole, ReadsOpen, AppendsOpen, LeavesOthers, FoundIsNoted, FoundIsRegular, CreatedIsNotNoted, CreatedIsEmpty, StayNoted};
+    ghost use Rattle.on_disk.specs.RealFiles.{disk_seen, disk_counts, disk_files, found_name, found_file, created_name, created_bytes, EndsAt, ReadsWhole, ReadsOpen, AppendsOpen, LeavesOthers, FoundIsNoted, FoundIsRegular, CreatedIsNew, CreatedIsNotNoted, CreatedIsEmpty, StayNoted};
 
     ghost seen = { λ folder. disk_seen folder };
+
+    ghost keeping = { false };
+
+    fn keeps(&self) -> bool {
+        false
+    }
 
     /// The length of a regular file in bytes. The file is kept open for `read`.
     ///
@@ -322,6 +373,25 @@ impl<'a, R: Files> Folder for DiskFolder<'a, R> {
         Ok(count)
     }
 
+    /// Whether anything has the name: a file, a directory, a device, or a link, wherever it leads.
+    ///
+    /// # Errors
+    /// If the system gives another error than that the name isn't found.
+    fn there(&mut self, name: &str) -> Result<bool, Failed>
+        ensures answer { ThereAnswer name.now (disk_seen self.old) (disk_seen self.new) result }
+        ensures found_stays { self.new.found ≡ self.old.found }
+        ensures created_stays { self.new.created ≡ self.old.created }
+        ensures noted_stay { self.new.noted ≡ self.old.noted }
+        ensures failed_counts { OnErr result
+            (disk_counts self.new ≡ with_write_fault name.now (disk_counts self.old)) }
+    {
+        let Ok(there) = stands(self.rt, name) else {
+            self.tally.count_write_fault(name);
+            return Err(Failed);
+        };
+        Ok(there)
+    }
+
     /// Makes the name a file of no bytes. Anything but a regular file is opened and left as it is.
     ///
     /// # Errors
@@ -330,6 +400,8 @@ impl<'a, R: Files> Folder for DiskFolder<'a, R> {
     #[tactic(auto, unfolding(outside::specs::Files::with_empty_file))]
     fn create(&mut self, name: &str) -> Result<(), Failed>
         ensures answer { CreateAnswer name.now (disk_seen self.old) (disk_seen self.new) result }
+        ensures fresh { false ≡ true
+            → OnOk result (IsFileMissing (disk_seen self.old).files name.now) }
         ensures opened { OnOk result (created_name self.new ≡ Some name.now) }
         // No file that was found has its device and inode, and if it is a regular one, it has no
         // bytes.
@@ -347,10 +419,32 @@ impl<'a, R: Files> Folder for DiskFolder<'a, R> {
         Ok(())
     }
 
+    /// Makes a file of no bytes, in one step with the look whether the name is there: nothing that is
+    /// there is opened, no link is followed, and of two programs that make one name only one does.
+    ///
+    /// # Errors
+    /// If anything has the name, or if the system gives another error.
+    #[tactic(auto, unfolding(outside::specs::Files::with_new_file))]
+    fn create_new(&mut self, name: &str) -> Result<(), Failed>
+        ensures answer { MakeAnswer name.now (disk_seen self.old) (disk_seen self.new) result }
+        ensures opened { OnOk result (created_name self.new ≡ Some name.now) }
+        ensures fresh { OnOk result (CreatedIsNew self.new) }
+        ensures found_stays { self.new.found ≡ self.old.found }
+        ensures noted_stay { self.new.noted ≡ self.old.noted }
+        ensures failed_counts { OnErr result
+            (disk_counts self.new ≡ with_write_fault name.now (disk_counts self.old)) }
+    {
+        if self.touch_and_make(name).is_err() {
+            self.tally.count_write_fault(name);
+            return Err(Failed);
+        }
+        Ok(())
+    }
+
     /// Appends a prefix of the bytes to the file, which must be there.
     ///
     /// # Errors
-    /// If no call was made to create the name, if the system gives an error, or if it takes none of
+    /// If no call was made to create the name, or only to make it and the file isn't open, if the system gives an error, or if it takes none of
     /// the bytes though there are some.
     #[tactic(auto, unfolding(outside::specs::Files::with_appended_bytes))]
     fn write(&mut self, name: &str, bytes: &[u8]) -> Result<usize, Failed>
@@ -368,7 +462,7 @@ impl<'a, R: Files> Folder for DiskFolder<'a, R> {
         ensures failed_counts { OnErr result
             (disk_counts self.new ≡ with_write_fault name.now (disk_counts self.old)) }
     {
-        if !self.touched.has(name) {
+        if !self.may_write(name) {
             self.tally.count_write_fault(name);
             return Err(Failed);
         }

@@ -1,10 +1,12 @@
 //! What the system is asked about files, and what it says of them.
 //!
 //! The library has no clause that ties a file to the name by which it was opened, metadata to their
-//! file, or the numbers of a file to its metadata. So only tests show that `look`, `open`,
+//! file, or the numbers of a file to its metadata. So only tests show that `look`, `stands`, `open`,
 //! `describe`, `empty` and `FileId::of` ask for what they should. All other code gets files and
 //! facts from these, and can't make any.
-ghost use Rattle.std.specs.Prelude.{◌≡◌, ◌↔◌, ◌<◌, ◌≤◌, length, pos, IfOk, IsTrue, true, false};
+ghost use Rattle.std.specs.Prelude.{◌≡◌, ◌↔◌, ◌<◌, ◌≤◌, length, pos, IfOk, IsErrAnd, IsOk, IsOkAnd, IsTrue, true, false};
+ghost use Rattle.std.specs.IoError.{error_kind};
+ghost use Rattle.std.specs.declared.io.ErrorKind.{ErrorKind};
 ghost use Rattle.std.specs.Io.Seek.{SeekMoves};
 ghost use Rattle.std.specs.Io.KnownBytes.{Keeps};
 ghost use Rattle.std.specs.Fs.{metadata_len, file_type, IsFile};
@@ -16,7 +18,7 @@ use crate::reading::length_of;
 use crate::writing::write_some;
 use outside::Failed;
 use std::fs::{Metadata, OpenFile, OpenOptions};
-use std::io::{Seek, SeekFrom, Write};
+use std::io::{ErrorKind, Seek, SeekFrom, Write};
 use std::os::unix::fs::MetadataExt;
 use std::rt::Files;
 use std::{fs, io};
@@ -97,6 +99,8 @@ pub enum Purpose {
     Reading,
     /// To be made, if it isn't there, and appended to.
     Creating,
+    /// To be made, where nothing is there, and appended to.
+    Making,
     /// To be appended to. It must be there.
     Appending,
 }
@@ -108,6 +112,7 @@ fn options_of(purpose: Purpose) -> OpenOptions
     match purpose {
         Purpose::Reading => options.read(true),
         Purpose::Creating => options.append(true).create(true),
+        Purpose::Making => options.append(true).create_new(true),
         Purpose::Appending => options.append(true),
     };
     options
@@ -173,6 +178,40 @@ pub fn open_to_create<'n, R: Files>(rt: &R, name: &'n str) -> io::Result<Asked<'
     ensures purpose { IfOk result (λ asked. asked.purpose ≡ Purpose.Creating) }
 {
     open(rt, Purpose::Creating, name)
+}
+
+/// Makes a file of this name and opens it to append to it. The system makes it or fails, in one
+/// step: it follows no link, and empties nothing.
+///
+/// # Errors
+/// If anything has this name, or the system gives another error.
+pub fn open_to_make<'n, R: Files>(rt: &R, name: &'n str) -> io::Result<Asked<'n, R::File>>
+    ensures named { IfOk result (λ asked. asked.name.now ≡ name.now) }
+    ensures purpose { IfOk result (λ asked. asked.purpose ≡ Purpose.Making) }
+{
+    open(rt, Purpose::Making, name)
+}
+
+/// Whether anything has this name, be it a link that leads nowhere, a directory or a device. A link
+/// isn't followed.
+///
+/// # Errors
+/// If the system gives another error than that the name isn't found.
+pub fn stands<R: Files>(rt: &R, name: &str) -> Result<bool, Failed> {
+    found_of(fs::symlink_metadata(rt, name))
+}
+
+// How it ends if the system says this of a name that is asked for.
+fn found_of(answer: io::Result<Metadata>) -> Result<bool, Failed>
+    ensures there { IsOkAnd result (λ is. IsTrue is) ↔ IsOk answer }
+    ensures absent { IsOkAnd result (λ is. is ≡ false)
+        ↔ IsErrAnd answer (λ error. error_kind error ≡ ErrorKind.NotFound) }
+{
+    match answer {
+        Ok(_) => Ok(true),
+        Err(error) if error.kind() == ErrorKind::NotFound => Ok(false),
+        Err(_) => Err(Failed),
+    }
 }
 
 /// Opens the file of this name, which must be there, to append to it.

@@ -1,6 +1,6 @@
 -- Laws of counts that rise and of calls that only read or only write.
 use Rattle.std.proofs.Common.{arith}
-use Rattle.outside.specs.Counts.{Counts, NoneFell, OnlyReads}
+use Rattle.outside.specs.Counts.{Counts, NoneFell, OnlyReads, OnlyWrites}
 
 -- no count falls if none changes
 pub none_fell_same : (a : Counts) → NoneFell a a
@@ -21,3 +21,7 @@ only_reads_then a b c p q = grind arith
 -- if there were only reads, no count fell
 pub none_fell_by_reads : (a b : Counts) → OnlyReads a b → NoneFell a b
 none_fell_by_reads a b p = grind arith
+
+-- if there were only writes, no count fell
+pub none_fell_by_writes : {a b : Counts} → OnlyWrites a b → NoneFell a b
+none_fell_by_writes p = grind arith

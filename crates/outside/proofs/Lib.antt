@@ -7,3 +7,4 @@ pub mod PassLemmas
 pub mod SentLemmas
 mod FileRoomsLemmas
 pub mod ShortLemmas
+pub mod KeptLemmas

@@ -1,14 +1,14 @@
 -- What a call of a folder or of a sink returns and leaves, by what is seen before and after it.
-use Rattle.std.specs.Prelude.{drop, IfErr, IfOk, IsErrOf, length, List, OnErr, OnOk, Result, take}
-use Rattle.std.specs.Prelude.{ℕ, [], ◌++◌, ◌+◌, ◌-◌, ◌<◌, ◌≡◌, ◌≤◌, ◌⊎◌}
+use Rattle.std.specs.Prelude.{Bool, drop, IfErr, IfOk, is_some, IsErrOf, length, List, OnErr, OnOk}
+use Rattle.std.specs.Prelude.{Result, take, ℕ, [], ◌++◌, ◌+◌, ◌-◌, ◌<◌, ◌≡◌, ◌≤◌, ◌⊎◌}
 use Rattle.outside.specs.BufferOutput.{AppendedPrefix, AppendsWaiting}
 use Rattle.outside.specs.Counts.{EndedAt, HappenedTo, HasCause, NothingFailed, OnlyReads}
 use Rattle.outside.specs.{Counts.OnlyWrites, Feed.{buffer_size, Fed, IsFedFrom}}
-use Rattle.outside.specs.Files.{AreOctets, FailsToCreate, IsFileMissing, IsFileThere, sent_and_more}
-use Rattle.outside.specs.{Files.{with_appended_bytes, with_empty_file}, ReadCauses.HasReadCause}
-use Rattle.outside.specs.{Seen.{Heard, OnFile, Seen}, declared.exact.ReadFault.ReadFault}
-use Rattle.outside.specs.declared.folder.{Failed.Failed as FailedCall, FindFault.FindFault}
-use Rattle.outside.specs.declared.folder.FindFault.TheVariants.{Absent, Failed}
+use Rattle.outside.specs.Files.{AreOctets, FailsToCreate, FailsToMake, IfTold, IsFileMissing}
+use Rattle.outside.specs.Files.{IsFileThere, sent_and_more, with_appended_bytes, with_empty_file}
+use Rattle.outside.specs.{Files.with_new_file, ReadCauses.HasReadCause, Seen.{Heard, OnFile, Seen}}
+use Rattle.outside.specs.declared.{exact.ReadFault.ReadFault, folder.Failed.Failed as FailedCall}
+use Rattle.outside.specs.declared.folder.FindFault.{FindFault, TheVariants.{Absent, Failed}}
 
 -- A file was looked for: it is there, or missing, or the call failed.
 pub record FindAnswer (name : List ℕ) (old new : Seen) (result : Result ℕ FindFault) : Type 0 where
@@ -52,6 +52,25 @@ pub record CreateAnswer (name : List ℕ) (old new : Seen)
     (result : Result (Unit {0}) FailedCall) : Type 0 where
   pub created : OnOk result (new.files ≡ with_empty_file old.files name)
   pub kept : OnErr result (FailsToCreate name old.files new.files)
+  pub failed : OnErr result (HappenedTo name old.counts.write_faults new.counts.write_faults)
+  pub done : OnOk result (new.counts ≡ old.counts)
+  pub counts : OnlyWrites old.counts new.counts
+
+-- It was asked whether anything stands under a name, or the call failed.
+pub record ThereAnswer (name : List ℕ) (old new : Seen)
+    (result : Result Bool FailedCall) : Type 0 where
+  pub there : IfOk result (λ is. IfTold old.files (λ f. is ≡ is_some (f name)))
+  pub failed : OnErr result (HappenedTo name old.counts.write_faults new.counts.write_faults)
+  pub files : new.files ≡ old.files
+  pub done : OnOk result (new.counts ≡ old.counts)
+  pub counts : OnlyWrites old.counts new.counts
+
+-- A name that wasn't there was made to hold no bytes, or the call failed.
+pub record MakeAnswer (name : List ℕ) (old new : Seen)
+    (result : Result (Unit {0}) FailedCall) : Type 0 where
+  pub missing : OnOk result (IsFileMissing old.files name)
+  pub created : OnOk result (new.files ≡ with_new_file old.files name)
+  pub kept : OnErr result (FailsToMake name old.files new.files)
   pub failed : OnErr result (HappenedTo name old.counts.write_faults new.counts.write_faults)
   pub done : OnOk result (new.counts ≡ old.counts)
   pub counts : OnlyWrites old.counts new.counts

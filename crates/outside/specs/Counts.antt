@@ -1,5 +1,6 @@
 -- How often a folder or a sink has failed, for which file it last did, and what a call does to
 -- these counts.
+use Rattle.std.specs.Borrow.{GName}
 use Rattle.std.specs.Prelude.{List, min, OnErr, OnOk, Result, take, ℕ, [], ◌+◌, ◌-◌, ◌^◌, ◌≡◌, ◌≤◌}
 
 -- a count has grown, or is at the greatest value of a u64
@@ -35,8 +36,10 @@ pub record Counts : Type 0 where
   pub ends : Ended
   -- failures of `find` and `read`
   pub read_faults : Happened
-  -- failures of `create` and `write`
+  -- failures of `there`, `create`, `create_new` and `write`
   pub write_faults : Happened
+  -- the references through which the folder is reached, if it is lent; no call changes them
+  pub lent : List GName
 
 -- it happened again, most recently to this file
 abbrev pub HappenedTo : List ℕ → Happened → Happened → Type 0
@@ -53,6 +56,7 @@ pub record NoneFell (old new : Counts) : Type 0 where
   pub ends : old.ends.times ≤ new.ends.times
   pub read_faults : old.read_faults.times ≤ new.read_faults.times
   pub write_faults : old.write_faults.times ≤ new.write_faults.times
+  pub lent : new.lent ≡ old.lent
 
 -- what a call that only reads does to the counts
 pub record OnlyReads (old new : Counts) : Type 0 where
@@ -60,6 +64,7 @@ pub record OnlyReads (old new : Counts) : Type 0 where
   pub ends : old.ends.times ≤ new.ends.times
   pub read_faults : old.read_faults.times ≤ new.read_faults.times
   pub write_faults : new.write_faults ≡ old.write_faults
+  pub lent : new.lent ≡ old.lent
 
 -- what a call that only writes does to the counts
 pub record OnlyWrites (old new : Counts) : Type 0 where
@@ -67,12 +72,14 @@ pub record OnlyWrites (old new : Counts) : Type 0 where
   pub ends : new.ends ≡ old.ends
   pub read_faults : new.read_faults ≡ old.read_faults
   pub write_faults : old.write_faults.times ≤ new.write_faults.times
+  pub lent : new.lent ≡ old.lent
 
 -- no file was missing, and no call failed
 pub record NothingFailed (old new : Counts) : Type 0 where
   pub misses : new.misses ≡ old.misses
   pub read_faults : new.read_faults ≡ old.read_faults
   pub write_faults : new.write_faults ≡ old.write_faults
+  pub lent : new.lent ≡ old.lent
 
 -- a sink's count never falls: it is unchanged if the call succeeds, and the call fails only if it
 -- rose
@@ -101,6 +108,7 @@ no_counts =
       ends = ended_reads no_occurrence 0;
       read_faults = no_occurrence;
       write_faults = no_occurrence;
+      lent = [];
     }
 
 -- one more missing file: this one

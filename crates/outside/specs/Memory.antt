@@ -9,7 +9,8 @@ use Rattle.outside.specs.{Files.{Contents, Told}, Schedules.{is_next_to_fail, Sc
 use Rattle.outside.specs.Seen.{Heard, heard_sink, Seen, seen_folder}
 use Rattle.outside.specs.declared.folder.{Failed.Failed as FailedCall, FindFault.FindFault}
 use Rattle.outside.specs.declared.folder.FindFault.TheVariants.{Absent, Failed}
-use Rattle.outside.specs.declared.memory.folder.Call.{Call, TheVariants.{Create, Find, Read, Write}}
+use Rattle.outside.specs.declared.memory.folder.Call.{Call}
+use Rattle.outside.specs.declared.memory.folder.Call.TheVariants.{Create, Find, Read, There, Write}
 use Rattle.outside.specs.declared.memory.{folder.MemFolder.MemFolder, sink.MemSink.MemSink}
 
 -- the files of a folder
@@ -40,6 +41,7 @@ mem_counts folder = folder.tally
 abbrev pub schedule_of : MemFolder → Call → ScheduleFields
 schedule_of folder Find = folder.finds
 schedule_of folder Read = folder.reads
+schedule_of folder There = folder.theres
 schedule_of folder Create = folder.creates
 schedule_of folder Write = folder.writes
 
@@ -80,6 +82,10 @@ find_answer folder name =
 -- a `create` of this name fails
 abbrev pub create_fails : MemFolder → List ℕ → Bool
 create_fails folder name = is_to_fail folder Create || not (is_some (rooms_of folder name))
+
+-- a `create_new` of this name fails
+abbrev pub make_fails : MemFolder → List ℕ → Bool
+make_fails folder name = create_fails folder name || is_some (contents_of folder name)
 
 -- a `write` of these bytes to this name fails
 abbrev pub write_fails : MemFolder → List ℕ → List ℕ → Bool
@@ -138,11 +144,27 @@ pub record MemReads (name : List ℕ) (at : ℕ) (before after : List ℕ) (was 
       then with_end name at (mem_counts was) else mem_counts was))
   pub failed_counts : OnErr result (mem_counts now ≡ with_read_fault name (mem_counts was))
 
+-- It says whether a name is there, or fails as scheduled.
+pub record MemAsks (name : List ℕ) (was now : MemFolder)
+    (result : Result Bool FailedCall) : Type 0 where
+  pub fails : is_err result ≡ is_to_fail was There
+  pub called : MakesCall was now There
+  pub failed_counts : OnErr result (mem_counts now ≡ with_write_fault name (mem_counts was))
+
 -- It makes a name hold no bytes if it has room for it, or fails as scheduled.
 pub record MemCreates (name : List ℕ) (was now : MemFolder)
     (result : Result (Unit {0}) FailedCall) : Type 0 where
   pub stays : OnErr result (contents_of now ≡ contents_of was)
   pub fails : is_err result ≡ create_fails was name
+  pub called : MakesCall was now Create
+  pub failed_counts : OnErr result (mem_counts now ≡ with_write_fault name (mem_counts was))
+
+-- It makes a name that isn't there hold no bytes if it has room for it, or fails as scheduled. It
+-- counts as a `create`.
+pub record MemMakes (name : List ℕ) (was now : MemFolder)
+    (result : Result (Unit {0}) FailedCall) : Type 0 where
+  pub stays : OnErr result (contents_of now ≡ contents_of was)
+  pub fails : is_err result ≡ make_fails was name
   pub called : MakesCall was now Create
   pub failed_counts : OnErr result (mem_counts now ≡ with_write_fault name (mem_counts was))
 

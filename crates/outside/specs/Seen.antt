@@ -1,6 +1,6 @@
 -- What can be seen of the outside at a moment.
-use Rattle.std.specs.Prelude.{List, OnOk, Result, ℕ, ◌≡◌}
-use Rattle.outside.specs.{Counts.{Counts, OnlyReads}, Files.{Files, Holds, Sent}}
+use Rattle.std.specs.{Borrow.GName, Prelude.{List, OnOk, Result, ℕ, ◌∷◌, ◌≡◌}}
+use Rattle.outside.specs.{Counts.{Counts, OnlyReads}, Files.{Files, Holds, keeping_files, Sent}}
 
 -- what is seen of a folder: what is known of its files, and the counts
 pub record Seen : Type 0 where
@@ -10,6 +10,14 @@ pub record Seen : Type 0 where
 -- a folder with these files and counts
 abbrev pub seen_folder : Files → Counts → Seen
 seen_folder files counts = record { files = files; counts = counts }
+
+-- the same folder, seen as one that keeps what is there and is reached through a reference with
+-- this name
+abbrev pub kept_seen : GName → Seen → Seen
+kept_seen name now = record {
+  files = keeping_files now.files;
+  counts = record now.counts { lent = name ∷ now.counts.lent };
+}
 
 -- what is seen of a sink: the bytes that it got, if they are known, and how often a write failed
 pub record Heard : Type 0 where

@@ -3,12 +3,12 @@ use Rattle.std.specs.Prelude.{Bool, drop, Err, false, IfOk, if◌then◌else◌,
 use Rattle.std.specs.Prelude.{length, List, min, nat_lt, not, Ok, OnErr, OnOk, Result, take, true}
 use Rattle.std.specs.Prelude.{ℕ, ◌&&◌, ◌++◌, ◌+◌, ◌-◌, ◌==◌, ◌^◌, ◌||◌, ◌≡◌}
 use Rattle.outside.specs.Counts.{Counts, with_end, with_miss, with_read_fault, with_write_fault}
-use Rattle.outside.specs.Files.{Told, untold_files, with_empty_file, with_file}
-use Rattle.outside.specs.Memory.{contents_of, create_fails, find_answer, is_to_fail, MakesCall}
-use Rattle.outside.specs.{Memory.{mem_bytes, mem_counts, write_fails}, Seen.{Seen, seen_folder}}
-use Rattle.outside.specs.declared.folder.{Failed.Failed as FailedCall, FindFault.FindFault}
-use Rattle.outside.specs.declared.folder.FindFault.TheVariants.{Absent, Failed}
-use Rattle.outside.specs.declared.memory.folder.Call.TheVariants.{Create, Find, Read, Write}
+use Rattle.outside.specs.Files.{Told, untold_files, with_empty_file, with_file, with_new_file}
+use Rattle.outside.specs.Memory.{contents_of, create_fails, find_answer, is_to_fail, make_fails}
+use Rattle.outside.specs.Memory.{MakesCall, mem_bytes, mem_counts, write_fails}
+use Rattle.outside.specs.{Seen.{Seen, seen_folder}, declared.folder.Failed.Failed as FailedCall}
+use Rattle.outside.specs.declared.folder.FindFault.{FindFault, TheVariants.{Absent, Failed}}
+use Rattle.outside.specs.declared.memory.folder.Call.TheVariants.{Create, Find, Read, There, Write}
 use Rattle.outside.specs.declared.memory.{folder.MemFolder.MemFolder, short.ShortFolder.ShortFolder}
 
 -- the counts of the folder inside, in which a read
@@ -82,6 +82,27 @@ pub record ShortCreates (name : List ℕ) (was now : ShortFolder)
   pub fails : is_err result ≡ create_fails was.inner name
   pub inside : OnOk result
       (Told (contents_of now.inner) ≡ with_empty_file (Told (contents_of was.inner)) name)
+  pub inside_kept : OnErr result (contents_of now.inner ≡ contents_of was.inner)
+  pub called : MakesCall was.inner now.inner Create
+  pub extra : now.extra ≡ was.extra
+  pub failed_counts : OnErr result (short_counts now ≡ with_write_fault name (short_counts was))
+
+-- It asks as the folder inside does.
+pub record ShortAsks (name : List ℕ) (was now : ShortFolder)
+    (result : Result Bool FailedCall) : Type 0 where
+  pub exact : IfOk result (λ is. is ≡ is_inside was name)
+  pub fails : is_err result ≡ is_to_fail was.inner There
+  pub inside : contents_of now.inner ≡ contents_of was.inner
+  pub called : MakesCall was.inner now.inner There
+  pub extra : now.extra ≡ was.extra
+  pub failed_counts : OnErr result (short_counts now ≡ with_write_fault name (short_counts was))
+
+-- It makes a name that isn't there as the folder inside does.
+pub record ShortMakes (name : List ℕ) (was now : ShortFolder)
+    (result : Result (Unit {0}) FailedCall) : Type 0 where
+  pub fails : is_err result ≡ make_fails was.inner name
+  pub inside : OnOk result
+      (Told (contents_of now.inner) ≡ with_new_file (Told (contents_of was.inner)) name)
   pub inside_kept : OnErr result (contents_of now.inner ≡ contents_of was.inner)
   pub called : MakesCall was.inner now.inner Create
   pub extra : now.extra ≡ was.extra

@@ -1,8 +1,8 @@
 //! A folder of files.
-ghost use Rattle.std.specs.Prelude.{◌≡◌};
-ghost use Rattle.outside.specs.Files.{IsFileThere};
+ghost use Rattle.std.specs.Prelude.{◌≡◌, Bool, true, OnOk};
+ghost use Rattle.outside.specs.Files.{IsFileMissing, IsFileThere};
 ghost use Rattle.outside.specs.Seen.{Seen};
-ghost use Rattle.outside.specs.Answers.{FindAnswer, ReadAnswer, CreateAnswer, WriteAnswer};
+ghost use Rattle.outside.specs.Answers.{FindAnswer, ReadAnswer, ThereAnswer, CreateAnswer, MakeAnswer, WriteAnswer};
 
 use std::alloc::AllocError;
 use std::io;
@@ -63,7 +63,7 @@ impl From<AllocError> for FindFault {
 }
 
 /// A folder of files, each with a name. Contracts see what is known of them: a map from names to
-/// bytes, or, where their content isn't known, which names it may have touched, that is, created or
+/// bytes, or, where their content isn't known, how each name was touched, that is, created or
 /// written to. A call that succeeds leaves all counts as they are, except for a read of no byte
 /// into a buffer that isn't empty, which counts as an end.
 pub trait Folder {
@@ -71,6 +71,14 @@ pub trait Folder {
     /// end, and a call failed, and which file it last happened to. Whether the content of the files
     /// is known never changes.
     ghost seen: { Self → Seen };
+
+    /// Whether the folder keeps what is there, which never changes.
+    ghost keeping: { Bool };
+
+    /// Whether the folder keeps what is there: `create` makes a name only where nothing is there. A
+    /// command over such a folder asks whether its outputs are there before it creates one.
+    fn keeps(&self) -> bool
+        ensures { result ≡ keeping };
 
     /// The length of the file in bytes. What is known of its content are bytes, so numbers below
     /// 256.
@@ -91,13 +99,34 @@ pub trait Folder {
         ensures answer { ReadAnswer name.now at into.old into.new (seen self.old) (seen self.new)
             result };
 
-    /// Makes the name hold no bytes, whether or not it is there. Every other name is unchanged.
+    /// Whether anything stands under the name: a file, or anything else that an output would be
+    /// written into, such as a device.
+    ///
+    /// # Errors
+    /// If the call failed, which counts as a fault of writing, since it is asked about an output.
+    fn there(&mut self, name: &str) -> Result<bool, Failed>
+        ensures answer { ThereAnswer name.now (seen self.old) (seen self.new) result };
+
+    /// Makes the name hold no bytes, whether or not it is there; in a folder that keeps what is
+    /// there, only if it isn't. Every other name is unchanged.
     ///
     /// # Errors
     /// If the call failed. Then files whose content is known are unchanged; if it isn't known, this
     /// name may have been touched, but no other.
     fn create(&mut self, name: &str) -> Result<(), Failed>
-        ensures answer { CreateAnswer name.now (seen self.old) (seen self.new) result };
+        ensures answer { CreateAnswer name.now (seen self.old) (seen self.new) result }
+        ensures fresh { keeping ≡ true
+            → OnOk result (IsFileMissing (seen self.old).files name.now) };
+
+    /// Makes the name, which isn't there, hold no bytes. Every other name is unchanged, and nothing
+    /// that was there is lost, even if it came while the call was made.
+    ///
+    /// # Errors
+    /// If the name is there, or the call failed. Both count as a fault of writing. Then files whose
+    /// content is known are unchanged; if it isn't known, this name may have been touched, but no
+    /// other.
+    fn create_new(&mut self, name: &str) -> Result<(), Failed>
+        ensures answer { MakeAnswer name.now (seen self.old) (seen self.new) result };
 
     /// Appends a prefix of the bytes to the file, and returns how many: at least one if there are
     /// any. Every other name is unchanged.

@@ -19,6 +19,7 @@ pub struct Tally {
 }
 
 impl Model for Tally {
+    ghost use Rattle.std.specs.Prelude.{[]};
     ghost use Rattle.outside.specs.Counts.{Counts, ended_reads};
 
     ghost Value = { Counts };
@@ -28,6 +29,7 @@ impl Model for Tally {
       ends = ended_reads t.ends t.end;
       read_faults = t.read_faults;
       write_faults = t.write_faults;
+      lent = [];
     } };
 }
 

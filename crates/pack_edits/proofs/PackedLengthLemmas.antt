@@ -1,9 +1,9 @@
 -- What `pack --best` writes, and what `pack` writes for the same input.
-use Rattle.std.proofs.Common.{ap, Err, length, List, None, Ok, OnOk, Option, refl, Result, Some}
-use Rattle.std.proofs.Common.{subst, sym, ℕ, [], ◌∙◌, ◌∷◌, ◌≡◌, ◌≤◌}
+use Rattle.std.proofs.Common.{ap, Bool, Err, length, List, None, Ok, OnOk, Option, refl, Result}
+use Rattle.std.proofs.Common.{Some, subst, sym, ℕ, [], ◌∙◌, ◌∷◌, ◌≡◌, ◌≤◌}
 use Rattle.best_plan.specs.Best.{IsBestPlan}
-use Rattle.commands.specs.{AfterCall.IsCommandDone, Command.{clash_from, Made, written_files}}
-use Rattle.commands.specs.Runs.{IsRunOf}
+use Rattle.commands.{proofs.KeptLemmas.asked_done, specs.AfterCall.IsCommandDone}
+use Rattle.commands.specs.{Command.{clash_from, Made, written_files}, Kept.asked_of, Runs.IsRunOf}
 use Rattle.commands.specs.SingleOutput.{clash_or, command_result, input_result, made_file}
 use Rattle.commands.specs.SingleOutput.{most_frames, surveyed_result, task_result}
 use Rattle.commands.specs.declared.fault.EditFault.{EditFault}
@@ -205,9 +205,10 @@ done-fewest (Constant rate) input output old new done = tt
 done-fewest _ input output old new done = tt
 
 -- a run that was done wrote the fewest bytes
-pub run-fewest : (mode : PackMode) (input output : List ℕ) (old new : Seen)
+pub run-fewest : (keeps : Bool) (mode : PackMode) (input output : List ℕ) {old new : Seen}
     (answer : Result (Unit {0}) EditFault)
-    → IsRunOf (pack_mode_command mode input output) old new answer
+    → IsRunOf (asked_of keeps (pack_mode_command mode input output)) old new answer
     → OnOk answer (WritesFewest mode input output old.files new.files)
-run-fewest mode input output old new (Ok none) run = done-fewest mode input output old new run.done
-run-fewest mode input output old new (Err fault) run = tt
+run-fewest keeps mode input output {old} {new} (Ok none) run = done-fewest mode input output old new
+    (asked_done (pack_mode_command mode input output) keeps run.done)
+run-fewest keeps mode input output (Err fault) run = tt

@@ -1,5 +1,6 @@
 //! The command `pack` over a folder, in each of its modes.
 ghost use Rattle.std.specs.Prelude.{OnOk};
+ghost use Rattle.commands.specs.Kept.{asked_of};
 ghost use Rattle.commands.specs.Runs.{IsRunOf};
 ghost use Rattle.pack_edits.specs.Modes.{pack_mode_command};
 ghost use Rattle.pack_edits.specs.Fewest.{WritesFewest};
@@ -40,7 +41,7 @@ pub fn pack_with<D: Folder>(
     mode: &PackMode,
 ) -> Result<(), EditFault>
     // The input is well-formed, and the output holds its stream.
-    ensures run { IsRunOf (pack_mode_command mode.now input.now output.now)
+    ensures run { IsRunOf (asked_of D.keeping (pack_mode_command mode.now input.now output.now))
         (D.seen folder.old)
         (D.seen folder.new) result }
     // With `PackMode::Best`, and if the folder's contents are known, no file of the same frames in

@@ -161,6 +161,7 @@ fixed_text_command text = record {
   outputs = [];
   sources = [];
   always = Some text;
+  keeps = false;
   makes = λ files. Ok (record { outputs = []; text = text });
   streams = λ files. [];
   refuses = λ refusal. false;

@@ -1,5 +1,6 @@
 //! The salvage command over a folder.
 ghost use Rattle.std.specs.Prelude.{◌≡◌, None};
+ghost use Rattle.commands.specs.Kept.{asked_of};
 ghost use Rattle.commands.specs.Command.{clash_of};
 ghost use Rattle.commands.specs.Runs.{IsRunOf};
 ghost use Rattle.commands.specs.SentText.{SaysText, answer_fault};
@@ -9,7 +10,7 @@ ghost use Rattle.salvage_edits.specs.Salvaged.{salvage_command};
 use crate::prepared::prepare;
 use crate::report::send_report;
 use crate::work::SalvageWork;
-use commands::{EditFault, Inputs, write_output};
+use commands::{EditFault, Inputs, ask_all, write_output};
 use outside::{Failed, Folder, Sink};
 use std::alloc::Global;
 
@@ -59,7 +60,9 @@ fn write_and_tell<D: Folder, T: Sink>(
 ///
 /// # Errors
 /// In this order: `EqualNames(0)` if the output has the input's name, byte for byte; `Input(0, ..)`
-/// with the fault of the reading; `Memory`. After these nothing was created and nothing sent.
+/// with the fault of the reading; `Memory`; and in a folder that keeps what is there
+/// `Refused(Exists(0))` if the output is there, and `Write(0)` if the call that asks for it failed.
+/// After these nothing was created and nothing sent.
 /// `Input(0, ..)` with `Read` or `Shrunk`, and `Write(0)`, if a call failed, or the input became
 /// shorter, while the output was written; then the output is as it was or holds a prefix of its
 /// bytes, with `Write(0)` not all of them, and nothing was sent. `Sent` if a write to `out` failed;
@@ -72,12 +75,12 @@ pub fn salvage<D: Folder, T: Sink>(
     out: &mut T,
 ) -> Result<(), EditFault>
     // The output is well-formed, and holds what is left of the input, after at most one lead-in.
-    ensures run { IsRunOf (salvage_command input.now output.now)
+    ensures run { IsRunOf (asked_of D.keeping (salvage_command input.now output.now))
         (D.seen folder.old)
         (D.seen folder.new) result }
     // The text; a prefix of it was sent if a write failed.
-    ensures says { SaysText (salvage_command input.now output.now) (D.seen folder.old).files
-        (T.heard out.old) (T.heard out.new)
+    ensures says { SaysText (asked_of D.keeping (salvage_command input.now output.now))
+        (D.seen folder.old).files (T.heard out.old) (T.heard out.new)
         (answer_fault result) }
 {
     let inputs = Inputs {
@@ -88,5 +91,6 @@ pub fn salvage<D: Folder, T: Sink>(
         return Err(EditFault::EqualNames(place));
     }
     let mut work = prepare(alloc, folder, input)?;
+    ask_all(folder, &[output])?;
     write_and_tell(folder, input, output, &mut work, out)
 }

@@ -1,6 +1,7 @@
 //! The seamless join over a folder.
 ghost use Rattle.std.specs.Prelude.{◌≡◌, ◌≤◌, ◌∷◌, [], None, length, map, string_bytes, IfOk, IfErr};
 ghost use Rattle.outside.specs.Seen.{OnlyRead};
+ghost use Rattle.commands.specs.Kept.{asked_of};
 ghost use Rattle.commands.specs.Command.{clash_of};
 ghost use Rattle.commands.specs.SingleOutput.{IsEarlyFault};
 ghost use Rattle.commands.specs.Runs.{IsRunOf};
@@ -16,7 +17,7 @@ use crate::beginnings::{Beginning, beginnings_of};
 use crate::decided::{Decided, decide_all};
 use crate::lines::send_lines;
 use crate::planned::prepare_run;
-use commands::{EditFault, clash};
+use commands::{EditFault, ask_all, clash};
 use joined_inputs::{JoinInput, JoinWork, survey_all, write_joined};
 use outside::{Failed, Folder, SendBuffer, Sink};
 use std::alloc::Global;
@@ -164,7 +165,7 @@ fn write_and_tell<D: Folder, T: Sink>(
 ///
 /// # Errors
 /// Those of `join`, in their order; `Input` with `Read` and `Shrunk` also if a head, or a frame
-/// that is compared, could not be read. After these nothing was created and nothing sent, except
+/// that is compared, could not be read; and those of the question of `join`. After these nothing was created and nothing sent, except
 /// for those of the second pass: `Input` with `Read` or `Shrunk`, and `Write(0)`, after which the
 /// output is as it was or holds a prefix of its bytes, after `Write(0)` not all of them, and
 /// nothing was sent. `Sent` if a write to `out` failed; then the output is whole, and a prefix of
@@ -179,11 +180,13 @@ pub fn join_seamless<D: Folder, T: Sink>(
     requires some { 1 ≤ length inputs.now }
     requires few { length inputs.now ≤ 64 }
     // The inputs are well-formed, and the output holds the frames of the run after at most one lead-in.
-    ensures run { IsRunOf (seamless_command output.now (map string_bytes inputs.now))
+    ensures run { IsRunOf
+        (asked_of D.keeping (seamless_command output.now (map string_bytes inputs.now)))
         (D.seen folder.old)
         (D.seen folder.new) result }
     // The text; a prefix of it was sent if a write failed.
-    ensures says { SaysText (seamless_command output.now (map string_bytes inputs.now))
+    ensures says { SaysText
+        (asked_of D.keeping (seamless_command output.now (map string_bytes inputs.now)))
         (D.seen folder.old).files (T.heard out.old) (T.heard out.new)
         (answer_fault result) }
 {
@@ -191,5 +194,6 @@ pub fn join_seamless<D: Folder, T: Sink>(
         return Err(EditFault::EqualNames(place));
     }
     let mut ready = prepare_all(alloc, folder, inputs)?;
+    ask_all(folder, &[output])?;
     write_and_tell(folder, output, &mut ready, out)
 }

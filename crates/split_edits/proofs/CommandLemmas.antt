@@ -1,8 +1,10 @@
 -- What the command leaves, given its steps.
 use Rattle.std.proofs.Common.{ap, arith, Err, inl, inr, length, List, map, None, Ok, Option, refl}
-use Rattle.std.proofs.Common.{Result, Some, subst, sym, take, ℕ, [], ◌+◌, ◌<◌, ◌∙◌, ◌∷◌, ◌≡◌, ◌≢◌}
-use Rattle.std.{proofs.Common.◌≤◌, specs.Prelude.{IfErr, ◌⊎◌}}
+use Rattle.std.proofs.Common.{Result, Some, string_bytes, subst, sym, take, ℕ, [], ◌+◌, ◌<◌, ◌∙◌}
+use Rattle.std.proofs.{Common.{◌∷◌, ◌≡◌, ◌≢◌, ◌≤◌}, lemmas.List.length-map}
+use Rattle.std.specs.Prelude.{IfErr, ◌⊎◌}
 use Rattle.bit_fields.specs.Bits.{AreBytes}
+use Rattle.commands.proofs.KeptLemmas.{IsBeforeOutputs, IsToWrite}
 use Rattle.commands.proofs.NamedLemmas.{first_at, lost_name, missed_name, unread_name}
 use Rattle.commands.proofs.RefusingLemmas.{then_all, then_ok}
 use Rattle.commands.proofs.{SurveyedLemmas.{BeginsWithSurvey, survey_left}, WhyLemmas.each_why}
@@ -19,7 +21,8 @@ use Rattle.outside.proofs.FilesLemmas.{there_holds, touches_more, touches_none}
 use Rattle.outside.specs.Files.{Contents, Files, Holds, IfTold, IsFileThere, OnlyTouches, Told}
 use Rattle.outside.specs.Seen.{Seen}
 use Rattle.requests.{proofs.NamesLemmas.names-length, specs.Names.piece_names}
-use Rattle.split_edits.proofs.PiecesLemmas.{name-here, names-all, names-first, outputs-are}
+use Rattle.split_edits.proofs.PiecesLemmas.{name-here, names-all, names-first, names-prefix}
+use Rattle.split_edits.proofs.PiecesLemmas.{outputs-are}
 use Rattle.split_edits.specs.Cutting.{Cutting, equal_names_or, input_pieces, input_streams}
 use Rattle.split_edits.specs.Cutting.{IsProperCutting, laid_streams, piece_parts, piece_parts_from}
 use Rattle.split_edits.specs.Cutting.{pieces_from, pieces_result, places_result, places_streams}
@@ -101,6 +104,12 @@ module _ {X : Type 0} (cut : Cutting X) (proper : IsProperCutting cut) where
     pub at-hold : (places : List X) (ls : List LaidPart) → piece_parts cut file s places ≡ Ok ls
         → Hold 1 ls
     at-hold places ls e = grind (arith, from-hold)
+
+names-made : (s : SurveyFields) (bytes : List ℕ) (pieces : List PlannedPiece)
+    → map (λ (o : Output). o.name) (piece_outputs s pieces bytes) ≡ names_of_pieces pieces
+names-made s bytes [] = refl
+names-made s bytes (piece ∷ pieces) =
+    ap (λ (names : List (List ℕ)). string_bytes piece.name ∷ names) (names-made s bytes pieces)
 
 -- ---- what the contents of the files make of the command
 
@@ -310,6 +319,17 @@ module _ {X : Type 0} (cut : Cutting X) (proper : IsProperCutting cut) (input pr
                 (all makes.0 makes.1),
           ))
 
+          -- the names of these pieces are those that are about to be written
+          pub pieces-to-write : IsToWrite command (names_of_pieces pieces) old.files
+          pieces-to-write = record {
+            free = apart;
+            made = if-told old.files (λ f told. let makes = makes-pieces f told in
+                (made makes.0, makes.2, names-made laid_survey makes.0 pieces));
+            front = ap (λ n. take n (piece_names prefix))
+                (length-map pieces (λ (p : PlannedPiece). string_bytes p.name))
+                ∙ sym (names-prefix prefix laid_survey pieces few named);
+          }
+
           names-touched : (before after : Files) → OnlyTouches (names_of_pieces pieces) before after
               → OnlyTouches (piece_names prefix) before after
           names-touched before after only =
@@ -380,7 +400,7 @@ module _ {X : Type 0} (cut : Cutting X) (proper : IsProperCutting cut) (input pr
             };
             unwritten = λ k w. record {
               rose = rw (← (name-here prefix laid_survey pieces k few w.within named)) w.rose;
-              files = unfinished k new.files w.files;
+              files = inl (unfinished k new.files w.files);
             };
             unsent = λ w. absurd w;
             no_memory = λ w. absurd w;
@@ -428,6 +448,26 @@ module _ {X : Type 0} (cut : Cutting X) (proper : IsProperCutting cut) (input pr
                 → IsCommandFault command old new fault
             split-left touches fault h = split-left-here places are pieces named laid few new fault
                 (rw stays at touches) (rw stays at h)
+
+-- ---- faults that come before the outputs are asked for
+
+-- a fault of the survey comes before
+pub survey-before : (fault : EditFault) → HasSurveyNumbers 0 fault → IsBeforeOutputs fault
+survey-before fault is = grind arith
+
+-- so does one of the head
+pub head-before : (fault : EditFault) → HasHeadNumbers fault → IsBeforeOutputs fault
+head-before fault is = grind arith
+
+-- one of the places
+pub places-before : {X : Type 0} (cut : Cutting X) (fault : EditFault) → HasPlacesNumbers cut fault
+    → IsBeforeOutputs fault
+places-before cut fault is = grind arith
+
+-- and one of places between which there is nothing
+pub range-before : {X Y : Type 0} (cut : Cutting X) (fault : EditFault) → (fault ≡ Memory)
+    ⊎ (IsEditRefusal cut.refuses fault × Y) → IsBeforeOutputs fault
+range-before cut fault is = grind arith
 
 -- ---- the numbers of a fault, whatever is known of the files
 

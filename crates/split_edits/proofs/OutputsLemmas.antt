@@ -6,13 +6,13 @@ use Rattle.std.proofs.lemmas.List.{drop-map, get_or-drop, length-map, length-tak
 use Rattle.std.proofs.lemmas.List.{take-map, Elements.All-take}
 use Rattle.commands.specs.Command.{begun_output, LacksBytes, Output, written_files}
 use Rattle.commands.specs.PassFaults.{pass_edit_fault}
-use Rattle.commands.specs.SingleOutput.{files_holding, HoldsLess, HoldsPrefix, IsPassFault}
+use Rattle.commands.specs.SingleOutput.{HoldsLess, HoldsPrefix, IsPassFault}
 use Rattle.laying.specs.Laid.{file_laid, selected_part}
 use Rattle.outside.proofs.FilesLemmas.{touches_both, touches_more, touches_none, touches_told}
 use Rattle.outside.specs.Counts.{Counts}
-use Rattle.outside.specs.Files.{Contents, Files, Holds, IsFileThere, OnlyTouches, with_file}
-use Rattle.outside.specs.{Seen.seen_folder, declared.pass.PassFault.PassFault}
-use Rattle.outside.specs.declared.pass.PassFault.TheVariants.{Read, Shrunk, Write}
+use Rattle.outside.specs.Files.{Contents, Files, files_holding, Holds, IsFileThere, LeavesAllBut}
+use Rattle.outside.specs.{Files.{OnlyTouches, with_file}, Seen.seen_folder}
+use Rattle.outside.specs.declared.pass.PassFault.{PassFault, TheVariants.{Read, Shrunk, Write}}
 use Rattle.split_edits.specs.Steps.{IsPiecesFault, IsUnfinishedPart, IsWrittenPart, names_of_pieces}
 use Rattle.split_edits.specs.Steps.{output_of, piece_outputs, pieces_of, with_outputs, with_part}
 use Rattle.split_edits.specs.declared.piece.PlannedPiece.{PlannedPiece}
@@ -72,7 +72,7 @@ pub record Stands (input : List ℕ) (old new : Files) : Type 0 where
   pub after : (bytes : List ℕ) → Holds old input bytes → Holds new input bytes
 
 stands-beside : (input name : List ℕ) (old new : Files) → input ≢ name → IsFileThere old input
-    → OnlyTouches (name ∷ []) old new → Stands input old new
+    → LeavesAllBut (name ∷ []) old new → Stands input old new
 stands-beside input name old new apart there only = grind arith
 
 -- ---- pieces that were written
@@ -131,7 +131,8 @@ module _ (s : SurveyFields) (input : List ℕ) (all : List PlannedPiece) (k : �
       → Wrote s input (take (k + 1) all) old new
   more-wrote apart whole =
       let beside =
-      stands-beside input (string_bytes piece.name) now new apart wrote.stands.there touches in
+      stands-beside input (string_bytes piece.name) now new apart wrote.stands.there
+      touches.others in
       record {
         files = grind (arith, more-written, more, map-append);
         touches = touched;

@@ -122,7 +122,8 @@ names-are : (prefix : List ℕ) (s : SurveyFields) (k : ℕ) (pieces : List Plan
 names-are prefix s k [] are = refl
 names-are prefix s k (piece ∷ pieces) are = grind (arith, names-are prefix s (k + 1) pieces are.2)
 
-names-prefix : (prefix : List ℕ) (s : SurveyFields) (pieces : List PlannedPiece)
+-- the names of the pieces are the first that the prefix gives
+pub names-prefix : (prefix : List ℕ) (s : SurveyFields) (pieces : List PlannedPiece)
     → length pieces ≤ 99 → ArePieces prefix s 1 pieces
     → names_of_pieces pieces ≡ take (length pieces) (piece_names prefix)
 unfolding piece_names

@@ -1,8 +1,8 @@
 -- One file cut at places of whatever kind: what is laid from each place to the next is a piece, a
 -- file of its own.
 use Rattle.std.specs.List.{All}
-use Rattle.std.specs.Prelude.{Bool, Err, IfErr, length, List, map, None, Ok, Option, Result, Some}
-use Rattle.std.specs.Prelude.{ℕ, [], ◌+◌, ◌∷◌, ◌≡◌, ◌≤◌}
+use Rattle.std.specs.Prelude.{Bool, Err, false, IfErr, length, List, map, None, Ok, Option, Result}
+use Rattle.std.specs.Prelude.{Some, ℕ, [], ◌+◌, ◌∷◌, ◌≡◌, ◌≤◌}
 use Rattle.bit_fields.specs.Bits.{AreBytes}
 use Rattle.commands.specs.AfterCall.{IsLateFault, IsNotBefore}
 use Rattle.commands.specs.{Command.{clash_from, Command, Made, Output}, Refusing.then_made}
@@ -130,6 +130,7 @@ split_command cut input prefix = record {
   outputs = piece_names prefix;
   sources = input ∷ [];
   always = Some [];
+  keeps = false;
   makes = λ files. split_result cut prefix (input ∷ cut.more) (cut.places files) (files input);
   streams = λ files. input_streams cut (cut.places files) (files input);
   refuses = cut.refuses;

@@ -15,6 +15,7 @@ use commands::EditFault;
 use laying::Selected;
 use requests::piece_name;
 use std::alloc::Global;
+use std::convert::AsStr;
 
 /// A piece to be written: its name, and its frames with their plan.
 #[derive(Drop)]
@@ -44,6 +45,14 @@ impl PlannedPiece {
             name: piece_name(alloc, prefix, number)?,
             selected,
         })
+    }
+}
+
+impl AsStr for PlannedPiece {
+    ghost text = { λ piece. string_bytes piece.name };
+
+    fn as_str(&self) -> &str {
+        self.name.as_str()
     }
 }
 

@@ -1,4 +1,5 @@
 //! The split commands over a folder.
+ghost use Rattle.commands.specs.Kept.{asked_of};
 ghost use Rattle.commands.specs.Runs.{IsRunOf};
 ghost use Rattle.requests.specs.Names.{piece_names};
 ghost use Rattle.split_edits.specs.Cutting.{split_command, IsProperCutting};
@@ -9,7 +10,7 @@ use crate::exact_points::ExactPoints;
 use crate::piece::make_pieces;
 use crate::points::Points;
 use crate::writing::write_pieces;
-use commands::{EditFault, Inputs, MOST_FRAMES, OutputNames, survey_at};
+use commands::{EditFault, Inputs, MOST_FRAMES, OutputNames, ask_all, survey_at};
 use laying::RelayBuffers;
 use outside::Folder;
 use requests::is_piece_name;
@@ -43,7 +44,7 @@ fn split_by<C: Cut, D: Folder>(
 ) -> Result<(), EditFault>
     requires legal { C.IsLegal cut.now }
     requires proper { IsProperCutting (C.cutting cut.now) }
-    ensures { IsRunOf (split_command (C.cutting cut.now) input.now prefix.now)
+    ensures { IsRunOf (asked_of D.keeping (split_command (C.cutting cut.now) input.now prefix.now))
         (D.seen folder.old)
         (D.seen folder.new) result }
 {
@@ -59,6 +60,7 @@ fn split_by<C: Cut, D: Folder>(
     let places = cut.places(alloc, folder)?;
     let pieces = make_pieces(alloc, cut, &source, places.as_slice(), prefix)?;
     let mut buffers = RelayBuffers::new(alloc, source.survey.class())?;
+    ask_all(folder, pieces.as_slice())?;
     write_pieces(
         folder,
         input,
@@ -82,7 +84,9 @@ fn split_by<C: Cut, D: Folder>(
 /// sheet, which is input 1, `Input(1, ..)` with `Absent`, `Read` and `Shrunk`, `SheetTooLarge` with
 /// its length if it has more than 65,536 bytes, and `Sheet` with its first fault; `Range` with the
 /// numbers of the two frames and the number of all frames, for the first position and its next
-/// between which there is no frame, or if the next is after the end. After these nothing was
+/// between which there is no frame, or if the next is after the end; then, in a folder that keeps
+/// what is there, `Refused(Exists)` with the number of the first piece, counted from 0, whose name is
+/// there, and `Write` with that of one for which the call that asks failed. After these nothing was
 /// created.
 ///
 /// `Input` with `Read` and `Write` are returned only if a call of that kind failed, `Input` with
@@ -101,7 +105,7 @@ pub fn split<D: Folder>(
 ) -> Result<(), EditFault>
     requires { ArePoints points.now }
     // The input is well-formed, and each piece holds at most one lead-in and then exactly its frames of the input's stream.
-    ensures { IsRunOf (split_command_of points.now input.now prefix.now)
+    ensures { IsRunOf (asked_of D.keeping (split_command_of points.now input.now prefix.now))
         (D.seen folder.old)
         (D.seen folder.new) result }
 {
@@ -128,7 +132,7 @@ pub fn split_exact<D: Folder>(
 ) -> Result<(), EditFault>
     requires { AreExactPoints points.now }
     // The input is well-formed, and each piece holds at most one lead-in and then exactly the frames of its span.
-    ensures { IsRunOf (split_exact_command_of points.now input.now prefix.now)
+    ensures { IsRunOf (asked_of D.keeping (split_exact_command_of points.now input.now prefix.now))
         (D.seen folder.old)
         (D.seen folder.new) result }
 {

@@ -2,7 +2,7 @@
 //! folder that reads and writes a few bytes at a time, where things go wrong once the output was created.
 ghost use Rattle.std.specs.Prelude.{◌≡◌, ◌≤◌, length, drop};
 
-use crate::tests::{Mp3edit, names};
+use crate::tests::{Mp3edit, bytes_of};
 use command_runs::differences::{Found, other_end};
 use command_runs::running::put;
 use outside::{Failed, FindFault, Folder, MemFolder, ShortFolder, Tally};
@@ -10,7 +10,6 @@ use std::alloc::{AllocError, AllocGlobal, Global};
 use std::process::Abort;
 use std::test::Fail;
 use test_files::table;
-use test_files::texts::{Named, TextFault, bytes_of_words, define};
 
 /// What happens to the files.
 #[derive(Clone, Copy, Debug, PartialEq, Eq)]
@@ -67,7 +66,7 @@ impl Changing {
     }
 
     /// How many of `length` bytes there are to read.
-    fn there(&self, length: usize) -> usize {
+    fn readable(&self, length: usize) -> usize {
         match self.trouble {
             Trouble::Short(reads, shorter) if reads < self.reads => length.min(shorter),
             Trouble::Shorter(shorter) if self.created > 0 => length.min(shorter),
@@ -125,9 +124,16 @@ fn found(name: &str, other: u64) -> u64 {
 }
 
 impl Folder for Changing {
+    ghost use Rattle.std.specs.Prelude.{false};
     ghost use Rattle.outside.specs.Files.{untold_files};
 
     ghost seen = { λ folder. record { files = untold_files; counts = folder.tally } };
+
+    ghost keeping = { false };
+
+    fn keeps(&self) -> bool {
+        false
+    }
 
     fn find(&mut self, name: &str) -> Result<u64, FindFault> {
         Ok(found(name, self.found))
@@ -140,7 +146,7 @@ impl Folder for Changing {
             return Err(Failed);
         }
         let bytes = whole(name, &self.bytes);
-        let there = self.there(bytes.len());
+        let there = self.readable(bytes.len());
         let count = copy_some(bytes, at, there, into);
         if count == 0 && !into.is_empty() {
             self.ends = self.ends.saturating_add(1);
@@ -149,7 +155,19 @@ impl Folder for Changing {
         Ok(count)
     }
 
-    #[tactic(auto, unfolding(outside::specs::Files::with_empty_file))]
+    fn there(&mut self, _name: &str) -> Result<bool, Failed> {
+        Ok(false)
+    }
+
+    #[tactic(auto, using(outside::proofs::FilesLemmas::untold_made))]
+    fn create_new(&mut self, name: &str) -> Result<(), Failed> {
+        self.second |= is_second_piece(name);
+        self.output.clear();
+        self.created = self.created.saturating_add(1);
+        Ok(())
+    }
+
+    #[tactic(auto, using(outside::proofs::FilesLemmas::untold_created))]
     fn create(&mut self, name: &str) -> Result<(), Failed> {
         self.second |= is_second_piece(name);
         self.output.clear();
@@ -157,7 +175,6 @@ impl Folder for Changing {
         Ok(())
     }
 
-    #[tactic(auto, unfolding(outside::specs::Files::with_appended_bytes))]
     fn write(&mut self, name: &str, bytes: &[u8]) -> Result<usize, Failed> {
         self.second |= is_second_piece(name);
         let count = bytes.len().min(700);
@@ -166,31 +183,6 @@ impl Folder for Changing {
             return Err(Failed);
         }
         Ok(count)
-    }
-}
-
-fn define_lines(alloc: Global, names: &mut Vec<Named>) -> Result<(), TextFault> {
-    for line in names::DEFINED.lines() {
-        if line.contains(" = ") {
-            define(alloc, names, line)?;
-        }
-    }
-    Ok(())
-}
-
-fn bytes_named(alloc: Global, words: &'static str) -> Result<Vec<u8>, TextFault> {
-    let mut names = Vec::new(alloc);
-    define_lines(alloc, &mut names)?;
-    bytes_of_words(alloc, &names, words)
-}
-
-/// The bytes of these words. Where a word stands for
-/// no bytes, there are none, so that the test fails.
-fn bytes_of(alloc: Global, words: &'static str) -> Result<Vec<u8>, AllocError> {
-    match bytes_named(alloc, words) {
-        Ok(bytes) => Ok(bytes),
-        Err(TextFault::Memory) => Err(AllocError),
-        Err(TextFault::Word(_)) => Ok(Vec::new(alloc)),
     }
 }
 

@@ -65,32 +65,39 @@ status: 0 done; 1 refused; 2 bad arguments; 3 a file is absent, or reading or wr
 manual: man mp3edit, and MANUAL.md among the documents (such as /usr/local/share/doc/mp3edit/docs)
 ";
 
-/// Words, whether the first write to standard output fails, and what is sent.
+/// Words, whether the first write to standard output fails, and what is sent: `USAGE`, or another text.
 struct Said {
     words: &'static [&'static str],
     is_failing: bool,
     status: u8,
+    is_usage: bool,
     text: &'static [u8],
     line: &'static [u8],
+}
+
+impl Said {
+    fn sent(&self) -> &'static [u8] {
+        if self.is_usage { USAGE } else { self.text }
+    }
 }
 
 const FAULT: &[u8] = b"standard output: write fault\n";
 
 // A frame of 174 bytes of main data takes 261 bytes at 80 kbit/s, and the Info frame 208.
 static SAID: [Said; 12] = table! {
-    Said { words, is_failing, status, text, line }
-    (&["drill", "1", "1"], false, 0, b"1 frames, 417 bytes in, 469 bytes out, 0 lead-ins\n", b"")
-    (&["drill", "1", "1"], true, 3, b"", FAULT)
-    (&["--help"], false, 0, USAGE, b"")
-    (&["--help"], true, 3, b"", FAULT)
-    (&["-h"], false, 0, USAGE, b"")
-    (&["-h"], true, 3, b"", FAULT)
-    (&["--version"], false, 0, b"mp3edit 0.1.0\n", b"")
-    (&["--version"], true, 3, b"", FAULT)
-    (&["-n", "drill", "1", "1"], false, 0, b"1 frames, 417 bytes in, 469 bytes out, 0 lead-ins\n", b"")
-    (&["-n", "--help"], false, 0, USAGE, b"")
-    (&["-n", "-h"], false, 0, USAGE, b"")
-    (&["-n", "--version"], false, 0, b"mp3edit 0.1.0\n", b"")
+    Said { words, is_failing, status, is_usage, text, line }
+    (&["drill", "1", "1"], false, 0, false, b"1 frames, 417 bytes in, 469 bytes out, 0 lead-ins\n", b"")
+    (&["drill", "1", "1"], true, 3, false, b"", FAULT)
+    (&["--help"], false, 0, true, b"", b"")
+    (&["--help"], true, 3, false, b"", FAULT)
+    (&["-h"], false, 0, true, b"", b"")
+    (&["-h"], true, 3, false, b"", FAULT)
+    (&["--version"], false, 0, false, b"mp3edit 0.1.0\n", b"")
+    (&["--version"], true, 3, false, b"", FAULT)
+    (&["-n", "drill", "1", "1"], false, 0, false, b"1 frames, 417 bytes in, 469 bytes out, 0 lead-ins\n", b"")
+    (&["-n", "--help"], false, 0, true, b"", b"")
+    (&["-n", "-h"], false, 0, true, b"", b"")
+    (&["-n", "--version"], false, 0, false, b"mp3edit 0.1.0\n", b"")
 };
 
 /// The status of a run, and what it sent to both sinks.
@@ -120,7 +127,7 @@ fn texts(rt: HostRuntime) -> Result<(), Fail> {
     for said in &SAID {
         let ran = run_words(rt.alloc(), said.words, said.is_failing)?;
         assert_eq!(rt; ran.status, said.status, "{:?}", said.words);
-        assert_eq!(rt; ran.out.sent(), said.text, "{:?}", said.words);
+        assert_eq!(rt; ran.out.sent(), said.sent(), "{:?}", said.words);
         assert_eq!(rt; ran.err.sent(), said.line, "{:?}", said.words);
     }
     Ok(())

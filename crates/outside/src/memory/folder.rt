@@ -1,9 +1,9 @@
 //! A folder in memory, for tests.
-ghost use Rattle.std.specs.Prelude.{◌≡◌, ◌≢◌, ◌+◌, ◌-◌, ◌<◌, [], ◌∷◌, ◌++◌, None, Some, Ok, Err, length, take, drop, min, OnOk, OnErr, option_copied};
+ghost use Rattle.std.specs.Prelude.{◌≡◌, ◌≢◌, ◌+◌, ◌-◌, ◌<◌, [], ◌∷◌, ◌++◌, None, Some, Ok, Err, false, length, take, drop, min, OnOk, OnErr, option_copied};
 ghost use Rattle.outside.specs.Files.{Told, with_file, IsFileThere, AreOctets};
 ghost use Rattle.outside.specs.Counts.{no_counts};
-ghost use Rattle.outside.specs.Answers.{FindAnswer, ReadAnswer, CreateAnswer, WriteAnswer};
-ghost use Rattle.outside.specs.Memory.{MemFinds, MemReads, MemCreates, MemWrites};
+ghost use Rattle.outside.specs.Answers.{FindAnswer, ReadAnswer, ThereAnswer, CreateAnswer, MakeAnswer, WriteAnswer};
+ghost use Rattle.outside.specs.Memory.{MemFinds, MemReads, MemAsks, MemCreates, MemMakes, MemWrites};
 
 use crate::folder::{Failed, FindFault, Folder};
 use crate::memory::file_rooms::{FileRoom, FileRooms};
@@ -18,7 +18,9 @@ pub enum Call {
     Find,
     /// `Folder::read`
     Read,
-    /// `Folder::create`
+    /// `Folder::there`
+    There,
+    /// `Folder::create` and `Folder::create_new`
     Create,
     /// `Folder::write`
     Write,
@@ -27,7 +29,8 @@ pub enum Call {
 /// A folder in memory. The content of its files is known, and a call of its trait takes no memory:
 /// each name has a room in bytes, for which `put` and `reserve` take the memory. A call of the
 /// trait fails exactly if it is on the list of calls that are to fail, if `create` is given a name
-/// without a room, or if `write` would make a file longer than its room.
+/// without a room or `create_new` such a name or one that is there, or if `write` would make a file
+/// longer than its room.
 #[derive(Drop)]
 pub struct MemFolder {
     alloc: Global,
@@ -36,6 +39,7 @@ pub struct MemFolder {
     pub(super) tally: Tally,
     finds: Schedule,
     reads: Schedule,
+    theres: Schedule,
     creates: Schedule,
     writes: Schedule,
 }
@@ -57,6 +61,7 @@ impl MemFolder {
             tally: Tally::new(),
             finds: Schedule::new(alloc),
             reads: Schedule::new(alloc),
+            theres: Schedule::new(alloc),
             creates: Schedule::new(alloc),
             writes: Schedule::new(alloc),
         }
@@ -125,6 +130,7 @@ impl MemFolder {
         match call {
             Call::Find => self.finds.fail(number),
             Call::Read => self.reads.fail(number),
+            Call::There => self.theres.fail(number),
             Call::Create => self.creates.fail(number),
             Call::Write => self.writes.fail(number),
         }
@@ -144,6 +150,12 @@ impl Folder for MemFolder {
     ghost use Rattle.outside.specs.Memory.{contents_of, seen_of, mem_counts};
 
     ghost seen = { λ folder. seen_of folder };
+
+    ghost keeping = { false };
+
+    fn keeps(&self) -> bool {
+        false
+    }
 
     fn find(&mut self, name: &str) -> Result<u64, FindFault>
         ensures answer { FindAnswer name.now (seen_of self.old) (seen_of self.new) result }
@@ -178,11 +190,34 @@ impl Folder for MemFolder {
         Ok(count)
     }
 
+    fn there(&mut self, name: &str) -> Result<bool, Failed>
+        ensures answer { ThereAnswer name.now (seen_of self.old) (seen_of self.new) result }
+        ensures own { MemAsks name.now self.old self.new result }
+    {
+        if self.theres.next_fails() {
+            self.tally.count_write_fault(name);
+            return Err(Failed);
+        }
+        Ok(self.slots.content(name).is_some())
+    }
+
     fn create(&mut self, name: &str) -> Result<(), Failed>
         ensures answer { CreateAnswer name.now (seen_of self.old) (seen_of self.new) result }
         ensures own { MemCreates name.now self.old self.new result }
     {
         if self.creates.next_fails() || !self.slots.create(name) {
+            self.tally.count_write_fault(name);
+            return Err(Failed);
+        }
+        Ok(())
+    }
+
+    fn create_new(&mut self, name: &str) -> Result<(), Failed>
+        ensures answer { MakeAnswer name.now (seen_of self.old) (seen_of self.new) result }
+        ensures own { MemMakes name.now self.old self.new result }
+    {
+        let there = self.slots.content(name).is_some();
+        if self.creates.next_fails() || there || !self.slots.create(name) {
             self.tally.count_write_fault(name);
             return Err(Failed);
         }

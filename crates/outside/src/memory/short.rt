@@ -1,10 +1,10 @@
 //! A folder that reports greater lengths than it has bytes, for tests.
-ghost use Rattle.std.specs.Prelude.{◌≡◌, ◌-◌, ◌<◌, Ok, true, OnOk, OnErr, is_err, is_some, option_copied};
+ghost use Rattle.std.specs.Prelude.{◌≡◌, ◌-◌, ◌<◌, Ok, false, true, OnOk, OnErr, is_err, is_some, option_copied};
 ghost use Rattle.outside.specs.Files.{Told, untold_files, with_empty_file, with_appended_bytes, IsFileThere};
 ghost use Rattle.outside.specs.Memory.{contents_of, mem_counts};
-ghost use Rattle.outside.specs.ShortFolders.{short_counts, create_missing_fails, IsCreated, ShortFinds, ShortReads, ShortCreates, ShortWrites};
+ghost use Rattle.outside.specs.ShortFolders.{short_counts, create_missing_fails, IsCreated, ShortFinds, ShortReads, ShortAsks, ShortCreates, ShortMakes, ShortWrites};
 ghost use Rattle.outside.specs.Counts.{with_write_fault, OnlyWrites, HappenedTo};
-ghost use Rattle.outside.specs.Answers.{FindAnswer, ReadAnswer, CreateAnswer, WriteAnswer};
+ghost use Rattle.outside.specs.Answers.{FindAnswer, ReadAnswer, ThereAnswer, CreateAnswer, MakeAnswer, WriteAnswer};
 
 use crate::folder::{Failed, FindFault, Folder};
 use crate::memory::folder::MemFolder;
@@ -67,6 +67,12 @@ impl Folder for ShortFolder {
 
     ghost seen = { λ folder. short_seen folder };
 
+    ghost keeping = { false };
+
+    fn keeps(&self) -> bool {
+        false
+    }
+
     fn find(&mut self, name: &str) -> Result<u64, FindFault>
         ensures answer { FindAnswer name.now (short_seen self.old) (short_seen self.new) result }
         ensures own { ShortFinds name.now self.old self.new result }
@@ -88,12 +94,27 @@ impl Folder for ShortFolder {
         self.inner.read(name, at, into)
     }
 
-    #[tactic(auto, unfolding(crate::specs::Files::with_empty_file))]
+    fn there(&mut self, name: &str) -> Result<bool, Failed>
+        ensures answer { ThereAnswer name.now (short_seen self.old) (short_seen self.new) result }
+        ensures own { ShortAsks name.now self.old self.new result }
+    {
+        self.inner.there(name)
+    }
+
+    #[tactic(auto, using(crate::proofs::FilesLemmas::untold_created))]
     fn create(&mut self, name: &str) -> Result<(), Failed>
         ensures answer { CreateAnswer name.now (short_seen self.old) (short_seen self.new) result }
         ensures own { ShortCreates name.now self.old self.new result }
     {
         self.inner.create(name)
+    }
+
+    #[tactic(auto, using(crate::proofs::FilesLemmas::untold_made))]
+    fn create_new(&mut self, name: &str) -> Result<(), Failed>
+        ensures answer { MakeAnswer name.now (short_seen self.old) (short_seen self.new) result }
+        ensures own { ShortMakes name.now self.old self.new result }
+    {
+        self.inner.create_new(name)
     }
 
     #[tactic(auto, unfolding(crate::specs::Files::with_appended_bytes))]

@@ -69,9 +69,16 @@ pub fn pattern(alloc: Global, length: usize) -> Result<Vec<u8>, AllocError> {
 }
 
 impl Folder for Slow {
+    ghost use Rattle.std.specs.Prelude.{false};
     ghost use Rattle.outside.specs.Files.{untold_files};
 
     ghost seen = { λ folder. record { files = untold_files; counts = folder.tally } };
+
+    ghost keeping = { false };
+
+    fn keeps(&self) -> bool {
+        false
+    }
 
     fn find(&mut self, _name: &str) -> Result<u64, FindFault> {
         Ok(self.content.len() as u64)
@@ -91,13 +98,21 @@ impl Folder for Slow {
         Ok(got)
     }
 
-    #[tactic(auto, unfolding(outside::specs::Files::with_empty_file))]
+    fn there(&mut self, _name: &str) -> Result<bool, Failed> {
+        Ok(true)
+    }
+
+    fn create_new(&mut self, name: &str) -> Result<(), Failed> {
+        self.tally.count_write_fault(name);
+        Err(Failed)
+    }
+
+    #[tactic(auto, using(outside::proofs::FilesLemmas::untold_created))]
     fn create(&mut self, _name: &str) -> Result<(), Failed> {
         self.content.clear();
         Ok(())
     }
 
-    #[tactic(auto, unfolding(outside::specs::Files::with_appended_bytes))]
     fn write(&mut self, name: &str, bytes: &[u8]) -> Result<usize, Failed> {
         if self.calls.next_fails() {
             self.tally.count_write_fault(name);

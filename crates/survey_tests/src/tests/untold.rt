@@ -1,5 +1,5 @@
 //! A folder whose contents aren't known.
-ghost use Rattle.std.specs.Prelude.{◌≡◌, ◌-◌, length, drop, min};
+ghost use Rattle.std.specs.Prelude.{false, ◌≡◌, ◌-◌, length, drop, min};
 ghost use Rattle.outside.specs.Files.{untold_files, Untold};
 
 use outside::{Failed, FindFault, Folder, Tally};
@@ -48,6 +48,12 @@ fn copy_from(content: &[u8], at: u64, into: &mut [u8]) -> usize
 impl<'a> Folder for Untold<'a> {
     ghost seen = { λ folder. record { files = untold_files; counts = folder.tally } };
 
+    ghost keeping = { false };
+
+    fn keeps(&self) -> bool {
+        false
+    }
+
     fn find(&mut self, _name: &str) -> Result<u64, FindFault> {
         Ok(self.found)
     }
@@ -64,6 +70,15 @@ impl<'a> Folder for Untold<'a> {
             self.tally.count_end(name, at);
         }
         Ok(count)
+    }
+
+    fn there(&mut self, _name: &str) -> Result<bool, Failed> {
+        Ok(true)
+    }
+
+    fn create_new(&mut self, name: &str) -> Result<(), Failed> {
+        self.tally.count_write_fault(name);
+        Err(Failed)
     }
 
     fn create(&mut self, name: &str) -> Result<(), Failed> {

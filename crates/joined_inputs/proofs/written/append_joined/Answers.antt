@@ -10,10 +10,10 @@ use Rattle.joined_inputs.proofs.written.append_joined.Goals.{After-append_front}
 use Rattle.joined_inputs.specs.{Inputs.{input_view, InputFields}, Laying.join_bytes}
 use Rattle.laying.specs.{Relaid.relaid_frames, Written.front_blocks}
 use Rattle.outside.proofs.BufferOutputLemmas.{err_at, passed_there}
-use Rattle.outside.proofs.FilesLemmas.{appended_there, appended_touches, touches_none}
+use Rattle.outside.proofs.FilesLemmas.{appended_leaves, appended_there, touches_none}
 use Rattle.outside.proofs.PassLemmas.{cause_behind, cause_later, prefix_as, prefix_then, writes_all}
 use Rattle.outside.proofs.PassLemmas.{writes_as, writes_end, writes_then}
-use Rattle.outside.specs.Files.{Files, Holds, OnlyTouches}
+use Rattle.outside.specs.Files.{Files, Holds, LeavesAllBut}
 use Rattle.outside.specs.Pass.{AppendsMadeBytes, WritesMadeBytes, WritesPrefix}
 use Rattle.outside.specs.declared.pass.PassFault.{PassFault}
 use Rattle.slot_plan.specs.{Plans.entries, declared.needs.Placed.Placed}
@@ -43,7 +43,7 @@ module _ (g : given.Over) (c : After-append_front g) where
   frames mid placed = bytes_of_frames (relaid_frames (told_frames mid inputs) placed)
 
   all : (mid : Files) (placed : List Placed) → placed ≡ entries c.args.work.now.plan
-      → OnlyTouches (c.args.first.now.pass.output.now ∷ []) old mid
+      → LeavesAllBut (c.args.first.now.pass.output.now ∷ []) old mid
       → (file : List ℕ) → Holds old c.args.first.now.pass.input.now file
       → front file ++ frames mid placed ≡ whole file
   all mid placed is only file holds = grind (arith, told-beside, flat_map)
@@ -69,8 +69,8 @@ module _ (g : given.Over) (c : After-append_front g) where
       apart : c.args.first.now.pass.input.now ≢ c.args.first.now.pass.output.now
       apart = c.requires.join.apart
 
-      only : OnlyTouches (c.args.first.now.pass.output.now ∷ []) old mid
-      only = rw begins.files (appended_touches old c.args.first.now.pass.output.now begins.bytes)
+      only : LeavesAllBut (c.args.first.now.pass.output.now ∷ []) old mid
+      only = rw begins.files (appended_leaves old c.args.first.now.pass.output.now begins.bytes)
 
       both : {after : List ℕ} {new : Files}
           → WritesMadeBytes c.args.first.now.pass (λ file. frames mid placed) waiting after mid new
@@ -91,7 +91,7 @@ returns-in-Err g c =
     let at = (goal.at.returns-in-Err g c).After-append_front in
     let placed = entries c.args.work.now.plan in
     let first = old g at in
-    let none = touches_none (c.args.first.now.pass.output.now ∷ []) first in
+    let none = (touches_none (c.args.first.now.pass.output.now ∷ []) first).others in
     record {
       written = tt;
       prefix = prefix_as c.args.first.now.pass (whole g at) (λ _. frames g at first placed)
@@ -115,7 +115,7 @@ lay_all-requires-clause-join g c =
       are = join.are;
       length = join.length;
       apart = join.apart;
-      sources = sources-beside _ _ _ _ _ (rw files (appended_touches _ _ _)) join.sources;
+      sources = sources-beside _ _ _ _ _ (rw files (appended_leaves _ _ _)) join.sources;
       target = rw files (appended_there _ _ _);
     }
 

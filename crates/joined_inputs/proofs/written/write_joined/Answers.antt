@@ -2,8 +2,7 @@
 use Rattle.std.proofs.Common.{ap, arith, drop, flat_map, List, map, refl, rules, ℕ, [], ◌∙◌, ◌∷◌}
 use Rattle.std.proofs.Common.{◌≡◌, ◌≢◌}
 use Rattle.commands.proofs.OutputLemmas.{not_begun, output_whole, pass_fault, touches_prefix}
-use Rattle.commands.proofs.OutputLemmas.{touches_whole}
-use Rattle.commands.specs.SingleOutput.{files_holding, first_input}
+use Rattle.commands.{proofs.OutputLemmas.touches_whole, specs.SingleOutput.first_input}
 use Rattle.cut_edits.proofs.LaidPassLemmas.{appends-as_prefix}
 use Rattle.frame_header.specs.Fields.{ClassFields}
 use Rattle.joined_inputs.proofs.SourceLemmas.{first-class, first-source, sources-beside}
@@ -11,7 +10,7 @@ use Rattle.joined_inputs.proofs.{SourceLemmas.told-beside, written.write_joined.
 use Rattle.joined_inputs.specs.Inputs.{input_names, input_view, InputFields}
 use Rattle.joined_inputs.specs.Laying.{AreSources, FitsWork, join_bytes}
 use Rattle.outside.proofs.FilesLemmas.{emptied_there, emptied_touches, fails_touches}
-use Rattle.outside.specs.Files.{Files, OnlyTouches}
+use Rattle.outside.specs.Files.{Files, files_holding, LeavesAllBut}
 use Rattle.joined_inputs.proofs.written.write_joined.Given as given
 use Rattle.joined_inputs.proofs.written.write_joined.Goals as goal
 
@@ -40,8 +39,8 @@ module _ (g : given.Over) (c : In-Ok g) where
   fits : FitsWork class inputs c.args.work.now
   fits = rw (← class-is) c.requires.can.fits
 
-  only : OnlyTouches (c.args.output.now ∷ []) old mid
-  only = rw c.in-Ok.ensures.answer.created (emptied_touches _ _)
+  only : LeavesAllBut (c.args.output.now ∷ []) old mid
+  only = rw c.in-Ok.ensures.answer.created (emptied_touches _ _).others
 
   apart : (input_view c.input_at.result.now).name ≢ c.args.output.now
   apart = (first-source _ c.input_at.ensures sources).apart

@@ -1,5 +1,5 @@
 -- With the flag a text is sent, without it nothing.
-use Rattle.mp3_cli.proofs.RunLemmas.{one_silent, run_ends, told_ends}
+use Rattle.mp3_cli.proofs.RunLemmas.{asked_silent, one_silent, run_ends, told_ends}
 use Rattle.mp3_cli.proofs.jobs.join_files.Goals as goal
 
 pub returns-then-seamless-clause-ends : goal.returns-then-seamless-clause-ends
@@ -14,7 +14,8 @@ returns-then-seamless-clause-streams g c = rw c.if-seamless.true c.join_seamless
 
 pub returns-else-seamless-clause-ends : goal.returns-else-seamless-clause-ends
 returns-else-seamless-clause-ends g c =
-    rw c.if-seamless.false (run_ends _ (one_silent _ _) c.join.result _ _ _ c.join.ensures)
+    rw c.if-seamless.false (run_ends _
+    (asked_silent g.D.Folder.keeping (one_silent _ _)) c.join.result _ _ _ c.join.ensures)
 
 pub returns-else-seamless-clause-streams : goal.returns-else-seamless-clause-streams
 returns-else-seamless-clause-streams g c = rw c.if-seamless.false c.join.ensures.streams

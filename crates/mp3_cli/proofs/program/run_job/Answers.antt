@@ -1,17 +1,19 @@
 -- The line names the files of the job, and the status is the status of the fault.
 use Rattle.std.proofs.Common.{ap, Bor, List, map, sym, ℕ, ◌∙◌}
-use Rattle.command_table.proofs.NameLemmas.{names-are}
+use Rattle.command_table.{proofs.NameLemmas.names-are, specs.Table.command_of}
 use Rattle.commands.specs.SentText.{answer_fault}
 use Rattle.job_words.specs.Request.{job_request}
-use Rattle.mp3_cli.proofs.RunLemmas.{done_where_zero}
+use Rattle.mp3_cli.proofs.{KeptRunLemmas.{asked-inputs, asked-outputs}, RunLemmas.done_where_zero}
 use Rattle.mp3_cli.proofs.program.run_job.Goals as goal
 
 pub returns-clause-answers : goal.returns-clause-answers
 returns-clause-answers g c =
     let asked = job_request c.args.job in
     let inputs = ap (map (λ (name : Bor (List ℕ)). name.now)) c.as_slice.ensures.value
-    ∙ c.files_of-files.ensures.inputs ∙ sym (names-are asked).inputs in
-    let outputs = c.files_of-files.ensures.outputs ∙ sym (names-are asked).outputs in
+    ∙ c.files_of-files.ensures.inputs
+    ∙ sym (asked-inputs g.D.Folder.keeping (command_of asked) ∙ (names-are asked).inputs) in
+    let outputs = c.files_of-files.ensures.outputs
+    ∙ sym (asked-outputs g.D.Folder.keeping (command_of asked) ∙ (names-are asked).outputs) in
     record {
       fault = answer_fault c.do_job-done.result;
       ends = c.do_job-done.ensures.ends;

@@ -7,6 +7,5 @@ make_one-requires-clause-proper g c = mode_proper c.args.mode.now c.args.input.n
 
 pub returns-clause-fewest : goal.returns-clause-fewest
 returns-clause-fewest g c =
-    let seen = g.D.Folder.seen in
-    run-fewest c.args.mode.now c.args.input.now c.args.output.now (seen c.args.folder.now)
-    (seen c.make_one.new.folder) c.make_one.result c.make_one.ensures
+    run-fewest g.D.Folder.keeping c.args.mode.now c.args.input.now c.args.output.now
+    c.make_one.result c.make_one.ensures
