@@ -75,8 +75,10 @@ fn put_files(alloc: Global, folder: &mut MemFolder, file: &'static str) -> Resul
 /// The first command that isn't done.
 fn first_undone(alloc: Global, folder: &mut MemFolder) -> Result<Option<&'static str>, AllocError> {
     for words in &COMMANDS {
-        if run_with_room::<Mp3edit, MemFolder>(alloc, folder, words)?.status != 0 {
-            return Ok(Some(*words));
+        match run_with_room::<Mp3edit, MemFolder>(alloc, folder, words)?.status {
+            0 => {}
+            4 => return Err(AllocError),
+            _ => return Ok(Some(*words)),
         }
     }
     Ok(None)
