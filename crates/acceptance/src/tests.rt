@@ -10,6 +10,7 @@ mod fade;
 mod gain;
 mod info;
 mod join;
+mod kept;
 mod list;
 mod many_frames;
 mod names;
@@ -22,6 +23,7 @@ mod shrinking;
 mod song;
 mod split;
 mod standard_error;
+mod taken;
 mod undo;
 mod wrong_rows;
 
@@ -29,9 +31,10 @@ use acceptance_kit::scripts::first_unlike;
 use command_runs::running::Program;
 use mp3_cli::run;
 use outside::{Folder, MemSink};
-use std::alloc::{AllocGlobal, Global};
+use std::alloc::{AllocError, AllocGlobal, Global};
 use std::process::Abort;
 use std::test::Fail;
+use test_files::texts::{Named, TextFault, bytes_of_words, define};
 
 /// The program that is tested.
 struct Mp3edit;
@@ -45,6 +48,31 @@ impl Program for Mp3edit {
         err: &mut MemSink,
     ) -> u8 {
         run(alloc, words, folder, out, err)
+    }
+}
+
+fn define_lines(alloc: Global, names: &mut Vec<Named>) -> Result<(), TextFault> {
+    for line in names::DEFINED.lines() {
+        if line.contains(" = ") {
+            define(alloc, names, line)?;
+        }
+    }
+    Ok(())
+}
+
+fn bytes_named(alloc: Global, words: &'static str) -> Result<Vec<u8>, TextFault> {
+    let mut names = Vec::new(alloc);
+    define_lines(alloc, &mut names)?;
+    bytes_of_words(alloc, &names, words)
+}
+
+/// The bytes of these words. Where a word stands for
+/// no bytes, there are none, so that the test fails.
+fn bytes_of(alloc: Global, words: &'static str) -> Result<Vec<u8>, AllocError> {
+    match bytes_named(alloc, words) {
+        Ok(bytes) => Ok(bytes),
+        Err(TextFault::Memory) => Err(AllocError),
+        Err(TextFault::Word(_)) => Ok(Vec::new(alloc)),
     }
 }
 
@@ -132,6 +160,11 @@ fn salvages(rt: HostRuntime) -> Result<(), Fail> {
 #[test]
 fn drills(rt: HostRuntime) -> Result<(), Fail> {
     expect_rows(&rt, &[drill_rows::ROWS])
+}
+
+#[test]
+fn keeps_what_is_there(rt: HostRuntime) -> Result<(), Fail> {
+    expect_rows(&rt, &[kept::ROWS])
 }
 
 #[test]

@@ -18,7 +18,7 @@
 //! tell 15                 how many writes to standard error fail too, each in another run; the last of them is never made
 //! ```
 //!
-//! A file that was there and isn't named by `>` has to stay, and a name of an output that no line of a file names has to be
+//! A file that was there and isn't named by `>` or `~` has to stay, and a name of an output that no line of a file names has to be
 //! absent. A line `NAME = words` defines bytes for the lines after it, up to the end of the text.
 
 use crate::tells::run_tells;

@@ -134,7 +134,7 @@ fn compare_failed(
     failing: &Failing,
     ended: &Ended,
 ) -> Result<Option<usize>, Stop> {
-    compare_kept(alloc, folder, names, row, "no line has it")?;
+    compare_kept(alloc, folder, names, row, &[])?;
     if wants_memory(ended) {
         return Err(Stop::Memory);
     }

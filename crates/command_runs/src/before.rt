@@ -59,6 +59,7 @@ pub fn call_of(kind: &'static str) -> Result<Option<Call>, Stop> {
     match kind {
         "Find" => Ok(Some(Call::Find)),
         "Read" => Ok(Some(Call::Read)),
+        "There" => Ok(Some(Call::There)),
         "Create" => Ok(Some(Call::Create)),
         "Write" => Ok(Some(Call::Write)),
         "Send" => Ok(None),

@@ -46,22 +46,32 @@ fn compare_made(
     Ok(())
 }
 
-/// Compares the files that have to stay: those that no line with this prefix names.
+/// Compares the files that have to stay: those that no line with one of these prefixes names.
 pub fn compare_kept(
     alloc: Global,
     folder: &MemFolder,
     names: &[Named],
     row: &'static str,
-    front: &str,
+    fronts: &[&'static str],
 ) -> Result<(), Stop> {
     for line in row.lines() {
         if let Some(file) = line.strip_prefix("< ") {
-            if !names_file(row, front, parted(file).0) {
+            if !is_named(row, fronts, parted(file).0) {
                 compare_file(alloc, folder, names, file)?;
             }
         }
     }
     Ok(())
+}
+
+/// Whether a line with one of these prefixes names the file.
+fn is_named(row: &'static str, fronts: &[&'static str], name: &str) -> bool {
+    for front in fronts {
+        if names_file(row, front, name) {
+            return true;
+        }
+    }
+    false
 }
 
 /// Looks for a file that should have changed but still has the bytes of the row.
@@ -108,15 +118,14 @@ pub fn compare_outputs(folder: &MemFolder, row: &'static str, front: &str) -> Re
     Ok(())
 }
 
-/// Compares the folder with the folder before the command. The
-/// prefix is one that no line has, so that every file has to stay.
+/// Compares the folder with the folder before the command. Every file has to stay.
 pub fn compare_before(
     alloc: Global,
     folder: &MemFolder,
     names: &[Named],
     row: &'static str,
 ) -> Result<(), Stop> {
-    compare_kept(alloc, folder, names, row, "no line has it")?;
+    compare_kept(alloc, folder, names, row, &[])?;
     compare_absent(folder, row)?;
     compare_outputs(folder, row, "no line has it")
 }
@@ -129,7 +138,7 @@ pub fn compare_folder(
     row: &'static str,
 ) -> Result<(), Stop> {
     compare_made(alloc, folder, names, row)?;
-    compare_kept(alloc, folder, names, row, "> ")?;
+    compare_kept(alloc, folder, names, row, &["> ", "~ "])?;
     compare_others(alloc, folder, names, row)?;
     compare_absent(folder, row)?;
     compare_outputs(folder, row, "> ")

@@ -4,6 +4,7 @@
 //! in small functions that borrow the folder: that costs the check least.
 mod buffers;
 mod exact;
+mod kept;
 mod sending;
 mod short;
 mod slow;

@@ -514,6 +514,31 @@ $ split --exact z p -c s
 > p01.mp3 INFO_FRONT 'Xing' 0000000f0000004e00007ea5 0101020509090c0f121616191c20202326292d2d303337373a3d414444474a4e4e5154585b5b5e616565686b6f727275797c7f7f828689898c90939696999da0a0a3a7aaadadb0b4b7b7babec1c4c4c8cbceced1d5d8dbdbdfe2e5e5e8eceff2f2f6f9fc 00*4 LAME 26f409 00*4 00007ea5 0000 9945 00*16 SILENT_LEAD_IN EMPTY_FROM_68 EMPTY_FROM_449 Z_FROM_511*75
 > p02.mp3 INFO_FRONT 'Info' 0000000f0000001900002989 050505050f0f0f0f19191919232323232d2d2d2d37373737414141414b4b4b4b555555555f5f5f5f69696969737373737d7d7d7d87878787919191919b9b9b9ba5a5a5a5afafafafb9b9b9b9c3c3c3c3cdcdcdcdd7d7d7d7e1e1e1e1ebebebebf5f5f5f5 00*4 LAME 4f7211 00*4 00002989 0000 fdb4 00*16 Z Z_FROM_381 Z_FROM_511*23
 
+# Behind `-n` the names of the pieces are looked at, and no others.
+
+# Samples 0 to 441 and 441 to 1,152 of A are in FIRST: 1,152 - 529 is 623, 26f (hex), and 1,152 - 441
+# + 529 is 1,240, 4d8; 1,152 + 441 - 529 is 1,064, 428. The third piece is the second frame's samples.
+< a A
+< p04.mp3 'kept'
+to p01.mp3 p02.mp3 p03.mp3
+$ -n split --exact a p 0 0.00.01 1 EOF
+> p01.mp3 INFO_FRONT TWO_OF_729 00*4 LAME 26f4d8 00*4 000002d9 0000 5a5b 00*16 FULL_LEAD_IN FIRST_FROM_68
+> p02.mp3 INFO_FRONT TWO_OF_729 00*4 LAME 428211 00*4 000002d9 0000 964f 00*16 FULL_LEAD_IN FIRST_FROM_68
+> p03.mp3 INFO_FRONT BOTH 00*4 LAME 26f211 00*4 00000412 0000 8a70 00*16 FIRST SECOND
+
+< a A
+< p03.mp3 'kept'
+to p01.mp3 p02.mp3
+$ -n split --exact a p 0 0.00.01 1 EOF
+! 1 p03.mp3: exists
+
+< z Z*100
+< s TWO_TRACKS
+< p02.mp3 'kept'
+to p01.mp3
+$ -n split --exact z p -c s
+! 1 p02.mp3: exists
+
 # 76 frames are 87,552 samples. Nothing is created.
 < z Z*76
 < s TWO_TRACKS

@@ -40,6 +40,12 @@ THREE_BITS_ALONE = fffb1000 000000030032 ~36 e0 ~104
 $ pack a o
 > o INFO_FRONT 'Xing' 0000000f00000002000003de 35*50 94*50 INFO_REST FIRST_AT_112 SECOND_FROM_29
 
+# Behind `-n` a file is there also where it has the bytes that would be written.
+< a A
+< o INFO_FRONT 'Xing' 0000000f00000002000003de 35*50 94*50 INFO_REST FIRST_AT_112 SECOND_FROM_29
+$ -n pack a o
+! 1 o: exists
+
 # The last frame has need of the two before it: all slots and begins stay.
 # the greatest slots: 208 + 3 * 1,045 bytes
 < a FULL_0 FULL_1 FULL_2

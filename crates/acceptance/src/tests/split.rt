@@ -93,6 +93,59 @@ $ split z p -c s
 > p02.mp3 TRACK_2
 - p03.mp3
 
+# Behind `-n`: no piece is written where one of those that would be is there, and the first of these is
+# named. Other names that pieces may have aren't asked for.
+
+# A at frame 1: 208 + 417, 625 bytes, and 208 + 104 + 417, 729 bytes. The lead-in has the first 68 of the
+# 400 bytes of SECOND, so main_data_begin is 68.
+A_FROM_0 = INFO_FRONT ONE_OF_625 55*100 INFO_REST FIRST_ALONE
+A_FROM_1 = INFO_FRONT 'Xing' 0000000f00000002000002d9 49*50 6d*50 INFO_REST fffb1000 ~244 55*68 ~312 fffb9000 22000320003200000000640006400000000c8000c800000001900019 ~348 55*332 ~729
+
+< a A
+< p02.mp3 'kept'
+to p01.mp3
+$ -n split a p 0 1 2
+! 1 p02.mp3: exists
+
+< a A
+< p01.mp3 'kept'
+< p02.mp3 'kept'
+$ -n split a p 0 1 2
+! 1 p01.mp3: exists
+
+< a A
+< p03.mp3 'kept'
+< p99.mp3 'kept'
+< p2.mp3 'kept'
+< p 'kept'
+to p01.mp3 p02.mp3
+$ -n split a p 0 1 2
+> p01.mp3 A_FROM_0
+> p02.mp3 A_FROM_1
+
+# By a sheet of two tracks.
+
+< z HUNDRED
+< s TWO_TRACKS
+< p02.mp3 'kept'
+to p01.mp3
+$ -n split z p -c s
+! 1 p02.mp3: exists
+
+< z HUNDRED
+< s TWO_TRACKS
+< p03.mp3 'kept'
+to p01.mp3 p02.mp3
+$ -n split z p -c s
+> p01.mp3 TRACK_1
+> p02.mp3 TRACK_2
+
+# None of the names that pieces may have can be an input, whether or not it is asked for.
+< p07.mp3 A
+to p01.mp3 p02.mp3
+$ -n split p07.mp3 p 0 1 2
+! 1 p07.mp3: input is an output
+
 # Refused splits.
 
 # Each of the 99 names that pieces may have, also of those that are not written.
@@ -244,6 +297,28 @@ each Find 1 z: read fault
 each Read 2 z: read fault
 each Create 2 p01.mp3: write fault, p02.mp3: write fault
 each Write 4 p01.mp3: write fault, p01.mp3: write fault, p02.mp3: write fault
+
+# Behind `-n` all questions come before the first piece is created.
+< a A
+to p01.mp3 p02.mp3
+$ -n split a p 0 1 2
+> p01.mp3 A_FROM_0
+> p02.mp3 A_FROM_1
+each There 2 p01.mp3: write fault, p02.mp3: write fault
+each Create 2 p01.mp3: write fault, p02.mp3: write fault
+
+< a A
+to p01.mp3 p02.mp3
+fail There 2
+$ -n split a p 0 1 2
+! 3 p02.mp3: write fault
+
+< a A
+to p01.mp3 p02.mp3
+fail Create 2
+$ -n split a p 0 1 2
+! 3 p02.mp3: write fault
+> p01.mp3 A_FROM_0
 
 # Each line names the file of the call that failed. The survey comes first, and then the sheet.
 < z HUNDRED

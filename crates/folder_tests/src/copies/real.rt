@@ -146,6 +146,88 @@ fn a_file_that_was_not_made(rt: HostRuntime) -> Result<(), Fail> {
     Ok(())
 }
 
+fn is_told<R: Files>(folder: &mut DiskFolder<R>, name: &str, answer: Result<bool, Failed>) -> bool {
+    folder.there(name) == answer
+}
+
+// A link that leads to a file, one that leads nowhere, a file without bytes, and a directory.
+fn prepare_names<R: Files + AllocGlobal>(rt: &R) -> Result<(), Fail> {
+    prepare(rt, "outside_there", "outside_there/from")?;
+    symlink(rt, "from", "outside_there/link")?;
+    symlink(rt, "none", "outside_there/dead")?;
+    fs::write(rt, "outside_there/empty", "")?;
+    fs::create_dir(rt, "outside_there/directory")?;
+    Ok(())
+}
+
+// What stands under these names, except the device.
+static THERE: [&str; 6] = [
+    "outside_there/from",
+    "outside_there/link",
+    "outside_there/dead",
+    "outside_there/empty",
+    "outside_there/directory",
+    "outside_there/directory/",
+];
+
+fn expect_told<R: Files + Abort>(rt: &R, folder: &mut DiskFolder<R>) {
+    for name in THERE {
+        assert!(rt; is_told(folder, name, Ok(true)), "{name}");
+    }
+    assert!(rt; is_told(folder, "/dev/null", Ok(true)));
+    assert!(rt; is_told(folder, "outside_there/none", Ok(false)));
+    assert!(rt; is_told(folder, "outside_there/none/to", Ok(false)));
+    assert!(rt; is_told(folder, "outside_there/from/to", Err(Failed)));
+}
+
+// Whether the name can't be made, and nothing can be written to it.
+fn is_unmade<R: Files>(folder: &mut DiskFolder<R>, name: &str) -> bool {
+    folder.create_new(name).is_err() && is_unwritten(folder, name)
+}
+
+fn expect_unmade<R: Files + Abort>(rt: &R, folder: &mut DiskFolder<R>) {
+    for name in THERE {
+        assert!(rt; is_unmade(folder, name), "{name}");
+    }
+    assert!(rt; is_unmade(folder, "/dev/null"));
+    assert!(rt; is_unmade(folder, "outside_there/none/to"));
+    assert!(rt; is_unmade(folder, "outside_there/from/to"));
+}
+
+// A file that was made takes bytes until another is made: then its name may be another's.
+fn expect_made<R: Files + AllocGlobal + Abort>(
+    rt: &R,
+    folder: &mut DiskFolder<R>,
+) -> Result<(), Fail> {
+    assert!(rt; folder.create_new("outside_there/to").is_ok());
+    expect_grown(rt, folder, "outside_there/to", b"ab", "ab")?;
+    assert!(rt; folder.create_new("outside_there/to").is_err());
+    expect_grown(rt, folder, "outside_there/to", b"cd", "abcd")?;
+    assert!(rt; folder.create_new("outside_there/other").is_ok());
+    assert!(rt; is_unwritten(folder, "outside_there/to"));
+    expect_grown(rt, folder, "outside_there/other", b"ab", "ab")
+}
+
+fn expect_over_there<R: Files + AllocGlobal + Abort>(rt: &R) -> Result<(), Fail> {
+    let mut folder = DiskFolder::new(rt, rt.alloc());
+    expect_told(rt, &mut folder);
+    expect_unmade(rt, &mut folder);
+    expect_made(rt, &mut folder)
+}
+
+// Nothing that is there is changed, and no link is followed.
+#[test]
+fn names_that_are_there(rt: HostRuntime) -> Result<(), Fail> {
+    prepare_names(&rt)?;
+    expect_over_there(&rt)?;
+    expect(&rt, "outside_there/from", "0123456789")?;
+    expect(&rt, "outside_there/empty", "")?;
+    expect(&rt, "outside_there/to", "abcd")?;
+    assert!(rt; !fs::exists(&rt, "outside_there/none")?);
+    fs::remove_dir_all(&rt, "outside_there")?;
+    Ok(())
+}
+
 fn is_found<R: Files>(folder: &mut DiskFolder<R>, name: &str) -> bool {
     folder.find(name) == Ok(10)
 }
