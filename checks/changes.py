@@ -92,7 +92,7 @@ def made(random):
         shape = frames.Frame(header, 0)
         begin = min(window, random.choice((free, free, 0, random.randint(0, free))))
         most = 8 * (begin + shape.area)
-        bits_here = random.choice((0, most, most, most - random.randint(0, 9), *[random.randint(0, most)] * fill))
+        bits_here = random.choice((0, most, most, max(0, most - random.randint(0, 9)), *[random.randint(0, most)] * fill))
         side = with_lengths(random, shape, random.randbytes(shape.side_size), bits_here)
         shape.side_at, shape.side_end = 0, shape.side_size
         shape.read_side(side)
