@@ -10,3 +10,4 @@ pub use Rattle.frame_header.specs.Tables
 pub use Rattle.info_header.specs.Info
 pub use Rattle.info_header.specs.InfoFrame
 pub mod Overlaps
+pub mod Heard

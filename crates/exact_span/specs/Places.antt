@@ -5,7 +5,7 @@ use Rattle.std.specs.{List.{after_first, before_first, position_or_len}, Option.
 use Rattle.std.specs.Prelude.{bytes_eq, codes, drop, if◌then◌else◌, length, List, None, Option}
 use Rattle.std.specs.Prelude.{option_and_then, option_map, slice_index, Some, take, ℕ, [], ⊤, ◌*◌}
 use Rattle.std.specs.Prelude.{◌+◌, ◌-◌, ◌/◌, ◌==◌, ◌∷◌}
-use Rattle.cue_sheet.specs.{Digits.number_in, Places.{is_dot, IsPlace, place_of}}
+use Rattle.cue_sheet.specs.{Digits.number_in, Places.{frame_at, is_dot, IsPlace, place_of}}
 use Rattle.cue_sheet.specs.declared.place.Place.{Place as Position, TheVariants.{End, Frame, Time}}
 use Rattle.exact_span.specs.declared.exact_place.ExactPlace.{ExactPlace}
 use Rattle.exact_span.specs.declared.exact_place.ExactPlace.TheVariants.{Back, Millis, Place}
@@ -155,3 +155,19 @@ sample_at class length (Place position) = sample_of_position class length positi
 sample_at class length (Sample number) = number
 sample_at class length (Millis time) = samples_until class time 1000
 sample_at class length (Back time) = length - samples_until class time 1000
+
+-- ---- frames
+
+-- how many whole frames take no longer than `time` thousandths of a second
+abbrev pub frames_until : ClassFields → ℕ → ℕ
+frames_until class time = time * frequency_of class / (1000 * samples_of class.version)
+
+-- The frame that a place names in a file of `frames` frames, counted from the first frame as
+-- positions are: the frame that a position is before, the frame in which a sample or a moment is,
+-- or as many whole frames before the end as a time takes; a time before the start is the first
+-- frame.
+unfoldable pub exact_frame_at : ClassFields → ℕ → ExactPlace → ℕ
+exact_frame_at class frames (Place position) = frame_at class frames position
+exact_frame_at class frames (Sample number) = number / samples_of class.version
+exact_frame_at class frames (Millis time) = frames_until class time
+exact_frame_at class frames (Back time) = frames - frames_until class time

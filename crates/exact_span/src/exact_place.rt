@@ -3,7 +3,7 @@ ghost use Rattle.std.specs.Prelude.{◌≡◌, ◌≤◌, ◌*◌, ◌<◌, IfSo
 ghost use Rattle.cue_sheet.specs.declared.place.Place.TheVariants.{End};
 ghost use Rattle.cue_sheet.specs.Places.{IsPlace};
 ghost use Rattle.exact_span.specs.declared.exact_place.ExactPlace.TheVariants.{Place as PlaceVariant};
-ghost use Rattle.exact_span.specs.Places.{sample_of, back_of, exact_place_of, IsExactPlace, samples_until, sample_of_position, sample_at};
+ghost use Rattle.exact_span.specs.Places.{sample_of, back_of, exact_place_of, IsExactPlace, samples_until, sample_of_position, sample_at, frames_until, exact_frame_at};
 
 use crate::times::{read_instant, read_interval};
 use cue_sheet::Place;
@@ -72,7 +72,14 @@ fn sample_of_position(class: Class, length: u64, place: Place) -> u64
     }
 }
 
-#[tactic(auto, unfolding(crate::specs::Places::exact_place_of, crate::specs::Places::sample_at))]
+/// How many whole frames take no longer than `time` thousandths of a second.
+fn frames_until(class: Class, time: u32) -> u64
+    ensures { result ≡ frames_until class time }
+{
+    u64::from(time) * u64::from(class.frequency()) / (1_000 * u64::from(class.samples()))
+}
+
+#[tactic(auto, unfolding(crate::specs::Places::exact_place_of, crate::specs::Places::sample_at, crate::specs::Places::exact_frame_at))]
 impl ExactPlace {
     /// The place that a word says:
     ///
@@ -116,6 +123,24 @@ impl ExactPlace {
             ExactPlace::Sample(number) => u64::from(number),
             ExactPlace::Millis(time) => samples_until(class, time, 1_000),
             ExactPlace::Back(time) => length.saturating_sub(samples_until(class, time, 1_000)),
+        }
+    }
+
+    /// The number of the frame that it names in a file of `frames` frames, counted from the first
+    /// frame after the head: for a position, the frame that `Place::frame_of` gives; for a sample,
+    /// the frame in which it is; for a time, the number of whole frames that take no longer; for a
+    /// time before the end, as many frames before the end, or the first frame where there aren't as
+    /// many. Samples and times are counted from the beginning of that first frame, and not from the
+    /// first sample that is played. It may be greater than `frames`.
+    pub fn frame_of(&self, class: Class, frames: u32) -> u64
+        requires { IsExactPlace self.now }
+        ensures { result ≡ exact_frame_at class frames self.now }
+    {
+        match *self {
+            ExactPlace::Place(place) => place.frame_of(class, frames),
+            ExactPlace::Sample(number) => u64::from(number) / u64::from(class.samples()),
+            ExactPlace::Millis(time) => frames_until(class, time),
+            ExactPlace::Back(time) => u64::from(frames).saturating_sub(frames_until(class, time)),
         }
     }
 }

@@ -1,4 +1,4 @@
-//! Places of samples, by the forms of their words, and the samples that they name, by division.
+//! Places of samples, by the forms of their words, and the samples and frames that they name, by division.
 
 use cue_sheet::Place;
 use exact_span::ExactPlace;
@@ -169,6 +169,66 @@ fn samples_of_places(rt: HostRuntime) -> Result<(), Fail> {
     for at in &SAMPLES {
         assert!(rt; is_named(at), "sample {}", at.sample);
     }
+    Ok(())
+}
+
+/// A word, and the frame that it names in a file with six frames.
+struct Named {
+    version: Version,
+    frequency_index: u8,
+    word: &'static str,
+    frame: u64,
+}
+
+/// A frame of 1,152 samples at 44,100 Hz takes 26.12 ms.
+static FRAMES: [Named; 10] = table! {
+    Named { version, frequency_index, word, frame }
+    (Version::One, 0, "3", 3)
+    (Version::One, 0, "0.00.03", 1)
+    (Version::One, 0, "EOF", 6)
+    (Version::One, 0, "1151samples", 0)
+    (Version::One, 0, "1152samples", 1)
+    (Version::One, 0, "4294967295samples", 3_728_270)
+    (Version::One, 0, "0.0.026", 0)
+    (Version::One, 0, "0.0.027", 1)
+    (Version::One, 0, "0.0.030", 1)
+    (Version::One, 0, "30s", 1_148)
+};
+
+/// Before the end of these, and in MPEG-2.5 at 8,000 Hz, where a frame of 576 samples takes 72 ms.
+static OTHER_FRAMES: [Named; 10] = table! {
+    Named { version, frequency_index, word, frame }
+    (Version::One, 0, "EOF-0.0.026", 6)
+    (Version::One, 0, "EOF-0.0.060", 4)
+    (Version::One, 0, "EOF-0.0", 6)
+    (Version::One, 0, "EOF-10s", 0)
+    (Version::TwoFive, 2, "7", 7)
+    (Version::TwoFive, 2, "0.144s", 2)
+    (Version::TwoFive, 2, "0.359s", 4)
+    (Version::TwoFive, 2, "575samples", 0)
+    (Version::TwoFive, 2, "2880samples", 5)
+    (Version::TwoFive, 2, "EOF-0.144s", 4)
+};
+
+fn names_frame(named: &Named) -> bool {
+    if named.frequency_index > 2 {
+        return false;
+    }
+    let class = Class {
+        version: named.version,
+        frequency_index: named.frequency_index,
+        channels: 1,
+    };
+    match ExactPlace::read(named.word) {
+        Some(place) => place.frame_of(class, 6) == named.frame,
+        None => false,
+    }
+}
+
+#[test]
+fn frames_of_places(rt: HostRuntime) -> Result<(), Fail> {
+    assert!(rt; FRAMES.iter().all(names_frame));
+    assert!(rt; OTHER_FRAMES.iter().all(names_frame));
     Ok(())
 }
 
