@@ -8,3 +8,6 @@ pub mod SeamLemmas
 pub mod FollowLemmas
 pub mod RunFitLemmas
 pub mod RunSoundLemmas
+pub mod StayingLemmas
+pub mod PartJointLemmas
+pub mod PartRunLemmas

@@ -47,7 +47,7 @@ moved-append (x ∷ xs) ys (other ∷ others) more front behind =
 -- ---- the slot of the first
 
 -- the slot passes the test, and is one of the slots
-abbrev Passes : (SlotFields → Bool) → List SlotFields → SlotFields → Type 0
+abbrev pub Passes : (SlotFields → Bool) → List SlotFields → SlotFields → Type 0
 Passes test slots slot = (test slot ≡ true) × Contains slots slot
 
 found-first : (test : SlotFields → Bool) (s : SlotFields) (slots : List SlotFields)
@@ -59,7 +59,8 @@ found-first test s slots slot false passes later e =
     let more = later e in
     (more.0, (suc more.1.0, omega (arith, more.1.1), more.1.2))
 
-found-passes : (test : SlotFields → Bool) (slots : List SlotFields) (slot : SlotFields)
+-- the slot that is found passes the test, and is one of the slots
+pub found-passes : (test : SlotFields → Bool) (slots : List SlotFields) (slot : SlotFields)
     → find test slots ≡ Some slot → Passes test slots slot
 found-passes test [] slot e = absurd cc
 found-passes test (s ∷ slots) slot e =

@@ -1,6 +1,6 @@
 -- What is known of an input, and of what a run leaves.
-use Rattle.std.proofs.Common.{ap, arith, drop, length, List, Option, Some, subst, sym, ℕ, ◌++◌, ◌+◌}
-use Rattle.std.proofs.Common.{◌-◌, ◌<◌, ◌∙◌, ◌∷◌, ◌≡◌, ◌≤◌}
+use Rattle.std.proofs.Common.{arith, drop, length, List, Option, Some, subst, ℕ, ◌++◌, ◌-◌, ◌<◌}
+use Rattle.std.proofs.Common.{◌∷◌, ◌≡◌, ◌≤◌}
 use Rattle.std.proofs.lemmas.List.{length-append, length-drop, length-map, map-append}
 use Rattle.std.proofs.lemmas.List.FromFn.{length-map-range_with_len}
 use Rattle.std.specs.Prelude.{IfSome, option_map, slice_index_or}
@@ -14,11 +14,9 @@ use Rattle.seam_plan.specs.{Decisions.{last_seven, RunGoesOn}, Frames.{Brought, 
 use Rattle.seam_plan.specs.Seams.{joint_of, JointFrames, left_out_count}
 use Rattle.seam_plan.specs.declared.{input.Input.Input, run.{FramePlace.FramePlace, Joint.Joint}}
 use Rattle.seam_plan.specs.declared.run.Run.{Run}
-use Rattle.slot_plan.proofs.FreeByteLemmas.{fits-cons, fits-drop, left-cons, left-on, more-behind}
-use Rattle.slot_plan.proofs.PartLemmas.{class-drop}
+use Rattle.slot_plan.proofs.{FreeByteLemmas.{fits-drop, more-behind}, PartLemmas.class-drop}
 use Rattle.slot_plan.specs.FreeBytes.{FitBehindFree, FitBehindWindow, FitsBehind, IsMostLeft}
 use Rattle.slot_plan.specs.FreeBytes.{need_in_slot, needs_with_first_slot}
-use Rattle.slot_plan.specs.{Parts.{AreNeedsOfClass, own_slot_area}, Reserve.free_bytes_behind}
 use Rattle.slot_plan.specs.declared.needs.Need.{Need}
 
 -- an input that can be joined fits after a whole window
@@ -108,12 +106,14 @@ run-begins class input first run brings same left last rest =
 
 -- ---- frames that are added
 
-in-window : (class : ClassFields) (left : ℕ) (needs : List Need) (slot : SlotFields)
+-- frames that are added with the first in a slot fit with it after what is left
+pub in-window : (class : ClassFields) (left : ℕ) (needs : List Need) (slot : SlotFields)
     → AddedFramesFit class left needs (Some slot)
     → FitsBehind (window_of class.version) left (needs_with_first_slot slot needs)
 in-window class left needs slot fit = grind arith
 
-first-moved : (needs : List Need) (slot : SlotFields) (first : Need) → 0 < length needs
+-- the frames with the first in a slot are this one and the others
+pub first-moved : (needs : List Need) (slot : SlotFields) (first : Need) → 0 < length needs
     → first ≡ slice_index_or needs 0 first
     → needs_with_first_slot slot needs ≡ need_in_slot slot first ∷ drop 1 needs
 unfolding needs_with_first_slot
@@ -123,54 +123,6 @@ first-moved needs slot first some at = grind arith
 pub some-in : (class : ClassFields) (left : ℕ) (needs : List Need) (slot : SlotFields)
     → AddedFramesFit class left needs (Some slot) → 0 < length needs
 some-in class left needs slot fit = grind arith
-
--- the first of some frames in this slot, and the others, which fit after what is left
-module _ (class : ClassFields) (left : ℕ) (needs : List Need) (slot : SlotFields)
-    (first moved : Need) (area : ℕ) (within : left ≤ window_of class.version)
-    (fit : AddedFramesFit class left needs (Some slot)) (at : first ≡ slice_index_or needs 0 first)
-    (is : moved ≡ need_in_slot slot first) (has : area ≡ own_slot_area moved) where
-  moved-first : needs_with_first_slot slot needs ≡ moved ∷ drop 1 needs
-  moved-first = grind (arith, first-moved, some-in)
-
-  both-fit : (moved.bytes ≤ left + own_slot_area moved) × FitsBehind (window_of class.version)
-      (free_bytes_behind (window_of class.version) left moved.bytes (own_slot_area moved))
-      (drop 1 needs)
-  both-fit = fits-cons (window_of class.version) left moved (drop 1 needs) within (subst
-      (FitsBehind (window_of class.version) left) moved-first (in-window class left needs slot fit))
-
-  -- the first frame has room in what is left and the area of its slot
-  pub moved-room : moved.bytes ≤ left + area
-  moved-room = omega (arith, both-fit.0, has)
-
-  module _ (free : ℕ)
-      (frees : free ≡ free_bytes_behind (window_of class.version) left moved.bytes area)
-      (most : free ≤ window_of class.version) (same : AreNeedsOfClass class needs) where
-    same-free : free
-        ≡ free_bytes_behind (window_of class.version) left moved.bytes (own_slot_area moved)
-    same-free = frees ∙ ap (free_bytes_behind (window_of class.version) left moved.bytes) has
-
-    -- the other frames fit after what the first leaves
-    pub others-free : FitBehindFree free (drop 1 needs)
-    others-free = record {
-      class = class;
-      same = class-drop class needs 1 same;
-      within = most;
-      fits = grind (arith, same-free, class.version, both-fit.1);
-    }
-
-    -- a run with these frames after it leaves what the others leave after the first
-    pub add-left : (new : ℕ) → IsMostLeft (window_of class.version) free (drop 1 needs) new
-        → (frames : List Need)
-        → IsMostLeft (window_of class.version) (window_of class.version) frames left
-        → IsMostLeft (window_of class.version) (window_of class.version)
-        (frames ++ joined_needs (Some slot) needs) new
-    add-left new leaves frames before =
-        let window : ℕ = window_of class.version in
-        let more : IsMostLeft window left (moved ∷ drop 1 needs) new =
-        left-cons window left new moved (drop 1 needs) within
-        both-fit.0 (subst (λ n. IsMostLeft window n (drop 1 needs) new) same-free leaves) in
-        subst (λ l. IsMostLeft window window (frames ++ l) new) (sym moved-first)
-        ((left-on window window left new frames (moved ∷ drop 1 needs) (omega arith) before).1 more)
 
 -- ---- frames of a slice
 

@@ -3,6 +3,8 @@ pub mod Frames
 pub mod Joins
 pub mod Seams
 pub mod Decisions
+pub mod Stretches
+pub mod PartRuns
 pub use Rattle.exact_span.specs.Overlaps
 pub use Rattle.exact_span.specs.PlayedPositions
 pub use Rattle.slot_plan.specs.FreeBytes

@@ -4,18 +4,19 @@ ghost use Rattle.frame_header.specs.Fields.{ClassFields};
 ghost use Rattle.frame_header.specs.Tables.{window_of};
 ghost use Rattle.exact_span.specs.PlayedPositions.{rest_of, longest_rest};
 ghost use Rattle.slot_plan.specs.Parts.{AreNeedsOfClass};
-ghost use Rattle.slot_plan.specs.FreeBytes.{FitsBehind, IsMostLeft, need_in_slot};
+ghost use Rattle.slot_plan.specs.FreeBytes.{FitsBehind, IsMostLeft};
 ghost use Rattle.seam_plan.specs.Frames.{RunFrame, Brought, needs_of};
 ghost use Rattle.seam_plan.specs.Seams.{joint_of, left_out_count, overlap_of, following_joint, joint_without_lead_in};
 ghost use Rattle.seam_plan.specs.Decisions.{HoldsOfRun, IsJoinableInput, IsBroughtInput, IsRun, IsRunInWindow, IsJoint, AreJoint, AddedFramesFit, AddedInputFits, IsSlid, IsSoundRun, CanFollow, JoinRun, JoinsRun, RunGoesOn, alike_overlap, last_places, last_seven, joined_needs, frame_places};
 
+use crate::adding::left_in_slot;
 use crate::input::{Input, needs_after};
 use crate::lead_ins::{fit_alone, has_lead_in};
 use crate::seam::Seam;
 use arrayvec::ArrayVec;
 use exact_span::{Overlap, shared};
 use frame_header::{Class, Slot};
-use slot_plan::{Need, free_behind, joins, leaves};
+use slot_plan::{Need, joins, leaves};
 
 /// A frame of an input: the number of the input and the number of the frame in it, counted from 0.
 #[derive(Clone, Copy, Debug, Default, PartialEq, Eq)]
@@ -52,15 +53,6 @@ fn rest_of(class: Class, input: &Input<'_>) -> Option<u64>
 {
     let played = input.played?;
     Some(played.rest(class, input.needs.len() as u32))
-}
-
-/// The first of some frames, in another slot.
-fn in_slot(need: &Need, slot: Slot) -> Need
-    ensures { result ≡ need_in_slot slot need.now }
-{
-    let mut moved = *need;
-    moved.header.slot = slot;
-    moved
 }
 
 /// Adds a place to the last seven; if there are seven, the first of them is dropped.
@@ -139,10 +131,7 @@ impl Run {
         let Some(slot) = slot else {
             return;
         };
-        let first = in_slot(&needs[0], slot);
-        let window = self.class.window();
-        let free = free_behind(window, self.left, first.bytes, first.header.area());
-        self.left = leaves(needs_after(needs, 1), free);
+        self.left = left_in_slot(self.class, self.left, needs, slot);
     }
 
     /// Adds the places of an input's frames from `from` to before `to` after the run's own.
