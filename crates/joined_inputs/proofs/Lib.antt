@@ -1,5 +1,8 @@
 -- The lemmas of this crate.
 pub mod InputLemmas
 pub mod PartLemmas
+pub mod RestLemmas
+pub mod RunPlanLemmas
 pub mod SourceLemmas
 pub mod StepLemmas
+pub mod BorrowLemmas

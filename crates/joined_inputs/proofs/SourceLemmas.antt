@@ -10,8 +10,8 @@ use Rattle.frame_header.specs.Fields.{ClassFields}
 use Rattle.joined_inputs.proofs.InputLemmas.{parts-all}
 use Rattle.joined_inputs.specs.Inputs.{AreInputsOfClass, AreJoinInputs, class_of_first}
 use Rattle.joined_inputs.specs.Inputs.{HasJoinNumbers, input_names, InputFields, parts_of}
-use Rattle.joined_inputs.specs.{Inputs.told_contents, Laying.{AreSources, IsSource}}
-use Rattle.joined_inputs.specs.Parts.{parts_task}
+use Rattle.joined_inputs.specs.{Inputs.told_contents, Laying.AreSources, Parts.parts_task}
+use Rattle.joined_inputs.specs.Ranges.{AreRangeSources, IsSource, RangeFields, ranges_in}
 use Rattle.laying.{proofs.SurveyFrameLemmas.survey-had, specs.Relaid.FilePart}
 use Rattle.outside.proofs.FilesLemmas.{there_holds}
 use Rattle.outside.specs.Files.{Contents, Files, Holds, IfTold, LeavesAllBut, Told, Untold}
@@ -74,19 +74,19 @@ source-beside output _ _ name s only source = absurd only
 
 module _ (class : ClassFields) (output : List ℕ) (old new : Files) where
   -- all sources stay sources if only the output changes
-  pub sources-beside : (inputs : List InputFields) → LeavesAllBut (output ∷ []) old new
-      → AreSources class output old inputs → AreSources class output new inputs
-  sources-beside [] only are = tt
-  sources-beside (i ∷ inputs) only are = (
-    ((source-beside output old new i.name i.survey only are.0.0).0, are.0.1),
-    sources-beside inputs only are.1,
+  pub ranges-beside : (ranges : List RangeFields) → LeavesAllBut (output ∷ []) old new
+      → AreRangeSources class output old ranges → AreRangeSources class output new ranges
+  ranges-beside [] only are = tt
+  ranges-beside (r ∷ ranges) only are = (
+    ((source-beside output old new r.name r.survey only are.0.0).0, are.0.1),
+    ranges-beside ranges only are.1,
   )
 
-  -- the frames of sources stay the same if only the output changes
-  pub told-beside : (inputs : List InputFields) → LeavesAllBut (output ∷ []) old new
-      → AreSources class output old inputs → parts_of new inputs ≡ parts_of old inputs
+  -- their frames stay the same if only the output changes
+  pub told-beside : (ranges : List RangeFields) → LeavesAllBut (output ∷ []) old new
+      → AreRangeSources class output old ranges → ranges_in new ranges ≡ ranges_in old ranges
   told-beside [] only are = refl
-  told-beside (i ∷ inputs) only are = grind (arith, source-beside, told-beside inputs only are.1)
+  told-beside (r ∷ ranges) only are = grind (arith, source-beside, told-beside ranges only are.1)
 
 -- where the contents of the files are known, a source holds its bytes
 pub source-holds : {output : List ℕ} (files : Files) (key told name : List ℕ) (s : SurveyFields)

@@ -6,15 +6,16 @@ use Rattle.std.specs.Prelude.{◌≤◌}
 use Rattle.frame_header.specs.{Fields.ClassFields, Tables.window_of}
 use Rattle.frame_writer.specs.Frames.{bytes_of_frames, Frame}
 use Rattle.joined_inputs.specs.Inputs.{class_of_first, InputFields, parts_of}
+use Rattle.joined_inputs.specs.Ranges.{AreRangeSources, rest_of_input}
 use Rattle.joined_inputs.specs.declared.{stopped.Stopped.Stopped, work.JoinWork.JoinWork}
 use Rattle.laying.specs.{Fits.FitsFromReach, Needs.needs_of_parts, Passing.IsRelayFresh}
-use Rattle.laying.specs.{Relaid.{part_frames, relaid_frames}, Surveys.CanBeRelaid}
-use Rattle.laying.specs.{Written.front_blocks, declared.relay.Relay.Relay}
-use Rattle.outside.specs.{Counts.Counts, Files.{Files, Holds, IsFileThere}}
+use Rattle.laying.specs.{Relaid.{part_frames, relaid_frames}, Written.front_blocks}
+use Rattle.laying.specs.declared.relay.Relay.{Relay}
+use Rattle.outside.specs.{Counts.Counts, Files.{Files, IsFileThere}}
 use Rattle.outside.specs.Pass.{AppendsMadeBytes, AppendsPrefix, HasPassCause, route}
 use Rattle.outside.specs.{Pass.{WritesMadeBytes, WritesPrefix}, Seen.Seen}
 use Rattle.slot_plan.specs.{Plans.entries, declared.needs.Placed.Placed}
-use Rattle.sync_survey.specs.{Faults.{survey_view, SurveyFields}, Row.Row, Survey.IsSurveyLaidOut}
+use Rattle.sync_survey.specs.{Faults.survey_view, Row.Row}
 
 -- ---- the frames that are written
 
@@ -59,20 +60,9 @@ pub record FitsWork (class : ClassFields) (inputs : List InputFields)
 
 -- ---- the inputs beside the output
 
--- an input with another name than the output is there, and its frames are as the survey says
-pub record IsSource (output : List ℕ) (files : Files) (name : List ℕ)
-    (s : SurveyFields) : Type 0 where
-  pub apart : name ≢ output
-  pub there : IsFileThere files name
-  pub exact : (file : List ℕ) → Holds files name file → CanBeRelaid file s
-  pub laid : IsSurveyLaidOut s
-
--- each of these is such an input, and its frames are of this class
+-- each of these is a source beside the output, and its frames are of this class
 abbrev pub AreSources : ClassFields → List ℕ → Files → List InputFields → Type 0
-AreSources class output files [] = Unit {0}
-AreSources class output files (i ∷ inputs) =
-    (IsSource output files i.name i.survey × (i.survey.class ≡ class))
-    × AreSources class output files inputs
+AreSources class output files inputs = AreRangeSources class output files (map rest_of_input inputs)
 
 -- the inputs are there, and their frames can be written by the prepared plan
 pub record CanJoinBeWritten (output : List ℕ) (files : Files) (inputs : List InputFields)

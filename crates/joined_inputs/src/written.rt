@@ -12,6 +12,7 @@ ghost use Rattle.joined_inputs.specs.Laying.{join_bytes, CanJoinBeWritten, FitsW
 
 use crate::inputs::{JoinInput, input_at};
 use crate::laid::lay_all;
+use crate::ranges::Rests;
 use crate::stopped::Stopped;
 use crate::work::JoinWork;
 use commands::EditFault;
@@ -71,7 +72,7 @@ fn append_joined<D: Folder>(
     if let Err(fault) = append_front(first, folder, info.as_slice(), buffers) {
         return Err(Stopped { place: 0, fault });
     }
-    lay_all(first, folder, inputs, plan.placed(), buffers)?;
+    lay_all(first, folder, Rests { inputs }, plan.placed(), buffers)?;
     match first.pass.finish(folder, &mut buffers.waiting) {
         Ok(()) => Ok(()),
         Err(fault) => Err(Stopped { place: 0, fault }),

@@ -19,7 +19,7 @@ use Rattle.laying.specs.LaidFiles.{AreBlocks, AreStreamEntries, HasInfoSizes, Is
 use Rattle.laying.specs.{LaidFiles.stream_entry, LaidLaws.LosesNoFrame}
 use Rattle.laying.specs.Laws.{AreFramesOfStream, EachLaidFile, EntriesHold, FilesHold}
 use Rattle.laying.specs.Laws.{FittingFilesHold, FittingSlots, PlannedFramesStay}
-use Rattle.laying.specs.Relaid.{FilePart, IsPart, part_frames, part_needs, part_stream}
+use Rattle.laying.specs.Relaid.{AreParts, FilePart, IsPart, part_frames, part_needs, part_stream}
 use Rattle.laying.specs.{Relaid.{relaid_frames, rest_behind, stream_with_lead_ins}, Written.slot_in}
 use Rattle.slot_plan.specs.declared.needs.{Need.Need, Placed.Placed}
 use Rattle.sync_survey.specs.{Faults.HoldsStream, MainData.StreamFrame}
@@ -157,23 +157,41 @@ module _ (c : ClassFields) (part : FilePart) (placed : List Placed) (is : IsPart
 pub fitting-files-hold : FittingFilesHold
 fitting-files-hold c part placed is fitting = search (arith, file-holds, fitting_as)
 
--- ---- the frames of parts, as planned
+-- ---- the frames of parts
+
+module _ (c : ClassFields) (parts : List FilePart) (placed : List Placed)
+    (some : 1 ≤ length parts) (are : AreParts c parts)
+    (fitting : IsFittingPlan (window_of c.version)
+    (flat_map (λ (part : List Need). part) (map part_needs parts)) placed) where
+  abbrev needs : List Need
+  needs = flat_map (λ (part : List Need). part) (map part_needs parts)
+
+  -- the frames of parts in these places can be laid, and are otherwise unchanged
+  pub parts-laid : AreFramesOfStream c (relaid_frames (flat_map part_frames parts) placed)
+      (stream_with_lead_ins placed (flat_map part_stream parts))
+  parts-laid =
+      let laid = laid-fitting c needs (flat_map part_frames parts) placed 0 0 0
+      (parts-entries c parts are) (parts-needs c parts are) fitting.slots fitting.fits
+      (omega arith) (omega arith) in
+      record {
+        some = grind (arith, some-by, flat_map, parts-needs, parts-some);
+        entries = laid.entries;
+        fit = laid.fit;
+        stream_is = laid.stream_is ∙ ap (stream_with_lead_ins placed) (parts-stream c parts are);
+      }
+
+  -- they have the slots of their places
+  pub parts-slots : map slot_in (relaid_frames (flat_map part_frames parts) placed)
+      ≡ map (λ (p : Placed). p.slot) placed
+  parts-slots = slots-by (window_of c.version) 0 needs (flat_map part_frames parts) placed
+      (parts-needs c parts are) fitting.fits
 
 -- frames in the places of their plan can be laid, and are otherwise unchanged
 pub entries-hold : EntriesHold
 entries-hold c choices parts placed some are slots plan =
-    let window = window_of c.version in
-    let needs = flat_map (λ (part : List Need). part) (map part_needs parts) in
-    let fitting = parts-fitting window choices slots (map part_needs parts) placed
-    (parts-headers c parts are) plan in
-    let laid = laid-fitting c needs (flat_map part_frames parts) placed 0 0 0 (parts-entries c parts
-    are) (parts-needs c parts are) fitting.slots fitting.fits (omega arith) (omega arith) in
-    record {
-      some = grind (arith, some-by, flat_map, parts-needs, parts-some);
-      entries = laid.entries;
-      fit = laid.fit;
-      stream_is = laid.stream_is ∙ ap (stream_with_lead_ins placed) (parts-stream c parts are);
-    }
+    parts-laid c parts placed some are
+    (parts-fitting (window_of c.version) choices slots (map part_needs parts) placed
+    (parts-headers c parts are) plan)
 
 -- the file of them holds their stream
 pub files-hold : FilesHold

@@ -1,6 +1,7 @@
 pub mod PlannedFrameLemmas
 pub mod SurveyFrameLemmas
 pub mod HoldLemmas
+pub mod RangeLemmas
 pub mod ReadLemmas
 pub mod ReachLemmas
 pub mod PassLemmas
@@ -13,7 +14,6 @@ pub mod CopyLemmas
 pub mod FittingFrameLemmas
 pub mod LaidLemmas
 pub mod PlacesLemmas
-pub mod FramesFromLemmas
 pub mod LaidDataLemmas
 pub mod EntryByteLemmas
 pub mod InfoByteLemmas

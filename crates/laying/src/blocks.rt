@@ -52,7 +52,7 @@ impl<'a> Relay<'a> {
     ///
     /// # Errors
     /// `Read` or `Shrunk` if the input can't be read, `Write` if a write failed.
-    pub(crate) fn copy_blocks<D: Folder>(
+    pub fn copy_blocks<D: Folder>(
         &self,
         folder: &mut D,
         in_front: bool,

@@ -433,38 +433,35 @@ impl<'a> Relay<'a> {
         Ok(())
     }
 
-    /// Passes the frames of the input from frame `from` on to the writer as the first of these
-    /// places say, and returns how many places they take. The window may hold anything. It takes no
-    /// memory.
+    /// Passes the frames of the input from frame `from` up to, but not including, frame `to` to the
+    /// writer as the first of these places say, and returns how many places they take. The window
+    /// may hold anything. It takes no memory.
     ///
     /// # Errors
     /// As `frames`.
-    pub fn lay_from<D: Folder>(
+    pub fn lay_range<D: Folder>(
         &self,
         folder: &mut D,
         from: usize,
+        to: usize,
         placed: &[Placed],
         buffers: &mut RelayBuffers,
     ) -> Result<usize, PassFault>
         requires stands { IsRelayOpen self.now (D.seen folder.old).files buffers.old }
-        requires within { from ≤ length (survey_view self.now.survey.now).frames }
-        requires fits { FitsRelayReach (reach_of buffers.old.writer) self.now from
-            (length (survey_view self.now.survey.now).frames)
-            (own_places (length (survey_view self.now.survey.now).frames - from) placed.now) }
-        ensures gives { RelayFramesAnswer self.now (planned_frames self.now from
-            (length (survey_view self.now.survey.now).frames) placed.now)
-            (reach_behind_all (reach_of buffers.old.writer) self.now from
-            (length (survey_view self.now.survey.now).frames) placed.now)
+        requires ordered { from ≤ to }
+        requires within { to ≤ length (survey_view self.now.survey.now).frames }
+        requires fits { FitsRelayReach (reach_of buffers.old.writer) self.now from to
+            (own_places (to - from) placed.now) }
+        ensures gives { RelayFramesAnswer self.now (planned_frames self.now from to placed.now)
+            (reach_behind_all (reach_of buffers.old.writer) self.now from to placed.now)
             buffers.old buffers.new (D.seen folder.old) (D.seen folder.new) result }
-        ensures count { IfOk result (λ count. count
-            ≡ places_for (length (survey_view self.now.survey.now).frames - from) placed.now) }
+        ensures count { IfOk result (λ count. count ≡ places_for (to - from) placed.now) }
         ensures within { IfOk result (λ count. count ≤ length placed.now) }
         ensures stands { OnOk result (IsRelayOpen self.now (D.seen folder.new).files buffers.new) }
     {
         read_before(self, folder, from, &mut buffers.feed, &mut buffers.window)?;
-        let rows = self.survey.frames();
-        let count = places_for(rows.len() - from, placed);
-        self.frames(folder, from, rows.len(), &placed[..count], buffers)?;
+        let count = places_for(to - from, placed);
+        self.frames(folder, from, to, &placed[..count], buffers)?;
         Ok(count)
     }
 

@@ -4,7 +4,7 @@ pub mod ReadFaultLemmas
 pub mod DecideAllLemmas
 pub mod DecideLemmas
 pub mod DecideStepLemmas
-pub mod RunPlanLemmas
+pub mod MovedLemmas
 pub mod SeamlessLemmas
 pub mod KnownLemmas
 pub mod FrontLemmas

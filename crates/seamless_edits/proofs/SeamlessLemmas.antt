@@ -14,6 +14,7 @@ use Rattle.frame_header.specs.{Fields.{ClassFields, HeaderFields}, Tables.window
 use Rattle.frame_writer.specs.Frames.{bytes_of_frames, Frame}
 use Rattle.info_header.specs.{InfoFrame.info_frame, declared.fields.Info.Info}
 use Rattle.joined_inputs.specs.{Inputs.{InputFields, part_in}, Laying.rest_rows, Parts.whole_part}
+use Rattle.joined_inputs.specs.Planned.{info_kept, plan_of_run_needs}
 use Rattle.laying.proofs.{HoldLemmas.all-length, LaidLemmas.first-there}
 use Rattle.laying.specs.{Fits.{FitsFromReach, reach_behind}, KeptFields.fields_of_head}
 use Rattle.laying.specs.{LaidFiles.laid_file, Needs.{need_of, needs_of_parts}}
@@ -29,9 +30,8 @@ use Rattle.seamless_edits.specs.Deciding.{brought_of, broughts_in, from_places, 
 use Rattle.seamless_edits.specs.Deciding.{IsJoinedOf, left_out_counts, left_out_of, run_needs}
 use Rattle.seamless_edits.specs.{Lines.{told_by, told_lines}, LostFrames.{lost_from, lost_in_input}}
 use Rattle.seamless_edits.specs.Numbers.{all_say, counted_delay, delay_after, ends_padding}
-use Rattle.seamless_edits.specs.Numbers.{first_head, info_kept, kept_with_delay, last_head}
-use Rattle.seamless_edits.specs.Numbers.{run_kept, short_delay}
-use Rattle.seamless_edits.specs.RunReady.{IsRunInfo, last_length, moved_of, plan_of_run_needs}
+use Rattle.seamless_edits.specs.Numbers.{first_head, kept_with_delay, last_head, run_kept}
+use Rattle.seamless_edits.specs.{Numbers.short_delay, RunReady.{IsRunInfo, last_length, moved_of}}
 use Rattle.seamless_edits.specs.Seamless.{begins_blank, delay_of_run, join_of_parts, later_parts}
 use Rattle.seamless_edits.specs.Seamless.{part_brought, part_from, part_says_gain}
 use Rattle.seamless_edits.specs.Seamless.{part_without_head, run_lead_ins, run_parts, run_plan}

@@ -6,12 +6,10 @@ use Rattle.std.specs.Prelude.{◌&&◌, ◌*◌, ◌++◌, ◌+◌, ◌-◌, ◌
 use Rattle.cut_edits.specs.Exact.{quality_of}
 use Rattle.exact_span.specs.Extensions.{counts_of, extension_of}
 use Rattle.exact_span.specs.PlayedPositions.{counted_positions, decoder_delay, played_of, rest_of}
-use Rattle.exact_span.specs.{PlayedPositions.samples_in, TagWord.sealed_info}
-use Rattle.exact_span.specs.declared.played.Played.{Played}
-use Rattle.frame_header.specs.Fields.{ClassFields, HeaderFields}
-use Rattle.frame_writer.specs.Frames.{Frame}
+use Rattle.exact_span.specs.{PlayedPositions.samples_in, declared.played.Played.Played}
+use Rattle.frame_header.specs.Fields.{ClassFields}
 use Rattle.info_header.specs.declared.fields.Info.{Info}
-use Rattle.laying.specs.{Written.{info_for, plain_info}, declared.info.Kept.Kept}
+use Rattle.laying.specs.declared.info.Kept.{Kept}
 use Rattle.seamless_edits.specs.Seamless.{gain_of, replay_gain}
 use Rattle.seamless_edits.specs.declared.{beginnings.Beginning.Beginning, numbers.Ends.Ends}
 use Rattle.seamless_edits.specs.declared.numbers.Moved.{Moved}
@@ -79,10 +77,3 @@ kept_with_delay bs ends delay = record {
 abbrev pub run_kept : List Beginning → Ends → Moved → Option Kept
 run_kept bs ends moved =
     option_map (kept_with_delay bs ends) (counted_delay ends.class (first_head bs) ends.first moved)
-
--- the fields of the Info frame: with what is kept, music length and tag CRC; otherwise without
--- quality, and all else 0
-abbrev pub info_kept : Option Kept → HeaderFields → ClassFields → List Frame → Info
-info_kept None first class frames = plain_info class frames
-info_kept (Some kept) first class frames =
-    sealed_info first (info_for class frames kept.quality kept.extension)

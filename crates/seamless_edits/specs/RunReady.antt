@@ -3,19 +3,14 @@ use Rattle.std.specs.Prelude.{IfSome, length, List, map, slice_get, Some, ℕ, [
 use Rattle.frame_writer.specs.Frames.{Frame}
 use Rattle.info_header.specs.InfoFrame.{info_frame}
 use Rattle.joined_inputs.specs.{Inputs.{class_of_first, InputFields}, Laying.{FitsWork, window_for}}
+use Rattle.joined_inputs.specs.Planned.{info_kept, plan_of_run_needs}
 use Rattle.joined_inputs.specs.declared.work.JoinWork.{JoinWork}
-use Rattle.laying.specs.{NeedsFit.own_choice, Written.slot_in}
-use Rattle.seamless_edits.specs.Deciding.{from_places, left_out_of, run_needs}
-use Rattle.seamless_edits.specs.Numbers.{info_kept, run_kept}
+use Rattle.laying.specs.Written.{slot_in}
+use Rattle.seamless_edits.specs.{Deciding.{from_places, left_out_of, run_needs}, Numbers.run_kept}
 use Rattle.seamless_edits.specs.declared.{beginnings.Beginning.Beginning, decided.Decided.Decided}
 use Rattle.seamless_edits.specs.declared.numbers.{Ends.Ends, Moved.Moved}
-use Rattle.slot_plan.specs.{LeastPlan.least_plan, Plans.entries, declared.needs.Need.Need}
-use Rattle.slot_plan.specs.declared.needs.Placed.{Placed}
+use Rattle.slot_plan.specs.{Plans.entries, declared.needs.Placed.Placed}
 use Rattle.sync_survey.specs.Row.{Row}
-
--- the plan of a run with these needs: it is one part, and each frame keeps its slot
-abbrev pub plan_of_run_needs : ℕ → List Need → List Placed
-plan_of_run_needs window needs = least_plan window own_choice (needs ∷ [])
 
 -- how many frames are left out at the front of the run, and how many lead-ins it has
 abbrev pub moved_of : Decided → List Placed → Moved

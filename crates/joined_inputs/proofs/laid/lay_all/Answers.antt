@@ -1,13 +1,13 @@
--- Input by input.
-use Rattle.std.proofs.Common.{ap, arith, drop, length, List, map, refl, rules, sym, take, ℕ, ◌+◌}
-use Rattle.std.proofs.Common.{◌-◌, ◌∙◌}
+-- Range by range.
+use Rattle.std.proofs.Common.{ap, arith, drop, length, List, refl, rules, sym, take, ℕ, ◌+◌, ◌-◌}
+use Rattle.std.proofs.Common.{◌∙◌, ◌∷◌}
 use Rattle.std.proofs.lemmas.List.{drop-drop, drop_all, length-drop, length-map, take_rest}
 use Rattle.frame_writer.specs.Frames.{Frame}
-use Rattle.joined_inputs.proofs.StepLemmas.{both-fit, cause-named, laid-all, laid-none, named-first}
-use Rattle.joined_inputs.proofs.StepLemmas.{next-class, next-laid, next-part, next-source}
-use Rattle.joined_inputs.proofs.StepLemmas.{next-within, source-ready}
-use Rattle.joined_inputs.{proofs.laid.lay_all.Goals.After-finish, specs.Inputs.input_view}
-use Rattle.joined_inputs.specs.Laying.{placed_frames}
+use Rattle.joined_inputs.proofs.StepLemmas.{both-fit, cause-at, cause-named, laid-all, laid-none}
+use Rattle.joined_inputs.proofs.StepLemmas.{named-first, next-class, next-laid, next-ordered}
+use Rattle.joined_inputs.proofs.StepLemmas.{next-part, next-source, next-within, source-ready}
+use Rattle.joined_inputs.proofs.laid.lay_all.Goals.{After-finish}
+use Rattle.joined_inputs.specs.Ranges.{laid_ranges, range_names}
 use Rattle.laying.proofs.EndLemmas.{lays-prefix, lays-written, new-behind, part-prefix}
 use Rattle.laying.specs.Passing.{LaysFrames, writing_in}
 use Rattle.outside.{proofs.PassLemmas.cause_later, specs.Files.Files}
@@ -18,29 +18,32 @@ pub loop-i-init : goal.loop-i-init
 loop-i-init g c = record {
   within = omega arith;
   laid = laid-none c.args.first.now.pass.input.now (writing_in c.args.buffers.now)
-      c.requires.join.sources c.requires.within c.requires.join.target c.requires.new
+      c.requires.pass.sources c.requires.within c.requires.pass.target c.requires.new
       c.requires.fits;
   counts = refl;
 }
 
-pub lay_from-requires-clause-stands : goal.lay_from-requires-clause-stands
-lay_from-requires-clause-stands g c =
+pub lay_range-requires-clause-stands : goal.lay_range-requires-clause-stands
+lay_range-requires-clause-stands g c =
     let left = sym (take_rest c.args.placed.now c.loop-i.at) in
     let laid = c.loop-i.invariant.laid in
     record {
       ready = source-ready _ _ _
-          (next-source c.input_at-input.ensures left laid)
+          (next-source c.range-range.ensures left laid)
           laid.target c.length.ensures (c.clear.ensures.fed _ _);
-      class = next-class c.input_at-input.ensures left laid;
+      class = next-class c.range-range.ensures left laid;
       unsettled = laid.unsettled;
     }
 
-pub lay_from-requires-clause-within : goal.lay_from-requires-clause-within
-lay_from-requires-clause-within g c = grind (arith, next-within, take_rest)
+pub lay_range-requires-clause-ordered : goal.lay_range-requires-clause-ordered
+lay_range-requires-clause-ordered g c = grind (arith, next-ordered, take_rest)
 
-pub lay_from-requires-clause-fits : goal.lay_from-requires-clause-fits
-lay_from-requires-clause-fits g c =
-    (both-fit c.input_at-input.ensures
+pub lay_range-requires-clause-within : goal.lay_range-requires-clause-within
+lay_range-requires-clause-within g c = grind (arith, next-within, take_rest)
+
+pub lay_range-requires-clause-fits : goal.lay_range-requires-clause-fits
+lay_range-requires-clause-fits g c =
+    (both-fit c.range-range.ensures
     (sym (take_rest c.args.placed.now c.loop-i.at)) c.loop-i.invariant.laid).0
 
 pub returns-in-Err : goal.returns-in-Err
@@ -49,10 +52,10 @@ returns-in-Err g c =
     let pass = c.args.first.now.pass in
     let seen = g.D.Folder.seen in
     let old = (seen c.args.folder.now).files in
-    let frames = placed_frames old (map input_view c.args.inputs.now) c.args.placed.now in
-    let part = next-part c.input_at-input.ensures
+    let frames = laid_ranges old (g.R.LaidRanges.ranges c.args.ranges) c.args.placed.now in
+    let part = next-part c.range-range.ensures
     (sym (take_rest c.args.placed.now c.loop-i.at)) c.loop-i.invariant.laid
-    c.requires.join.apart (seen c.lay_from.new.folder).files c.in-Err.ensures.gives.part in
+    c.requires.pass.apart (seen c.lay_range.new.folder).files c.in-Err.ensures.gives.part in
     let sofar = c.loop-i.invariant.laid.lays.lays in
     record {
       written = tt;
@@ -63,8 +66,8 @@ returns-in-Err g c =
           record {
             within = grind (arith, c.loop-i-test.true, length-map);
             size = _;
-            cause = cause-named (map input_view c.args.inputs.now) c.loop-i.i _ _ _ _ _ _ _ _
-                c.input_at-input.ensures
+            cause = cause-named (g.R.LaidRanges.ranges c.args.ranges) c.loop-i.i _ _ _ _ _ _ _ _
+                c.range-range.ensures
                 (cause_later _ _ _ pass.output.now sofar.passed _ _ _ c.in-Err.fault sofar.files
                 c.loop-i.invariant.counts c.in-Err.ensures.gives.cause);
           };
@@ -86,28 +89,28 @@ loop-i-preserved g c =
         length-drop at placed,
         c.loop-i.invariant.within,
       );
-      laid = next-laid c.input_at-input.ensures (sym left)
-          c.loop-i.invariant.laid c.requires.join.apart
-          (g.D.Folder.seen c.lay_from.new.folder).files (writing_in c.lay_from.new.buffers)
+      laid = next-laid c.range-range.ensures (sym left)
+          c.loop-i.invariant.laid c.requires.pass.apart
+          (g.D.Folder.seen c.lay_range.new.folder).files (writing_in c.lay_range.new.buffers)
           (drop (at + count) placed) more c.in-Ok.ensures.gives.lays c.in-Ok.ensures.stands.class
           c.in-Ok.ensures.gives.reach c.in-Ok.ensures.stands.unsettled;
       counts = c.in-Ok.ensures.gives.done ∙ c.loop-i.invariant.counts;
     }
 
--- all inputs were given to the writer
+-- all ranges were given to the writer
 module _ (g : given.Over) (c : After-finish g) where
   abbrev old : Files
   old = (g.D.Folder.seen c.args.folder.now).files
 
   abbrev frames : List ℕ → List Frame
-  frames = placed_frames old (map input_view c.args.inputs.now) c.args.placed.now
+  frames = laid_ranges old (g.R.LaidRanges.ranges c.args.ranges) c.args.placed.now
 
   laid_all : LaysFrames c.args.first.now.pass.input.now c.args.first.now.pass.output.now frames
       (writing_in c.args.buffers.now) (writing_in c.loop-i.buffers) old
       (g.D.Folder.seen c.loop-i.folder).files
   laid_all =
-      laid-all (drop_all c.loop-i.i (map input_view c.args.inputs.now)
-      (omega (arith, c.loop-i-test.false, length-map c.args.inputs.now input_view)))
+      laid-all (drop_all c.loop-i.i (g.R.LaidRanges.ranges c.args.ranges)
+      (omega (arith, c.loop-i-test.false, c.count-i-end.ensures)))
       c.loop-i.invariant.laid
 
 pub returns-in-Ok-finish : goal.returns-in-Ok-finish
@@ -141,10 +144,13 @@ returns-in-Err-finish g c =
       done = tt;
       cause =
           record {
-            within = named-first c.requires.join.are;
+            within = named-first c.requires.pass.are;
             size = _;
             cause =
-                cause-named (map input_view c.args.inputs.now) 0 _ _ _ _ _ _ _ _ c.requires.join.are
+                cause-at (range_names (g.R.LaidRanges.ranges c.args.ranges)) 0 pass.input.now
+                _ (range_names c.requires.pass.later) _ _ _ _ _
+                (ap range_names c.requires.pass.are
+                ∙ ap (λ n. n ∷ range_names c.requires.pass.later) c.requires.pass.named)
                 (cause_later _ _ _ pass.output.now sofar.passed _ _ _ c.in-Err-finish.fault
                 sofar.files c.loop-i.invariant.counts c.in-Err-finish.ensures.cause);
           };

@@ -1,13 +1,16 @@
 -- The ID3v2 blocks of the first input and the Info frame, the frames of all inputs, and then what
 -- waits.
-use Rattle.std.proofs.Common.{append-nil, arith, flat_map, length, List, map, refl, rules, sym, ℕ}
-use Rattle.std.{proofs.Common.{[], ◌++◌, ◌∷◌, ◌≡◌, ◌≢◌}, specs.List.concat}
+use Rattle.std.proofs.Common.{ap, append-nil, arith, flat_map, length, List, map, refl, rules, sym}
+use Rattle.std.proofs.{Common.{ℕ, [], ◌++◌, ◌<◌, ◌∷◌, ◌≡◌, ◌≢◌}, lemmas.List.length-map}
+use Rattle.std.specs.List.{concat}
 use Rattle.cut_edits.proofs.LaidPassLemmas.{appends-as_prefix}
 use Rattle.frame_writer.specs.Frames.{bytes_of_frames}
-use Rattle.joined_inputs.proofs.SourceLemmas.{first-source, sources-beside, told-beside}
-use Rattle.joined_inputs.proofs.StepLemmas.{cause-named, named-first, source-ready, told_frames}
+use Rattle.joined_inputs.proofs.RestLemmas.{rest-names, rest-parts, rest-rows, rest-within}
+use Rattle.joined_inputs.proofs.SourceLemmas.{first-source, ranges-beside, told-beside}
+use Rattle.joined_inputs.proofs.StepLemmas.{cause-at, source-ready, told_ranges}
 use Rattle.joined_inputs.proofs.written.append_joined.Goals.{After-append_front}
-use Rattle.joined_inputs.specs.{Inputs.{input_view, InputFields}, Laying.join_bytes}
+use Rattle.joined_inputs.specs.{Inputs.{input_names, input_view, InputFields}, Laying.join_bytes}
+use Rattle.joined_inputs.specs.Ranges.{RangeFields, rest_of_input}
 use Rattle.laying.specs.{Relaid.relaid_frames, Written.front_blocks}
 use Rattle.outside.proofs.BufferOutputLemmas.{err_at, passed_there}
 use Rattle.outside.proofs.FilesLemmas.{appended_leaves, appended_there, touches_none}
@@ -32,6 +35,13 @@ module _ (g : given.Over) (c : After-append_front g) where
   abbrev inputs : List InputFields
   inputs = map input_view c.args.inputs.now
 
+  abbrev ranges : List RangeFields
+  ranges = map rest_of_input inputs
+
+  -- there is a first input
+  some : 0 < length (input_names inputs)
+  some = rw c.requires.join.are (omega arith)
+
   abbrev whole : List ℕ → List ℕ
   whole = join_bytes old inputs c.args.work.now
 
@@ -40,13 +50,13 @@ module _ (g : given.Over) (c : After-append_front g) where
       concat (front_blocks file (survey_view c.args.first.now.survey.now)) ++ c.as_slice.result.now
 
   abbrev frames : Files → List Placed → List ℕ
-  frames mid placed = bytes_of_frames (relaid_frames (told_frames mid inputs) placed)
+  frames mid placed = bytes_of_frames (relaid_frames (told_ranges mid ranges) placed)
 
   all : (mid : Files) (placed : List Placed) → placed ≡ entries c.args.work.now.plan
       → LeavesAllBut (c.args.first.now.pass.output.now ∷ []) old mid
       → (file : List ℕ) → Holds old c.args.first.now.pass.input.now file
       → front file ++ frames mid placed ≡ whole file
-  all mid placed is only file holds = grind (arith, told-beside, flat_map)
+  all mid placed is only file holds = grind (arith, told-beside, rest-parts old inputs, flat_map)
 
   -- the front, and then the frames, or a part of them
   module _ (mid : Files) (placed : List Placed) (is : placed ≡ entries c.args.work.now.plan)
@@ -98,26 +108,35 @@ returns-in-Err g c =
           (λ file holds. sym (all g at first placed refl none file holds)) c.in-Err.ensures.prefix;
       done = tt;
       cause = record {
-        within = named-first c.requires.join.are;
+        within = some g at;
         size = _;
-        cause = cause-named (map input_view c.args.inputs.now) 0 _ _ _ _ _ _ _ _
-            c.requires.join.are c.in-Err.ensures.cause;
+        cause = cause-at (input_names (inputs g at)) 0 _ _ _ _ _ _ _ _
+            (ap input_names c.requires.join.are) c.in-Err.ensures.cause;
       };
     }
 
-pub lay_all-requires-clause-join : goal.lay_all-requires-clause-join
-lay_all-requires-clause-join g c =
+pub lay_all-requires-clause-few : goal.lay_all-requires-clause-few
+lay_all-requires-clause-few g c = grind (arith, length-map)
+
+pub lay_all-requires-clause-pass : goal.lay_all-requires-clause-pass
+lay_all-requires-clause-pass g c =
     let join = c.requires.join in
     let files = c.in_default.ensures.written.files in
     record {
-      from = join.from;
-      later = join.later;
-      are = join.are;
-      length = join.length;
+      begins = _;
+      later = _;
+      are = ap (map rest_of_input) join.are;
+      named = refl;
       apart = join.apart;
-      sources = sources-beside _ _ _ _ _ (rw files (appended_leaves _ _ _)) join.sources;
+      sources = ranges-beside _ _ _ _ _ (rw files (appended_leaves _ _ _)) join.sources;
       target = rw files (appended_there _ _ _);
     }
+
+pub lay_all-requires-clause-within : goal.lay_all-requires-clause-within
+lay_all-requires-clause-within g c = rest-within _ c.requires.fits.within
+
+pub lay_all-requires-clause-fits : goal.lay_all-requires-clause-fits
+lay_all-requires-clause-fits g c = grind (arith, rest-rows)
 
 pub returns-in_err-lay_all : goal.returns-in_err-lay_all
 returns-in_err-lay_all g c =
@@ -131,7 +150,7 @@ returns-in_err-lay_all g c =
       written = search rules;
       prefix = err_at c.from_residual.result _ c.from_residual.ensures.1 rest;
       done = search rules;
-      cause = search (arith, err_at, cause_later);
+      cause = search (arith, err_at, cause_later, rest-names);
     }
 
 pub finish-requires : goal.finish-requires
@@ -163,9 +182,10 @@ returns-in-Err-finish g c =
       prefix = writes_end c.args.first.now.pass (whole g w) rest c.in-Err-finish.ensures.prefix;
       done = tt;
       cause = record {
-        within = named-first c.requires.join.are;
+        within = some g w;
         size = _;
-        cause = cause-named (map input_view c.args.inputs.now) 0 _ _ _ _ _ _ _ _ c.requires.join.are
+        cause = cause-at (input_names (inputs g w)) 0 _ _ _ _ _ _ _ _
+            (ap input_names c.requires.join.are)
             (cause_later _ _ _ c.args.first.now.pass.output.now front.bytes _ _ _
             c.in-Err-finish.fault front.files c.in_default.ensures.done
             (cause_behind frames.written _ _ _ _ frames.done c.in-Err-finish.fault

@@ -5,8 +5,9 @@ use Rattle.commands.proofs.OutputLemmas.{not_begun, output_whole, pass_fault, to
 use Rattle.commands.{proofs.OutputLemmas.touches_whole, specs.SingleOutput.first_input}
 use Rattle.cut_edits.proofs.LaidPassLemmas.{appends-as_prefix}
 use Rattle.frame_header.specs.Fields.{ClassFields}
-use Rattle.joined_inputs.proofs.SourceLemmas.{first-class, first-source, sources-beside}
-use Rattle.joined_inputs.proofs.{SourceLemmas.told-beside, written.write_joined.Goals.In-Ok}
+use Rattle.joined_inputs.proofs.RestLemmas.{rest-parts}
+use Rattle.joined_inputs.proofs.SourceLemmas.{first-class, first-source, ranges-beside, told-beside}
+use Rattle.joined_inputs.proofs.written.write_joined.Goals.{In-Ok}
 use Rattle.joined_inputs.specs.Inputs.{input_names, input_view, InputFields}
 use Rattle.joined_inputs.specs.Laying.{AreSources, FitsWork, join_bytes}
 use Rattle.outside.proofs.FilesLemmas.{emptied_there, emptied_touches, fails_touches}
@@ -48,7 +49,7 @@ module _ (g : given.Over) (c : In-Ok g) where
   -- the bytes to write don't change when the output is created
   beside : (file : List ℕ) → join_bytes mid inputs c.args.work.now file
       ≡ join_bytes old inputs c.args.work.now file
-  beside file = grind (arith, flat_map, told-beside, only, sources)
+  beside file = grind (arith, flat_map, told-beside, rest-parts, only, sources)
 
 pub append_joined-requires-clause-join : goal.append_joined-requires-clause-join
 append_joined-requires-clause-join g c =
@@ -59,7 +60,7 @@ append_joined-requires-clause-join g c =
       are = c.input_at.ensures;
       length = c.length.ensures;
       apart = apart g at;
-      sources = sources-beside _ _ _ _ _ (only g at) (sources g at);
+      sources = ranges-beside _ _ _ _ _ (only g at) (sources g at);
       target = rw c.in-Ok.ensures.answer.created (emptied_there (old g at) c.args.output.now);
     }
 

@@ -5,12 +5,12 @@ use Rattle.std.specs.Prelude.{slice_get}
 use Rattle.frame_header.specs.{Limits.most_output_frames, Tables.window_of}
 use Rattle.info_header.specs.InfoFrame.{info_frame}
 use Rattle.joined_inputs.specs.Inputs.{class_of_first, input_view, InputFields}
+use Rattle.joined_inputs.specs.Planned.{info_kept, plan_of_run_needs}
 use Rattle.joined_inputs.specs.declared.work.JoinWork.{JoinWork}
 use Rattle.laying.{proofs.PlacesLemmas.plan-length, specs.declared.info.Kept.Kept}
-use Rattle.seamless_edits.proofs.{KnownLemmas.get-at, RunPlanLemmas.fits-moved}
+use Rattle.seamless_edits.proofs.{KnownLemmas.get-at, MovedLemmas.fits-moved}
 use Rattle.seamless_edits.proofs.planned.prepare_run.Goals.{After-placed-placed}
-use Rattle.seamless_edits.specs.Numbers.{info_kept, run_kept}
-use Rattle.seamless_edits.specs.RunReady.{AreEnds, moved_of, plan_of_run_needs}
+use Rattle.seamless_edits.specs.{Numbers.run_kept, RunReady.{AreEnds, moved_of}}
 use Rattle.seamless_edits.specs.declared.numbers.Ends.{Ends}
 use Rattle.slot_plan.specs.{Parts.AreNeedsOfClass, Plans.entries, declared.needs.Need.Need}
 use Rattle.slot_plan.specs.declared.needs.Placed.{Placed}

@@ -1,9 +1,9 @@
 -- What becomes of one more input.
-use Rattle.std.proofs.Common.{ap, arith, drop, false, get_or, IfSome, length, length-append, List}
-use Rattle.std.proofs.Common.{map, None, Some, sym, take, ℕ, ◌++◌, ◌-◌, ◌<◌, ◌∙◌, ◌≡◌}
-use Rattle.std.proofs.lemmas.{List.{drop_at, length-map, take_all, take_at}, Slice.Zip.AllZip-long}
-use Rattle.std.specs.Prelude.{slice_get}
+use Rattle.std.proofs.Common.{ap, arith, drop, false, get_or, IfSome, length, List, map, None, Some}
+use Rattle.std.proofs.{Common.{sym, take, ◌++◌, ◌-◌, ◌<◌, ◌∙◌, ◌≡◌}, lemmas.List.length-map}
+use Rattle.std.{proofs.lemmas.Slice.Zip.AllZip-long, specs.Prelude.slice_get}
 use Rattle.exact_span.specs.PlayedPositions.{AreCounted, counted_positions}
+use Rattle.joined_inputs.proofs.BorrowLemmas.{back-needs, borrowed-needs, front-needs}
 use Rattle.joined_inputs.specs.Inputs.{input_view, InputFields}
 use Rattle.laying.specs.Needs.{need_of}
 use Rattle.seamless_edits.proofs.DecideAllLemmas.{all-of-one, get-here, input-few, input-of}
@@ -19,22 +19,6 @@ use Rattle.seamless_edits.proofs.decided.Deciding.add.Goals as goal
 
 pub input_at-requires : goal.input_at-requires
 input_at-requires g c = grind (arith, length-map)
-
--- the needs up to where those of the input begin
-front-needs : (old all new : List Need) (from : ℕ) → from ≡ length old → all ≡ old ++ new
-    → take from all ≡ old
-front-needs old all new from begins is = grind (arith, begins, take_at)
-
--- the needs from where those of the input begin
-back-needs : (old all new : List Need) (from : ℕ) → from ≡ length old → all ≡ old ++ new
-    → drop from all ≡ new
-back-needs old all new from begins is = grind (arith, begins, drop_at)
-
--- what is borrowed of them are the needs of the input
-borrowed-needs : (old all new part : List Need) (from : ℕ) → from ≡ length old → all ≡ old ++ new
-    → part ≡ all → take (length part - from) (drop from part) ≡ new
-borrowed-needs old all new part from begins is here =
-    grind (arith, back-needs, begins, length-append, take_all)
 
 pub brought-input-requires : goal.brought-input-requires
 brought-input-requires g c =

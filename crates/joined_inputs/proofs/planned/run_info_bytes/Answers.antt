@@ -1,10 +1,10 @@
 -- The Info frame, sealed if something is kept.
 use Rattle.std.proofs.Common.{ap, Option, sym, ◌∙◌}
 use Rattle.info_header.specs.InfoFrame.{info_frame}
+use Rattle.joined_inputs.specs.Planned.{info_kept}
 use Rattle.laying.specs.{Written.info_for, declared.info.Kept.Kept}
-use Rattle.seamless_edits.specs.Numbers.{info_kept}
 use Rattle.sync_survey.specs.Faults.{survey_view}
-use Rattle.seamless_edits.proofs.planned.run_info_bytes.Goals as goal
+use Rattle.joined_inputs.proofs.planned.run_info_bytes.Goals as goal
 
 pub returns-in_default : goal.returns-in_default
 returns-in_default c first frames found slots =

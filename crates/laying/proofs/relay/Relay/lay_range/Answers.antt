@@ -1,20 +1,20 @@
--- The frames from number `from` on, in as many places as they take.
-use Rattle.std.proofs.Common.{ap, arith, length, rules, subst, sym, ◌∙◌}
+-- The frames of a range, in as many places as they take.
+use Rattle.std.proofs.Common.{arith, rules, subst, sym, ◌∙◌}
 use Rattle.frame_writer.specs.Frames.{reach_of}
-use Rattle.laying.proofs.FramesFromLemmas.{fits-from, from-begins, lays-from, part-from, reach-is}
 use Rattle.laying.proofs.PassLemmas.{part_none}
+use Rattle.laying.proofs.RangeLemmas.{fits-range, lays-range, part-range, range-begins, reach-is}
 use Rattle.laying.specs.Passing.{GivesPart, planned_frames, reach_behind_all, writing_in}
 use Rattle.outside.proofs.BufferOutputLemmas.{err_at}
 use Rattle.sync_survey.specs.Faults.{survey_view}
-use Rattle.laying.proofs.relay.Relay.lay_from.Goals as goal
+use Rattle.laying.proofs.relay.Relay.lay_range.Goals as goal
 
 pub returns-in_err-read_before-clause-gives : goal.returns-in_err-read_before-clause-gives
 returns-in_err-read_before-clause-gives g c = record {
   lays = search rules;
   part = let relay = c.args.self.now in
       let from = c.args.from in
+      let to = c.args.to in
       let s = survey_view relay.survey.now in
-      let to = length s.frames in
       let b = c.args.buffers.now in
       let placed = c.args.placed.now in
       let old = (g.D.Folder.seen c.args.folder.now).files in
@@ -26,23 +26,23 @@ returns-in_err-read_before-clause-gives g c = record {
       (part_none relay.pass.input.now relay.pass.output.now made reach (writing_in b) old
       c.in_err-read_before.ensures.reads.read c.requires.stands.ready.pass.target
       (λ file holds more.
-      from-begins file from s placed (reach_of b.writer) b.writer.waiting.free more
-      (c.requires.stands.ready.exact file holds) (omega arith) c.requires.fits)));
+      range-begins s from to c.requires.within file placed (reach_of b.writer) b.writer.waiting.free
+      more (c.requires.stands.ready.exact file holds) (omega arith) c.requires.fits)));
   reach = search rules;
   done = search rules;
   cause = search rules;
 }
 
 pub frames-requires-clause-fits : goal.frames-requires-clause-fits
-frames-requires-clause-fits g c = grind (arith, fits-from)
+frames-requires-clause-fits g c = grind (arith, fits-range)
 
 pub returns-in_err-frames-clause-gives : goal.returns-in_err-frames-clause-gives
 returns-in_err-frames-clause-gives g c = record {
   lays = search rules;
   part = let b = c.args.buffers.now in
       err_at c.from_residual-in_err-frames.result _ c.from_residual-in_err-frames.ensures.1
-      (part-from (survey_view c.args.self.now.survey.now) c.args.placed.now c.args.from _ _
-      (ap length c.frames-rows.ensures) c.places_for-count.ensures.places _ _ (writing_in b)
+      (part-range (survey_view c.args.self.now.survey.now) c.args.from c.args.to c.requires.within
+      c.args.placed.now _ c.places_for-count.ensures.places _ _ (writing_in b)
       _ _ _ c.read_before.ensures.reads.files (reach_of b.writer)
       c.in_err-frames.ensures.gives.part);
   reach = search rules;
@@ -53,15 +53,14 @@ returns-in_err-frames-clause-gives g c = record {
 pub returns-clause-gives : goal.returns-clause-gives
 returns-clause-gives g c = record {
   lays =
-      lays-from (survey_view c.args.self.now.survey.now) c.args.placed.now c.args.from _ _
-      (ap length c.frames-rows.ensures) c.places_for-count.ensures.places _ _
+      lays-range (survey_view c.args.self.now.survey.now) c.args.from c.args.to c.requires.within
+      c.args.placed.now _ c.places_for-count.ensures.places _ _
       (writing_in c.args.buffers.now) _ _ _ c.read_before.ensures.reads.files
       (writing_in c.frames.new.buffers) c.in_ok-frames.ensures.gives.lays;
   part = search rules;
   reach = c.in_ok-frames.ensures.gives.reach
-      ∙ reach-is (survey_view c.args.self.now.survey.now) c.args.placed.now c.args.from _ _
-      (ap length c.frames-rows.ensures) c.places_for-count.ensures.places
-      (reach_of c.args.buffers.now.writer);
+      ∙ reach-is (survey_view c.args.self.now.survey.now) c.args.from c.args.to c.requires.within
+      c.args.placed.now _ c.places_for-count.ensures.places (reach_of c.args.buffers.now.writer);
   done = search rules;
   cause = search rules;
 }

@@ -2,11 +2,11 @@
 use Rattle.std.proofs.{Common.{subst, sym}, lemmas.Result.IfOk-weaker}
 use Rattle.frame_header.proofs.HeaderLemmas.{IsClass-class_of}
 use Rattle.frame_header.specs.Fields.{ClassFields, IsClass, IsHeader}
-use Rattle.seamless_edits.proofs.RunPlanLemmas.{can-plan, fits-in, plan-fits, plan-is}
-use Rattle.seamless_edits.proofs.planned.plan_run.Goals.{After-header}
+use Rattle.joined_inputs.proofs.RunPlanLemmas.{can-plan, fits-in, plan-fits, plan-is}
+use Rattle.joined_inputs.proofs.planned.plan_run.Goals.{After-header}
 use Rattle.slot_plan.{proofs.PartLemmas.same-class, specs.{Parts.AreNeedsOfClass, Plans.entries}}
 use Rattle.slot_plan.specs.declared.needs.Need.{Need}
-use Rattle.seamless_edits.proofs.planned.plan_run.Goals as goal
+use Rattle.joined_inputs.proofs.planned.plan_run.Goals as goal
 
 -- a class that all needs have is one of the standard
 known : (c : After-header) (class : ClassFields) → AreNeedsOfClass class c.args.needs.now

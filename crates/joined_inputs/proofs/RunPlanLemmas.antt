@@ -1,11 +1,11 @@
 -- The plan of a run, which is one part.
-use Rattle.std.proofs.Common.{All, ap, append-nil, arith, Bool, cond, false, length, List, subst, ℕ}
-use Rattle.std.proofs.{Common.{[], ◌<◌, ◌∷◌, ◌≡◌}, lemmas.List.Elements.{All-cons, All-nil}}
-use Rattle.frame_header.specs.{Fields.{ClassFields, IsClass}, Tables.{area_of, class_of, window_of}}
+use Rattle.std.proofs.Common.{All, ap, append-nil, arith, length, List, refl, subst, ℕ, [], ◌<◌}
+use Rattle.std.proofs.{Common.{◌∷◌, ◌≡◌}, lemmas.List.Elements.{All-cons, All-nil}}
+use Rattle.frame_header.specs.{Fields.{ClassFields, IsClass}, Tables.{class_of, window_of}}
+use Rattle.joined_inputs.specs.Planned.{plan_of_run_needs}
 use Rattle.laying.proofs.{FitLemmas.parts-fit, PartsLemmas.one_class, PlacesLemmas.range-whole}
-use Rattle.laying.specs.Fits.{FitsFromReach, placed_area, placed_bytes, reach_behind}
-use Rattle.laying.specs.{NeedsFit.own_choice, Relaid.rest_behind}
-use Rattle.seamless_edits.specs.{Deciding.AreMovedNeeds, RunReady.plan_of_run_needs}
+use Rattle.laying.specs.{Fits.FitsFromReach, NeedsFit.own_choice}
+use Rattle.slot_plan.proofs.LeastPlanLemmas.{least-plan-is}
 use Rattle.slot_plan.specs.FreeBytes.{FitBehindWindow, FitsBehind}
 use Rattle.slot_plan.specs.Laws.{ChoosesInOrder, IsPlanAnswer, PartsChooseInOrder}
 use Rattle.slot_plan.specs.Parts.{AreNeedsOfClass, ArePartsFeasible, CanBePlanned, needs_in_parts}
@@ -73,45 +73,12 @@ module _ (class : ClassFields) (needs : List Need) (known : IsClass class)
       (subst (λ (parts : List (List Need)). IsPlan (window_in needs) own_choice parts placed)
       parts-one is.plan)))
 
--- ---- frames in other slots
-
-abbrev InSlot : Need → Need → Type 0
-InSlot n m = (n.bytes ≡ m.bytes) × (n.header ≡ record m.header { slot = n.header.slot })
-
-bytes-same : (b : Bool) (n m : Need) → InSlot n m → placed_bytes b n ≡ placed_bytes b m
-bytes-same b n m is = grind arith
-
-area-by : (b : Bool) (p : Placed) (n m : Need) → InSlot n m
-    → area_of (class_of n.header) p.slot (cond b false n.header.protected)
-    ≡ area_of (class_of m.header) p.slot (cond b false m.header.protected)
-area-by b p n m is = grind arith
-
-area-same : (p : Placed) (n m : Need) → InSlot n m → placed_area p n ≡ placed_area p m
-area-same p n m is = area-by p.lead_in p n m is
-
-reach-same : (window : ℕ) (p : Placed) (n m : Need) → InSlot n m
-    → reach_behind window p n ≡ reach_behind window p m
-reach-same window p n m is = grind (arith, area-same, bytes-same)
-
-behind-same : (b : Bool) (n m : Need) (needs others : List Need) → InSlot n m
-    → AreMovedNeeds needs others → AreMovedNeeds (rest_behind b n needs) (rest_behind b m others)
-behind-same b n m needs others is are = grind arith
-
--- whether frames fit in a plan doesn't depend on the slots that they have before
-pub fits-moved : (window reach : ℕ) (needs others : List Need) (placed : List Placed)
-    → AreMovedNeeds needs others → FitsFromReach window reach needs placed
-    → FitsFromReach window reach others placed
-unfolding FitsFromReach
-fits-moved window reach [] [] [] are fits = tt
-fits-moved window reach [] [] (p ∷ placed) are fits = absurd fits
-fits-moved window reach [] (m ∷ others) placed are fits = absurd are
-fits-moved window reach (n ∷ needs) [] placed are fits = absurd are
-fits-moved window reach (n ∷ needs) (m ∷ others) [] are fits = absurd fits
-fits-moved window reach (n ∷ needs) (m ∷ others) (p ∷ placed) are fits = (
-  fits.0,
-  omega (arith, fits.1, bytes-same p.lead_in n m are.0, area-same p n m are.0),
-  subst (λ r. FitsFromReach window r (rest_behind p.lead_in m others) placed)
-      (reach-same window p n m are.0)
-      (fits-moved window (reach_behind window p n) (rest_behind p.lead_in n needs) (rest_behind
-      p.lead_in m others) placed (behind-same p.lead_in n m needs others are.0 are.1) fits.2),
-)
+  -- the plan of the definition is the first of all lists of own slots with a layout
+  pub run-planned : IsPlan window own_choice (needs ∷ []) (plan_of_run_needs window needs)
+  run-planned =
+      let OfClass : List Need → Type 0 = λ part. AreNeedsOfClass class part in
+      let InOrder : List Need → Type 0 = λ part. All (ChoosesInOrder own_choice) part in
+      (least-plan-is class own_choice (needs ∷ []) (plan_of_run_needs window needs)
+      (All-cons OfClass needs [] same (All-nil OfClass))
+      (All-cons InOrder needs [] (needs-choose class needs known same) (All-nil InOrder))
+      feasible).1 refl

@@ -1,0 +1,6 @@
+-- The range is the rest of the input at its place.
+use Rattle.std.proofs.{Common.arith, lemmas.List.drop-map}
+use Rattle.joined_inputs.proofs.ranges.RestsLaidRanges.range.Goals as goal
+
+pub returns : goal.returns
+returns c = grind (arith, drop-map)
