@@ -1,0 +1,12 @@
+-- The lemmas of this crate.
+pub mod ItemLemmas
+pub mod RunLemmas
+pub mod MarkLemmas
+pub mod PlanLemmas
+pub mod RemovalLemmas
+pub mod CommandLemmas
+pub mod RangeLemmas
+pub mod JoinLemmas
+pub mod PlannedLemmas
+pub mod PassLemmas
+pub mod EditLemmas

@@ -1,0 +1,15 @@
+//! `remove`: takes stretches out of a file. What stays is laid as one run, so that each part serves
+//! as the bit reservoir of the next.
+#![tactic(auto)]
+
+mod calls;
+mod edit;
+mod kept;
+mod marked;
+mod planned;
+mod ranges;
+mod run;
+mod stretches;
+mod work;
+
+pub use calls::remove;
