@@ -1,13 +1,14 @@
 -- What is written holds the frames that are chosen, whatever is asked for.
 use Rattle.std.proofs.Common.{false, refl, true}
 use Rattle.chosen_streams.proofs.ChosenCaseLemmas.{cut-holds, pack-holds}
-use Rattle.chosen_streams.proofs.{JoinCaseLemmas.join-holds, SalvageCaseLemmas.salvage-holds}
+use Rattle.chosen_streams.proofs.{JoinCaseLemmas.join-holds, RemoveCaseLemmas.remove-holds}
+use Rattle.chosen_streams.proofs.SalvageCaseLemmas.{salvage-holds}
 use Rattle.chosen_streams.proofs.{SeamlessCaseLemmas.seamless-chosen, SpanCaseLemmas.exact-holds}
 use Rattle.chosen_streams.proofs.SplitCaseLemmas.{split_at-holds, split_by-holds, split_exact-holds}
 use Rattle.chosen_streams.{proofs.SplitCaseLemmas.split_exact_by-holds, specs.Laws.StreamsAreChosen}
 use Rattle.job_words.specs.Request.{Cut, CutExact, Drill, Fade, Gain, Help, InfoFile, Join}
-use Rattle.job_words.specs.Request.{ListFile, Pack, Salvage, SplitAt, SplitBy, SplitExact, Undo}
-use Rattle.job_words.specs.Request.{Version}
+use Rattle.job_words.specs.Request.{ListFile, Pack, Remove, Salvage, SplitAt, SplitBy, SplitExact}
+use Rattle.job_words.specs.Request.{Undo, Version}
 
 -- what is written holds the frames that are chosen
 pub streams-chosen : StreamsAreChosen
@@ -28,4 +29,5 @@ streams-chosen (SplitBy false input prefix sheet) = split_by-holds input prefix 
 streams-chosen (SplitBy true input prefix sheet) = split_exact_by-holds input prefix sheet
 streams-chosen (Join false output inputs) = join-holds output inputs
 streams-chosen (Join true output inputs) = seamless-chosen output inputs
+streams-chosen (Remove input output stretches) = remove-holds stretches input output
 streams-chosen (Salvage input output) = salvage-holds input output

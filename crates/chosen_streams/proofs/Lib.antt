@@ -8,5 +8,6 @@ pub mod SalvageCaseLemmas
 pub mod ChosenCaseLemmas
 pub mod SpanCaseLemmas
 pub mod SplitCaseLemmas
+pub mod RemoveCaseLemmas
 pub mod JobLemmas
 pub mod NamedLemmas

@@ -14,14 +14,15 @@ use Rattle.exact_span.specs.declared.exact_place.ExactPlace.{ExactPlace}
 use Rattle.exact_span.specs.declared.exact_place.ExactPlace.TheVariants.{Place as Position}
 use Rattle.gain_edits.specs.Fade.{fade_task}
 use Rattle.job_words.specs.Request.{Cut, CutExact, Drill, Fade, Gain, Help, InfoFile, Join}
-use Rattle.job_words.specs.Request.{ListFile, Pack, Salvage, SplitAt, SplitBy, SplitExact, Undo}
-use Rattle.job_words.specs.Request.{Version}
+use Rattle.job_words.specs.Request.{ListFile, Pack, Remove, Salvage, SplitAt, SplitBy, SplitExact}
+use Rattle.job_words.specs.Request.{Undo, Version}
 use Rattle.join_edits.specs.Join.{join_task}
 use Rattle.joined_inputs.specs.Parts.{join_parts}
 use Rattle.laying.specs.Laid.{LaidPart}
 use Rattle.list_edits.specs.TextCommand.{input_text, surveyed_text}
 use Rattle.outside.specs.Files.{Contents}
 use Rattle.pack_edits.specs.Modes.{pack_task}
+use Rattle.remove_edits.specs.Removed.{remove_task}
 use Rattle.requests.specs.Names.{piece_name, piece_names}
 use Rattle.salvage_edits.specs.Salvaged.{input_salvage_text, salvage_task}
 use Rattle.seamless_edits.specs.Seamless.{seamless_task, seamless_text_or_none}
@@ -192,6 +193,8 @@ outputs-named (Join true output inputs) sound f made e =
     named-told (seamless_text_or_none inputs (join_parts f inputs)) (output ∷ [])
     ((one_command (seamless_task inputs) output).makes f) made
     (one-named (seamless_task inputs) output f) e
+outputs-named (Remove input output stretches) sound f made e =
+    one-named (remove_task stretches input) output f made e
 outputs-named (Salvage input output) sound f made e =
     named-told (input_salvage_text (f input)) (output ∷ [])
     ((one_command (salvage_task input) output).makes f) made

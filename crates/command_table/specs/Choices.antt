@@ -5,7 +5,8 @@ use Rattle.std.specs.Prelude.{◌≢◌, ◌≤◌, ◌⊎◌}
 use Rattle.command_table.specs.Inputs.{FileInput, HoldsOfEach, HoldsOfEachNext}
 use Rattle.cue_sheet.specs.{Cues.cue_of, Limits.longest_sheet, Places.frame_at}
 use Rattle.cue_sheet.specs.declared.place.Place.{Place, TheVariants.End}
-use Rattle.exact_span.specs.{Places.sample_at, PlayedPositions.{length_of_played, played_of}}
+use Rattle.exact_span.specs.Places.{exact_frame_at, sample_at}
+use Rattle.exact_span.specs.PlayedPositions.{length_of_played, played_of}
 use Rattle.exact_span.specs.declared.exact_place.ExactPlace.{ExactPlace}
 use Rattle.exact_span.specs.declared.exact_place.ExactPlace.TheVariants.{Place as Position}
 use Rattle.fade_plan.specs.Curves.{curve_point, point_frame, steps_at, steps_back}
@@ -206,6 +207,32 @@ IsLegalPack Least s = Unit {0}
 IsLegalPack Best s = Unit {0}
 IsLegalPack (Constant rate) s = IsRate rate s.class × HasRateRoom rate s
 IsLegalPack (Floor rate) s = IsRate rate s.class
+
+-- ---- remove
+
+-- the number of the frame that a place names, counted from the first
+abbrev pub exact_frame_number : SurveyFields → ExactPlace → ℕ
+exact_frame_number s place = exact_frame_at s.class (length s.frames) place
+
+-- the stretch has a frame, and ends within the file
+abbrev pub IsStretchWithin : SurveyFields → ExactPlace × ExactPlace → Type 0
+IsStretchWithin s stretch = (exact_frame_number s stretch.0 < exact_frame_number s stretch.1)
+    × (exact_frame_number s stretch.1 ≤ length s.frames)
+
+-- the frame with this number is before the stretch or after it
+abbrev pub IsBesideStretch : SurveyFields → ℕ → ExactPlace × ExactPlace → Type 0
+IsBesideStretch s i stretch =
+    (i < exact_frame_number s stretch.0) ⊎ (exact_frame_number s stretch.1 ≤ i)
+
+-- Each stretch has a frame and ends within the file, none begins before the end of the one before
+-- it, though they may touch, and there is a frame of the file that is in no stretch.
+pub record IsLegalRemoval (stretches : List (ExactPlace × ExactPlace))
+    (s : SurveyFields) : Type 0 where
+  pub within : HoldsOfEach stretches (λ k stretch. IsStretchWithin s stretch)
+  pub order : HoldsOfEachNext stretches (λ p q. exact_frame_number s p.1 ≤ exact_frame_number s q.0)
+  pub frame : ℕ
+  pub there : frame < length s.frames
+  pub stays : HoldsOfEach stretches (λ k stretch. IsBesideStretch s frame stretch)
 
 -- ---- join
 

@@ -12,6 +12,8 @@ use Rattle.frame_header.specs.Tables.{class_of}
 use Rattle.joined_inputs.specs.Parts.{join_parts}
 use Rattle.laying.specs.{KeptFields.fields_of_head, Relaid.{FilePart, part_stream}}
 use Rattle.outside.specs.Files.{Contents}
+use Rattle.remove_edits.specs.Removed.{parts_left}
+use Rattle.seam_plan.specs.declared.stretches.Part.{Part}
 use Rattle.seamless_edits.specs.Seamless.{run_parts}
 use Rattle.sync_survey.specs.Faults.{stream_of, stream_of_survey, SurveyFields, unbounded_survey}
 use Rattle.sync_survey.specs.{MainData.StreamFrame, declared.survey_fault.SurveyFault.SurveyFault}
@@ -87,6 +89,25 @@ frames_needed_between file from to = frames_needed from to file
 abbrev pub joined_run_frames : Result (List FilePart) EditFault → List StreamFrame
 joined_run_frames (Ok (first ∷ parts)) = flat_map part_stream (run_parts first parts)
 joined_run_frames _ = []
+
+-- The frames of each longest range of frames that stay when stretches are taken out of a file with
+-- this survey, as they are in the stream of the file whose head is set apart; none where the
+-- stretches are refused.
+abbrev pub staying_range_frames : List ℕ → SurveyFields → Result (List Part) EditFault
+    → List (List StreamFrame)
+staying_range_frames file s (Ok parts) = map (λ (part : Part).
+    slice_range (stream_of_survey file (survey_without_head s)) part.from part.to) parts
+staying_range_frames file s (Err fault) = []
+
+-- those left in a file with this survey; none where it has a fault
+abbrev pub surveyed_staying_frames : List (ExactPlace × ExactPlace) → List ℕ
+    → Result SurveyFields SurveyFault → List (List StreamFrame)
+surveyed_staying_frames stretches file (Ok s) = staying_range_frames file s (parts_left stretches s)
+surveyed_staying_frames stretches file (Err fault) = []
+
+-- those left in a file
+abbrev pub staying_frames : List (ExactPlace × ExactPlace) → List ℕ → List (List StreamFrame)
+staying_frames stretches file = surveyed_staying_frames stretches file (unbounded_survey file)
 
 -- the positions that a cue sheet gives: where its tracks start, and the end
 abbrev pub cue_positions : Result (List Place) CueFault → List Place

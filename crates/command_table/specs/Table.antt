@@ -1,11 +1,12 @@
 -- The table of commands: all that is said of each is in its entry.
 use Rattle.std.specs.Prelude.{Bool, false, List, map, true, ℕ, [], ◌++◌, ◌∷◌}
 use Rattle.command_table.specs.Choices.{AreInputsOfOneClass, ArePieceRanges, AreSamplePieces}
-use Rattle.command_table.specs.Choices.{IsLegalFade, IsLegalGain, IsLegalPack, IsLegalSalvage}
-use Rattle.command_table.specs.Choices.{IsLegalSheetOf, IsLegalUndo, IsRange, IsSampleRange}
+use Rattle.command_table.specs.Choices.{IsLegalFade, IsLegalGain, IsLegalPack, IsLegalRemoval}
+use Rattle.command_table.specs.Choices.{IsLegalSalvage, IsLegalSheetOf, IsLegalUndo, IsRange}
+use Rattle.command_table.specs.Choices.{IsSampleRange}
 use Rattle.command_table.specs.Chosen.{Alone, file_bytes_of, Frames, frames_between, frames_joined}
 use Rattle.command_table.specs.Chosen.{frames_needed, frames_needed_between, InParts, named_frames}
-use Rattle.command_table.specs.Chosen.{piece_frames, sheet_piece_frames}
+use Rattle.command_table.specs.Chosen.{piece_frames, sheet_piece_frames, staying_frames}
 use Rattle.command_table.specs.Inputs.{FileInput, HoldsOfOne}
 use Rattle.commands.specs.{Command.Command, SingleOutput.most_frames}
 use Rattle.cut_edits.specs.{Chosen.cut_command, Exact.exact_command}
@@ -13,14 +14,15 @@ use Rattle.drill.specs.Drilled.{drill_command}
 use Rattle.gain_edits.specs.{Fade.{fade_command, faded_stream}, Gain.gain_command}
 use Rattle.gain_edits.specs.Undo.{file_undo_steps, undo_command}
 use Rattle.job_words.specs.Request.{Cut, CutExact, Drill, Fade, Gain, Help, InfoFile, Join}
-use Rattle.job_words.specs.Request.{ListFile, Pack, Request, Salvage, SplitAt, SplitBy, SplitExact}
-use Rattle.job_words.specs.Request.{Undo, Version}
+use Rattle.job_words.specs.Request.{ListFile, Pack, Remove, Request, Salvage, SplitAt, SplitBy}
+use Rattle.job_words.specs.Request.{SplitExact, Undo, Version}
 use Rattle.join_edits.specs.Join.{join_command}
 use Rattle.list_edits.specs.{InfoText.info_command, Listing.list_command}
 use Rattle.moved_gains.specs.Streams.{moved_stream_frame}
 use Rattle.outside.specs.Files.{Contents}
 use Rattle.pack_edits.specs.Modes.{allowed_frames, pack_mode_command}
 use Rattle.program_texts.specs.Texts.{fixed_text_command, help_text, version_text}
+use Rattle.remove_edits.specs.Removed.{remove_command}
 use Rattle.requests.specs.{Names.piece_names, Shifts.steps_of}
 use Rattle.salvage.specs.Stream.{salvaged_stream}
 use Rattle.salvage_edits.specs.Salvaged.{salvage_command}
@@ -71,9 +73,9 @@ joining_command true output inputs = seamless_command output inputs
 
 -- The entry of what is asked for. A change of gains keeps all frames where they are, and moves
 -- their gains. The other commands repack the chosen frames: those between two positions, those
--- needed for some samples, those of each piece, all frames of one input or of several, those of
--- several that aren't left out, or what is left of a damaged file, where each frame that isn't
--- sound is empty.
+-- needed for some samples, those of each piece, those outside of stretches, all frames of one input
+-- or of several, those of several that aren't left out, or what is left of a damaged file, where
+-- each frame that isn't sound is empty.
 abbrev pub entry_of : Request → CommandEntry
 entry_of Help = text_entry [] (fixed_text_command help_text)
 entry_of Version = text_entry [] (fixed_text_command version_text)
@@ -173,6 +175,15 @@ entry_of (Join seamless output inputs) = record {
   chosen = λ files. frames_joined seamless files inputs ∷ [];
   most = most_frames;
   legal = λ files. AreInputsOfOneClass;
+}
+entry_of (Remove input output stretches) = record {
+  sources = input ∷ [];
+  others = [];
+  outputs = output ∷ [];
+  command = remove_command stretches input output;
+  chosen = λ files. InParts (staying_frames stretches (file_bytes_of files input)) ∷ [];
+  most = most_frames;
+  legal = λ files. HoldsOfOne (λ i. IsLegalRemoval stretches i.survey);
 }
 entry_of (Salvage input output) = record {
   sources = [];

@@ -14,6 +14,7 @@
 //! | `split` | `split_edits` | repacks the frames between positions, into a file for each piece |
 //! | `join` | `join_edits` | repacks the frames of several files into one |
 //! | `join_seamless` | `seamless_edits` | joins files without the frames that only a piece needs, and sends which were left out to a sink |
+//! | `remove` | `remove_edits` | repacks the frames of a file outside of some stretches into one file |
 //! | `salvage` | `salvage_edits` | repacks what can be read of a damaged file, and sends what is missing to a sink |
 //!
 //! What they share, the faults and the one body of the calls that make one file, is in `commands`.
@@ -29,6 +30,7 @@ pub use join_edits::join;
 pub use list_edits::{info, list};
 pub use moved_gains::{Gains, OutOfRange, gains_of};
 pub use pack_edits::{PackMode, fewest_bytes, floors_fit, never_longer, pack_with};
+pub use remove_edits::remove;
 pub use requests::{Channels, Shift, Steps};
 pub use salvage_edits::salvage;
 pub use seamless_edits::join_seamless;

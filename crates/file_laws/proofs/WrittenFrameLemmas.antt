@@ -3,7 +3,7 @@
 use Rattle.std.proofs.Common.{ap, append-nil, arith, Bool, Err, false, inl, length, List, None, Ok}
 use Rattle.std.proofs.Common.{Option, refl, Result, Some, subst, sym, true, ℕ, [], ◌+◌, ◌-◌, ◌<◌}
 use Rattle.std.proofs.{Common.{◌∷◌, ◌≡◌}, lemmas.List.{length-drop, length-map, length-take-le}}
-use Rattle.std.{proofs.lemmas.List.FromFn.length-range_with_len, specs.Prelude.◌≤◌}
+use Rattle.std.{proofs.lemmas.List.FromFn.length-range_with_len, specs.Prelude.{IfSome, ◌≤◌}}
 use Rattle.chosen_streams.proofs.ChosenCaseLemmas.{packed-made}
 use Rattle.chosen_streams.proofs.{JoinCaseLemmas.{join-plan, parts-join}, NamedLemmas.text-named}
 use Rattle.chosen_streams.{proofs.SalvageCaseLemmas.{left-had, left-some}, specs.Laws.AreNamed}
@@ -30,15 +30,15 @@ use Rattle.exact_span.proofs.SealLemmas.{sealed-whole}
 use Rattle.exact_span.specs.declared.{exact_place.ExactPlace.ExactPlace, span.Span.Span}
 use Rattle.file_laws.specs.WrittenLaws.{AllOutputs, AllWritten, IsCountedFile, WritesOnly}
 use Rattle.file_laws.specs.WrittenLaws.{WrittenFilesAreCounted, WrittenFramesStay}
-use Rattle.frame_header.specs.{Fields.{ClassFields, SlotFields}, Tables.window_of}
+use Rattle.frame_header.specs.{Fields.{ClassFields, HeaderFields, SlotFields}, Tables.window_of}
 use Rattle.frame_writer.specs.Frames.{Frame}
-use Rattle.info_header.specs.FileInfo.{all_bytes}
+use Rattle.info_header.specs.{FileInfo.all_bytes, declared.fields.Info.Info}
 use Rattle.job_words.specs.Request.{Cut, CutExact, Drill, Fade, Gain, Help, InfoFile, Join}
-use Rattle.job_words.specs.Request.{ListFile, Pack, Salvage, SplitAt, SplitBy, SplitExact, Undo}
-use Rattle.job_words.specs.Request.{Version}
+use Rattle.job_words.specs.Request.{ListFile, Pack, Remove, Salvage, SplitAt, SplitBy, SplitExact}
+use Rattle.job_words.specs.Request.{Undo, Version}
 use Rattle.join_edits.specs.Join.{join_command, joined_file, joined_frames, joined_plan}
 use Rattle.join_edits.specs.Join.{joined_row_file}
-use Rattle.joined_inputs.specs.Parts.{join_parts}
+use Rattle.joined_inputs.specs.{Parts.join_parts, Planned.info_kept}
 use Rattle.laying.proofs.{FittingFrameLemmas.{entries-hold, fitting-laid}, HoldLemmas.blocks-kept}
 use Rattle.laying.proofs.{LaidFileLemmas.laid-frames-stay, LaidLemmas.{first-there, laid-slots}}
 use Rattle.laying.{proofs.SurveyFrameLemmas.survey-had, specs.Fits.{FitsFromReach, IsFittingPlan}}
@@ -48,14 +48,21 @@ use Rattle.laying.specs.{Laid.{needs_laid, source_part}, LaidFiles.HasInfoSizes}
 use Rattle.laying.specs.{LaidLaws.LosesNoFrame, NeedsFit.own_choice, Relaid.{AreParts, FilePart}}
 use Rattle.laying.specs.Surveys.{CanBeRelaid}
 use Rattle.laying.specs.Written.{back_blocks, front_blocks, plain_info, slot_in}
+use Rattle.laying.specs.declared.info.Kept.{Kept}
 use Rattle.outside.specs.Files.{Contents}
 use Rattle.pack_edits.proofs.ModeLemmas.{planning}
 use Rattle.pack_edits.specs.Modes.{mode_planning, pack_mode_command, pack_task}
+use Rattle.remove_edits.proofs.CommandLemmas.{left-parts}
+use Rattle.remove_edits.proofs.RemovalLemmas.{file-is as removal-laid-file, found as first-left}
+use Rattle.remove_edits.{proofs.RemovalLemmas.removal-is, specs.Ready.ArePartsLeft}
+use Rattle.remove_edits.specs.Removed.{parts_left, removal_file, removal_frames, removal_kept}
+use Rattle.remove_edits.specs.Removed.{remove_command, remove_making, remove_task}
 use Rattle.requests.specs.declared.mode.PackMode.{PackMode}
 use Rattle.salvage.specs.DamagedFiles.{damaged_of, DamagedFields}
 use Rattle.salvage_edits.specs.Salvaged.{all_chosen, input_salvage_text, input_salvaged}
 use Rattle.salvage_edits.specs.Salvaged.{salvage_command, salvage_task, salvaged_file}
 use Rattle.salvage_edits.specs.Salvaged.{salvaged_or_fault}
+use Rattle.seam_plan.specs.declared.stretches.Part.{Part}
 use Rattle.seamless_edits.proofs.RunFileLemmas.{blocks, file-is, found, info, parts-whole}
 use Rattle.seamless_edits.proofs.RunFileLemmas.{seamless-is}
 use Rattle.seamless_edits.proofs.RunPartLemmas.{AreWholeFiles, IsWholeFile}
@@ -391,6 +398,64 @@ seamless-stay : (output : List ℕ) (inputs : List (List ℕ)) → 1 ≤ length 
 seamless-stay output inputs some files made e =
     grind (arith, text-stays, one_writes, then_ok, files-stay)
 
+-- ---- the ranges of a file that stay
+
+-- the Info frame gives the number of frames, whatever is kept of the head
+kept-frames : (kept : Option Kept) (h : HeaderFields) (c : ClassFields) (frames : List Frame)
+    → (info_kept kept h c frames).frames ≡ Some (length frames)
+kept-frames None h c frames = refl
+kept-frames (Some kept) h c frames = refl
+
+-- it gives the number of bytes
+kept-bytes : (kept : Option Kept) (h : HeaderFields) (c : ClassFields) (frames : List Frame)
+    → (info_kept kept h c frames).bytes ≡ Some (all_bytes c slot_in frames)
+kept-bytes None h c frames = refl
+kept-bytes (Some kept) h c frames = refl
+
+-- the file of the parts that stay
+ranges-stay : (s : SurveyFields) (parts : List Part) (can : ArePartsLeft s parts)
+    (file : List ℕ) → CanBeRelaid file s → (head : Option Info)
+    → IfSome head (λ (i : Info). length i.extension ≡ 36)
+    → IsCountedFile (removal_file parts head file s)
+ranges-stay s parts can file has head long =
+    let first : HeaderFields = (first-left s parts can file has).0.header in
+    let frames = removal_frames parts file s in
+    let kept = removal_kept head s parts in
+    record {
+      class = s.class;
+      front = front_blocks file s;
+      first = first;
+      info = info_kept kept first s.class frames;
+      frames = frames;
+      back = back_blocks file s;
+      is = removal-is s parts can file has head long;
+      laid = removal-laid-file s parts can file has head long;
+      frames_are = kept-frames kept first s.class frames;
+      bytes_are = kept-bytes kept first s.class frames;
+    }
+
+-- the file that is made of an input
+left-stay : (stretches : List (ExactPlace × ExactPlace)) (o : Option (List ℕ)) (made : List ℕ)
+    → input_result (remove_making stretches) o ≡ Ok made → IsCountedFile made
+unfolding remove_making
+left-stay stretches None made e = absurd cc
+left-stay stretches (Some file) made e =
+    let parts = made_parts (remove_making stretches) file made e in
+    let s : SurveyFields = parts.0 in
+    let head = fields_of_head file s.head in
+    let own = survey_without_head s in
+    let left = then_ok (parts_left stretches s) (λ all. Ok (removal_file all head file own)) made
+    parts.2 in
+    let same : removal_file left.0 head file own ≡ made = cc in
+    subst IsCountedFile same
+    (ranges-stay own left.0 (left-parts stretches file s left.0 parts.1 left.1) file
+    (survey_without_head-relaid file s parts.1) head (head_long file s.head))
+
+remove-stay : (stretches : List (ExactPlace × ExactPlace)) (input output : List ℕ)
+    → WritesOnly IsCountedFile (remove_command stretches input output)
+remove-stay stretches input output =
+    one_writes (remove_task stretches input) output (λ files. left-stay stretches (files input))
+
 -- ---- all commands
 
 -- a command that sends a text writes no file
@@ -425,6 +490,7 @@ files-counted (Join false output inputs) moved some =
     join-stay output inputs (subst (λ names. 1 ≤ length names) (append-nil inputs) some)
 files-counted (Join true output inputs) moved some =
     seamless-stay output inputs (subst (λ names. 1 ≤ length names) (append-nil inputs) some)
+files-counted (Remove input output stretches) moved some = remove-stay stretches input output
 files-counted (Salvage input output) moved some = salvage-stay input output
 
 -- ---- what holds of such files

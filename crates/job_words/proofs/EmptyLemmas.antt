@@ -4,14 +4,14 @@ use Rattle.std.proofs.{Common.{zero, ℕ, [], ◌-◌, ◌∷◌, ◌≡◌}, le
 use Rattle.std.proofs.lemmas.List.Elements.{All-append, All-cons, All-contains, All-from_recursion}
 use Rattle.std.proofs.lemmas.List.{Elements.{All-replicate, All-weaker}, Sums.AllPass-from_list_all}
 use Rattle.std.specs.List.{All, list_all}
-use Rattle.std.specs.Prelude.{Contains, Err, if◌then◌else◌, IsErr, min, Ok, replicate, Result}
+use Rattle.std.specs.Prelude.{Contains, Err, if◌then◌else◌, IsErr, Ok, replicate, Result}
 use Rattle.cue_sheet.specs.{Digits.number_in, Places.place_of}
 use Rattle.exact_span.specs.Places.{back_of, clock_of, exact_place_of, instant_of, lone_seconds_of}
 use Rattle.exact_span.specs.Places.{millis_of, sample_of}
 use Rattle.job_words.proofs.{ListLemmas.{all_flat_map, found}, ReadingLemmas.listed_form}
 use Rattle.job_words.specs.Flags.{flag_kinds, given_kinds}
-use Rattle.job_words.specs.Forms.{Form, form_kinds, forms, front_kinds_of, kinds_for, last_kind}
-use Rattle.job_words.specs.Forms.{Shape, shapes}
+use Rattle.job_words.specs.Forms.{Form, form_kinds, forms, front_kinds_of, further_words, kinds_for}
+use Rattle.job_words.specs.Forms.{last_kind, Shape, shapes}
 use Rattle.job_words.specs.Kinds.{Channel, Count, Exact, fits_kind, Fixed, Kind, Name, Place, Rate}
 use Rattle.job_words.specs.{Kinds.{Seed, Steps}, Request.Request}
 use Rattle.job_words.specs.Words.{count_before, form_words, have_kinds, job_of, keeps_of, later_by}
@@ -73,7 +73,8 @@ shape_needs : (shape : Shape) (count : ℕ) → Contains forms shape.form
 shape_needs shape count member =
     let own = form_needs shape.form member in
     let more : ℕ =
-    min shape.form.more (count - length (front_kinds_of shape) - length shape.form.kinds) in
+    further_words shape.form.more
+    (count - length (front_kinds_of shape) - length shape.form.kinds) in
     All-append NeedsText (front_kinds_of shape)
     (form_kinds shape.form (count - length (front_kinds_of shape)))
     (All-cons NeedsText (Fixed shape.form.command) (given_kinds shape.given)

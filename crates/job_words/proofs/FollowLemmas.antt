@@ -1,15 +1,21 @@
 -- How many kinds there are, how far words follow them, and what they say.
 use Rattle.std.proofs.Common.{ap, append-nil, arith, drop, get_or, is_some, length, length-append}
-use Rattle.std.proofs.Common.{List, map, min, Option, refl, replicate, suc, zero, ℕ, [], ◌++◌, ◌+◌}
-use Rattle.std.proofs.Common.{◌-◌, ◌<◌, ◌∷◌, ◌≡◌, ◌≤◌}
+use Rattle.std.proofs.Common.{List, map, Option, refl, replicate, suc, zero, ℕ, [], ◌++◌, ◌+◌, ◌-◌}
+use Rattle.std.proofs.Common.{◌<◌, ◌∷◌, ◌≡◌, ◌≤◌}
 use Rattle.std.proofs.lemmas.List.{drop_all, drop_more, get_or-map, length-map, length-replicate}
 use Rattle.std.specs.List.{common_prefix_len}
-use Rattle.job_words.specs.Forms.{Form, form_kinds}
+use Rattle.job_words.specs.Forms.{Form, form_kinds, further_words, most_further}
 use Rattle.job_words.specs.Kinds.{fits_kind, Kind, Said, said_first, values_of, word_value}
+use Rattle.job_words.specs.declared.forms.More.{More, TheVariants.{Pairs, Words}}
+
+-- there are at most as many further words as there may be
+pub further_words-le : (more : More) (left : ℕ) → further_words more left ≤ most_further more
+further_words-le (Words most) left = omega arith
+further_words-le (Pairs most) left = omega arith
 
 -- words that may be repeated add kinds, as many as words are left for them
 pub length-form_kinds : (form : Form) (count : ℕ) → length (form_kinds form count)
-    ≡ length form.kinds + min form.more (count - length form.kinds)
+    ≡ length form.kinds + further_words form.more (count - length form.kinds)
 length-form_kinds form count = rw (length-append, length-replicate) refl
 
 -- what is made of one thing repeated is repeated

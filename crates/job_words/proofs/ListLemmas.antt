@@ -1,7 +1,7 @@
--- Searches, members, greatest numbers and agreeing lists.
+-- Searches, members, greatest numbers, agreeing lists and pairs.
 use Rattle.std.proofs.Common.{arith, Bool, cond, drop, false, inl, inr, length, List, map, max, min}
-use Rattle.std.proofs.Common.{None, refl, replicate, Some, suc, take, true, zero, ℕ, [], ◌++◌, ◌↔◌}
-use Rattle.std.proofs.{Common.{◌∙◌, ◌∷◌, ◌≡◌, ◌≤◌, ◌⊎◌}, lemmas.Bool.{and_parts, cases_lt}}
+use Rattle.std.proofs.Common.{None, refl, replicate, Some, suc, take, true, zero, ℕ, [], ◌++◌, ◌/◌}
+use Rattle.std.proofs.{Common.{◌↔◌, ◌∙◌, ◌∷◌, ◌≡◌, ◌≤◌, ◌⊎◌}, lemmas.Bool.{and_parts, cases_lt}}
 use Rattle.std.proofs.lemmas.{Grind.common_steps, List.{get_or-map, length-map}}
 use Rattle.std.proofs.lemmas.List.Elements.{All-append, All-cons, All-contains, All-nil}
 use Rattle.std.proofs.lemmas.List.Elements.{Contains-append_left, Contains-append_right}
@@ -10,6 +10,7 @@ use Rattle.std.proofs.lemmas.List.Sums.{fails_before_first, fold-append, passes_
 use Rattle.std.proofs.lemmas.Option.{get_or_from_slice_get, gets, slice_get_within}
 use Rattle.std.specs.{Cmp.Lexicographic.pointwise, List.{All, AllZip, common_prefix_len, flat_map}}
 use Rattle.std.specs.Prelude.{Contains, find, fold}
+use Rattle.job_words.specs.Forms.{pairs_of}
 
 -- ---- searches
 
@@ -141,3 +142,21 @@ module _ {X Y : Type 0} (R : X → Y → Type 0) where
   zip_replicate zero x (y ∷ ys) all = absurd all
   zip_replicate (suc n) x [] all = absurd all
   zip_replicate (suc n) x (y ∷ ys) all = All-cons (R x) y ys all.0 (zip_replicate n x ys all.1)
+
+-- ---- pairs of a list
+
+-- what holds of each member holds of both of each pair
+pub All-pairs_of : {X : Type 0} (P : X → Type 0) (xs : List X) → All P xs
+    → All (λ pair. P pair.0 × P pair.1) (pairs_of xs)
+All-pairs_of P [] all = All-nil _
+All-pairs_of P (x ∷ []) all = All-nil _
+All-pairs_of P (x ∷ y ∷ xs) all =
+    All-cons (λ pair. P pair.0 × P pair.1) (x, y) (pairs_of xs)
+    (all 0 x (omega arith), all 1 x (omega arith))
+    (All-pairs_of P xs (λ k d lt. all (suc (suc k)) d (omega (arith, lt))))
+
+-- there are half as many pairs as members
+pub length-pairs_of : {X : Type 0} (xs : List X) → length (pairs_of xs) ≡ length xs / 2
+length-pairs_of [] = refl
+length-pairs_of (x ∷ []) = refl
+length-pairs_of (x ∷ y ∷ xs) = omega (arith, length-pairs_of xs)

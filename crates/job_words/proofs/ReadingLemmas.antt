@@ -1,8 +1,8 @@
 -- The forms in order: the shape that the words have of one, and how far they follow it.
 use Rattle.std.proofs.Common.{ap, append-nil, arith, Bool, cond, drop, Err, false, get_or, leb}
-use Rattle.std.proofs.Common.{length, length-append, List, max, min, None, Ok, refl, replicate}
-use Rattle.std.proofs.Common.{Result, Some, subst, suc, sym, take, true, zero, ℕ, [], ◌&&◌, ◌++◌}
-use Rattle.std.proofs.Common.{◌+◌, ◌-◌, ◌<◌, ◌∙◌, ◌∷◌, ◌≡◌, ◌≤◌, ◌⊎◌}
+use Rattle.std.proofs.Common.{length, length-append, List, max, None, Ok, refl, replicate, Result}
+use Rattle.std.proofs.Common.{Some, subst, suc, sym, take, true, zero, ℕ, [], ◌&&◌, ◌++◌, ◌+◌, ◌-◌}
+use Rattle.std.proofs.Common.{◌<◌, ◌∙◌, ◌∷◌, ◌≡◌, ◌≤◌, ◌⊎◌}
 use Rattle.std.proofs.lemmas.Bool.{and_parts, false_from_ne_true, leb-true, not-true}
 use Rattle.std.proofs.lemmas.Grind.{flat_map-append}
 use Rattle.std.proofs.lemmas.List.{length-drop, map-append, take-append-drop, take_more}
@@ -10,16 +10,16 @@ use Rattle.std.proofs.lemmas.List.{Elements.{All-contains, All-map, All-weaker},
 use Rattle.std.proofs.lemmas.List.Sums.{AllPass-from_list_all, common_prefix_len-le}
 use Rattle.std.{proofs.lemmas.Slice.Eq.bytes_eq-Decides, specs.List.{All, common_prefix_len}}
 use Rattle.std.specs.Prelude.{Contains}
-use Rattle.job_words.proofs.FollowLemmas.{length-form_kinds, length-values_of}
+use Rattle.job_words.proofs.FollowLemmas.{further_words-le, length-form_kinds, length-values_of}
 use Rattle.job_words.proofs.ListLemmas.{all_flat_map, contains_map, greatest_append, greatest_is}
 use Rattle.job_words.proofs.ListLemmas.{only_one, whole}
 use Rattle.job_words.proofs.OrderLemmas.{after_same, given_is_order, IsClear, IsNoBetter, IsNowhere}
 use Rattle.job_words.proofs.OrderLemmas.{IsOrder, kinds_by, no_better, nowhere, of_equal}
 use Rattle.job_words.proofs.OrderLemmas.{orders_are}
 use Rattle.job_words.specs.Flags.{first_word, leading_flags, orders}
-use Rattle.job_words.specs.Forms.{Form, form_kinds, form_request, forms, front_kinds}
-use Rattle.job_words.specs.Forms.{has_clear_flags, IsReadable, last_kind, most_values, Shape}
-use Rattle.job_words.specs.Forms.{shape_request, shape_with, shapes, shapes_of}
+use Rattle.job_words.specs.Forms.{Form, form_kinds, form_request, forms, front_kinds, further_words}
+use Rattle.job_words.specs.Forms.{has_clear_flags, IsReadable, last_kind, most_further, most_values}
+use Rattle.job_words.specs.Forms.{Shape, shape_request, shape_with, shapes, shapes_of}
 use Rattle.job_words.specs.{Kinds.{fits_kind, Fixed, Kind, Name, Said, values_of}, Request.Request}
 use Rattle.job_words.specs.Words.{fitting_count, have_kinds, longest_fit, shape_in, shape_kinds}
 use Rattle.job_words.specs.{Words.{shape_reading, table_reading}, declared.flags.Flag.Flag}
@@ -42,7 +42,7 @@ clear_flags : (form : Form) → has_clear_flags form ≡ true
     → All (IsClear (form_kinds form)) form.flags
 clear_flags form clear = λ k d lt word begins n words.
     let word-is = (bytes_eq-Decides word (first_word (get_or form.flags k d))).0 begins in
-    no_first form.kinds (min form.more (n - length form.kinds)) word words
+    no_first form.kinds (further_words form.more (n - length form.kinds)) word words
     (rw word-is (not-true _ (AllPass-from_list_all _ form.flags clear k d lt)))
 
 shape_kinds-cons : (form : Form) (given : List Flag) (word : List ℕ) (words : List (List ℕ))
@@ -116,7 +116,16 @@ module _ (form : Form) (readable : IsReadable form) (words : List (List ℕ)) (g
 
   -- no more values are read than the form asks for
   pub few : length (drop front values) ≤ most_values form.asks
-  few = grind (arith, length-drop, count-is, common_prefix_len-le, length-append, length-form_kinds)
+  few =
+      grind (
+        arith,
+        length-drop,
+        count-is,
+        common_prefix_len-le,
+        length-append,
+        length-form_kinds,
+        further_words-le,
+      )
 
   -- words and kinds that all have values are accepted
   pub accepts : (asked : Request) → length words ≤ length values → length kinds ≤ length values
@@ -192,8 +201,10 @@ listed_form table shape member =
     (λ form member. All-map P (shape_with form) (orders form.flags) (λ k d lt. member))) member
 
 abbrev is_readable : Form → Bool
-is_readable form = leb (length form.flags) 4 && leb (length form.kinds) 5 && leb form.more 98
-    && leb (length form.kinds + form.more) (most_values form.asks) && has_clear_flags form
+is_readable form = leb (length form.flags) 4 && leb (length form.kinds) 5
+    && leb (most_further form.more) 98
+    && leb (length form.kinds + most_further form.more) (most_values form.asks)
+    && has_clear_flags form
 
 readable_by : (form : Form) → is_readable form ≡ true → IsReadable form
 readable_by form all = grind (arith, and_parts, leb-true)

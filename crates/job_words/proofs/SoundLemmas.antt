@@ -12,19 +12,22 @@ use Rattle.cue_sheet.specs.Places.{IsPlace, place_of, time_in, time_of}
 use Rattle.exact_span.specs.Places.{exact_place_of, IsExactPlace}
 use Rattle.exact_span.specs.declared.exact_place.ExactPlace.{ExactPlace}
 use Rattle.job_words.proofs.FollowLemmas.{length-form_kinds}
-use Rattle.job_words.proofs.ListLemmas.{zip_drop, zip_replicate, zipped}
+use Rattle.job_words.proofs.ListLemmas.{All-pairs_of, length-pairs_of, zip_drop, zip_replicate}
+use Rattle.job_words.proofs.ListLemmas.{zipped}
 use Rattle.job_words.specs.Forms.{best_form, channel_form, constant_form, cut_form, drill_form}
 use Rattle.job_words.specs.Forms.{exact_form, exact_sheet_form, exact_split_form, fade_form}
 use Rattle.job_words.specs.Forms.{floor_form, Form, form_kinds, form_request, forms, front_kinds_of}
-use Rattle.job_words.specs.Forms.{gain_form, help_form, info_form, join_form, list_form, pack_form}
-use Rattle.job_words.specs.Forms.{salvage_form, Shape, shape_request, sheet_form, short_help_form}
-use Rattle.job_words.specs.Forms.{split_form, undo_form, version_form}
+use Rattle.job_words.specs.Forms.{further_words, gain_form, help_form, info_form, join_form}
+use Rattle.job_words.specs.Forms.{list_form, pack_form, remove_form, salvage_form, Shape}
+use Rattle.job_words.specs.Forms.{shape_request, sheet_form, short_help_form, split_form, undo_form}
+use Rattle.job_words.specs.Forms.{version_form}
 use Rattle.job_words.specs.Kinds.{Channel, Count, count_in, count_said, CountSaid, Exact}
 use Rattle.job_words.specs.Kinds.{exact_said, fits_kind, Fixed, Kind, Name, name_said, Place}
 use Rattle.job_words.specs.Kinds.{place_said, PlaceSaid, Rate, Said, said_at, Seed, seed_said}
 use Rattle.job_words.specs.Kinds.{Steps, steps_said, StepsSaid, values_of, word_value}
 use Rattle.job_words.specs.Request.{IsCount, IsName, IsSeed, IsSoundRequest, IsStepCount}
 use Rattle.job_words.specs.{Words.{have_kinds, shape_kinds}, declared.flags.Flag.Flag}
+use Rattle.job_words.specs.declared.forms.More.TheVariants.{Pairs, Words}
 
 -- ---- numbers and places
 
@@ -141,7 +144,7 @@ AreSound form = (count : ℕ) (given : List Flag) (values : List Said) (words : 
     → IsSoundRequest (form_request form.asks given values words)
 
 -- a form whose last kind isn't repeated is sound if its values are
-once : (form : Form) → form.more ≡ 0
+once : (form : Form) → form.more ≡ Words 0
     → ((given : List Flag) (values : List Said) (words : List (List ℕ))
     → ((k : ℕ) → IsRight (get_or form.kinds k (Fixed [])) (said_at values k))
     → IsSoundRequest (form_request form.asks given values words)) → AreSound form
@@ -195,6 +198,26 @@ join_is_sound count given values words right fits =
       name_fits,
     )
 
+remove_is_sound : AreSound remove_form
+remove_is_sound count given values words right fits =
+    let kinds = form_kinds remove_form count in
+    let at = at_place kinds values right in
+    let places = map exact_said (drop 2 values) in
+    let many : length places ≡ length kinds - 2 =
+    rw (length-map, length-drop, AllZip-long IsRight kinds values right) refl in
+    let each =
+    zip_replicate IsRight (suc (suc (further_words (Pairs 49) (count - 4)))) Exact (drop 2 values)
+    (zip_drop IsRight 2 kinds values right) in (
+      at 0,
+      at 1,
+      record {
+        some = omega (arith, many, length-form_kinds remove_form count, length-pairs_of places);
+        few = omega (arith, many, length-form_kinds remove_form count, length-pairs_of places);
+        each =
+            All-pairs_of IsExactPlace places (All-map IsExactPlace exact_said (drop 2 values) each);
+      },
+    )
+
 also : {A B : Type 0} → A → B → A × B
 also a b = (a, b)
 
@@ -222,7 +245,8 @@ forms_are_sound =
     (also join_is_sound
     (also (once drill_form refl (λ given values words at. (at 0, at 1)))
     (also (once fade_form refl (λ given values words at. (at 0, at 1, at 2)))
-    (also (once salvage_form refl (λ given values words at. (at 0, at 1))) tt))))))))))))))))))))))
+    (also (once salvage_form refl (λ given values words at. (at 0, at 1)))
+    (also remove_is_sound tt)))))))))))))))))))))))
 
 -- what words with all kinds of a shape ask for is in range
 pub shape_is_sound : (shape : Shape) (words : List (List ℕ)) → Contains forms shape.form

@@ -1,18 +1,19 @@
 -- The forms that the program's words have, and what the words of a form ask for. The flags `-s s`,
 -- `-w`, `-g N` and `-l C N` are named as in mp3gain, and `-c CUE` as in mp3splt.
-use Rattle.std.specs.List.{flat_map, list_all}
+use Rattle.std.specs.{Int.div_ceil, List.{flat_map, list_all}}
 use Rattle.std.specs.Prelude.{Bool, codes, drop, false, length, List, map, min, not, replicate}
-use Rattle.std.specs.Prelude.{slice_index_or, true, ℕ, [], ◌++◌, ◌+◌, ◌-◌, ◌∷◌, ◌≡◌, ◌≤◌}
+use Rattle.std.specs.Prelude.{slice_index_or, true, ℕ, [], ◌*◌, ◌++◌, ◌+◌, ◌-◌, ◌∷◌, ◌≡◌, ◌≤◌}
 use Rattle.job_words.specs.Flags.{first_word, given_kinds, is_given, orders}
 use Rattle.job_words.specs.Kinds.{Channel, channel_said, Count, count_said, Exact, exact_said}
 use Rattle.job_words.specs.Kinds.{fits_kind, Fixed, Kind, Name, name_at, Place, place_said, Rate}
 use Rattle.job_words.specs.Kinds.{rate_said, Said, said_at, Seed, seed_said, Steps, steps_said}
 use Rattle.job_words.specs.Kinds.{values_of}
 use Rattle.job_words.specs.Request.{Cut, CutExact, Drill, Fade, Gain, Help, InfoFile, Join}
-use Rattle.job_words.specs.Request.{ListFile, Pack, Request, Salvage, SplitAt, SplitBy, SplitExact}
-use Rattle.job_words.specs.{Request.{Undo, Version}, declared.flags.Flag.Flag}
+use Rattle.job_words.specs.Request.{ListFile, Pack, Remove, Request, Salvage, SplitAt, SplitBy}
+use Rattle.job_words.specs.{Request.{SplitExact, Undo, Version}, declared.flags.Flag.Flag}
 use Rattle.job_words.specs.declared.flags.Flag.TheVariants.{Back, Least, Seamless, Tagless}
 use Rattle.job_words.specs.declared.{flags.Flag.TheVariants.Wrapping, forms.FormKind.FormKind}
+use Rattle.job_words.specs.declared.forms.More.{More, TheVariants.{Pairs, Words}}
 use Rattle.requests.specs.declared.mode.PackMode.{PackMode}
 use Rattle.requests.specs.declared.mode.PackMode.TheVariants.{Best, Constant, Floor}
 use Rattle.requests.specs.declared.mode.PackMode.TheVariants.{Least as LeastMode}
@@ -20,37 +21,56 @@ use Rattle.requests.specs.declared.shift.Channels.{Channels, TheVariants.Both}
 use Rattle.job_words.specs.declared.forms.FormKind.TheVariants as asks
 
 -- the command's word, the flags that may follow it, the kinds of the words after the flags, how
--- many further words of the last kind there may be, and what is asked for
+-- many further words of the last kind there may be, or pairs of them, and what is asked for
 pub record Form : Type 0 where
   pub command : List ℕ
   pub flags : List Flag
   pub kinds : List Kind
-  pub more : ℕ
+  pub more : More
   pub asks : FormKind
 
 -- `--help`
 abbrev pub help_form : Form
-help_form = record { command = codes "--help"; flags = []; kinds = []; more = 0; asks = asks.Help }
+help_form =
+    record { command = codes "--help"; flags = []; kinds = []; more = Words 0; asks = asks.Help }
 
 -- `-h`
 abbrev pub short_help_form : Form
 short_help_form =
-    record { command = codes "-h"; flags = []; kinds = []; more = 0; asks = asks.Help }
+    record { command = codes "-h"; flags = []; kinds = []; more = Words 0; asks = asks.Help }
 
 -- `--version`
 abbrev pub version_form : Form
 version_form =
-    record { command = codes "--version"; flags = []; kinds = []; more = 0; asks = asks.Version }
+    record {
+      command = codes "--version";
+      flags = [];
+      kinds = [];
+      more = Words 0;
+      asks = asks.Version;
+    }
 
 -- `list IN`
 abbrev pub list_form : Form
 list_form =
-    record { command = codes "list"; flags = []; kinds = Name ∷ []; more = 0; asks = asks.List }
+    record {
+      command = codes "list";
+      flags = [];
+      kinds = Name ∷ [];
+      more = Words 0;
+      asks = asks.List;
+    }
 
 -- `info IN`
 abbrev pub info_form : Form
 info_form =
-    record { command = codes "info"; flags = []; kinds = Name ∷ []; more = 0; asks = asks.Info }
+    record {
+      command = codes "info";
+      flags = [];
+      kinds = Name ∷ [];
+      more = Words 0;
+      asks = asks.Info;
+    }
 
 -- `gain [-s s] [-w] -g N IN OUT`
 abbrev pub gain_form : Form
@@ -58,7 +78,7 @@ gain_form = record {
   command = codes "gain";
   flags = Tagless ∷ Wrapping ∷ [];
   kinds = Fixed (codes "-g") ∷ Steps ∷ Name ∷ Name ∷ [];
-  more = 0;
+  more = Words 0;
   asks = asks.Gain;
 }
 
@@ -69,7 +89,7 @@ channel_form =
       command = codes "gain";
       flags = Tagless ∷ Wrapping ∷ [];
       kinds = Fixed (codes "-l") ∷ Channel ∷ Steps ∷ Name ∷ Name ∷ [];
-      more = 0;
+      more = Words 0;
       asks = asks.ChannelGain;
     }
 
@@ -79,7 +99,7 @@ undo_form = record {
   command = codes "gain";
   flags = [];
   kinds = Fixed (codes "-u") ∷ Name ∷ Name ∷ [];
-  more = 0;
+  more = Words 0;
   asks = asks.Undo;
 }
 
@@ -89,7 +109,7 @@ cut_form = record {
   command = codes "cut";
   flags = Least ∷ [];
   kinds = Name ∷ Place ∷ Place ∷ Name ∷ [];
-  more = 0;
+  more = Words 0;
   asks = asks.Cut;
 }
 
@@ -99,7 +119,7 @@ exact_form = record {
   command = codes "cut";
   flags = [];
   kinds = Fixed (codes "--exact") ∷ Name ∷ Exact ∷ Exact ∷ Name ∷ [];
-  more = 0;
+  more = Words 0;
   asks = asks.CutExact;
 }
 
@@ -109,7 +129,7 @@ pack_form = record {
   command = codes "pack";
   flags = [];
   kinds = Name ∷ Name ∷ [];
-  more = 0;
+  more = Words 0;
   asks = asks.Pack;
 }
 
@@ -119,7 +139,7 @@ constant_form = record {
   command = codes "pack";
   flags = [];
   kinds = Fixed (codes "--constant") ∷ Rate ∷ Name ∷ Name ∷ [];
-  more = 0;
+  more = Words 0;
   asks = asks.ConstantPack;
 }
 
@@ -129,7 +149,7 @@ floor_form = record {
   command = codes "pack";
   flags = [];
   kinds = Fixed (codes "--floor") ∷ Rate ∷ Name ∷ Name ∷ [];
-  more = 0;
+  more = Words 0;
   asks = asks.FloorPack;
 }
 
@@ -139,7 +159,7 @@ best_form = record {
   command = codes "pack";
   flags = [];
   kinds = Fixed (codes "--best") ∷ Name ∷ Name ∷ [];
-  more = 0;
+  more = Words 0;
   asks = asks.BestPack;
 }
 
@@ -149,7 +169,7 @@ split_form = record {
   command = codes "split";
   flags = [];
   kinds = Name ∷ Name ∷ Place ∷ Place ∷ [];
-  more = 98;
+  more = Words 98;
   asks =
       asks.SplitAt;
 }
@@ -161,7 +181,7 @@ exact_split_form =
       command = codes "split";
       flags = [];
       kinds = Fixed (codes "--exact") ∷ Name ∷ Name ∷ Exact ∷ Exact ∷ [];
-      more = 98;
+      more = Words 98;
       asks = asks.SplitExact;
     }
 
@@ -171,7 +191,7 @@ sheet_form = record {
   command = codes "split";
   flags = [];
   kinds = Name ∷ Name ∷ Fixed (codes "-c") ∷ Name ∷ [];
-  more = 0;
+  more = Words 0;
   asks = asks.SplitBy;
 }
 
@@ -183,7 +203,7 @@ exact_sheet_form =
       flags = [];
       kinds = Fixed (codes "--exact") ∷ Name ∷ Name
           ∷ Fixed (codes "-c") ∷ Name ∷ [];
-      more = 0;
+      more = Words 0;
       asks = asks.SplitExactBy;
     }
 
@@ -193,7 +213,7 @@ join_form = record {
   command = codes "join";
   flags = Seamless ∷ [];
   kinds = Name ∷ Name ∷ [];
-  more = 63;
+  more = Words 63;
   asks = asks.Join;
 }
 
@@ -203,7 +223,7 @@ drill_form = record {
   command = codes "drill";
   flags = [];
   kinds = Seed ∷ Count ∷ [];
-  more = 0;
+  more = Words 0;
   asks = asks.Drill;
 }
 
@@ -213,7 +233,7 @@ fade_form = record {
   command = codes "fade";
   flags = Back ∷ [];
   kinds = Name ∷ Name ∷ Name ∷ [];
-  more = 0;
+  more = Words 0;
   asks =
       asks.Fade;
 }
@@ -224,8 +244,18 @@ salvage_form = record {
   command = codes "salvage";
   flags = [];
   kinds = Name ∷ Name ∷ [];
-  more = 0;
+  more = Words 0;
   asks = asks.Salvage;
+}
+
+-- `remove IN OUT FROM TO [FROM TO ..]`, with up to 50 pairs
+abbrev pub remove_form : Form
+remove_form = record {
+  command = codes "remove";
+  flags = [];
+  kinds = Name ∷ Name ∷ Exact ∷ Exact ∷ [];
+  more = Pairs 49;
+  asks = asks.Remove;
 }
 
 -- all forms
@@ -235,7 +265,7 @@ forms =
     ∷ undo_form
     ∷ cut_form ∷ exact_form ∷ pack_form
     ∷ constant_form ∷ floor_form ∷ best_form ∷ split_form ∷ exact_split_form ∷ sheet_form
-    ∷ exact_sheet_form ∷ join_form ∷ drill_form ∷ fade_form ∷ salvage_form ∷ []
+    ∷ exact_sheet_form ∷ join_form ∷ drill_form ∷ fade_form ∷ salvage_form ∷ remove_form ∷ []
 
 -- ---- the kinds of a form's words
 
@@ -260,11 +290,23 @@ shapes table = flat_map shapes_of table
 abbrev pub last_kind : List Kind → Kind
 last_kind kinds = slice_index_or kinds (length kinds - 1) Name
 
+-- the most further words of the last kind
+abbrev pub most_further : More → ℕ
+most_further (Words most) = most
+most_further (Pairs most) = 2 * most
+
+-- how many further words of the last kind there are where `left` words are left for them: as
+-- many, with the second word of a pair that is begun, but at most those that there may be
+abbrev pub further_words : More → ℕ → ℕ
+further_words (Words most) left = min most left
+further_words (Pairs most) left = 2 * min most (div_ceil left 2)
+
 -- the kinds of `count` words after the flags: the last is
 -- repeated for the words that are left, as often as it may be
 abbrev pub form_kinds : Form → ℕ → List Kind
 form_kinds form count =
-    form.kinds ++ replicate (min form.more (count - length form.kinds)) (last_kind form.kinds)
+    form.kinds
+    ++ replicate (further_words form.more (count - length form.kinds)) (last_kind form.kinds)
 
 -- the kinds of the command's word and of the flags' words
 abbrev pub front_kinds : List ℕ → List Flag → List Kind
@@ -302,6 +344,12 @@ abbrev pub sheet_request : Bool → List Said → ℕ → Request
 sheet_request exact values place =
     SplitBy exact (name_at values place) (name_at values (place + 1)) (name_at values (place + 3))
 
+-- the first two of a list, the next two, and so on; a last one without another makes no pair
+abbrev pub pairs_of : {X : Type 0} → List X → List (X × X)
+pairs_of [] = []
+pairs_of (first ∷ []) = []
+pairs_of (first ∷ second ∷ rest) = (first, second) ∷ pairs_of rest
+
 -- what is asked for by the flags that are given, by what
 -- the words after them say, and by these words themselves
 abbrev pub form_request : FormKind → List Flag → List Said → List (List ℕ) → Request
@@ -338,6 +386,8 @@ form_request asks.Drill given values words =
 form_request asks.Fade given values words =
     Fade (is_given given Back) (name_at values 0) (name_at values 1) (name_at values 2)
 form_request asks.Salvage given values words = Salvage (name_at values 0) (name_at values 1)
+form_request asks.Remove given values words =
+    Remove (name_at values 0) (name_at values 1) (pairs_of (map exact_said (drop 2 values)))
 
 -- what words of a shape ask for
 abbrev pub shape_request : Shape → List (List ℕ) → Request
@@ -363,6 +413,6 @@ has_clear_flags form = list_all
 pub record IsReadable (form : Form) : Type 0 where
   pub flags : length form.flags ≤ 4
   pub kinds : length form.kinds ≤ 5
-  pub more : form.more ≤ 98
-  pub words : length form.kinds + form.more ≤ most_values form.asks
+  pub more : most_further form.more ≤ 98
+  pub words : length form.kinds + most_further form.more ≤ most_values form.asks
   pub clear : has_clear_flags form ≡ true

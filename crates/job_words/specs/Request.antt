@@ -43,6 +43,9 @@ pub data Request : Type 0 where
   Fade : Bool → List ℕ → List ℕ → List ℕ → Request
   -- the names of the input and of the output
   Salvage : List ℕ → List ℕ → Request
+  -- the names of the input and of the output, and the stretches that go: of
+  -- each the place of its first frame, and of the first frame that stays after it
+  Remove : List ℕ → List ℕ → List (ExactPlace × ExactPlace) → Request
 
 -- ---- what is asked for is in range
 
@@ -72,6 +75,16 @@ pub record AreExactPlaces (places : List ExactPlace) : Type 0 where
   pub some : 2 ≤ length places
   pub few : length places ≤ 100
   pub each : All IsExactPlace places
+
+-- a stretch whose places can be asked for
+abbrev pub IsStretch : ExactPlace × ExactPlace → Type 0
+IsStretch stretch = IsExactPlace stretch.0 × IsExactPlace stretch.1
+
+-- stretches that can be removed
+pub record AreStretches (stretches : List (ExactPlace × ExactPlace)) : Type 0 where
+  pub some : 1 ≤ length stretches
+  pub few : length stretches ≤ 50
+  pub each : All IsStretch stretches
 
 -- a seed of a stream
 abbrev pub IsSeed : ℕ → Type 0
@@ -104,6 +117,8 @@ IsSoundRequest (Join seamless output inputs) = IsName output × AreJoinNames inp
 IsSoundRequest (Drill seed count) = IsSeed seed × IsCount count
 IsSoundRequest (Fade back input output sheet) = IsName input × IsName output × IsName sheet
 IsSoundRequest (Salvage input output) = IsName input × IsName output
+IsSoundRequest (Remove input output stretches) =
+    IsName input × IsName output × AreStretches stretches
 
 -- ---- the jobs of the code
 
@@ -126,6 +141,7 @@ job_request (job.Join seamless output inputs) =
 job_request (job.Drill seed count) = Drill seed count
 job_request (job.Fade back input output sheet) = Fade back input.now output.now sheet.now
 job_request (job.Salvage input output) = Salvage input.now output.now
+job_request (job.Remove input output stretches) = Remove input.now output.now stretches.items
 
 -- what is asked for, or the place of the bad word
 abbrev pub request_result : Result Job ℕ → Result Request ℕ

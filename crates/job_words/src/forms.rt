@@ -2,7 +2,7 @@
 ghost use Rattle.std.specs.Prelude.{◌≡◌, ◌≤◌, ◌+◌, ◌++◌, length, map, replicate, string_bytes, IfErr};
 ghost use Rattle.job_words.specs.Kinds.{said_at, name_at, place_said, exact_said, values_of};
 ghost use Rattle.job_words.specs.Flags.{flag_kinds};
-ghost use Rattle.job_words.specs.Forms.{shapes_of, last_kind, form_kinds, front_kinds, gain_request, pack_request, sheet_request, form_request, most_values, IsReadable};
+ghost use Rattle.job_words.specs.Forms.{shapes_of, last_kind, further_words, most_further, form_kinds, front_kinds, pairs_of, gain_request, pack_request, sheet_request, form_request, most_values, IsReadable};
 ghost use Rattle.job_words.specs.Words.{table_reading};
 ghost use Rattle.job_words.specs.Code.{word_kind, value_said, form_given};
 ghost use Rattle.job_words.specs.Request.{job_request, request_result};
@@ -39,26 +39,39 @@ pub(crate) enum FormKind {
     Drill,
     Fade,
     Salvage,
+    Remove,
 }
 
-/// A form: the command's word, then flags, then words of these kinds, and up to `more` further words of the last kind.
+/// How many further words of its last kind a form may have.
+#[derive(Clone, Copy)]
+pub(crate) enum More {
+    /// Up to so many words.
+    Words(usize),
+    /// Up to so many pairs of words.
+    Pairs(usize),
+}
+
+/// A form: the command's word, then flags, then words of these kinds, and further words of the last kind.
 pub(crate) struct Form {
     pub(crate) command: &'static str,
     pub(crate) flags: &'static [Flag],
     pub(crate) kinds: &'static [WordKind],
-    pub(crate) more: usize,
+    pub(crate) more: More,
     pub(crate) asks: FormKind,
 }
 
-/// What a form asks for, the command's word, flags, the kinds of the other words, and how many more words of the last kind
-/// there may be.
+/// What a form asks for, the command's word, flags, the kinds of the other words, and how many more words of the last kind, or
+/// pairs of them, there may be.
 macro_rules! form {
     ($asks:ident: $command:literal [$($flag:ident)*] [$($kind:ident $(($word:literal))?)*] $more:literal) => {
+        form!($asks: $command [$($flag)*] [$($kind $(($word))?)*] Words $more)
+    };
+    ($asks:ident: $command:literal [$($flag:ident)*] [$($kind:ident $(($word:literal))?)*] $more:ident $most:literal) => {
         Form {
             command: $command,
             flags: &[$(Flag::$flag),*],
             kinds: &[$(WordKind::$kind $(($word))?),*],
-            more: $more,
+            more: More::$more($most),
             asks: FormKind::$asks,
         }
     };
@@ -78,6 +91,9 @@ macro_rules! field {
     ($given:ident $values:ident exact_places $place:literal) => {
         exact_places_of(skip($values, $place))
     };
+    ($given:ident $values:ident stretches $place:literal) => {
+        stretches_of(skip($values, $place))
+    };
     ($given:ident $values:ident $says:ident $place:literal) => {
         value_at($values, $place).$says()
     };
@@ -91,8 +107,8 @@ macro_rules! job {
 }
 
 /// The forms. C is a channel, N a number of steps, B a bit rate, SEED and COUNT are numbers; P1 to P100, FROM and TO are positions,
-/// or after `--exact` places among the samples; all others are names.
-pub(crate) static FORMS: [Form; 22] = [
+/// or after `--exact` and in `remove` places among the samples; all others are names.
+pub(crate) static FORMS: [Form; 23] = [
     // `--help`
     form!(Help: "--help" [] [] 0),
     // `-h`
@@ -137,6 +153,8 @@ pub(crate) static FORMS: [Form; 22] = [
     form!(Fade: "fade" [Back] [Name Name Name] 0),
     // `salvage IN OUT`
     form!(Salvage: "salvage" [] [Name Name] 0),
+    // `remove IN OUT FROM TO [FROM TO ..]`, with up to 50 pairs
+    form!(Remove: "remove" [] [Name Name Exact Exact] Pairs 49),
 ];
 
 /// The most kinds that a form has for its words: the command's, four
@@ -168,6 +186,18 @@ fn exact_places_of(values: &[Value]) -> ArrayVec<ExactPlace, 100>
         places.push(value.exact());
     }
     places
+}
+
+// The stretches that the values are, two places for each.
+fn stretches_of(values: &[Value]) -> ArrayVec<(ExactPlace, ExactPlace), 50>
+    requires { length values.now ≤ 100 }
+    ensures { result.items ≡ pairs_of (map exact_said (map value_said values.now)) }
+{
+    let mut stretches = ArrayVec::new();
+    for pair in values.chunks_exact(2) {
+        stretches.push((pair[0].exact(), pair[1].exact()));
+    }
+    stretches
 }
 
 // The value at a place of the list, counted from 0; `Fixed` where there is none.
@@ -279,6 +309,8 @@ impl FormKind {
                 job!(Fade(given, values) back: flag Back, input: name 0, output: name 1,
                 sheet: name 2),
             FormKind::Salvage => job!(Salvage(given, values) input: name 0, output: name 1),
+            FormKind::Remove =>
+                job!(Remove(given, values) input: name 0, output: name 1, stretches: stretches 2),
         }
     }
 }
@@ -338,6 +370,20 @@ fn front_kinds(command: &'static str, given: &[Flag]) -> Kinds
     kinds
 }
 
+impl More {
+    // How many further words there are where `left` words are left for them: as many, with
+    // the second word of a pair that is begun, but at most those that there may be.
+    fn count_for(self, left: usize) -> usize
+        requires { most_further self ≤ 98 }
+        ensures { result ≡ further_words self left }
+    {
+        match self {
+            More::Words(most) => left.min(most),
+            More::Pairs(most) => 2 * left.div_ceil(2).min(most),
+        }
+    }
+}
+
 impl Form {
     // Appends the kinds of `count` words after the flags.
     fn append_behind(&self, kinds: &mut Kinds, count: usize)
@@ -346,7 +392,7 @@ impl Form {
         ensures { map word_kind kinds.new.items ≡ map word_kind kinds.old.items
             ++ form_kinds (form_given self.now) count }
     {
-        let more = self.more.min(count.saturating_sub(self.kinds.len()));
+        let more = self.more.count_for(count.saturating_sub(self.kinds.len()));
         append(kinds, self.kinds);
         repeat(kinds, last_of(self.kinds), more);
     }

@@ -141,4 +141,13 @@ pub enum Job<'a> {
         /// The name of the file to write.
         output: &'a str,
     },
+    /// Write the file `input` without some stretches of frames to `output`.
+    Remove {
+        /// The name of the file to read.
+        input: &'a str,
+        /// The name of the file to write.
+        output: &'a str,
+        /// The stretches, 1 to 50: the place of the first frame that goes, and of the first that stays after it.
+        stretches: ArrayVec<(ExactPlace, ExactPlace), 50>,
+    },
 }

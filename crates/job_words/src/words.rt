@@ -53,11 +53,12 @@ fn count_before(words: &[String]) -> u32
 /// `cut [--least] IN FROM TO OUT`; `cut --exact IN FROM TO OUT`; `pack IN OUT`, `pack --constant B IN OUT`,
 /// `pack --floor B IN OUT` and `pack --best IN OUT`; `split IN PREFIX P1 P2 [P3 to P100]`; `split IN PREFIX -c CUE`;
 /// `split --exact IN PREFIX P1 P2 [P3 to P100]`; `split --exact IN PREFIX -c CUE`; `join [--seamless] OUT IN1 [IN2 to IN64]`;
-/// `drill SEED COUNT`; `fade [--back] IN OUT SHEET`; `salvage IN OUT`; and `--help`, `-h` and `--version`, each alone. C is `0`
-/// or `1`. N is an optional `+` or `-` and one to three digits, from -255 to 255. B is a bit rate in kbit/s, one to three
-/// digits. SEED is a number up to 2,147,483,647 of one to ten digits, and COUNT one from 1 to 20,000 of one to five. FROM, TO
-/// and P1 to P100 are positions as `Place::read` has them, after `--exact` places among the samples as `ExactPlace::read` has
-/// them. All other words in capital letters are names: a name isn't empty and doesn't begin with `-`.
+/// `drill SEED COUNT`; `fade [--back] IN OUT SHEET`; `salvage IN OUT`; `remove IN OUT FROM TO [FROM TO ..]`, with 1 to 50 pairs of
+/// FROM and TO; and `--help`, `-h` and `--version`, each alone. C is `0` or `1`. N is an optional `+` or `-` and one to three
+/// digits, from -255 to 255. B is a bit rate in kbit/s, one to three digits. SEED is a number up to 2,147,483,647 of one to ten
+/// digits, and COUNT one from 1 to 20,000 of one to five. FROM, TO and P1 to P100 are positions as `Place::read` has them, after
+/// `--exact` and in `remove` places among the samples as `ExactPlace::read` has them. All other words in capital letters are
+/// names: a name isn't empty and doesn't begin with `-`.
 ///
 /// # Errors
 /// Where the words have no form, the place, counted from 1 and with `-n`, of the first word that no form takes, or the number of

@@ -3,8 +3,9 @@ use Rattle.std.proofs.Common.{ap, append-nil, arith, Bool, Err, false, length, L
 use Rattle.std.proofs.Common.{Option, refl, Result, Some, subst, sym, true, ℕ, [], ◌++◌, ◌+◌, ◌↔◌}
 use Rattle.std.proofs.{Common.{◌∙◌, ◌∷◌, ◌≡◌, ◌≤◌}, lemmas.List.Elements.All-cons}
 use Rattle.command_table.specs.Choices.{ArePieceRanges, AreSamplePieces, IsLegalExactSheet}
-use Rattle.command_table.specs.Choices.{IsLegalFade, IsLegalGain, IsLegalPack, IsLegalSheet}
-use Rattle.command_table.specs.Choices.{IsLegalUndo, IsRange, IsSampleRange, IsSheetWith}
+use Rattle.command_table.specs.Choices.{IsLegalFade, IsLegalGain, IsLegalPack, IsLegalRemoval}
+use Rattle.command_table.specs.Choices.{IsLegalSheet, IsLegalUndo, IsRange, IsSampleRange}
+use Rattle.command_table.specs.Choices.{IsSheetWith}
 use Rattle.command_table.specs.Inputs.{AreInputs, AreNamesApart, FileInput, HoldsOfEachNext}
 use Rattle.command_table.specs.{Inputs.input_frames, Table.{entry_of, outputs_of, sources_of}}
 use Rattle.commands.proofs.MadeLemmas.{made-of, makes-parts, of-made, parts-make}
@@ -25,8 +26,8 @@ use Rattle.gain_edits.specs.Change.{change_making, change_task, changed_or_fault
 use Rattle.gain_edits.specs.{Fade.{fade_change, fade_task}, Gain.{gain_change, gain_refuses}}
 use Rattle.gain_edits.specs.Undo.{file_undo_steps, undo_change, undo_refuses}
 use Rattle.job_words.specs.Request.{Cut, CutExact, Drill, Fade, Gain, Help, InfoFile, Join}
-use Rattle.job_words.specs.Request.{ListFile, Pack, Request, Salvage, SplitAt, SplitBy, SplitExact}
-use Rattle.job_words.specs.Request.{Undo, Version}
+use Rattle.job_words.specs.Request.{ListFile, Pack, Remove, Request, Salvage, SplitAt, SplitBy}
+use Rattle.job_words.specs.Request.{SplitExact, Undo, Version}
 use Rattle.join_edits.specs.Join.{join_task, joined_file}
 use Rattle.joined_inputs.specs.Parts.{join_parts}
 use Rattle.laying.specs.{KeptFields.fields_of_head, Relaid.FilePart}
@@ -36,8 +37,8 @@ use Rattle.legality.proofs.InputLemmas.{apart_no-clash, IsOne, no-clash_apart, o
 use Rattle.legality.proofs.InputLemmas.{surveyed-one, whole-survey}
 use Rattle.legality.proofs.JoinLemmas.{joined-parts, parts-joined}
 use Rattle.legality.proofs.PackLemmas.{constant-legal, floor-legal, legal-constant, legal-floor}
-use Rattle.legality.proofs.{PackLemmas.planned-made, SalvageLemmas.salvage-law}
-use Rattle.legality.proofs.SampleLemmas.{range-span, span-range}
+use Rattle.legality.proofs.{PackLemmas.planned-made, RemoveLemmas.{legal-removed, removed-legal}}
+use Rattle.legality.proofs.{SalvageLemmas.salvage-law, SampleLemmas.{range-span, span-range}}
 use Rattle.legality.proofs.SplitLemmas.{cut-range, frames-right, FramesFollow, range-cut}
 use Rattle.legality.proofs.SplitLemmas.{samples-right, SamplesFollow, split-law}
 use Rattle.legality.specs.{Laws.{AcceptsFiles, LegalIsAccepted}, Legal.IsLegalFor}
@@ -48,6 +49,7 @@ use Rattle.outside.specs.Files.{Contents}
 use Rattle.pack_edits.specs.Modes.{allowed_frames, limited_result, mode_planning, most_best}
 use Rattle.pack_edits.specs.Modes.{pack_task, survey_fault_or}
 use Rattle.program_texts.specs.Texts.{help_text, version_text}
+use Rattle.remove_edits.specs.Removed.{remove_making, remove_task}
 use Rattle.requests.specs.{Shifts.steps_of, declared.mode.PackMode.PackMode}
 use Rattle.requests.specs.declared.mode.PackMode.TheVariants.{Best, Constant, Floor, Least}
 use Rattle.seamless_edits.specs.Seamless.{seamless_file, seamless_task, seamless_text_or_none}
@@ -466,4 +468,12 @@ legal-is-accepted (Join true output inputs) files =
           let parts = then_ok (join_parts files inputs) (λ ps. Ok (seamless_file ps)) one.1 one.2 in
           legal-of true files output inputs one.0 parts.0 parts.1),
     )
+legal-is-accepted (Remove input output stretches) files =
+    let Choice = λ (i : FileInput). IsLegalRemoval stretches i.survey in
+    one-law files input [] output most_frames Choice (remove_task stretches input) refl
+    (one-made (remove_making stretches) Choice (λ file s surveyed. (
+      legal-removed s stretches file,
+      (λ made. removed-legal s stretches file made.0 made.1),
+    )) files input)
+    (one-legal (Remove input output stretches) files input refl)
 legal-is-accepted (Salvage input output) files = salvage-law files input output

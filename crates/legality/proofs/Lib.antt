@@ -4,6 +4,7 @@ pub mod GainLemmas
 pub mod FadeLemmas
 pub mod SampleLemmas
 pub mod SplitLemmas
+pub mod RemoveLemmas
 pub mod PackLemmas
 pub mod JoinLemmas
 pub mod SalvageLemmas

@@ -21,6 +21,7 @@ use list_edits::{info, list};
 use outside::{Folder, Sink};
 use pack_edits::pack_with;
 use program_texts::{Outputs, say_help, say_version};
+use remove_edits::remove;
 use salvage_edits::salvage;
 use seamless_edits::join_seamless;
 use split_edits::{ExactPoints, Points, split, split_exact};
@@ -79,6 +80,7 @@ pub(crate) fn files_of<'a>(job: &Job<'a>) -> JobFiles<'a>
         | Job::Cut { input, output, .. }
         | Job::CutExact { input, output, .. }
         | Job::Pack { input, output, .. }
+        | Job::Remove { input, output, .. }
         | Job::Salvage { input, output } => files(&[input], Outputs::One(output)),
         Job::Fade {
             input,
@@ -196,6 +198,7 @@ pub(crate) fn do_job<D: Folder, T: Sink>(
             split_exact(alloc, folder, input, &ExactPoints::Places(places.as_slice()), prefix);
         SplitBy { exact, input, prefix, sheet } => split_by_sheet(alloc, folder, exact, input, prefix, sheet);
         Join { seamless, output, inputs } => join_files(alloc, folder, seamless, output, inputs, out);
+        Remove { input, output, stretches } => remove(alloc, folder, input, output, stretches.as_slice());
         Drill { seed, count } => drill(alloc, seed, count, out);
         Fade { back, input, output, sheet } => fade(alloc, folder, input, output, sheet, back);
         Salvage { input, output } => salvage(alloc, folder, input, output, out);

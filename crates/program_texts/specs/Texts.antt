@@ -191,6 +191,9 @@ help_text =
     ++ (codes "                         TO, with an Info frame that tells players to play exactly these samples;\n"
     ++ (codes "                         FROM, TO: also seconds (90s or 90.5s), a time with thousandths (M.S.TTT), a sample\n"
     ++ (codes "                         (44100samples), or EOF- and seconds or a time (that long before EOF)\n"
+    ++ (codes "  remove IN OUT FROM TO [FROM TO ..]\n"
+    ++ (codes "                         write IN to OUT without its frames from each FROM up to but not including the TO behind it,\n"
+    ++ (codes "                         up to 50 such stretches; FROM, TO: as for cut --exact, but rounded down to frames\n"
     ++ (codes "  pack IN OUT            write all frames of IN to OUT, each at the lowest bit rate at which all main data fit\n"
     ++ (codes "  pack --constant B IN OUT\n"
     ++ (codes "                         the same with every frame at B kbit/s; refused if that is too low for some frame\n"
@@ -227,7 +230,7 @@ help_text =
     ++ (codes "  mp3edit split album.mp3 disc/ -c album.cue    disc/01.mp3, disc/02.mp3 and so on, one for each track\n"
     ++ (codes "status: 0 done; 1 refused; 2 bad arguments; 3 a file is absent, or reading or writing failed;\n"
     ++ (codes "        4 out of memory\n"
-    ++ codes "manual: man mp3edit, and MANUAL.md among the documents (such as /usr/local/share/doc/mp3edit/docs)\n"))))))))))))))))))))))))))))))))))))))))))))))))))))))
+    ++ codes "manual: man mp3edit, and MANUAL.md among the documents (such as /usr/local/share/doc/mp3edit/docs)\n")))))))))))))))))))))))))))))))))))))))))))))))))))))))))
 
 -- the program's name and version
 unfoldable pub version_text : List ℕ

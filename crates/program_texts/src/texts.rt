@@ -42,7 +42,7 @@ pub fn status(fault: &EditFault) -> u8
 }
 
 /// What the program does, form by form, and the statuses.
-static HELP: [&str; 56] = [
+static HELP: [&str; 59] = [
     "usage: mp3edit COMMAND\n",
     "  list IN                list what is in the MP3 file IN: tags, junk, the Xing or Info frame (head), and frames\n",
     "  info IN                describe IN in a few lines, including how many steps down and up its gains can go\n",
@@ -64,6 +64,9 @@ static HELP: [&str; 56] = [
     "                         TO, with an Info frame that tells players to play exactly these samples;\n",
     "                         FROM, TO: also seconds (90s or 90.5s), a time with thousandths (M.S.TTT), a sample\n",
     "                         (44100samples), or EOF- and seconds or a time (that long before EOF)\n",
+    "  remove IN OUT FROM TO [FROM TO ..]\n",
+    "                         write IN to OUT without its frames from each FROM up to but not including the TO behind it,\n",
+    "                         up to 50 such stretches; FROM, TO: as for cut --exact, but rounded down to frames\n",
     "  pack IN OUT            write all frames of IN to OUT, each at the lowest bit rate at which all main data fit\n",
     "  pack --constant B IN OUT\n",
     "                         the same with every frame at B kbit/s; refused if that is too low for some frame\n",

@@ -1,6 +1,6 @@
 //! Words that no form takes, and the place of the first bad one, counted from 1.
 
-use crate::tests::reading::{bad_word, join_words, split_words};
+use crate::tests::reading::{bad_word, join_words, remove_words, split_words};
 use std::test::Fail;
 
 pub static ROWS: &str = "
@@ -241,6 +241,23 @@ drill 1 20001 => bad word 3
 drill 1 000001 => bad word 3
 drill 1 1 a => bad word 4
 
+# Removals. A second place stands behind each first one.
+remove => bad word 2
+remove a => bad word 3
+remove a o => bad word 4
+remove a o 1 => bad word 5
+remove a o 0 1 1 => bad word 7
+remove a -o 0 1 => bad word 3
+remove --exact a o 0 1 => bad word 2
+remove a o 0S 1 => bad word 4
+remove a o 1.5000s 1 => bad word 4
+remove a o 0 EOF-3 => bad word 5
+remove a o 0 1sample => bad word 5
+remove a 0 1 o => bad word 5
+remove a o 0 1 -n => bad word 6
+remove a o 0 1 2 x => bad word 7
+-n remove a o 0 1 2 => bad word 8
+
 # `-n` stands before a form, once.
 -n => bad word 2
 -n -n list a => bad word 2
@@ -276,10 +293,13 @@ pack --least a b => bad word 2
 pack a => bad word 3
 ";
 
-/// A split has at most 100 positions, and a join at most 64 inputs.
+/// A split has at most 100 positions, a join at most 64 inputs, and a removal at most 50 pairs of places.
 #[test]
 fn one_word_too_many(rt: HostRuntime) -> Result<(), Fail> {
     assert_eq!(rt; bad_word(&split_words(rt.alloc(), 101)?), Some(104));
     assert_eq!(rt; bad_word(&join_words(rt.alloc(), 65)?), Some(67));
+    assert_eq!(rt; bad_word(&remove_words(rt.alloc(), 99)?), Some(103));
+    assert_eq!(rt; bad_word(&remove_words(rt.alloc(), 101)?), Some(104));
+    assert_eq!(rt; bad_word(&remove_words(rt.alloc(), 102)?), Some(104));
     Ok(())
 }

@@ -21,13 +21,23 @@ pub fn bad_word(words: &[String]) -> Option<u32> {
     }
 }
 
-/// The words of a split of `a` with the prefix `p` at `count` frames, from 0 on.
-pub fn split_words(alloc: Global, count: u32) -> Result<Vec<String>, AllocError> {
-    let mut words = owned(alloc, &["split", "a", "p"])?;
+/// These words, and behind them the numbers of `count` frames, from 0 on.
+fn frame_words(alloc: Global, front: &[&str], count: u32) -> Result<Vec<String>, AllocError> {
+    let mut words = owned(alloc, front)?;
     for number in 0..count {
         words.push(format!(in alloc; "{number}")?)?;
     }
     Ok(words)
+}
+
+/// The words of a split of `a` with the prefix `p` at `count` frames, from 0 on.
+pub fn split_words(alloc: Global, count: u32) -> Result<Vec<String>, AllocError> {
+    frame_words(alloc, &["split", "a", "p"], count)
+}
+
+/// The words of a removal from `a` to `o` with `count` frames, from 0 on, for places: each even one goes, and each odd one stays.
+pub fn remove_words(alloc: Global, count: u32) -> Result<Vec<String>, AllocError> {
+    frame_words(alloc, &["remove", "a", "o"], count)
 }
 
 /// The words of a join of `a`, `count` times, to `o`.

@@ -28,6 +28,9 @@ const USAGE: &[u8] = b"usage: mp3edit COMMAND
                          TO, with an Info frame that tells players to play exactly these samples;
                          FROM, TO: also seconds (90s or 90.5s), a time with thousandths (M.S.TTT), a sample
                          (44100samples), or EOF- and seconds or a time (that long before EOF)
+  remove IN OUT FROM TO [FROM TO ..]
+                         write IN to OUT without its frames from each FROM up to but not including the TO behind it,
+                         up to 50 such stretches; FROM, TO: as for cut --exact, but rounded down to frames
   pack IN OUT            write all frames of IN to OUT, each at the lowest bit rate at which all main data fit
   pack --constant B IN OUT
                          the same with every frame at B kbit/s; refused if that is too low for some frame

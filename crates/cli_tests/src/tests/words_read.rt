@@ -1,8 +1,9 @@
 //! Words that have a form, and what they ask for.
 
-use crate::tests::reading::{join_words, owned, split_words};
+use crate::tests::reading::{join_words, owned, remove_words, split_words};
 use arrayvec::ArrayVec;
 use cue_sheet::Place;
+use exact_span::ExactPlace;
 use job_words::keeps;
 use mp3_cli::{Job, job};
 use std::test::Fail;
@@ -71,6 +72,11 @@ split --exact a p -c s => SplitBy { exact: true, input: \"a\", prefix: \"p\", sh
 split --exact a p 0samples 0.1 EOF-0.0.005 => SplitExact { input: \"a\", prefix: \"p\", places: [Sample(0), Place(Time(100, 100)), Back(5)] }
 split a p 0.0 7 EOF => SplitAt { input: \"a\", prefix: \"p\", places: [Time(0, 100), Frame(7), End] }
 
+# Removals, with every kind of place among the samples.
+remove a o 0 1 => Remove { input: \"a\", output: \"o\", stretches: [(Place(Frame(0)), Place(Frame(1)))] }
+remove a ./-o 0.0.05 1.02.5 2samples 0.5s => Remove { input: \"a\", output: \"./-o\", stretches: [(Place(Time(5, 100)), Place(Time(6205, 100))), (Sample(2), Millis(500))] }
+remove 0 1 2 0.0.030 EOF-3s EOF-0.1 3 EOF => Remove { input: \"0\", output: \"1\", stretches: [(Place(Frame(2)), Millis(30)), (Back(3000), Back(1000)), (Place(Frame(3)), Place(End))] }
+
 # Joins.
 join o a => Join { seamless: false, output: \"o\", inputs: [\"a\"] }
 join --seamless o a b => Join { seamless: true, output: \"o\", inputs: [\"a\", \"b\"] }
@@ -93,6 +99,7 @@ join --seamless o a b => Join { seamless: true, output: \"o\", inputs: [\"a\", \
 -n drill 1 2 => Drill { seed: 1, count: 2 }
 -n fade --back a o s => Fade { back: true, input: \"a\", output: \"o\", sheet: \"s\" }
 -n salvage a o => Salvage { input: \"a\", output: \"o\" }
+-n remove a o 1 EOF => Remove { input: \"a\", output: \"o\", stretches: [(Place(Frame(1)), Place(End))] }
 ";
 
 #[test]
@@ -107,6 +114,23 @@ fn the_most_places(rt: HostRuntime) -> Result<(), Fail> {
         places,
     };
     assert_eq!(rt; job(&split_words(rt.alloc(), 100)?), Ok(wanted));
+    Ok(())
+}
+
+#[test]
+fn the_most_stretches(rt: HostRuntime) -> Result<(), Fail> {
+    let mut stretches = ArrayVec::new();
+    for number in 0..50 {
+        let from = ExactPlace::Place(Place::Frame(2 * number));
+        let to = ExactPlace::Place(Place::Frame(2 * number + 1));
+        assert!(rt; stretches.try_push((from, to)).is_ok());
+    }
+    let wanted = Job::Remove {
+        input: "a",
+        output: "o",
+        stretches,
+    };
+    assert_eq!(rt; job(&remove_words(rt.alloc(), 100)?), Ok(wanted));
     Ok(())
 }
 

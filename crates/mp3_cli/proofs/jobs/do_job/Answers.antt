@@ -12,6 +12,7 @@ use Rattle.mp3_cli.proofs.RunLemmas.{sent_alone, split_silent, text_ends, text_m
 use Rattle.mp3_cli.proofs.RunLemmas.{told_ends}
 use Rattle.outside.proofs.CountsLemmas.{none_fell_by_reads}
 use Rattle.program_texts.specs.Texts.{fixed_text_command, help_text, version_text}
+use Rattle.remove_edits.specs.Removed.{remove_command}
 use Rattle.split_edits.specs.Split.{sheet_cutting, sheet_exact_cutting, split_at_command}
 use Rattle.split_edits.specs.Split.{split_exact_at_command}
 use Rattle.mp3_cli.proofs.jobs.do_job.Goals as goal
@@ -130,6 +131,13 @@ returns-in-SplitBy-clause-ends g c =
 pub returns-in-Join-clause-ends : goal.returns-in-Join-clause-ends
 returns-in-Join-clause-ends g c = rw c.in-Join.is c.join_files.ensures.ends
 
+pub returns-in-Remove-clause-ends : goal.returns-in-Remove-clause-ends
+returns-in-Remove-clause-ends g c =
+    rw (c.in-Remove.is, ← c.as_slice-in-Remove.ensures.value)
+    (run_ends (asked_of g.D.Folder.keeping (remove_command c.as_slice-in-Remove.result.now
+    c.in-Remove.input.now c.in-Remove.output.now))
+    (asked_silent g.D.Folder.keeping (one_silent _ _)) c.remove.result _ _ _ c.remove.ensures)
+
 pub returns-in-Fade-clause-ends : goal.returns-in-Fade-clause-ends
 returns-in-Fade-clause-ends g c =
     rw c.in-Fade.is (run_ends _
@@ -173,6 +181,10 @@ returns-in-SplitExact-clause-streams g c =
 
 pub returns-in-SplitBy-clause-streams : goal.returns-in-SplitBy-clause-streams
 returns-in-SplitBy-clause-streams g c = rw c.in-SplitBy.is c.split_by_sheet.ensures.streams
+
+pub returns-in-Remove-clause-streams : goal.returns-in-Remove-clause-streams
+returns-in-Remove-clause-streams g c =
+    rw (c.in-Remove.is, ← c.as_slice-in-Remove.ensures.value) c.remove.ensures.streams
 
 pub returns-in-Fade-clause-streams : goal.returns-in-Fade-clause-streams
 returns-in-Fade-clause-streams g c = rw c.in-Fade.is c.fade.ensures.streams
