@@ -48,7 +48,7 @@ either-long : (b : Bool) (extension : List ℕ) → length extension ≡ 36
 either-long b extension long = grind arith
 
 -- an extension that is made from a head has its numbers, whatever the head's table
-made-says : (head : Option Info) (delay padding : ℕ)
+pub made-says : (head : Option Info) (delay padding : ℕ)
     → IfSome head (λ (fields : Info). length fields.extension ≡ 36) → delay < 4096
     → padding < 4096 → SaysNumbers delay padding (extension_of head delay padding)
 unfolding extension_of

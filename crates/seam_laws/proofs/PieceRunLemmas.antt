@@ -34,7 +34,7 @@ pub front-fits : (window free : ℕ) (xs ys : List RunFrame)
 front-fits window free xs ys fits = grind (arith, needs-append, fits-tested, fits-front)
 
 -- if the first frames don't fit, they don't fit with others after them
-front-lacks : (window free : ℕ) (xs ys : List RunFrame) → fits_behind window free (needs_of xs)
+pub front-lacks : (window free : ℕ) (xs ys : List RunFrame) → fits_behind window free (needs_of xs)
     ≡ false → fits_behind window free (needs_of (xs ++ ys)) ≡ false
 front-lacks window free xs ys lacks = grind (arith, both_ways, front-fits)
 
@@ -97,7 +97,7 @@ module _ (class : ClassFields) where
 
   module _ (run : List RunFrame) (before input : Brought) where
     -- an input whose head has no counts follows none
-    none-follows : input.played ≡ None → following_joint class run before input ≡ None
+    pub none-follows : input.played ≡ None → following_joint class run before input ≡ None
     unfolding following_joint
     none-follows none = grind arith
 
@@ -108,7 +108,9 @@ module _ (class : ClassFields) where
     unfolding joint_without_lead_in
     led-without frames led lacks joins = grind (arith, and_from)
 
-    unled-without : has_lead_in window input ≡ false → joint_without_lead_in class run input ≡ None
+    -- an input without a lead-in can't join without one
+    pub unled-without : has_lead_in window input ≡ false
+        → joint_without_lead_in class run input ≡ None
     unfolding joint_without_lead_in
     unled-without none = grind (arith, and_left)
 

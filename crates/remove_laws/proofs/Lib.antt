@@ -1,0 +1,20 @@
+-- The lemmas of this crate.
+pub mod TouchLemmas
+pub mod OwnPlaceLemmas
+pub mod SlotLemmas
+pub mod WrittenLemmas
+pub mod HeardPlaceLemmas
+pub mod ReadLemmas
+pub mod NumberLemmas
+pub mod PlayLemmas
+pub mod OrderLemmas
+pub mod LeadInLemmas
+pub mod LengthLemmas
+pub mod PlaceLemmas
+pub mod CutLemmas
+pub mod PieceLemmas
+pub mod RunStreamLemmas
+pub mod JoinPartLemmas
+pub mod JoinRemovalLemmas
+pub mod StayLemmas
+pub mod SplitPieceLemmas

@@ -1,0 +1,284 @@
+-- Where the frames of the parts are written, and that what is heard of them is there.
+use Rattle.std.proofs.Common.{All, ap, arith, Bool, cond, drop, false, flat_map, length, List, map}
+use Rattle.std.proofs.Common.{min, None, Option, option_to_list, refl, Some, subst, suc, sym, true}
+use Rattle.std.proofs.Common.{ℕ, [], ◌*◌, ◌++◌, ◌+◌, ◌-◌, ◌<◌, ◌∙◌, ◌∷◌, ◌≡◌, ◌≤◌}
+use Rattle.std.proofs.lemmas.List.{drop_at, length-append, length-map}
+use Rattle.std.specs.Prelude.{IfSome, nat_lt, option_map}
+use Rattle.exact_span.specs.Heard.{end_in, end_of_last, first_in, first_to_last, heard_in, heard_of}
+use Rattle.exact_span.specs.{PlayedPositions.samples_in, declared.played.Played.Played}
+use Rattle.exact_span.specs.declared.written.{Heard.Heard, WrittenFrames.WrittenFrames}
+use Rattle.frame_header.specs.Fields.{ClassFields, IsClass, SlotFields}
+use Rattle.frame_header.specs.{Tables.{samples_of, window_of}, declared.version.Version.Version}
+use Rattle.frame_header.specs.declared.version.Version.TheVariants.{One, Two, TwoFive}
+use Rattle.remove_edits.proofs.{ItemLemmas.lead-append, RunLemmas.{lead-most, own-length}}
+use Rattle.remove_edits.specs.Removed.{items_left, lead_in_count, part_needs_of, parts_written}
+use Rattle.seam_plan.proofs.PartJointLemmas.{joined_in, run_part_items-is}
+use Rattle.seam_plan.{proofs.PartRunLemmas.has-lead-in, specs.Joins.join_slot}
+use Rattle.seam_plan.specs.PartRuns.{frame_item, IsPartNeeds, item_needs, items_behind}
+use Rattle.seam_plan.specs.PartRuns.{lead_in_run_item, run_items, run_part_items, RunItem}
+use Rattle.seam_plan.specs.{Stretches.AreInOrder, declared.stretches.Part.Part}
+use Rattle.slot_plan.specs.declared.needs.Need.{Need}
+use Rattle.sync_survey.specs.Faults.{SurveyFields}
+
+-- ---- frames that are written within a number of frames
+
+-- these are all before the frame with this number
+abbrev pub AreWrittenBefore : ℕ → List WrittenFrames → Type 0
+AreWrittenBefore n [] = Unit {0}
+AreWrittenBefore n (w ∷ written) = (w.at + (w.to - w.from) ≤ n) × AreWrittenBefore n written
+
+-- these have frames, the first of them is this frame
+-- or a later one, and each is behind the one before
+abbrev pub AreWrittenFrom : ℕ → List WrittenFrames → Type 0
+AreWrittenFrom n [] = Unit {0}
+AreWrittenFrom n (w ∷ written) =
+    (n ≤ w.at) × (w.from < w.to) × AreWrittenFrom (w.at + (w.to - w.from)) written
+
+-- heard positions that end at this one or earlier
+abbrev pub EndBefore : ℕ → List Heard → Type 0
+EndBefore n [] = Unit {0}
+EndBefore n (h ∷ heard) = (h.end ≤ n) × EndBefore n heard
+
+ends-append : (n : ℕ) (xs ys : List Heard) → EndBefore n xs → EndBefore n ys
+    → EndBefore n (xs ++ ys)
+ends-append n [] ys first second = second
+ends-append n (x ∷ xs) ys first second = (first.0, ends-append n xs ys first.1 second)
+
+-- a position of frames is within them
+place-within : (v : Version) (n end from to at : ℕ) → at + (to - from) ≤ n
+    → at * samples_of v + (min end (to * samples_of v) - from * samples_of v) ≤ n * samples_of v
+place-within One n end from to at within = grind arith
+place-within Two n end from to at within = grind arith
+place-within TwoFive n end from to at within = grind arith
+
+one-ends : (v : Version) (n : ℕ) (played : Played) (w : WrittenFrames)
+    → w.at + (w.to - w.from) ≤ n → EndBefore (n * samples_of v) (heard_in (samples_of v) played w)
+one-ends v n played w within =
+    by (nat_lt (first_in (samples_of v) played w) (end_in (samples_of v) played w))
+  where
+    some : List Heard
+    some = record {
+      first = w.at * samples_of v + (first_in (samples_of v) played w - w.from * samples_of v);
+      end = w.at * samples_of v + (end_in (samples_of v) played w - w.from * samples_of v);
+    } ∷ []
+
+    by : (b : Bool) → EndBefore (n * samples_of v) (cond b some [])
+    by true = (place-within v n played.end w.from w.to w.at within, tt)
+    by false = tt
+
+all-end : (v : Version) (n : ℕ) (played : Played) (written : List WrittenFrames)
+    → AreWrittenBefore n written
+    → EndBefore (n * samples_of v) (flat_map (heard_in (samples_of v) played) written)
+all-end v n played [] before = tt
+all-end v n played (w ∷ written) before =
+    ends-append (n * samples_of v) (heard_in (samples_of v) played w)
+    (flat_map (heard_in (samples_of v) played) written) (one-ends v n played w before.0)
+    (all-end v n played written before.1)
+
+last-ends : (n end : ℕ) (heard : List Heard) → end ≤ n → EndBefore n heard
+    → end_of_last end heard ≤ n
+last-ends n end [] least before = least
+last-ends n end (h ∷ heard) least before = last-ends n h.end heard before.0 before.1
+
+last-within : (n : ℕ) (heard : List Heard) → EndBefore n heard
+    → IfSome (first_to_last heard) (λ (h : Heard). h.end ≤ n)
+unfolding first_to_last
+last-within n [] before = tt
+last-within n (h ∷ heard) before = last-ends n h.end heard before.0 before.1
+
+-- what is heard of frames ends where they do or earlier
+pub heard-within : (class : ClassFields) (n : ℕ) (played : Played) (written : List WrittenFrames)
+    → AreWrittenBefore n written
+    → IfSome (heard_of class played written) (λ (h : Heard). h.end ≤ n * samples_in class)
+unfolding heard_of
+heard-within class n played written before =
+    last-within (n * samples_in class) (flat_map (heard_in (samples_in class) played) written)
+    (all-end class.version n played written before)
+
+-- ---- the parts are written within what is written
+
+-- a part has as many items as frames, and one more if it has a lead-in
+record HasItems (needs : List Need) (items : List RunItem) : Type 0 where
+  some : 0 < length items
+  many : length items ≡ lead_in_count items + length needs
+
+part-many : (class : ClassFields) (run needs : List Need) → IsClass class
+    → IsPartNeeds class needs → HasItems needs (run_part_items (window_of class.version) run needs)
+part-many class run [] known part = absurd (omega (arith, part.some))
+part-many class run (first ∷ needs) known part =
+    subst (HasItems (first ∷ needs)) (sym (run_part_items-is window run first needs))
+    (at (join_slot window run first needs))
+  where
+    window : ℕ
+    window = window_of class.version
+
+    at : (o : Option SlotFields) → HasItems (first ∷ needs) (joined_in window first needs o)
+    at None =
+        let lead = has-lead-in class first needs known part in
+        subst (λ o. HasItems (first ∷ needs)
+        (option_to_list (option_map lead_in_run_item o) ++ map frame_item (first ∷ needs)))
+        (sym lead.is)
+        (record { some = omega arith; many = omega (arith, length-map needs frame_item) })
+    at (Some slot) =
+        record { some = omega arith; many = omega (arith, length-map needs frame_item) }
+
+-- the first part of some items, and then others
+step-written : (at : ℕ) (items more : List RunItem) (part : Part) (parts : List Part)
+    → 0 < length items → length items ≡ lead_in_count items + (part.to - part.from)
+    → parts_written at (items ++ more) (part ∷ parts)
+    ≡ record { from = part.from; to = part.to; at = at + lead_in_count items }
+    ∷ parts_written (at + length items) more parts
+unfolding parts_written
+step-written at items more part parts some many =
+    let rest : drop (lead_in_count items + (part.to - part.from)) (items ++ more) ≡ more =
+    drop_at items more (lead_in_count items + (part.to - part.from)) many in
+    grind (arith, lead-append items more some, rest, many)
+
+no-lead : (needs : List Need) → lead_in_count (map frame_item needs) ≡ 0
+no-lead [] = refl
+no-lead (n ∷ needs) = refl
+
+module _ (s : SurveyFields) (known : IsClass s.class) where
+  abbrev window : ℕ
+  window = window_of s.class.version
+
+  abbrev needs_in : List Part → List (List Need)
+  needs_in parts = map (part_needs_of s) parts
+
+  later-before : (at least : ℕ) (run : List Need) (parts : List Part)
+      → AreInOrder least (length s.frames) parts → All (IsPartNeeds s.class) (needs_in parts)
+      → AreWrittenBefore (at + length (items_behind window run (needs_in parts)))
+      (parts_written at (items_behind window run (needs_in parts)) parts)
+  unfolding items_behind parts_written AreInOrder
+  later-before at least run [] order all = tt
+  later-before at least run (part ∷ parts) order all =
+      let needs = part_needs_of s part in
+      let items = run_part_items window run needs in
+      let later = items_behind window (run ++ item_needs items) (needs_in parts) in
+      let has = part-many s.class run needs known (all 0 needs (omega arith)) in
+      let many : length items ≡ lead_in_count items + (part.to - part.from) =
+      has.many ∙ ap (λ n. lead_in_count items + n) (own-length s part order.2) in
+      let rest = later-before (at + length items) (part.to + 1) (run ++ item_needs items) parts
+      order.3 (λ k d within. all (suc k) d (omega (arith, within))) in
+      let total : at + length items + length later ≡ at + length (items ++ later) =
+      omega (arith, length-append items later) in
+      subst (AreWrittenBefore (at + length (items ++ later)))
+      (sym (step-written at items later part parts has.some many)) (
+        omega (arith, many, length-append items later),
+        subst (λ n. AreWrittenBefore n (parts_written (at + length items) later parts)) total rest,
+      )
+
+  later-from : (at least : ℕ) (run : List Need) (parts : List Part)
+      → AreInOrder least (length s.frames) parts → All (IsPartNeeds s.class) (needs_in parts)
+      → AreWrittenFrom at (parts_written at (items_behind window run (needs_in parts)) parts)
+  unfolding items_behind parts_written AreInOrder
+  later-from at least run [] order all = tt
+  later-from at least run (part ∷ parts) order all =
+      let needs = part_needs_of s part in
+      let items = run_part_items window run needs in
+      let later = items_behind window (run ++ item_needs items) (needs_in parts) in
+      let has = part-many s.class run needs known (all 0 needs (omega arith)) in
+      let many : length items ≡ lead_in_count items + (part.to - part.from) =
+      has.many ∙ ap (λ n. lead_in_count items + n) (own-length s part order.2) in
+      let rest = later-from (at + length items) (part.to + 1) (run ++ item_needs items) parts
+      order.3 (λ k d within. all (suc k) d (omega (arith, within))) in
+      let next : at + length items ≡ at + lead_in_count items + (part.to - part.from) =
+      omega (arith, many) in
+      subst (AreWrittenFrom at) (sym (step-written at items later part parts has.some many)) (
+        omega arith,
+        order.1,
+        subst (λ n. AreWrittenFrom n (parts_written (at + length items) later parts)) next rest,
+      )
+
+  later-few : (least : ℕ) (run : List Need) (parts : List Part) → least ≤ length s.frames + 1
+      → AreInOrder least (length s.frames) parts → All (IsPartNeeds s.class) (needs_in parts)
+      → length (items_behind window run (needs_in parts)) + least ≤ length s.frames + 1
+  unfolding items_behind AreInOrder
+  later-few least run [] within order all = omega (arith, within)
+  later-few least run (part ∷ parts) within order all =
+      let items = run_part_items window run (part_needs_of s part) in
+      let later = items_behind window (run ++ item_needs items) (needs_in parts) in
+      let has = part-many s.class run (part_needs_of s part) known
+      (all 0 (part_needs_of s part) (omega arith)) in
+      omega (
+        arith,
+        has.many,
+        own-length s part order.2,
+        lead-most items,
+        length-append items later,
+        order.0,
+        order.1,
+        order.2,
+        later-few (part.to + 1) (run ++ item_needs items) parts (omega (arith, order.2)) order.3
+            (λ k d within. all (suc k) d (omega (arith, within))),
+      )
+
+  -- there are no more items than frames in the file: each lead-in is in place of one that goes
+  pub items-few : (first : Part) (later : List Part)
+      → AreInOrder 0 (length s.frames) (first ∷ later)
+      → All (IsPartNeeds s.class) (needs_in (first ∷ later))
+      → length (items_left s (first ∷ later)) ≤ length s.frames
+  unfolding run_items AreInOrder
+  items-few first later order all =
+      let needs = part_needs_of s first in
+      omega (
+        arith,
+        length-append (map frame_item needs) (items_behind window needs (needs_in later)),
+        length-map needs frame_item,
+        own-length s first order.2,
+        order.1,
+        order.2,
+        later-few (first.to + 1) needs later (omega (arith, order.2)) order.3
+            (λ k d within. all (suc k) d (omega (arith, within))),
+      )
+
+  -- the parts are written one behind the other
+  pub parts-from : (at : ℕ) (first : Part) (later : List Part)
+      → AreInOrder 0 (length s.frames) (first ∷ later)
+      → All (IsPartNeeds s.class) (needs_in (first ∷ later))
+      → AreWrittenFrom at (parts_written at (items_left s (first ∷ later)) (first ∷ later))
+  unfolding run_items AreInOrder
+  parts-from at first later order all =
+      let needs = part_needs_of s first in
+      let own = map frame_item needs in
+      let behind = items_behind window needs (needs_in later) in
+      let long : length own ≡ length needs = length-map needs frame_item in
+      let some : 0 < length own =
+      omega (arith, long, (all 0 needs (omega arith)).some) in
+      let many : length own ≡ lead_in_count own + (first.to - first.from) =
+      omega (arith, long, own-length s first order.2, no-lead needs) in
+      let rest = later-from (at + length own) (first.to + 1) needs later order.3
+      (λ k d within. all (suc k) d (omega (arith, within))) in
+      let next : at + length own ≡ at + lead_in_count own + (first.to - first.from) =
+      omega (arith, many) in
+      subst (AreWrittenFrom at) (sym (step-written at own behind first later some many)) (
+        omega arith,
+        order.1,
+        subst (λ n. AreWrittenFrom n (parts_written (at + length own) behind later)) next rest,
+      )
+
+  -- the parts are written before the end of what is written
+  pub parts-before : (at : ℕ) (first : Part) (later : List Part)
+      → AreInOrder 0 (length s.frames) (first ∷ later)
+      → All (IsPartNeeds s.class) (needs_in (first ∷ later))
+      → AreWrittenBefore (at + length (items_left s (first ∷ later)))
+      (parts_written at (items_left s (first ∷ later)) (first ∷ later))
+  unfolding run_items AreInOrder
+  parts-before at first later order all =
+      let needs = part_needs_of s first in
+      let own = map frame_item needs in
+      let behind = items_behind window needs (needs_in later) in
+      let long : length own ≡ length needs = length-map needs frame_item in
+      let some : 0 < length own =
+      omega (arith, long, (all 0 needs (omega arith)).some) in
+      let many : length own ≡ lead_in_count own + (first.to - first.from) =
+      omega (arith, long, own-length s first order.2, no-lead needs) in
+      let rest = later-before (at + length own) (first.to + 1) needs later order.3
+      (λ k d within. all (suc k) d (omega (arith, within))) in
+      let total : at + length own + length behind ≡ at + length (own ++ behind) =
+      omega (arith, length-append own behind) in
+      subst (AreWrittenBefore (at + length (own ++ behind)))
+      (sym (step-written at own behind first later some many)) (
+        omega (arith, many, length-append own behind),
+        subst (λ n. AreWrittenBefore n (parts_written (at + length own) behind later)) total rest,
+      )
