@@ -17,6 +17,7 @@ mod names;
 mod pack;
 mod refused_inputs;
 mod refused_words;
+mod remove;
 mod salvage_rows;
 mod seamless;
 mod shrinking;
@@ -153,6 +154,11 @@ fn joins_without_seams(rt: HostRuntime) -> Result<(), Fail> {
 }
 
 #[test]
+fn removes(rt: HostRuntime) -> Result<(), Fail> {
+    expect_rows(&rt, &[remove::ROWS])
+}
+
+#[test]
 fn salvages(rt: HostRuntime) -> Result<(), Fail> {
     expect_rows(&rt, &[salvage_rows::ROWS])
 }
@@ -220,6 +226,11 @@ fn expect_longest_rows<R: Abort + AllocGlobal>(rt: &R, text: &'static str) -> Re
 #[test]
 fn cuts_a_million_frames(rt: HostRuntime) -> Result<(), Fail> {
     expect_longest_rows(&rt, many_frames::MILLION_CUT)
+}
+
+#[test]
+fn removes_from_a_million_frames(rt: HostRuntime) -> Result<(), Fail> {
+    expect_longest_rows(&rt, many_frames::MILLION_REMOVE)
 }
 
 #[test]

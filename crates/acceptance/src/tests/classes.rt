@@ -32,7 +32,7 @@ static FILES: [&str; 18] = [
 ];
 
 /// Each command with each of its flags that reads a file; `gain -u` undoes the change before it.
-static COMMANDS: [&str; 21] = [
+static COMMANDS: [&str; 22] = [
     "list a",
     "info a",
     "gain -s s -g 1 a o",
@@ -43,6 +43,7 @@ static COMMANDS: [&str; 21] = [
     "cut a 0 1 o",
     "cut --least a 0 1 o",
     "cut --exact a 0 1 o",
+    "remove a o 0 1",
     "pack a o",
     "pack --constant 128 a o",
     "pack --floor 32 a o",

@@ -105,6 +105,16 @@ $ -n cut --exact a 0 1 o
 
 < a A
 < o 'kept'
+$ remove a o 0 1
+~ o 'kept'
+
+< a A
+< o 'kept'
+$ -n remove a o 0 1
+! 1 o: exists
+
+< a A
+< o 'kept'
 $ pack a o
 ~ o 'kept'
 
@@ -218,6 +228,11 @@ $ -n cut a 1 1 o
 $ -n cut --exact a 1 1 o
 ! 1 range 1152 to 1152 of 2304 samples
 
+< a A
+< o 'kept'
+$ -n remove a o 0 2
+! 1 range 0 to 2 of 2 frames
+
 < g G
 < o 'kept'
 $ -n gain -g 1 g o
@@ -295,6 +310,16 @@ each Read 2 u: read fault
 each There 1 o: write fault
 each Create 1 o: write fault
 each Write 2 o: write fault
+
+# the second frame goes
+< u A
+$ -n remove u o 1 2
+> o INFO_FRONT ONE_OF_625 55*100 INFO_REST FIRST_ALONE
+each Find 1 u: read fault
+each Read 2 u: read fault
+each There 1 o: write fault
+each Create 1 o: write fault
+each Write 1 o: write fault
 
 # an output that is there, of which the question fails
 < u A

@@ -97,6 +97,12 @@ room 2880169
 $ cut --least a 0 EOF o
 > o LAID
 
+# two stretches, of one frame each
+< a MANY*120002
+room 2880169
+$ remove a o 40000 40001 80001 80002
+> o LAID
+
 < a MANY_FRAMES
 room 2880169
 $ pack a o
@@ -249,6 +255,12 @@ $ cut a 0 EOF o
 < a PAIR_FRAMES
 room 2880192
 $ cut --least a 0 EOF o
+> o LAID
+
+# two stretches, of one frame each
+< a PAIR*120002
+room 2880192
+$ remove a o 40000 40001 80001 80002
 > o LAID
 
 < a PAIR_FRAMES
@@ -769,6 +781,16 @@ pub static MILLION_CUT: &str = "
 < a MILLION
 room 25920169
 $ cut a 0 EOF o
+> o LAID
+";
+
+/// A stretch of 100 frames that is taken out.
+pub static MILLION_REMOVE: &str = "
+# many_frames, a million
+
+< a MANY*1080100
+room 25920169
+$ remove a o 500000 500100
 > o LAID
 ";
 

@@ -342,6 +342,16 @@ static HEADED: [Case; 7] = table! {
     ("join --seamless o a c", 864, Trouble::Short(2, 35), 3, "a: shrunk from 864 to 35\n", 1, 0)
 };
 
+// 216 bytes: a head and two frames of 72 bytes each. The head is read after the survey, and the second frame's main data, at byte 157, in
+// the second pass.
+static REMOVED: [Case; 4] = table! {
+    Case { words, found, trouble, status, line, ends, created }
+    ("remove a o 0 1", 216, Trouble::Short(0, 100), 3, "a: shrunk from 216 to 100\n", 1, 0)
+    ("remove a o 0 1", 216, Trouble::Short(1, 20), 3, "a: shrunk from 216 to 20\n", 1, 0)
+    ("remove a o 0 1", 216, Trouble::Short(2, 157), 3, "a: shrunk from 216 to 157\n", 1, 1)
+    ("-n remove a o 0 1", 216, Trouble::Short(2, 157), 3, "a: shrunk from 216 to 157\n", 1, 1)
+};
+
 // 200 frames, 83,400 bytes, the first 65,536 of which are read at once. The second piece of a split isn't created before the first is
 // whole.
 static PIECES: [Case; 4] = table! {
@@ -356,6 +366,7 @@ static PIECES: [Case; 4] = table! {
 fn each_command_over_files_that_become_shorter(rt: HostRuntime) -> Result<(), Fail> {
     expect_cases(&rt, &READ, "NOTED_FRAME")?;
     expect_cases(&rt, &HEADED, "ID3V2_OF_30 41*20 FULL_HEAD PLAIN")?;
+    expect_cases(&rt, &REMOVED, "ffe318c0 00*9 'Info' ~72 LOWEST LOWEST")?;
     expect_cases(&rt, &PIECES, "PLAIN*200")?;
     Ok(())
 }

@@ -106,9 +106,10 @@ struct Case {
 }
 
 // The first piece has 208 + 417 bytes.
-static CASES: [Case; 2] = table! {
+static CASES: [Case; 3] = table! {
     Case { words, taken, line, before }
     ("-n cut a 0 2 o", "o", "o: write fault\n", 0)
+    ("-n remove a o 0 1", "o", "o: write fault\n", 0)
     ("-n split a p 0 1 2", "p02.mp3", "p02.mp3: write fault\n", 625)
 };
 
