@@ -12,6 +12,7 @@ from random import Random
 sys.dont_write_bytecode = True
 import frames  # noqa: E402
 import laid  # noqa: E402
+import removed  # noqa: E402
 import results  # noqa: E402
 import spans  # noqa: E402
 
@@ -376,6 +377,27 @@ def exact_places(random, data, found, many=2):
     return words
 
 
+def stretches(random, found):
+    """Words for pairs of places that name frames, mostly in order; some stretches touch."""
+    if not isinstance(found, frames.Survey):
+        return random.choice(("0 1", "1s EOF", "0", "EOF-1s 3 0 EOF")).split()
+    count, pairs = len(found.frames), random.choice((1, 1, 1, 2, 3, 3, 5))
+    numbers = sorted(random.sample(range(count + 1), min(2 * pairs, (count + 1) // 2 * 2)))
+    for at in range(1, len(numbers) - 2, 2):
+        numbers[at] = random.choice((numbers[at], numbers[at], numbers[at + 1]))
+    if random.random() < 0.1:
+        random.shuffle(numbers)
+    words = [removed.word_of(random, it, found) for it in numbers]
+    if random.random() < 0.3:
+        words[0] = random.choice(("0", "0.0", "0s"))
+    if random.random() < 0.3:
+        words[-1] = random.choice(("EOF", "EOF-0s"))
+    if random.random() < 0.1:
+        others = (f"{count + 1}", "9999999", "EOF", "EOF-9.0", "EOF-10s", "4294967295samples", "4294967296samples", "30s", "0.0.0005")
+        words[random.randrange(len(words))] = random.choice((*others, "1.5000s", "EOF-3", "x"))
+    return words[: random.choice((len(words) - 1, *[len(words)] * 19))]
+
+
 def mode(random, data):
     """Words that say how many steps the gains move: mostly a few, or as many as they may, or one more."""
     found = results.survey_or_fault(data)
@@ -430,5 +452,7 @@ def commands(random, files):
     yield ["split", "--exact", "x", "p", *exact_places(random, data, found, random.choice((2, 3, 3, 5)))]
     yield ["split", "--exact", "x", "p", "-c", "s"]
     yield ["join", "--seamless", "o", *Random(zlib.crc32(data) + 2).choice((["x"], ["x", "y"], ["y", "x"], ["x", "x", "y"], ["y", "x", "y", "x"]))]
+    yield ["remove", "x", "o", *stretches(Random(zlib.crc32(data) + 3), found)]
+    yield ["remove", "x", "o", *stretches(Random(zlib.crc32(data) + 4), found)]
     others = ("salvage", "salvage x", "salvage x x", "salvage o x", "salvage none o", "salvage -w x o", "salvage s o", "salvage y o")
     yield Random(zlib.crc32(data)).choice(others).split()

@@ -215,6 +215,11 @@ def try_parts(count):
     print(f"{count} parts, of which {none} have no room")
 
 
+def without_begin(frame, side):
+    """The side information with main_data_begin 0."""
+    return side & (1 << 8 * frame.side_size - frame.version.begin_bits) - 1
+
+
 def laid(found):
     """The bytes of frames as they were placed."""
     main, place = bytearray(sum(it[0].area for it in found)), 0
@@ -223,8 +228,7 @@ def laid(found):
         place += shape.area
     written, place = [], 0
     for shape, begin, side, _ in found:
-        at = 8 * shape.side_size - shape.version.begin_bits
-        side = side & (1 << at) - 1 | begin << at
+        side = without_begin(shape, side) | begin << 8 * shape.side_size - shape.version.begin_bits
         word = shape.right_word(side).to_bytes(2, "big") if shape.protected else b""
         written.append(shape.header + word + side.to_bytes(shape.side_size, "big") + main[place : place + shape.area])
         place += shape.area
@@ -271,6 +275,13 @@ def front_blocks(found):
     return [it for it in found.blocks if it.kind == "ID3v2" and it.offset < begin]
 
 
+def with_blocks(data, found, written):
+    """These frames behind the ID3v2 blocks before the head or the first frame of a file, and then all its other blocks."""
+    fronts = front_blocks(found)
+    backs = [it for it in found.blocks if it not in fronts]
+    return b"".join([*(data[it.offset : it.end] for it in fronts), *written, *(data[it.offset : it.end] for it in backs)])
+
+
 def laid_file(data, found, first, end, slots, keeps_head=False):
     """The file of the frames from `first` on and before `end`, in these slots, in their own, or in the best ones; and the number of frames
     written."""
@@ -278,12 +289,7 @@ def laid_file(data, found, first, end, slots, keeps_head=False):
     needs = main_data(data, found)[first:end]
     places = best_placed(needs) if slots == BEST else placed([needs], slots, slots or SLOTS)
     written = laid(places)
-    fronts = front_blocks(found)
-    backs = [it for it in found.blocks if it not in fronts]
-    parts = [data[it.offset : it.end] for it in fronts]
-    parts += [info_frame(places, written, quality, extension), *written]
-    parts += [data[it.offset : it.end] for it in backs]
-    return b"".join(parts), len(written)
+    return with_blocks(data, found, [info_frame(places, written, quality, extension), *written]), len(written)
 
 
 def joined_file(files, surveys):

@@ -6,8 +6,8 @@
 
 The words are those of "Synopsis" in docs/MANUAL.md, the lines those of its "Messages", and their order is "The order of refusals" in
 docs/DECISIONS.md. Files are given as their bytes, by name. frames.py says what is in a file and moves gains, laid.py lays main data,
-fades.py reads positions and fade sheets, spans.py makes exact pieces, seams.py joins without seams, about.py says what 'info' says,
-drill.py draws streams from seeds, and damaged.py says what can be read of a damaged file.
+fades.py reads positions and fade sheets, spans.py makes exact pieces, seams.py joins without seams, removed.py takes stretches out, about.py
+says what 'info' says, drill.py draws streams from seeds, and damaged.py says what can be read of a damaged file.
 """
 import re
 import sys
@@ -22,6 +22,7 @@ import drill as drills  # noqa: E402
 import fades  # noqa: E402
 import frames  # noqa: E402
 import laid  # noqa: E402
+import removed  # noqa: E402
 import seams  # noqa: E402
 import spans  # noqa: E402
 from fades import frame_at, place  # noqa: E402
@@ -108,6 +109,7 @@ FORMS += [
     (["salvage", name, name], 1),
     (["drill", seed, frame_count], 1),
 ]
+FORMS += [(["remove", name, name, *[is_exact_place, is_exact_place] * pairs], 1) for pairs in range(1, 51)]
 
 
 def judge_words(words, before):
@@ -267,6 +269,19 @@ def cut_exact(source, first, end, output, data, found):
     return Result(outputs={output: spans.piece_of(data, found, p, q)}, chosen={output: [(source, *spans.frames_for(found, p, q))]})
 
 
+def remove(words, files):
+    source, output, *places = words[1:]
+    judge_names([source], [output])
+    found = surveyed(source, files)
+    places = [spans.exact_place(it) for it in places]
+    try:
+        new = removed.without(files[source], found, places)[0]
+    except spans.Fault as it:
+        raise Answer(1, str(it))
+    parts = [(source, part[0], part[-1] + 1) for part in removed.parts_of(places, found)]
+    return Result(outputs={output: new}, chosen={output: parts})
+
+
 def pack(words, files):
     *mode, source, output = words[1:]
     judge_names([source], [output])
@@ -372,8 +387,8 @@ def drill(words, files):
 
 
 COMMANDS = {
-    **{"list": list_file, "info": info, "gain": gain, "cut": cut, "pack": pack, "split": split, "join": join, "fade": fade, "salvage": salvage},
-    "drill": drill,
+    **{"list": list_file, "info": info, "gain": gain, "cut": cut, "remove": remove, "pack": pack, "split": split, "join": join, "fade": fade},
+    **{"salvage": salvage, "drill": drill},
 }
 
 

@@ -24,7 +24,6 @@ import frames  # noqa: E402
 import laid  # noqa: E402
 import spans  # noqa: E402
 
-LONGEST_DELAY = 4095
 # Peak and ReplayGain in the extension of a head.
 LOUDNESS = slice(11, 19)
 
@@ -60,7 +59,7 @@ class Input:
 
 def alike_part(need, frame):
     """The header without its slot, the side information without main_data_begin and gains, and the main data."""
-    side = need.side & (1 << 8 * frame.side_size - frame.version.begin_bits) - 1
+    side = laid.without_begin(frame, need.side)
     for it in frame.granules:
         side &= ~(0xFF << it.behind)
     return need.header[:2] + bytes([need.header[2] & 0x0D]) + need.header[3:], side, need.data
@@ -97,9 +96,14 @@ def lead_in_header(needs):
     return next(it.header for it in shapes if fits(needs, it.area))
 
 
+def has_header_of_lead_in(needs):
+    """Whether the first frame has the header of a lead-in for the others."""
+    first, *others = needs
+    return bool(others) and first.header == lead_in_header(others)
+
+
 def has_lead_in(source):
-    first, *others = source.needs
-    return bool(others) and source.found.frames[0].side == 0 and first.header == lead_in_header(others)
+    return source.found.frames[0].side == 0 and has_header_of_lead_in(source.needs)
 
 
 def following(before, source, written):
@@ -144,12 +148,12 @@ def extension_of(source):
     return laid.head_fields(source.data, source.found.head)[1]
 
 
-def numbered(inputs, delay, padding):
-    """The extension of the first input's head with this delay and padding."""
+def kept_extension(inputs):
+    """The extension of the first input's head, with peak and ReplayGain only if all inputs have the same."""
     old = extension_of(inputs[0])
-    if not all(it.counts and extension_of(it)[LOUDNESS] == old[LOUDNESS] for it in inputs):
-        old = old[: LOUDNESS.start] + bytes(8) + old[LOUDNESS.stop :]
-    return old[:21] + (delay << 12 | padding).to_bytes(3, "big") + old[24:28] + bytes(8)
+    if all(it.counts and extension_of(it)[LOUDNESS] == old[LOUDNESS] for it in inputs):
+        return old
+    return old[: LOUDNESS.start] + bytes(8) + old[LOUDNESS.stop :]
 
 
 def joined_file(inputs):
@@ -159,10 +163,9 @@ def joined_file(inputs):
     places = laid.placed([run], None, laid.SLOTS)
     written = laid.laid(places)
     delay = first.start + (len(written) - len(run) - out[0]) * first.samples - spans.DECODER_DELAY
-    if first.counts and delay <= LONGEST_DELAY:
+    if first.counts and delay <= spans.MOST:
         quality = laid.head_fields(first.data, first.found.head)[0]
-        extension = numbered(inputs, delay, inputs[-1].rest + spans.DECODER_DELAY)
-        info = spans.sealed(laid.info_frame(places, written, quality, extension), places[0][0].side_size)
+        info = spans.numbered_info(places, written, quality, kept_extension(inputs), delay, inputs[-1].rest + spans.DECODER_DELAY)
     else:
         info = laid.info_frame(places, written, bytes(4), bytes(36))
     parts = [first.data[it.offset : it.end] for it in laid.front_blocks(first.found)]

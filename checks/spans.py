@@ -25,6 +25,8 @@ import frames  # noqa: E402
 import laid  # noqa: E402
 
 DECODER_DELAY = 529
+# The greatest delay or padding: each has 12 bits.
+MOST = 4095
 WARM_UP = 576 + 480
 ENCODERS = (b"LAME", b"Lavf", b"Lavc")
 
@@ -165,6 +167,12 @@ def sealed(frame, side_size):
     return frame[: text + 154] + tag_crc(frame[: text + 154]).to_bytes(2, "big") + frame[text + 156 :]
 
 
+def numbered_info(places, written, quality, old, delay, padding):
+    """The Info frame of these frames, with the rest of its extension as it was."""
+    extension = old[:21] + (delay << 12 | padding).to_bytes(3, "big") + old[24:28] + bytes(8)
+    return sealed(laid.info_frame(places, written, quality, extension), places[0][0].side_size)
+
+
 def piece_of(data, found, p, q):
     """The file of which players play exactly the positions from p on and before q."""
     own, size = apart(found), samples_of(found)
@@ -178,12 +186,7 @@ def piece_of(data, found, p, q):
     quality, old = laid.head_fields(data, found.head)
     if old[:4] not in ENCODERS:
         old = b"LAME" + bytes(32)
-    extension = old[:21] + (delay << 12 | padding).to_bytes(3, "big") + old[24:28] + bytes(8)
-    info = sealed(laid.info_frame(places, written, quality, extension), places[0][0].side_size)
-    fronts = laid.front_blocks(found)
-    parts = [data[it.offset : it.end] for it in fronts] + [info, *written]
-    parts += [data[it.offset : it.end] for it in found.blocks if it not in fronts]
-    return b"".join(parts)
+    return laid.with_blocks(data, found, [numbered_info(places, written, quality, old, delay, padding), *written])
 
 
 # ---- the command
