@@ -1,6 +1,6 @@
 -- What is heard goes from the place of the first heard position to that of the last.
-use Rattle.std.proofs.Common.{arith, Bool, cond, false, inl, inr, List, None, Option, refl, Some}
-use Rattle.std.proofs.Common.{subst, sym, true, ℕ, [], ◌*◌, ◌+◌, ◌-◌, ◌<◌, ◌∷◌, ◌≡◌, ◌≤◌}
+use Rattle.std.proofs.Common.{arith, Bool, cond, false, inl, inr, length, List, None, Option, refl}
+use Rattle.std.proofs.Common.{Some, subst, sym, true, ℕ, [], ◌*◌, ◌+◌, ◌-◌, ◌<◌, ◌∷◌, ◌≡◌, ◌≤◌}
 use Rattle.std.{proofs.lemmas.Bool.{ltb-false, ltb-true}, specs.Prelude.nat_lt}
 use Rattle.cut_edits.specs.Exact.{survey_without_head}
 use Rattle.exact_span.proofs.HeardLemmas.{heard-cons, heard-nil}
@@ -11,7 +11,6 @@ use Rattle.exact_span.specs.declared.written.WrittenFrames.{WrittenFrames}
 use Rattle.frame_header.specs.{Fields.ClassFields, Tables.samples_of}
 use Rattle.frame_header.specs.declared.version.Version.{Version, TheVariants.{One, Two, TwoFive}}
 use Rattle.remove_edits.proofs.CommandLemmas.{left-parts}
-use Rattle.remove_edits.proofs.RemovalLemmas.{all-needs, class-known, first-there-is}
 use Rattle.remove_edits.specs.Removed.{all_parts_written, items_left, places_before, plan_of_items}
 use Rattle.remove_laws.proofs.WrittenLemmas.{AreWrittenFrom, parts-from}
 use Rattle.remove_laws.specs.NumberLaws.{AreHeard, HeardIsFirstToLast, IsFirstToLast, IsHeardAt}
@@ -194,11 +193,9 @@ first-to-last stretches file s (first ∷ later) played is left =
     let apart : SurveyFields = survey_without_head s in
     let parts : List Part = first ∷ later in
     let can = left-parts stretches file s (first ∷ later) is left in
-    let known = class-known apart can.placed (omega (arith, first-there-is apart parts can)) in
     let items = items_left apart parts in
     let at = places_before items (plan_of_items apart items) in
     let written = all_parts_written apart parts in
     are-heard apart.class played at written (heard_of apart.class played written)
     (heard-from apart.class played at written
-    (parts-from apart known at first later can.order
-    (all-needs apart can.placed 0 parts can.order)))
+    (parts-from parts at items 0 (length apart.frames) can.order))

@@ -13,15 +13,15 @@ use Rattle.exact_span.specs.PlayedPositions.{length_of_played, played_of, played
 use Rattle.exact_span.specs.declared.{extensions.HeadCounts.HeadCounts, played.Played.Played}
 use Rattle.exact_span.specs.declared.written.{Heard.Heard, WrittenFrames.WrittenFrames}
 use Rattle.frame_header.specs.{Fields.ClassFields, Tables.samples_of}
-use Rattle.frame_header.specs.declared.version.Version.{Version, TheVariants.{One, Two, TwoFive}}
+use Rattle.frame_header.specs.declared.version.Version.{Version}
 use Rattle.info_header.specs.declared.fields.Info.{Info}
 use Rattle.laying.specs.KeptFields.{fields_of_head}
 use Rattle.remove_edits.{proofs.CommandLemmas.left-parts, specs.Ready.ArePartsLeft}
 use Rattle.remove_edits.specs.Removed.{all_parts_written, items_left, lead_in_count, parts_written}
 use Rattle.remove_edits.specs.Removed.{places_before, plan_of_items, removal_plan}
 use Rattle.remove_laws.proofs.LeadInLemmas.{frames-left}
-use Rattle.remove_laws.proofs.OrderLemmas.{AreInFile, AreRightBehind, frame-times, parts-in_file}
-use Rattle.remove_laws.proofs.OrderLemmas.{parts-right_behind}
+use Rattle.remove_laws.proofs.OrderLemmas.{AreInFile, AreRightBehind, frame-times, HasPositions}
+use Rattle.remove_laws.proofs.OrderLemmas.{parts-in_file, parts-right_behind, positions-are}
 use Rattle.remove_laws.proofs.PlayLemmas.{of-played, played_as, read-as}
 use Rattle.remove_laws.specs.PlayLaws.{HasNoLeadInBehindFirst, LengthIsLeft, played_between}
 use Rattle.remove_laws.specs.PlayLaws.{played_in_parts, played_outside, PlaysAllThatIsLeft}
@@ -30,34 +30,6 @@ use Rattle.seam_plan.specs.{PartRuns.RunItem, Stretches.AreInOrder, declared.str
 use Rattle.sync_survey.specs.Faults.{SurveyFields}
 
 -- ---- what is heard of frames that are written right behind one another
-
--- the positions of some frames, which are frame n where they are written
-record HasFrames (samples least n : ℕ) (w : WrittenFrames) : Type 0 where
-  late : least * samples ≤ w.from * samples
-  some : w.from * samples < w.to * samples
-  at : w.at * samples ≡ n * samples
-  next : (n + (w.to - w.from)) * samples ≡ n * samples + (w.to * samples - w.from * samples)
-
-frames-are : (v : Version) (least n : ℕ) (w : WrittenFrames) → least ≤ w.from → w.from < w.to
-    → w.at ≡ n → HasFrames (samples_of v) least n w
-frames-are One least n w late some at = record {
-  late = omega (arith, late);
-  some = omega (arith, some);
-  at = omega (arith, at);
-  next = omega (arith, some);
-}
-frames-are Two least n w late some at = record {
-  late = omega (arith, late);
-  some = omega (arith, some);
-  at = omega (arith, at);
-  next = omega (arith, some);
-}
-frames-are TwoFive least n w late some at = record {
-  late = omega (arith, late);
-  some = omega (arith, some);
-  at = omega (arith, at);
-  next = omega (arith, some);
-}
 
 module _ (class : ClassFields) (played : Played) where
   abbrev samples : ℕ
@@ -80,7 +52,7 @@ module _ (class : ClassFields) (played : Played) where
   HasLengthIf least n many None = many ≡ 0
   HasLengthIf least n many (Some heard) = HasLength least n many heard
 
-  module _ (least n many : ℕ) (w : WrittenFrames) (has : HasFrames samples least n w) where
+  module _ (least many : ℕ) (w : WrittenFrames) (has : HasPositions samples least w.at w) where
     abbrev first : ℕ
     first = first_in samples played w
 
@@ -94,41 +66,41 @@ module _ (class : ClassFields) (played : Played) where
     abbrev all : ℕ
     all = played_between samples played w.from w.to + many
 
-    only-here : first < end → many ≡ 0 → HasLength least n all here
+    only-here : first < end → many ≡ 0 → HasLength least w.at all here
     only-here some none = record {
       long = omega (arith, some, none);
       late = omega (arith, some, has.late);
-      first = λ started. omega (arith, started, has.late, has.at);
+      first = λ started. omega (arith, started, has.late);
     }
 
     and-later : first < end → (heard : Heard)
-        → HasLength w.to (n + (w.to - w.from)) many heard
-        → HasLength least n all (record { first = here.first; end = heard.end })
+        → HasLength w.to (w.at + (w.to - w.from)) many heard
+        → HasLength least w.at all (record { first = here.first; end = heard.end })
     and-later some heard later =
-        let next : heard.first ≡ (n + (w.to - w.from)) * samples =
+        let next : heard.first ≡ (w.at + (w.to - w.from)) * samples =
         later.first (omega (arith, some)) in
         record {
-          long = omega (arith, some, next, later.long, later.late, has.some, has.at, has.next);
+          long = omega (arith, some, next, later.long, later.late, has.some, has.next);
           late = omega (arith, some, has.late);
-          first = λ started. omega (arith, started, has.late, has.at);
+          first = λ started. omega (arith, started, has.late);
         }
 
-    skips : end ≤ first → (heard : Heard) → HasLength w.to (n + (w.to - w.from)) many heard
-        → HasLength least n all heard
+    skips : end ≤ first → (heard : Heard) → HasLength w.to (w.at + (w.to - w.from)) many heard
+        → HasLength least w.at all heard
     skips none heard later = record {
       long = omega (arith, none, later.long);
       late = omega (arith, later.late, has.late, has.some);
       first = λ started. absurd (omega (arith, none, started, later.late, has.late, has.some));
     }
 
-    here-and : (o : Option Heard) → HasLengthIf w.to (n + (w.to - w.from)) many o
-        → HasLengthIf least n all (joined_heard (first_to_last (heard_in samples played w)) o)
+    here-and : (o : Option Heard) → HasLengthIf w.to (w.at + (w.to - w.from)) many o
+        → HasLengthIf least w.at all (joined_heard (first_to_last (heard_in samples played w)) o)
     unfolding first_to_last
     here-and o later = by (nat_lt first end) refl o later
       where
         by : (b : Bool) → nat_lt first end ≡ b → (r : Option Heard)
-            → HasLengthIf w.to (n + (w.to - w.from)) many r
-            → HasLengthIf least n all (joined_heard (first_to_last (cond b (here ∷ []) [])) r)
+            → HasLengthIf w.to (w.at + (w.to - w.from)) many r
+            → HasLengthIf least w.at all (joined_heard (first_to_last (cond b (here ∷ []) [])) r)
         by true some None rest = only-here (ltb-true first end some) rest
         by true some (Some heard) rest = and-later (ltb-true first end some) heard rest
         by false none None rest = omega (arith, ltb-false first end none, rest)
@@ -140,12 +112,16 @@ module _ (class : ClassFields) (played : Played) where
   heard-long least n [] file behind =
       subst (HasLengthIf least n 0) (sym (heard-nil class played)) refl
   heard-long least n (w ∷ written) file behind =
+      let later = heard_of class played written in
+      let rest = heard-long w.to (n + (w.to - w.from)) written file.2 behind.1 in
       subst (HasLengthIf least n (in_written (w ∷ written)))
       (sym (heard-cons class played w written))
-      (here-and least n (in_written written) w
-      (frames-are class.version least n w file.0 file.1 behind.0)
-      (heard_of class played written)
-      (heard-long w.to (n + (w.to - w.from)) written file.2 behind.1))
+      (subst (λ at. HasLengthIf least at (in_written (w ∷ written))
+      (joined_heard (first_to_last (heard_in samples played w)) later)) behind.0
+      (here-and least (in_written written) w
+      (positions-are class.version least w.at w file.0 file.1 (omega arith)) later
+      (subst (λ at. HasLengthIf w.to (at + (w.to - w.from)) (in_written written) later)
+      (sym behind.0) rest)))
 
   in-parts : (at : ℕ) (items : List RunItem) (parts : List Part)
       → in_written (parts_written at items parts) ≡ played_in_parts samples played parts

@@ -13,6 +13,36 @@ frame-times One a b le = omega (arith, le)
 frame-times Two a b le = omega (arith, le)
 frame-times TwoFive a b le = omega (arith, le)
 
+-- the positions of some frames, in the file and where they are written
+pub record HasPositions (samples least n : ℕ) (w : WrittenFrames) : Type 0 where
+  pub late : least * samples ≤ w.from * samples
+  pub some : w.from * samples < w.to * samples
+  pub at : n * samples ≤ w.at * samples
+  pub next : (w.at + (w.to - w.from)) * samples
+      ≡ w.at * samples + (w.to * samples - w.from * samples)
+
+-- frames of the file from number `least` on that are written from frame n on
+pub positions-are : (v : Version) (least n : ℕ) (w : WrittenFrames) → least ≤ w.from → w.from < w.to
+    → n ≤ w.at → HasPositions (samples_of v) least n w
+positions-are One least n w late some at = record {
+  late = omega (arith, late);
+  some = omega (arith, some);
+  at = omega (arith, at);
+  next = omega (arith, some);
+}
+positions-are Two least n w late some at = record {
+  late = omega (arith, late);
+  some = omega (arith, some);
+  at = omega (arith, at);
+  next = omega (arith, some);
+}
+positions-are TwoFive least n w late some at = record {
+  late = omega (arith, late);
+  some = omega (arith, some);
+  at = omega (arith, at);
+  next = omega (arith, some);
+}
+
 -- these have frames of the file, the first of them has this frame or a later one, and each is
 -- behind the one before
 abbrev pub AreInFile : ℕ → List WrittenFrames → Type 0

@@ -9,14 +9,12 @@ use Rattle.exact_span.specs.declared.{played.Played.Played, written.Heard.Heard}
 use Rattle.exact_span.specs.declared.written.WrittenFrames.{WrittenFrames}
 use Rattle.frame_header.specs.{Fields.ClassFields, Tables.samples_of}
 use Rattle.frame_header.specs.declared.version.Version.{Version, TheVariants.{One, Two, TwoFive}}
-use Rattle.remove_edits.proofs.CommandLemmas.{left-parts}
-use Rattle.remove_edits.proofs.RemovalLemmas.{all-needs, class-known, first-there-is}
-use Rattle.remove_edits.specs.Ready.{ArePartsLeft}
+use Rattle.remove_edits.{proofs.CommandLemmas.left-parts, specs.Ready.ArePartsLeft}
 use Rattle.remove_edits.specs.Removed.{all_parts_written, items_left, lead_in_count, parts_written}
 use Rattle.remove_edits.specs.Removed.{places_before, plan_of_items, removal_plan}
 use Rattle.remove_laws.proofs.LeadInLemmas.{IsLeadIn, lead-planned}
-use Rattle.remove_laws.proofs.OrderLemmas.{AreInFile, frame-times, parts-in_file}
-use Rattle.remove_laws.proofs.PlayLemmas.{of-played, read-as}
+use Rattle.remove_laws.proofs.OrderLemmas.{AreInFile, frame-times, HasPositions, parts-in_file}
+use Rattle.remove_laws.proofs.{OrderLemmas.positions-are, PlayLemmas.{of-played, read-as}}
 use Rattle.remove_laws.proofs.WrittenLemmas.{AreWrittenFrom, parts-from}
 use Rattle.remove_laws.specs.NumberLaws.{IsFirstToLast, IsHeardAt}
 use Rattle.remove_laws.specs.PlayLaws.{IsBetweenHeard, IsInLeadIn, NothingElseIsPlayed}
@@ -127,34 +125,6 @@ times-frame : (v : Version) (a b : ℕ) → a * samples_of v < b * samples_of v 
 times-frame One a b lt = omega (arith, lt)
 times-frame Two a b lt = omega (arith, lt)
 times-frame TwoFive a b lt = omega (arith, lt)
-
--- the positions of some frames, in the file and where they are written
-record HasPositions (samples least n : ℕ) (w : WrittenFrames) : Type 0 where
-  late : least * samples ≤ w.from * samples
-  some : w.from * samples < w.to * samples
-  at : n * samples ≤ w.at * samples
-  next : (w.at + (w.to - w.from)) * samples ≡ w.at * samples + (w.to * samples - w.from * samples)
-
-positions-are : (v : Version) (least n : ℕ) (w : WrittenFrames) → least ≤ w.from → w.from < w.to
-    → n ≤ w.at → HasPositions (samples_of v) least n w
-positions-are One least n w late some at = record {
-  late = omega (arith, late);
-  some = omega (arith, some);
-  at = omega (arith, at);
-  next = omega (arith, some);
-}
-positions-are Two least n w late some at = record {
-  late = omega (arith, late);
-  some = omega (arith, some);
-  at = omega (arith, at);
-  next = omega (arith, some);
-}
-positions-are TwoFive least n w late some at = record {
-  late = omega (arith, late);
-  some = omega (arith, some);
-  at = omega (arith, at);
-  next = omega (arith, some);
-}
 
 module _ (class : ClassFields) where
   abbrev samples : ℕ
@@ -298,9 +268,7 @@ module _ (s : SurveyFields) (first : Part) (later : List Part)
   both : AreInBoth s.class 0 before written
   both = record {
     file = parts-in_file before items 0 0 (length s.frames) parts (omega arith) can.order;
-    own =
-        parts-from s (class-known s can.placed (omega (arith, first-there-is s parts can))) before
-        first later can.order (all-needs s can.placed 0 parts can.order);
+    own = parts-from parts before items 0 (length s.frames) can.order;
   }
 
   module _ (played : Played) (heard : Heard) (is : IsFirstToLast s.class played written heard)

@@ -2,7 +2,7 @@
 use Rattle.std.proofs.Common.{All, ap, arith, Bool, cond, drop, false, flat_map, length, List, map}
 use Rattle.std.proofs.Common.{min, None, Option, option_to_list, refl, Some, subst, suc, sym, true}
 use Rattle.std.proofs.Common.{ℕ, [], ◌*◌, ◌++◌, ◌+◌, ◌-◌, ◌<◌, ◌∙◌, ◌∷◌, ◌≡◌, ◌≤◌}
-use Rattle.std.proofs.lemmas.List.{drop_at, length-append, length-map}
+use Rattle.std.proofs.lemmas.List.{drop_at, length-append, length-drop, length-map}
 use Rattle.std.specs.Prelude.{IfSome, nat_lt, option_map}
 use Rattle.exact_span.specs.Heard.{end_in, end_of_last, first_in, first_to_last, heard_in, heard_of}
 use Rattle.exact_span.specs.{PlayedPositions.samples_in, declared.played.Played.Played}
@@ -11,6 +11,7 @@ use Rattle.frame_header.specs.Fields.{ClassFields, IsClass, SlotFields}
 use Rattle.frame_header.specs.{Tables.{samples_of, window_of}, declared.version.Version.Version}
 use Rattle.frame_header.specs.declared.version.Version.TheVariants.{One, Two, TwoFive}
 use Rattle.remove_edits.proofs.{ItemLemmas.lead-append, RunLemmas.{lead-most, own-length}}
+use Rattle.remove_edits.specs.Ready.{AreItemsOfParts}
 use Rattle.remove_edits.specs.Removed.{items_left, lead_in_count, part_needs_of, parts_written}
 use Rattle.seam_plan.proofs.PartJointLemmas.{joined_in, run_part_items-is}
 use Rattle.seam_plan.{proofs.PartRunLemmas.has-lead-in, specs.Joins.join_slot}
@@ -122,17 +123,47 @@ part-many class run (first ∷ needs) known part =
     at (Some slot) =
         record { some = omega arith; many = omega (arith, length-map needs frame_item) }
 
--- the first part of some items, and then others
-step-written : (at : ℕ) (items more : List RunItem) (part : Part) (parts : List Part)
-    → 0 < length items → length items ≡ lead_in_count items + (part.to - part.from)
-    → parts_written at (items ++ more) (part ∷ parts)
-    ≡ record { from = part.from; to = part.to; at = at + lead_in_count items }
-    ∷ parts_written (at + length items) more parts
-unfolding parts_written
-step-written at items more part parts some many =
-    let rest : drop (lead_in_count items + (part.to - part.from)) (items ++ more) ≡ more =
-    drop_at items more (lead_in_count items + (part.to - part.from)) many in
-    grind (arith, lead-append items more some, rest, many)
+-- parts in order are written one behind the other, whatever their items are
+pub parts-from : (parts : List Part) (at : ℕ) (items : List RunItem) (least frames : ℕ)
+    → AreInOrder least frames parts → AreWrittenFrom at (parts_written at items parts)
+unfolding parts_written AreInOrder
+parts-from [] at items least frames order = tt
+parts-from (part ∷ parts) at items least frames order =
+    let count = lead_in_count items + (part.to - part.from) in
+    let next : at + count ≡ at + lead_in_count items + (part.to - part.from) = omega arith in (
+      omega arith,
+      order.1,
+      subst (λ n. AreWrittenFrom n (parts_written (at + count) (drop count items) parts)) next
+          (parts-from parts (at + count) (drop count items) (part.to + 1) frames order.3),
+    )
+
+-- they are written before the end of their items
+items-before : (parts : List Part) (at most : ℕ) (items : List RunItem)
+    → AreItemsOfParts items parts → at + length items ≤ most
+    → AreWrittenBefore most (parts_written at items parts)
+unfolding parts_written AreItemsOfParts
+items-before [] at most items are within = tt
+items-before (part ∷ parts) at most items are within =
+    let count = lead_in_count items + (part.to - part.from) in (
+      omega (arith, are.1, within),
+      items-before parts (at + count) most (drop count items) are.2
+          (omega (arith, length-drop count items, are.1, within)),
+    )
+
+-- some items of a part, and then those of others
+part-and : (items more : List RunItem) (part : Part) (parts : List Part) → 0 < length items
+    → length items ≡ lead_in_count items + (part.to - part.from) → AreItemsOfParts more parts
+    → AreItemsOfParts (items ++ more) (part ∷ parts)
+unfolding AreItemsOfParts
+part-and items more part parts some many rest =
+    let lead = lead-append items more some in
+    let count = lead_in_count items + (part.to - part.from) in (
+      omega (arith, length-append items more, some),
+      omega (arith, length-append items more, lead, many),
+      subst (λ n. AreItemsOfParts (drop (n + (part.to - part.from)) (items ++ more)) parts)
+          (sym lead)
+          (subst (λ l. AreItemsOfParts l parts) (sym (drop_at items more count many)) rest),
+    )
 
 no-lead : (needs : List Need) → lead_in_count (map frame_item needs) ≡ 0
 no-lead [] = refl
@@ -145,50 +176,20 @@ module _ (s : SurveyFields) (known : IsClass s.class) where
   abbrev needs_in : List Part → List (List Need)
   needs_in parts = map (part_needs_of s) parts
 
-  later-before : (at least : ℕ) (run : List Need) (parts : List Part)
+  later-items : (least : ℕ) (run : List Need) (parts : List Part)
       → AreInOrder least (length s.frames) parts → All (IsPartNeeds s.class) (needs_in parts)
-      → AreWrittenBefore (at + length (items_behind window run (needs_in parts)))
-      (parts_written at (items_behind window run (needs_in parts)) parts)
-  unfolding items_behind parts_written AreInOrder
-  later-before at least run [] order all = tt
-  later-before at least run (part ∷ parts) order all =
+      → AreItemsOfParts (items_behind window run (needs_in parts)) parts
+  unfolding items_behind AreItemsOfParts AreInOrder
+  later-items least run [] order all = refl
+  later-items least run (part ∷ parts) order all =
       let needs = part_needs_of s part in
       let items = run_part_items window run needs in
       let later = items_behind window (run ++ item_needs items) (needs_in parts) in
       let has = part-many s.class run needs known (all 0 needs (omega arith)) in
-      let many : length items ≡ lead_in_count items + (part.to - part.from) =
-      has.many ∙ ap (λ n. lead_in_count items + n) (own-length s part order.2) in
-      let rest = later-before (at + length items) (part.to + 1) (run ++ item_needs items) parts
-      order.3 (λ k d within. all (suc k) d (omega (arith, within))) in
-      let total : at + length items + length later ≡ at + length (items ++ later) =
-      omega (arith, length-append items later) in
-      subst (AreWrittenBefore (at + length (items ++ later)))
-      (sym (step-written at items later part parts has.some many)) (
-        omega (arith, many, length-append items later),
-        subst (λ n. AreWrittenBefore n (parts_written (at + length items) later parts)) total rest,
-      )
-
-  later-from : (at least : ℕ) (run : List Need) (parts : List Part)
-      → AreInOrder least (length s.frames) parts → All (IsPartNeeds s.class) (needs_in parts)
-      → AreWrittenFrom at (parts_written at (items_behind window run (needs_in parts)) parts)
-  unfolding items_behind parts_written AreInOrder
-  later-from at least run [] order all = tt
-  later-from at least run (part ∷ parts) order all =
-      let needs = part_needs_of s part in
-      let items = run_part_items window run needs in
-      let later = items_behind window (run ++ item_needs items) (needs_in parts) in
-      let has = part-many s.class run needs known (all 0 needs (omega arith)) in
-      let many : length items ≡ lead_in_count items + (part.to - part.from) =
-      has.many ∙ ap (λ n. lead_in_count items + n) (own-length s part order.2) in
-      let rest = later-from (at + length items) (part.to + 1) (run ++ item_needs items) parts
-      order.3 (λ k d within. all (suc k) d (omega (arith, within))) in
-      let next : at + length items ≡ at + lead_in_count items + (part.to - part.from) =
-      omega (arith, many) in
-      subst (AreWrittenFrom at) (sym (step-written at items later part parts has.some many)) (
-        omega arith,
-        order.1,
-        subst (λ n. AreWrittenFrom n (parts_written (at + length items) later parts)) next rest,
-      )
+      part-and items later part parts has.some
+      (has.many ∙ ap (λ n. lead_in_count items + n) (own-length s part order.2))
+      (later-items (part.to + 1) (run ++ item_needs items) parts order.3
+      (λ k d within. all (suc k) d (omega (arith, within))))
 
   later-few : (least : ℕ) (run : List Need) (parts : List Part) → least ≤ length s.frames + 1
       → AreInOrder least (length s.frames) parts → All (IsPartNeeds s.class) (needs_in parts)
@@ -232,30 +233,21 @@ module _ (s : SurveyFields) (known : IsClass s.class) where
             (λ k d within. all (suc k) d (omega (arith, within))),
       )
 
-  -- the parts are written one behind the other
-  pub parts-from : (at : ℕ) (first : Part) (later : List Part)
+  -- each part has its frames among the items, and its lead-in if it has one
+  parts-items : (first : Part) (later : List Part)
       → AreInOrder 0 (length s.frames) (first ∷ later)
       → All (IsPartNeeds s.class) (needs_in (first ∷ later))
-      → AreWrittenFrom at (parts_written at (items_left s (first ∷ later)) (first ∷ later))
+      → AreItemsOfParts (items_left s (first ∷ later)) (first ∷ later)
   unfolding run_items AreInOrder
-  parts-from at first later order all =
+  parts-items first later order all =
       let needs = part_needs_of s first in
       let own = map frame_item needs in
-      let behind = items_behind window needs (needs_in later) in
-      let long : length own ≡ length needs = length-map needs frame_item in
-      let some : 0 < length own =
-      omega (arith, long, (all 0 needs (omega arith)).some) in
-      let many : length own ≡ lead_in_count own + (first.to - first.from) =
-      omega (arith, long, own-length s first order.2, no-lead needs) in
-      let rest = later-from (at + length own) (first.to + 1) needs later order.3
-      (λ k d within. all (suc k) d (omega (arith, within))) in
-      let next : at + length own ≡ at + lead_in_count own + (first.to - first.from) =
-      omega (arith, many) in
-      subst (AreWrittenFrom at) (sym (step-written at own behind first later some many)) (
-        omega arith,
-        order.1,
-        subst (λ n. AreWrittenFrom n (parts_written (at + length own) behind later)) next rest,
-      )
+      let some : 0 < length needs = (all 0 needs (omega arith)).some in
+      part-and own (items_behind window needs (needs_in later)) first later
+      (omega (arith, length-map needs frame_item, some))
+      (omega (arith, length-map needs frame_item, own-length s first order.2, no-lead needs))
+      (later-items (first.to + 1) needs later order.3
+      (λ k d within. all (suc k) d (omega (arith, within))))
 
   -- the parts are written before the end of what is written
   pub parts-before : (at : ℕ) (first : Part) (later : List Part)
@@ -263,22 +255,6 @@ module _ (s : SurveyFields) (known : IsClass s.class) where
       → All (IsPartNeeds s.class) (needs_in (first ∷ later))
       → AreWrittenBefore (at + length (items_left s (first ∷ later)))
       (parts_written at (items_left s (first ∷ later)) (first ∷ later))
-  unfolding run_items AreInOrder
   parts-before at first later order all =
-      let needs = part_needs_of s first in
-      let own = map frame_item needs in
-      let behind = items_behind window needs (needs_in later) in
-      let long : length own ≡ length needs = length-map needs frame_item in
-      let some : 0 < length own =
-      omega (arith, long, (all 0 needs (omega arith)).some) in
-      let many : length own ≡ lead_in_count own + (first.to - first.from) =
-      omega (arith, long, own-length s first order.2, no-lead needs) in
-      let rest = later-before (at + length own) (first.to + 1) needs later order.3
-      (λ k d within. all (suc k) d (omega (arith, within))) in
-      let total : at + length own + length behind ≡ at + length (own ++ behind) =
-      omega (arith, length-append own behind) in
-      subst (AreWrittenBefore (at + length (own ++ behind)))
-      (sym (step-written at own behind first later some many)) (
-        omega (arith, many, length-append own behind),
-        subst (λ n. AreWrittenBefore n (parts_written (at + length own) behind later)) total rest,
-      )
+      items-before (first ∷ later) at (at + length (items_left s (first ∷ later)))
+      (items_left s (first ∷ later)) (parts-items first later order all) (omega arith)
