@@ -1,0 +1,5 @@
+//! Tests of a session.
+#![tactic(auto)]
+
+#[cfg(test)]
+mod tests;
