@@ -1,41 +1,75 @@
-# make            builds the program, and so proves it
-# make install    installs the program, man page, completion and documents below DESTDIR/PREFIX
+# make            builds the program and the library, and so proves them; make program and make library build one of them
+# make install    installs them, with header, Python module, man pages, completion and documents, below DESTDIR/PREFIX;
+#                 make install-program, install-library (what programs load), install-development (what C programs are
+#                 built with) and install-python install a part
 # make uninstall  removes them
-# make deb        makes a Debian package of them in OUT
+# make deb        makes Debian packages of them in OUT
 # make check      the merge gate
 PREFIX ?= /usr/local
+LIBDIR ?= $(PREFIX)/lib
+PYTHONDIR ?= $(PREFIX)/lib/python3/dist-packages
 DESTDIR ?=
 OUT ?= out
 PROGRAM = crates/mp3edit/out/mp3edit
+# The folder of the built libraries.
+LIBRARY = library/out
 
 BIN = $(DESTDIR)$(PREFIX)/bin
-MAN = $(DESTDIR)$(PREFIX)/share/man/man1
+INCLUDE = $(DESTDIR)$(PREFIX)/include
+LIB = $(DESTDIR)$(LIBDIR)
+PYTHON = $(DESTDIR)$(PYTHONDIR)/mp3edit
+MAN = $(DESTDIR)$(PREFIX)/share/man
 COMPLETIONS = $(DESTDIR)$(PREFIX)/share/bash-completion/completions
 DOC = $(DESTDIR)$(PREFIX)/share/doc/mp3edit
+VERSION = $(shell sed -n '1s/.*"mp3edit \([^"]*\)".*/\1/p' docs/mp3edit.1)
 
-.PHONY: all install uninstall deb check
+.PHONY: all program library install install-program install-library install-development install-python uninstall deb check
 
-all:
+all: program library
+
+program:
 	scripts/build
 
-install: all
+library:
+	scripts/build-library
+
+install: install-program install-library install-development install-python
+
+install-program: program
 	install -D -m 755 "$(PROGRAM)" "$(BIN)/mp3edit"
-	install -d "$(MAN)"
-	gzip -9nc docs/mp3edit.1 >"$(MAN)/mp3edit.1.gz"
+	install -d "$(MAN)/man1"
+	gzip -9nc docs/mp3edit.1 >"$(MAN)/man1/mp3edit.1.gz"
 	install -D -m 644 scripts/completion/mp3edit "$(COMPLETIONS)/mp3edit"
 	install -d "$(DOC)/docs/figures" "$(DOC)/docs/measurements"
 	install -m 644 README.md CHANGELOG.md SECURITY.md CONTRIBUTING.md LICENSE "$(DOC)"
 	install -m 644 docs/*.md "$(DOC)/docs"
 	install -m 644 docs/measurements/*.md "$(DOC)/docs/measurements"
-	for page in crates/*/README.md; do install -D -m 644 "$$page" "$(DOC)/$$page" || exit; done
+	for page in crates/*/README.md library/examples/*; do install -D -m 644 "$$page" "$(DOC)/$$page" || exit; done
 	install -m 644 docs/figures/*.svg "$(DOC)/docs/figures"
 
+install-library: library
+	install -D -m 644 "$(LIBRARY)/libmp3edit.so.1" "$(LIB)/libmp3edit.so.1"
+
+install-development: library
+	install -D -m 644 library/mp3edit.h "$(INCLUDE)/mp3edit.h"
+	install -D -m 644 "$(LIBRARY)/libmp3edit.a" "$(LIB)/libmp3edit.a"
+	ln -sf libmp3edit.so.1 "$(LIB)/libmp3edit.so"
+	install -d "$(LIB)/pkgconfig" "$(MAN)/man3"
+	sed 's|@PREFIX@|$(PREFIX)|; s|@LIBDIR@|$(LIBDIR)|; s|@VERSION@|$(VERSION)|' library/mp3edit.pc.in >"$(LIB)/pkgconfig/mp3edit.pc"
+	gzip -9nc docs/mp3edit.3 >"$(MAN)/man3/mp3edit.3.gz"
+
+install-python:
+	install -d "$(PYTHON)"
+	install -m 644 library/python/mp3edit/*.py library/python/mp3edit/py.typed "$(PYTHON)"
+
 uninstall:
-	rm -f "$(BIN)/mp3edit" "$(MAN)/mp3edit.1.gz" "$(COMPLETIONS)/mp3edit"
-	rm -rf "$(DOC)"
+	rm -f "$(BIN)/mp3edit" "$(MAN)/man1/mp3edit.1.gz" "$(COMPLETIONS)/mp3edit"
+	rm -rf "$(DOC)" "$(PYTHON)"
+	rm -f "$(LIB)/libmp3edit.so.1" "$(LIB)/libmp3edit.so" "$(LIB)/libmp3edit.a" "$(LIB)/pkgconfig/mp3edit.pc"
+	rm -f "$(INCLUDE)/mp3edit.h" "$(MAN)/man3/mp3edit.3.gz"
 
 deb: all
-	PROGRAM="$(PROGRAM)" scripts/package "$(OUT)"
+	PROGRAM="$(PROGRAM)" LIBRARY="$(LIBRARY)" scripts/package "$(OUT)"
 
 check:
 	.ci/run
