@@ -38,14 +38,14 @@ module _ (window : ℕ) (choices : HeaderFields → List SlotFields) (needs : Li
   found can None (Some best) without behind = (best, ap₂ first_plan_of_two without behind)
   found can None None without behind = absurd (none can without behind)
 
-by-lead : (window : ℕ) (choices : HeaderFields → List SlotFields) (needs : List Need)
-    (lead_in : Option SlotFields) (placed : List Placed) → IsLeadIn window choices needs lead_in
+by-lead : {window : ℕ} (choices : HeaderFields → List SlotFields) (needs : List Need)
+    (lead_in : Option SlotFields) {placed : List Placed} → IsLeadIn window choices needs lead_in
     → IsPlanFor window (part_items choices needs lead_in) placed → CanBe window choices needs
 unfolding IsLeadIn part_items items_with_lead_in CanBeLaid
-by-lead window choices needs None placed alone plan =
+by-lead choices needs None {placed} alone plan =
     inl (item_areas (map (need_item choices) needs) placed, plan.least.chosen, plan.least.feasible)
-by-lead window choices [] (Some slot) placed alone plan = absurd alone
-by-lead window choices (first ∷ needs) (Some slot) placed alone plan =
+by-lead choices [] (Some slot) alone plan = absurd alone
+by-lead {window} choices (first ∷ needs) (Some slot) {placed} alone plan =
     let areas : List ℕ = item_areas (lead_in_item (class_of first.header) (slot ∷ [])
     ∷ map (need_item choices) (first ∷ needs)) placed in
     inr (
@@ -54,22 +54,22 @@ by-lead window choices (first ∷ needs) (Some slot) placed alone plan =
       subst (HasLayout window 0) (same-frames choices first needs slot areas) plan.least.feasible,
     )
 
-by-leads : (window : ℕ) (choices : HeaderFields → List SlotFields) (needs : List Need)
-    (lead_ins : List (Option SlotFields)) (placed : List Placed)
+by-leads : {window : ℕ} (choices : HeaderFields → List SlotFields) (needs : List Need)
+    (lead_ins : List (Option SlotFields)) {placed : List Placed}
     → AreLeadIns window choices (needs ∷ []) lead_ins
     → IsPlanFor window (all_items choices (needs ∷ []) lead_ins) placed → CanBe window choices needs
 unfolding AreLeadIns
-by-leads window choices needs [] placed alone plan = absurd alone
-by-leads window choices needs (lead_in ∷ other ∷ lead_ins) placed alone plan = absurd alone.1
-by-leads window choices needs (lead_in ∷ []) placed alone plan =
-    by-lead window choices needs lead_in placed
+by-leads choices needs [] alone plan = absurd alone
+by-leads choices needs (lead_in ∷ other ∷ lead_ins) alone plan = absurd alone.1
+by-leads {window} choices needs (lead_in ∷ []) {placed} alone plan =
+    by-lead choices needs lead_in
     alone.0 (subst (λ l. IsPlanFor window l placed) (whole-one choices needs lead_in) plan)
 
 -- if a part has a plan, it has a best plan
 pub best-exists : BestExists
 best-exists = λ window choices needs placed plan.
     found window choices needs
-    (by-leads window choices needs plan.lead_ins placed plan.alone plan.whole)
+    (by-leads choices needs plan.lead_ins plan.alone plan.whole)
     (best_placement window
     (items_with_lead_in false choices needs))
     (best_placement window (items_with_lead_in true choices needs)) refl refl

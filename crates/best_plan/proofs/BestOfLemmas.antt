@@ -51,17 +51,18 @@ among-map f [] x has = absurd has
 among-map f (z ∷ xs) x (inl here) = inl (ap f here)
 among-map f (z ∷ xs) x (inr has) = inr (among-map f xs x has)
 
-from-map : {X Y : Type 0} (f : X → Y) (xs : List X) (y : Y) → Among (map f xs) y
+from-map : {X Y : Type 0} {f : X → Y} (xs : List X) {y : Y} → Among (map f xs) y
     → (x : X) × Among xs x × (f x ≡ y)
-from-map f [] y has = absurd has
-from-map f (z ∷ xs) y (inl here) = (z, inl refl, here)
-from-map f (z ∷ xs) y (inr has) = let rest = from-map f xs y has in (rest.0, inr rest.1, rest.2)
+from-map [] has = absurd has
+from-map (z ∷ xs) (inl here) = (z, inl refl, here)
+from-map {f = f} (z ∷ xs) {y} (inr has) = let rest = from-map xs has in
+    (rest.0, inr rest.1, rest.2)
 
-among-filter : {X : Type 0} (test : X → Bool) (xs : List X) (x : X) → Among xs x → test x ≡ true
+among-filter : {X : Type 0} (test : X → Bool) (xs : List X) {x : X} → Among xs x → test x ≡ true
     → Among (filter test xs) x
-among-filter test [] x has passes = absurd has
-among-filter test (z ∷ xs) x has passes =
-    at (test z) refl has (λ later. among-filter test xs x later passes)
+among-filter test [] has passes = absurd has
+among-filter test (z ∷ xs) {x} has passes =
+    at (test z) refl has (λ later. among-filter test xs later passes)
   where
     at : (b : Bool) → test z ≡ b → Among (z ∷ xs) x → (Among xs x → Among (filter test xs) x)
         → Among (cond b (z ∷ filter test xs) (filter test xs)) x
@@ -71,10 +72,10 @@ among-filter test (z ∷ xs) x has passes =
         absurd cc
     at false is (inr later) on = on later
 
-from-filter : {X : Type 0} (test : X → Bool) (xs : List X) (x : X) → Among (filter test xs) x
+from-filter : {X : Type 0} (test : X → Bool) (xs : List X) {x : X} → Among (filter test xs) x
     → Among xs x × (test x ≡ true)
-from-filter test [] x has = absurd has
-from-filter test (z ∷ xs) x has = at (test z) refl has (λ later. from-filter test xs x later)
+from-filter test [] has = absurd has
+from-filter test (z ∷ xs) {x} has = at (test z) refl has (λ later. from-filter test xs later)
   where
     at : (b : Bool) → test z ≡ b → Among (cond b (z ∷ filter test xs) (filter test xs)) x
         → (Among (filter test xs) x → Among xs x × (test x ≡ true))
@@ -88,37 +89,37 @@ from-filter test (z ∷ xs) x has = at (test z) refl has (λ later. from-filter 
 abbrev after_slot : List PlanItem → SlotFields → List (List SlotFields)
 after_slot items slot = map (λ slots. slot ∷ slots) (all_lists items)
 
-among-choices : (items : List PlanItem) (choices : List SlotFields) (slot : SlotFields)
+among-choices : (items : List PlanItem) (choices : List SlotFields) {slot : SlotFields}
     (slots : List SlotFields) → Contains choices slot → Among (all_lists items) slots
     → Among (flat_map (after_slot items) choices) (slot ∷ slots)
-among-choices items [] slot slots has rest = absurd (omega (arith, has.1))
-among-choices items (s ∷ choices) slot slots (zero, within, at) rest =
+among-choices items [] slots has rest = absurd (omega (arith, has.1))
+among-choices items (s ∷ choices) {slot} slots (zero, within, at) rest =
     among-front (after_slot items s) (flat_map (after_slot items) choices) (slot ∷ slots)
     (subst (λ t. Among (after_slot items t) (slot ∷ slots)) (sym at)
     (among-map (λ slots. slot ∷ slots) (all_lists items) slots rest))
-among-choices items (s ∷ choices) slot slots (suc k, within, at) rest =
+among-choices items (s ∷ choices) {slot} slots (suc k, within, at) rest =
     among-back (after_slot items s) (flat_map (after_slot items) choices) (slot ∷ slots)
-    (among-choices items choices slot slots (k, omega (arith, within), at) rest)
+    (among-choices items choices slots (k, omega (arith, within), at) rest)
 
 among-lists : (items : List PlanItem) (slots : List SlotFields) → AreOf items slots
     → Among (all_lists items) slots
 unfolding AreOf all_lists
 among-lists [] [] of = inl refl
 among-lists (item ∷ items) (slot ∷ slots) of =
-    among-choices items item.choices slot slots of.0 (among-lists items slots of.1)
+    among-choices items item.choices slots of.0 (among-lists items slots of.1)
 among-lists _ _ of = absurd of
 
-from-choices : (items : List PlanItem) (choices : List SlotFields) (list : List SlotFields)
+from-choices : (items : List PlanItem) (choices : List SlotFields) {list : List SlotFields}
     → Among (flat_map (after_slot items) choices) list
     → (slot : SlotFields) × (slots : List SlotFields) × Contains choices slot
     × Among (all_lists items) slots × (slot ∷ slots ≡ list)
-from-choices items [] list has = absurd has
-from-choices items (s ∷ choices) list has =
+from-choices items [] has = absurd has
+from-choices items (s ∷ choices) {list} has =
     elim (among-either (after_slot items s) (flat_map (after_slot items) choices) list has)
     as (λ _. (slot : SlotFields) × (slots : List SlotFields) × Contains (s ∷ choices) slot
     × Among (all_lists items) slots × (slot ∷ slots ≡ list)) [
       | inl front ↦ grind (arith, from-map)
-      | inr back ↦ let rest = from-choices items choices list back in let has = rest.2 in
+      | inr back ↦ let rest = from-choices items choices back in let has = rest.2 in
           (rest.0, rest.1, (suc has.0, omega (arith, has.1), has.2), rest.3, rest.4)
     ]
 
@@ -128,7 +129,7 @@ unfolding AreOf all_lists
 from-lists [] slots (inl here) = subst (AreOf []) here tt
 from-lists [] slots (inr has) = absurd has
 from-lists (item ∷ items) slots has =
-    let found = from-choices items item.choices slots has in
+    let found = from-choices items item.choices has in
     subst (AreOf (item ∷ items)) found.4 (found.2, from-lists items found.1 found.3)
 
 -- ---- the plans that are made of the lists
@@ -144,12 +145,12 @@ module _ (window : ℕ) (items : List PlanItem) where
   abbrev passing : List SlotFields → Bool
   passing slots = has_layout window 0 0 (frames_in_slots items slots)
 
-  from-plans : (placed : List Placed) → Among (plans_of window items) placed
+  from-plans : {placed : List Placed} → Among (plans_of window items) placed
       → IsLaid window items placed
-  from-plans placed has =
+  from-plans {placed} has =
       let found =
-      from-map (earliest_placement window items) (filter passing (all_lists items)) placed has in
-      let passed = from-filter passing (all_lists items) found.0 found.1 in
+      from-map (filter passing (all_lists items)) has in
+      let passed = from-filter passing (all_lists items) found.1 in
       let laid = laid-early window items found.0 (from-lists items found.0 passed.0) in
       subst (IsLaid window items) found.2 (record {
         slots = laid.0;
@@ -158,16 +159,16 @@ module _ (window : ℕ) (items : List PlanItem) where
       })
 
   -- one of the plans has these areas
-  with-areas : (areas : List ℕ) → AreChosenAreas (map open_frame items) areas
+  with-areas : {areas : List ℕ} → AreChosenAreas (map open_frame items) areas
       → HasLayout window 0 (frames_with_areas (map open_frame items) areas) → (placed : List Placed)
       × Among (plans_of window items) placed × (item_areas items placed ≡ areas)
-  with-areas areas chosen feasible =
+  with-areas {areas} chosen feasible =
       let of = chosen-of items areas chosen in
       let passes = feasible-slots window items of.0
       (subst (λ l. HasLayout window 0 (frames_with_areas (map open_frame items) l))
       (sym of.2) feasible) in
       let has = among-map (earliest_placement window items) (filter passing (all_lists items))
-      of.0 (among-filter passing (all_lists items) of.0 (among-lists items of.0 of.1) passes) in
+      of.0 (among-filter passing (all_lists items) (among-lists items of.0 of.1) passes) in
       (earliest_placement window items of.0, has, (laid-early window items of.0 of.1).1 ∙ of.2)
 
 -- ---- the plan that costs least
@@ -209,9 +210,9 @@ not_behind-on (l ∷ ls) (m ∷ ms) (n ∷ ns) (inr at) (inr also) =
     inr (at.0 ∙ also.0, not_behind-on ls ms ns at.1 also.1)
 
 -- a list comes before another by its first item, or by the others
-by_first : (m n : ℕ) (rest : Bool) → (ltb m n || ((m == n) && rest)) ≡ true
+by_first : {m n : ℕ} {rest : Bool} → (ltb m n || ((m == n) && rest)) ≡ true
     → (m < n) ⊎ ((m ≡ n) × (rest ≡ true))
-by_first m n rest is =
+by_first {m} {n} {rest} is =
     elim (or_cases (ltb m n) ((m == n) && rest) is) as (λ _. (m < n) ⊎ ((m ≡ n) × (rest ≡ true))) [
       | inl less ↦ inl (ltb-true m n less)
       | inr at ↦ let parts = and_parts (m == n) rest at in inr (eqb-true m n parts.0, parts.1)
@@ -224,7 +225,8 @@ before-first [] [] is = tt
 before-first [] (n ∷ ns) is = tt
 before-first (m ∷ ms) [] is = absurd cc
 before-first (m ∷ ms) (n ∷ ns) is =
-    elim (by_first m n (comes_before ms ns) is) as (λ _. (m < n) ⊎ ((m ≡ n) × IsNotBehind ms ns)) [
+    elim (by_first {m = m} {n = n} {rest = comes_before ms ns} is) as (λ _. (m < n)
+    ⊎ ((m ≡ n) × IsNotBehind ms ns)) [
       | inl less ↦ inl less
       | inr at ↦ inr (at.0, before-first ms ns at.1)
     ]
@@ -242,12 +244,12 @@ unfolding cheapest_plan
 no-plans items [] none q has = has
 no-plans items (p ∷ plans) none q has = absurd cc
 
-cheapest_plan-is : (items : List PlanItem) (plans : List (List Placed)) (found : List Placed)
+cheapest_plan-is : {items : List PlanItem} (plans : List (List Placed)) {found : List Placed}
     → cheapest_plan items plans ≡ Some found → IsCheapest items plans found
 unfolding cheapest_plan
-cheapest_plan-is items [] found e = absurd cc
-cheapest_plan-is items (placed ∷ plans) found e =
-    of (cheapest_plan items plans) refl e (λ other is. cheapest_plan-is items plans other is)
+cheapest_plan-is [] e = absurd cc
+cheapest_plan-is {items} (placed ∷ plans) {found} e =
+    of (cheapest_plan items plans) refl e (λ other is. cheapest_plan-is plans is)
   where
     keeps : ((q : List Placed) → Among plans q
         → IsNotBehind (cost_of items placed) (cost_of items q))
@@ -290,36 +292,37 @@ pub chosen-for : (items : List PlanItem) (placed : List Placed) → AreItemSlots
 unfolding AreItemSlots item_areas AreChosenAreas
 chosen-for [] [] slots = tt
 chosen-for (item ∷ items) (p ∷ placed) slots = (
-  Contains-area item.class item.protected item.choices p.slot slots.1,
+  Contains-area item.class item.protected item.choices slots.1,
   chosen-for items placed slots.2,
 )
 chosen-for _ _ slots = absurd slots
 
 -- ---- the best plan of items
 
-same_areas : (ms ns : List ℕ) → sum ns ≤ sum ms → (sum ms ≡ sum ns → IsNotBehind ns ms)
+same_areas : {ms ns : List ℕ} → sum ns ≤ sum ms → (sum ms ≡ sum ns → IsNotBehind ns ms)
     → IsNotBehind (sum ms ∷ ms) (sum ns ∷ ns) → ms ≡ ns
 unfolding IsNotBehind
-same_areas ms ns short first h = grind (arith, equal_lists)
+same_areas short first h = grind (arith, equal_lists)
 
 -- the best plan of some items is the plan that the search finds
-plans-best : (window : ℕ) (items : List PlanItem) (placed : List Placed) → AreOrdered items
+plans-best : {window : ℕ} {items : List PlanItem} {placed : List Placed} → AreOrdered items
     → IsBestPlanFor window 0 items placed → best_placement window items ≡ Some placed
-plans-best window items placed ordered is = of (best_placement window items) refl
+plans-best {window} {items} {placed} ordered is =
+    of (best_placement window items) refl
   where
     own : (plan : List Placed) × Among (plans_of window items) plan
         × (item_areas items plan ≡ item_areas items placed)
-    own = with-areas window items (item_areas items placed) is.best.chosen is.best.feasible
+    own = with-areas window items is.best.chosen is.best.feasible
 
     of : (o : Option (List Placed)) → best_placement window items ≡ o → o ≡ Some placed
     of None none = absurd (no-plans items (plans_of window items) none own.0 own.1)
     of (Some found) e =
-        let cheap = cheapest_plan-is items (plans_of window items) found e in
-        let also = from-plans window items found cheap.among in
+        let cheap = cheapest_plan-is (plans_of window items) e in
+        let also = from-plans window items cheap.among in
         let chosen = chosen-for items found also.slots in
         let before = subst (λ l. IsNotBehind (cost_of items found) (sum l ∷ l))
         own.2 (cheap.least own.0 own.1) in
-        let areas = same_areas (item_areas items found) (item_areas items placed)
+        let areas = same_areas
         (is.best.shortest (item_areas items found) chosen also.feasible)
         (is.best.first (item_areas items found) chosen also.feasible) before in
         ap Some (one_placed items found placed ordered also.slots is.slots areas (also.begins
@@ -335,9 +338,9 @@ first-of : (ms ns : List ℕ) → IsNotBehind (sum ms ∷ ms) (sum ns ∷ ns) �
 unfolding IsNotBehind
 first-of ms ns h same = grind arith
 
-best-plans : (window : ℕ) (items : List PlanItem) (placed : List Placed)
+best-plans : {window : ℕ} {items : List PlanItem} {placed : List Placed}
     → best_placement window items ≡ Some placed → IsBestPlanFor window 0 items placed
-best-plans window items placed e = record {
+best-plans {window} {items} {placed} e = record {
   slots = laid.slots;
   best =
       grind (
@@ -353,48 +356,48 @@ best-plans window items placed e = record {
 }
   where
     cheap : IsCheapest items (plans_of window items) placed
-    cheap = cheapest_plan-is items (plans_of window items) placed e
+    cheap = cheapest_plan-is (plans_of window items) e
 
     laid : IsLaid window items placed
-    laid = from-plans window items placed cheap.among
+    laid = from-plans window items cheap.among
 
     not_behind : (others : List ℕ) → AreChosenAreas (map open_frame items) others
         → HasLayout window 0 (frames_with_areas (map open_frame items) others)
         → IsNotBehind (cost_of items placed) (sum others ∷ others)
     not_behind others chosen feasible =
-        let other = with-areas window items others chosen feasible in
+        let other = with-areas window items chosen feasible in
         subst (λ l. IsNotBehind (cost_of items placed) (sum l ∷ l))
         other.2 (cheap.least other.0 other.1)
 
 -- if the search finds a plan, the items can be laid
-of-laid : (window : ℕ) (items : List PlanItem) (placed : List Placed)
+of-laid : (window : ℕ) (items : List PlanItem) {placed : List Placed}
     → best_placement window items ≡ Some placed → CanBeLaid window (map open_frame items)
 unfolding CanBeLaid
-of-laid window items placed e = let is = (best-plans window items placed e).best in
+of-laid window items {placed} e = let is = (best-plans e).best in
     (item_areas items placed, is.chosen, is.feasible)
 
 -- if the search finds none, no choice can be laid
 pub none-laid : (window : ℕ) (items : List PlanItem) → best_placement window items ≡ None
     → CanBeLaid window (map open_frame items) → ⊥
 unfolding CanBeLaid
-none-laid window items none can = let other = with-areas window items can.0 can.1 can.2 in
+none-laid window items none can = let other = with-areas window items can.1 can.2 in
     no-plans items (plans_of window items) none other.0 other.1
 
 -- ---- the best plan of a part
 
-ordered-behind : (choices : HeaderFields → List SlotFields) (needs : List Need)
+ordered-behind : {choices : HeaderFields → List SlotFields} (needs : List Need)
     → PartsChooseInOrder choices (needs ∷ []) → (lead_in : Bool)
     → AreOrdered (items_with_lead_in lead_in choices needs)
 unfolding items_with_lead_in all_items part_items
-ordered-behind choices needs order false =
+ordered-behind {choices} needs order false =
     subst AreOrdered (append-nil (map (need_item choices) needs))
-    (ordered_whole choices (needs ∷ []) (None ∷ []) (all_in_order choices (needs ∷ []) order))
-ordered-behind choices [] order true = tt
-ordered-behind choices (first ∷ needs) order true =
+    (ordered_whole choices (needs ∷ []) (None ∷ []) (all_in_order (needs ∷ []) order))
+ordered-behind [] order true = tt
+ordered-behind {choices} (first ∷ needs) order true =
     let sound = (order 0 (first ∷ needs) (omega arith) 0 first (omega arith)).class in (
       slots_ascend (class_of first.header) sound,
       subst AreOrdered (append-nil (map (need_item choices) (first ∷ needs))) (ordered_whole choices
-          ((first ∷ needs) ∷ []) (None ∷ []) (all_in_order choices ((first ∷ needs) ∷ []) order)),
+          ((first ∷ needs) ∷ []) (None ∷ []) (all_in_order ((first ∷ needs) ∷ []) order)),
     )
 
 module _ (window : ℕ) (choices : HeaderFields → List SlotFields) (needs : List Need)
@@ -411,13 +414,13 @@ module _ (window : ℕ) (choices : HeaderFields → List SlotFields) (needs : Li
       → best_plan_of window choices needs ≡ Some placed
   unfolding items_with_lead_in
   plan-of order false alone best = ap (λ o. first_plan_of_two o (best_placement window behind))
-      (plans-best window without placed (ordered-behind choices needs order false) best)
+      (plans-best (ordered-behind needs order false) best)
   plan-of order true alone best = at (best_placement window without) refl
     where
       at : (o : Option (List Placed)) → best_placement window without ≡ o
           → first_plan_of_two o (best_placement window behind) ≡ Some placed
-      at None none = plans-best window behind placed (ordered-behind choices needs order true) best
-      at (Some other) e = let never : true ≡ false = alone.1 (of-laid window without other e) in
+      at None none = plans-best (ordered-behind needs order true) best
+      at (Some other) e = let never : true ≡ false = alone.1 (of-laid window without e) in
           absurd cc
 
   of-plan : best_plan_of window choices needs ≡ Some placed → IsBestPlan window choices needs placed
@@ -430,13 +433,13 @@ module _ (window : ℕ) (choices : HeaderFields → List SlotFields) (needs : Li
       at (Some other) is e = let same : other ≡ placed = cc in
           subst (IsBestPlan window choices needs) same (record {
             lead_in = false;
-            without = ((λ _. of-laid window without other is), (λ _. refl));
-            whole = best-plans window without other is;
+            without = ((λ _. of-laid window without is), (λ _. refl));
+            whole = best-plans is;
           })
       at None none e = record {
         lead_in = true;
         without = ((λ f. absurd cc), (λ can. absurd (none-laid window without none can)));
-        whole = best-plans window behind placed e;
+        whole = best-plans e;
       }
 
 -- the best plan is what the search of all choices finds

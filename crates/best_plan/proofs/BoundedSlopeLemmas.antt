@@ -11,11 +11,11 @@ use Rattle.best_plan.specs.Rows.{IsEndAt, IsSum, nothing}
 use Rattle.slot_plan.{proofs.AreaLemmas.Ascend, specs.Reserve.free_bytes_behind}
 
 -- `more` further free bytes save at most `more` bytes of areas
-near-more : (sums : List ℕ) (least free more : ℕ) → HasSlopeAtMostOne sums least → least ≤ free
-    → free + more < length sums → get_or sums free 0 ≤ get_or sums (free + more) 0 + more
-near-more sums least free zero near from within = grind arith
-near-more sums least free (suc more) near from within =
-    grind (arith, near-more sums least free more near from (omega (arith, within)))
+near-more : {sums : List ℕ} {least free : ℕ} (more : ℕ) → HasSlopeAtMostOne sums least → least
+    ≤ free → free + more < length sums → get_or sums free 0 ≤ get_or sums (free + more) 0 + more
+near-more zero near from within = grind arith
+near-more {sums} {least} {free} (suc more) near from within =
+    grind (arith, near-more more near from (omega (arith, within)))
 
 module _ (window free bytes least place cost at : ℕ) (areas later : List ℕ)
     (width : length later ≡ window + 1) (near : HasSlopeAtMostOne later least)
@@ -23,9 +23,9 @@ module _ (window free bytes least place cost at : ℕ) (areas later : List ℕ)
     (small : (k : ℕ) → k < place → free + get_or areas k 0 < bytes + least)
     (most : cost ≤ nothing) where
   -- an area before this place leaves too little
-  none-before : (k : ℕ) → k < place → bytes ≤ free + get_or areas k 0
+  none-before : {k : ℕ} → k < place → bytes ≤ free + get_or areas k 0
       → nothing ≤ get_or later (free_bytes_behind window free bytes (get_or areas k 0)) 0
-  none-before k before fits = grind (arith, width)
+  none-before before fits = grind (arith, width)
 
   -- if no area leaves enough, there is no sum
   pub no-choice : length areas ≤ place → cost ≡ nothing
@@ -38,18 +38,18 @@ module _ (window free bytes least place cost at : ℕ) (areas later : List ℕ)
     left = free_bytes_behind window free bytes (get_or areas place 0)
 
     -- a later area saves at most as many bytes as it is larger
-    from-place : (k : ℕ) → place ≤ k → k < length areas
+    from-place : {k : ℕ} → place ≤ k → k < length areas
         → cost ≤ area_sum window free bytes later (get_or areas k 0)
-    from-place k from less =
+    from-place {k} from less =
         let more : ℕ = free_bytes_behind window free bytes (get_or areas k 0) in
-        let grows = not-greater areas place k ascend from less in
+        let grows = not-greater areas ascend from less in
         elim (cases_lt left least)
         as (λ _. cost ≤ area_sum window free bytes later (get_or areas k 0)) [
           | inl few ↦ grind (arith, width)
           | inr enough ↦
               grind (
                 arith,
-                near-more later least left (more - left) near enough (omega (
+                near-more (more - left) near enough (omega (
                   arith,
                   width,
                   grows,
@@ -89,9 +89,9 @@ module _ (window free bytes least wanted place cost at : ℕ) (areas later : Lis
       ]
 
 -- what was written back to a whole list is what the list has
-pub wrote-back : (n : ℕ) (new old : List ℕ) → length new ≡ length old → n ≡ length old
+pub wrote-back : {n : ℕ} {new : List ℕ} (old : List ℕ) → length new ≡ length old → n ≡ length old
     → take n (new ++ drop (length new) old) ≡ new
-wrote-back n new old same all = grind (arith, drop_all, append-nil, take_all)
+wrote-back old same all = grind (arith, drop_all, append-nil, take_all)
 
 -- ---- from the last area to the first
 
@@ -112,12 +112,12 @@ module _ (window bytes least wanted : ℕ) (areas later : List ℕ) (narrow : wi
     (areas_most : All (λ n. n ≤ 1441) areas)
     (most : wanted ≤ bytes + least) (whole : wanted < nothing → wanted ≡ bytes + least) where
   -- no area leaves enough
-  pub near-begin : (start : ℕ) (row old new : List ℕ)
+  pub near-begin : {start : ℕ} {row old new : List ℕ}
       → IsEndAt window wanted areas (length areas) start → length row ≡ window + 1
       → ((free : ℕ) → free < start → get_or row free 0 ≡ nothing)
       → new ≡ take (length old + start) old ++ replicate (length old + start - length old) 0
       → IsNearTo window bytes wanted areas later (length areas) start row old new
-  near-begin start row old new ends width none gives = record {
+  near-begin {start} {row} ends width none gives = record {
     cells = replicate start 0;
     appended = grind (arith, take_all);
     many = length-replicate start 0;
@@ -133,15 +133,16 @@ module _ (window bytes least wanted : ℕ) (areas later : List ℕ) (narrow : wi
   }
 
   -- one more area, back to front, fills the row up to where it no longer leaves enough
-  pub near-next : (place start end : ℕ) (row next old new more : List ℕ) → 0 < place
+  pub near-next : {place start end : ℕ} {row next old new more : List ℕ} → 0 < place
       → place ≤ length areas → IsEndAt window wanted areas (place - 1) end
       → AreSums window bytes (get_or areas (place - 1) 0) later start end row next
       → more ≡ take (length old + end) new ++ replicate (length old + end - length new) (place - 1)
       → IsNearTo window bytes wanted areas later place start row old new
       → IsNearTo window bytes wanted areas later (place - 1) end next old more
-  near-next place start end row next old new more some within is sums gives so_far =
+  near-next {place} {start} {end} {next = next} {old = old} {new = new} some
+      within is sums gives so_far =
       let count : length new ≡ length old + start = grind (arith, length-append) in
-      let rises : start ≤ end = end-rises window wanted areas place start end some so_far.ends is in
+      let rises : start ≤ end = end-rises some so_far.ends is in
       let many : ℕ = end - start in
       let added : List ℕ = replicate many (place - 1) in
       let kept : take (length old + end) new ≡ new = grind (arith, take_all) in
@@ -179,10 +180,10 @@ module _ (window bytes least wanted : ℕ) (areas later : List ℕ) (narrow : wi
       }
 
   -- after the last of the areas the row is whole
-  pub near-end : (start : ℕ) (row old new : List ℕ)
+  pub near-end : {start : ℕ} {row old new : List ℕ}
       → IsNearTo window bytes wanted areas later 0 start row old new
       → AppendsRow window bytes areas later row old new
-  near-end start row old new is =
+  near-end {start} is =
       let all : start ≡ window + 1 = grind (arith, cases_lt) in
       record {
         cells = is.cells;

@@ -57,11 +57,11 @@ module _ (window : ℕ) (choices : HeaderFields → List SlotFields) (needs : Li
       )
 
   -- if the table has a sum for no free bytes, the walk from there is the best plan
-  pub plan-without : (old new placed : List Placed) → IsTable window choices needs sums places
+  pub plan-without : {old new placed : List Placed} → IsTable window choices needs sums places
       → get_or sums 0 0 < nothing → old ≡ [] → WalksTable window choices 0 needs old new
       → placed ≡ new → IsBestPlan window choices needs placed
   unfolding items_with_lead_in
-  plan-without old new placed table some none walk is = grind (arith, can-sum)
+  plan-without table some none walk is = grind (arith, can-sum)
 
   -- the first sum of the table is the sum for no free bytes
   pub first-sum : (value : ℕ) → IsTable window choices needs sums places
@@ -69,10 +69,10 @@ module _ (window : ℕ) (choices : HeaderFields → List SlotFields) (needs : Li
   first-sum value table is = grind (arith, get_or_default, table-width)
 
 -- the place of the least sum is the place of a slot
-pub lead-within : (class : ClassFields) (sums : List ℕ) (window cost place : ℕ)
+pub lead-within : (class : ClassFields) {sums : List ℕ} {window cost place : ℕ}
     → IsAreaChoice window 0 0 (slot_areas class false all_slots) sums cost place → cost < nothing
     → place < length all_slots
-lead-within class sums window cost place is some = grind (arith, length-map)
+lead-within class is some = grind (arith, length-map)
 
 module _ (window : ℕ) (class : ClassFields) (sums : List ℕ) (cost place : ℕ) where
   -- if the frames have a sum after a whole window, they have one after some lead-in
@@ -82,7 +82,7 @@ module _ (window : ℕ) (class : ClassFields) (sums : List ℕ) (cost place : �
   lead-some spanned most some is =
       grind (
         arith,
-        Contains-area class false all_slots largest_slot (Contains-all_slots
+        Contains-area class false all_slots (Contains-all_slots
             largest_slot (omega arith, omega arith)),
         Contains-all_slots largest_slot (
           omega arith,
@@ -93,12 +93,12 @@ module _ (window : ℕ) (class : ClassFields) (sums : List ℕ) (cost place : �
       )
 
   -- the slot at the place of the least sum is the best lead-in by the table
-  pub lead-by : (slots : List SlotFields) (slot : SlotFields) (lead : Placed)
+  pub lead-by : {slots : List SlotFields} {slot : SlotFields} {lead : Placed}
       → IsAreaChoice window 0 0 (slot_areas class false all_slots) sums cost place → cost < nothing
       → slots ≡ all_slots → slot ≡ get_or slots place slot → Ascend (areas_of class false)
       → lead.slot ≡ slot → lead.lead_in ≡ true → lead.begin ≡ 0
       → IsLeadInOfSums window class sums lead
-  lead-by slots slot lead choice some all at ascend is first begin =
+  lead-by choice some all at ascend is first begin =
       grind (arith, lead-within, get_or-map, lead-ascend)
 
 with-lead-in : (choices : HeaderFields → List SlotFields) (needs : List Need) (d : Need)
@@ -113,16 +113,15 @@ module _ (window : ℕ) (choices : HeaderFields → List SlotFields) (needs : Li
     (table : IsTable window choices needs sums places)
     (by : IsLeadInOfSums window class sums lead)
     (gives : free ≡ free_bytes_behind window 0 0 (area_of class lead.slot false)) where
-  lead-whole : (more : List Placed) → IsBestPlanFor window free (map (need_item choices) needs) more
+  lead-whole : {more : List Placed} → IsBestPlanFor window free (map (need_item choices) needs) more
       → IsBestPlanFor window 0 (items_with_lead_in true choices needs) (lead ∷ more)
-  lead-whole more best =
+  lead-whole {more} best =
       let items : List PlanItem = map (need_item choices) needs in
       let rest = subst (λ n. IsWalked window n items more) gives
-      (walked-best window free items more (omega (arith, gives)) best) in
+      (walked-best (omega (arith, gives)) best) in
       let whole : IsBestPlanFor window 0 (lead_in_item class all_slots ∷ items) (lead ∷ more) =
-      best-walked window 0 (lead_in_item class all_slots ∷ items) (lead ∷ more) (omega arith)
-      (walked-more window 0 (lead_in_item class all_slots) items lead more sums
-      by.cost by.place by.ascending by.choice by.some
+      best-walked (omega arith)
+      (walked-more by.ascending by.choice by.some
       (table-sums window choices needs sums places table)
       by.area by.chosen by.lead_in by.begin rest) in
       subst (λ l. IsBestPlanFor window 0 l (lead ∷ more))
@@ -134,15 +133,14 @@ module _ (window : ℕ) (choices : HeaderFields → List SlotFields) (needs : Li
       → nothing ≤ get_or sums 0 0 → old ≡ lead ∷ [] → WalksTable window choices free needs old new
       → placed ≡ new → IsBestPlan window choices needs placed
   plan-behind old new placed few none first walk result =
-      grind (arith, true≢false, cannot-sum, lead-whole walk.more walk.best)
+      grind (arith, true≢false, cannot-sum, lead-whole walk.best)
 
 -- ---- what the call over all slots requires, and what it gives
 -- some lead-in has a sum by the table, and the cheapest in the list is the cheapest of all slots
-pub lead-ready : (window room : ℕ) (class : ClassFields) (sums areas : List ℕ)
-    (slots : List SlotFields) (cost place : ℕ) → room ≡ window
+pub lead-ready : {window room : ℕ} (class : ClassFields) {sums areas : List ℕ}
+    {slots : List SlotFields} {cost place : ℕ} → room ≡ window
     → areas ≡ slot_areas class false slots → slots ≡ all_slots
     → room ≤ area_of class largest_slot false → All (λ n. n ≤ 1441) areas
     → get_or sums window 0 ≤ 288200000 → IsAreaChoice room 0 0 areas sums cost place
     → IsAreaChoice window 0 0 (slot_areas class false all_slots) sums cost place × (cost < nothing)
-lead-ready window room class sums areas slots cost place same are all spanned most some is =
-    grind (arith, lead-some)
+lead-ready class same are all spanned most some is = grind (arith, lead-some)

@@ -17,9 +17,9 @@ pub record IsChoiceTo (window free bytes : ℕ) (areas later : List ℕ)
       → cost < area_sum window free bytes later (get_or areas k 0)
 
 -- areas ascend
-pub not-greater : (ns : List ℕ) (j k : ℕ) → Ascend ns → j ≤ k → k < length ns
+pub not-greater : (ns : List ℕ) {j k : ℕ} → Ascend ns → j ≤ k → k < length ns
     → get_or ns j 0 ≤ get_or ns k 0
-not-greater ns j k ascend from within = grind (arith, cases_lt, within)
+not-greater ns ascend from within = grind (arith, cases_lt, within)
 
 -- ---- the bounds of sums
 
@@ -42,11 +42,11 @@ pub record IsRowTo (window bytes : ℕ) (areas later : List ℕ) (to : ℕ)
       → IsAreaChoice window free bytes areas later (get_or row free 0) (get_or cells free 0)
 
 -- one more number of free bytes is one more entry of the row
-pub row-more : (window bytes : ℕ) (areas later : List ℕ) (to : ℕ) (row old new : List ℕ)
-    (cost place : ℕ) → IsAreaChoice window to bytes areas later cost place
+pub row-more : {window bytes : ℕ} {areas later : List ℕ} {to : ℕ} {row old new : List ℕ}
+    {cost place : ℕ} → IsAreaChoice window to bytes areas later cost place
     → IsRowTo window bytes areas later to row old new
     → IsRowTo window bytes areas later (to + 1) (row ++ cost ∷ []) old (new ++ place ∷ [])
-row-more window bytes areas later to row old new cost place is so_far =
+row-more {window} {bytes} {areas} {later} {to} {row} {cost = cost} {place = place} is so_far =
     let cells : List ℕ = so_far.cells ++ place ∷ [] in
     record {
       cells = cells;

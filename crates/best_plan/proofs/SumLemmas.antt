@@ -17,16 +17,17 @@ pub fits-laid : (window free : ℕ) (frames : List FrameLengths) → HasLayout w
     → AllFit window free frames
 unfolding HasLayout
 fits-laid window free frames feasible =
-    fit-layout window 0 free free frames feasible.0 (omega arith) feasible.1
+    fit-layout window 0 free frames feasible.0 (omega arith) feasible.1
 
 -- frames that fit in at most a window of free bytes have a layout after these
-pub laid-fits : (window free : ℕ) (frames : List FrameLengths) → free ≤ window
+pub laid-fits : {window free : ℕ} (frames : List FrameLengths) → free ≤ window
     → AllFit window free frames → HasLayout window free frames
 unfolding HasLayout
-laid-fits window free frames within fit =
+laid-fits {window} {free} frames within fit =
     grind (
       arith,
-      layout-fit window 0 free free frames (omega arith) (omega (arith, within)) fit,
+      layout-fit window 0 {before = free} {free = free} frames (omega arith)
+          (omega (arith, within)) fit,
       fit,
     )
 
@@ -58,11 +59,11 @@ no-sum window free = record {
 behind-within : (window free bytes area : ℕ) → free_bytes_behind window free bytes area ≤ window
 behind-within window free bytes area = omega arith
 
-at-place : (ns : List ℕ) (k : ℕ) → k < length ns → Contains ns (get_or ns k 0)
-at-place ns k within = (k, within, get_or_default ns k (get_or ns k 0) 0 within)
+at-place : (ns : List ℕ) {k : ℕ} → k < length ns → Contains ns (get_or ns k 0)
+at-place ns {k} within = (k, within, get_or_default ns k (get_or ns k 0) 0 within)
 
-placed-at : (ns : List ℕ) (n : ℕ) (has : Contains ns n) → get_or ns has.0 0 ≡ n
-placed-at ns n has = get_or_default ns has.0 0 n has.1 ∙ has.2
+placed-at : (ns : List ℕ) {n : ℕ} (has : Contains ns n) → get_or ns has.0 0 ≡ n
+placed-at ns {n} has = get_or_default ns has.0 0 n has.1 ∙ has.2
 
 -- ---- the first of the least lists
 
@@ -91,15 +92,15 @@ first-none window free = record {
 }
 
 -- the first of the lists has the least sum
-sum-is : (window free : ℕ) (opens : List OpenFrame) (areas : List ℕ) (cost : ℕ)
+sum-is : {window free : ℕ} {opens : List OpenFrame} {areas : List ℕ} {cost : ℕ}
     → IsFirst window free opens areas → IsLeastSum window free opens cost → cost < nothing
     → sum areas ≡ cost
-sum-is window free opens areas cost is sums some = grind (arith, some)
+sum-is is sums some = grind (arith, some)
 
 -- a lesser area comes before a greater one
-place-before : (ns : List ℕ) (j k : ℕ) → Ascend ns → j < length ns → k < length ns
+place-before : (ns : List ℕ) {j k : ℕ} → Ascend ns → j < length ns → k < length ns
     → get_or ns j 0 < get_or ns k 0 → j < k
-place-before ns j k ascend within here less = grind (arith, cases_lt)
+place-before ns ascend within here less = grind (arith, cases_lt)
 
 module _ (window free : ℕ) (o : OpenFrame) (opens : List OpenFrame) (later : List ℕ)
     (cost place : ℕ) (is : IsAreaChoice window free o.bytes o.areas later cost place)
@@ -112,7 +113,7 @@ module _ (window free : ℕ) (o : OpenFrame) (opens : List OpenFrame) (later : L
       grind (
         arith,
         behind-within window free o.bytes area,
-        placed-at o.areas area chosen.0,
+        placed-at o.areas chosen.0,
         sum-cons area others,
       )
 
@@ -130,7 +131,7 @@ module _ (window free : ℕ) (o : OpenFrame) (opens : List OpenFrame) (later : L
         (behind left (behind-within window free o.bytes area)).some (omega (arith, some, found))
         in (
           area ∷ rest.0,
-          (at-place o.areas place (is.within some), rest.1),
+          (at-place o.areas (is.within some), rest.1),
           (is.fits some, rest.2),
           sum-cons area rest.0 ∙ ap (λ n. area + n) rest.3 ∙ sym found,
         );
@@ -139,62 +140,62 @@ module _ (window free : ℕ) (o : OpenFrame) (opens : List OpenFrame) (later : L
   module _ (area : ℕ) (ascend : Ascend o.areas) (some : cost < nothing)
       (at : get_or o.areas place 0 ≡ area) where
     -- no other list of that sum begins with a smaller area
-    not-before : (other : ℕ) (others : List ℕ) → Contains o.areas other → o.bytes ≤ free + other
+    not-before : {other : ℕ} (others : List ℕ) → Contains o.areas other → o.bytes ≤ free + other
         → AreChosenAreas opens others → AllFit window (free_bytes_behind window free o.bytes other)
         (frames_with_areas opens others) → other + sum others ≡ cost → other < area → ⊥
-    not-before other others has room chosen fit same less =
-        let there = placed-at o.areas other has in
-        let before = place-before o.areas has.0 place ascend has.1 (is.within some)
+    not-before {other} others has room chosen fit same less =
+        let there = placed-at o.areas has in
+        let before = place-before o.areas ascend has.1 (is.within some)
         (omega (arith, there, at, less)) in
         let more : cost < area_sum window free o.bytes later other = grind (arith, some) in
         let rest = (behind (free_bytes_behind window free o.bytes other)
         (behind-within window free o.bytes other)).least others chosen fit in
         omega (arith, more, rest, same)
 
-    first-of : (areas : List ℕ)
+    first-of : {areas : List ℕ}
         → IsFirst window (free_bytes_behind window free o.bytes area) opens areas
         → area + sum areas ≡ cost → (others : List ℕ) → AreChosenAreas (o ∷ opens) others
         → AllFit window free (frames_with_areas (o ∷ opens) others) → sum others ≡ cost
         → IsNotBehind (area ∷ areas) others
     unfolding AreChosenAreas AllFit frames_with_areas IsNotBehind
-    first-of areas rest total others chosen fit same = grind (arith, cases_lt, not-before, sum-cons)
+    first-of rest total others chosen fit same = grind (arith, cases_lt, not-before, sum-cons)
 
     -- the first area with the least sum, followed by the first list after it, is the first list
-    pub first-more : (areas : List ℕ)
+    pub first-more : {areas : List ℕ}
         → IsFirst window (free_bytes_behind window free o.bytes area) opens areas
         → IsFirst window free (o ∷ opens) (area ∷ areas)
     unfolding AreChosenAreas AllFit frames_with_areas
-    first-more areas rest =
+    first-more {areas} rest =
         let left : ℕ = free_bytes_behind window free o.bytes area in
         let found : cost ≡ area_sum window free o.bytes later area = grind (arith, some) in
         let total : area + sum areas ≡ cost =
         omega (
           arith,
           found,
-          sum-is window left opens areas (get_or later left 0) rest
+          sum-is rest
               (behind left (behind-within window free o.bytes area)) (omega (arith, found, some)),
         ) in
         record {
-          chosen = grind (arith, at-place o.areas place (is.within some), some);
+          chosen = grind (arith, at-place o.areas (is.within some), some);
           fit = (subst (λ n. o.bytes ≤ free + n) at (is.fits some), rest.fit);
           shortest = grind (arith, sum-cons, least-more);
           first = grind (arith, first-of, sum-cons);
         }
 
 -- the first of the lists with the least sum is the shortest
-pub shortest-first : (window free : ℕ) (opens : List OpenFrame) (areas : List ℕ) → free ≤ window
+pub shortest-first : {window free : ℕ} {opens : List OpenFrame} {areas : List ℕ} → free ≤ window
     → IsFirst window free opens areas → IsShortestList window free opens areas
-shortest-first window free opens areas within is = record {
+shortest-first {window} {free} {opens} {areas} within is = record {
   chosen = is.chosen;
-  feasible = laid-fits window free (frames_with_areas opens areas) within is.fit;
+  feasible = laid-fits (frames_with_areas opens areas) within is.fit;
   shortest = grind (arith, fits-laid);
   first = grind (arith, fits-laid);
 }
 
 -- the shortest list is the first of the lists with the least sum
-pub first-shortest : (window free : ℕ) (opens : List OpenFrame) (areas : List ℕ) → free ≤ window
+pub first-shortest : {window free : ℕ} {opens : List OpenFrame} {areas : List ℕ} → free ≤ window
     → IsShortestList window free opens areas → IsFirst window free opens areas
-first-shortest window free opens areas within is = record {
+first-shortest {window} {free} {opens} {areas} within is = record {
   chosen = is.chosen;
   fit = fits-laid window free (frames_with_areas opens areas) is.feasible;
   shortest = grind (arith, laid-fits);

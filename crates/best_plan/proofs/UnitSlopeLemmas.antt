@@ -19,9 +19,9 @@ pub record IsFirstTo (window bytes : ℕ) (areas : List ℕ) (to : ℕ) (old new
   pub each : (free : ℕ) → free < length cells → IsFirstArea bytes areas free (get_or cells free 0)
 
 -- the ends rise
-pub end-rises : (window bytes : ℕ) (areas : List ℕ) (to now next : ℕ) → 0 < to
+pub end-rises : {window bytes : ℕ} {areas : List ℕ} {to now next : ℕ} → 0 < to
     → IsEndAt window bytes areas to now → IsEndAt window bytes areas (to - 1) next → now ≤ next
-end-rises window bytes areas to now next some first second =
+end-rises {to = to} {now = now} {next = next} some first second =
     elim (cases_lt next now) as (λ _. now ≤ next) [
       | inl less ↦
           let large = second.large next (omega arith) (omega (arith, less, first.within)) in
@@ -31,14 +31,14 @@ end-rises window bytes areas to now next some first second =
     ]
 
 -- one more area, back to front, fills the places up to where it no longer fits
-pub first-more : (window bytes : ℕ) (areas : List ℕ) (to end : ℕ) (old new next : List ℕ) → 0 < to
+pub first-more : {window bytes : ℕ} {areas : List ℕ} {to end : ℕ} {old new next : List ℕ} → 0 < to
     → to ≤ length areas → IsEndAt window bytes areas (to - 1) end
     → next ≡ take (length old + end) new ++ replicate (length old + end - length new) (to - 1)
     → IsFirstTo window bytes areas to old new → IsFirstTo window bytes areas (to - 1) old next
-first-more window bytes areas to end old new next some within is gives so_far =
+first-more {window} {bytes} {areas} {to} {end} {old} {new} some within is gives so_far =
     let count : length new ≡ length old + length so_far.cells = grind (arith, length-append) in
     let rises : length so_far.cells ≤ end =
-    end-rises window bytes areas to (length so_far.cells) end some so_far.ends is in
+    end-rises some so_far.ends is in
     let many : ℕ = end - length so_far.cells in
     let more : List ℕ = replicate many (to - 1) in
     let kept : take (length old + end) new ≡ new = grind (arith, take_all) in
@@ -67,9 +67,9 @@ first-more window bytes areas to end old new next some within is gives so_far =
     }
 
 -- after the last of the areas all places are filled
-pub first-all : (window bytes : ℕ) (areas : List ℕ) (to : ℕ) (old new : List ℕ) → to ≡ 0
+pub first-all : {window bytes : ℕ} {areas : List ℕ} {to : ℕ} {old new : List ℕ} → to ≡ 0
     → IsFirstTo window bytes areas to old new → AppendsFirstAreas window bytes areas old new
-first-all window bytes areas to old new all so_far =
+first-all {window} all so_far =
     let many : length so_far.cells ≡ window + 1 = grind (arith, cases_lt) in
     record {
       cells = so_far.cells;
@@ -81,42 +81,43 @@ first-all window bytes areas to old new all so_far =
 -- ---- the row of the first areas
 
 -- the first area leaves at most the window
-even-left : (window bytes : ℕ) (areas : List ℕ) (free place : ℕ) → HasWindowRoom window bytes areas
+even-left : {window bytes : ℕ} {areas : List ℕ} {free place : ℕ} → HasWindowRoom window bytes areas
     → free
     ≤ window → IsFirstArea bytes areas free place → (free + get_or areas place 0) - bytes ≤ window
-even-left window bytes areas free place room within is = grind (arith, cases_lt)
+even-left room within is = grind (arith, cases_lt)
 
-even-choice : (window bytes : ℕ) (areas later : List ℕ) (free place : ℕ) → length later ≡ window + 1
+even-choice : {window bytes : ℕ} {areas later : List ℕ} {free place : ℕ} → length later ≡ window + 1
     → HasUnitSlope later → HasWindowRoom window bytes areas → free ≤ window
     → IsFirstArea bytes areas free place
     → IsAreaChoice window free bytes areas later (get_or later free 0 + bytes) place
-even-choice window bytes areas later free place width even room within is = grind (arith, even-left)
+even-choice width even room within is = grind (arith, even-left)
 
 -- before a row in which each free byte saves one, these places and sums are the row
-pub even-row : (window bytes : ℕ) (areas later sums old new : List ℕ) → length later ≡ window + 1
+pub even-row : {window bytes : ℕ} {areas later sums old new : List ℕ} → length later ≡ window + 1
     → HasUnitSlope later → HasWindowRoom window bytes areas → sums ≡ map (λ n. n + bytes) later
     → AppendsFirstAreas window bytes areas old new
     → AppendsRow window bytes areas later sums old new
-even-row window bytes areas later sums old new width even room is first = record {
-  cells = first.cells;
-  appended = first.appended;
-  is = record {
-    width = ap length is ∙ length-map later (λ n. n + bytes) ∙ width;
-    many = first.many;
-    each = λ free within.
-        let sum : get_or sums free 0 ≡ get_or later free 0 + bytes = ap (λ l. get_or l free 0) is
-        ∙ get_or-map (λ n. n + bytes) later free 0 0 (omega (arith, width, within)) in
-        subst (λ n. IsAreaChoice window free bytes areas later n (get_or first.cells free 0))
-        (sym sum)
-        (even-choice window bytes areas later free
-        (get_or first.cells free 0) width even room within (first.each free within));
-  };
-}
+even-row {window} {bytes} {areas} {later} {sums} width even
+    room is first = record {
+      cells = first.cells;
+      appended = first.appended;
+      is = record {
+        width = ap length is ∙ length-map later (λ n. n + bytes) ∙ width;
+        many = first.many;
+        each = λ free within.
+            let sum : get_or sums free 0 ≡ get_or later free 0 + bytes =
+            ap (λ l. get_or l free 0) is
+            ∙ get_or-map (λ n. n + bytes) later free 0 0 (omega (arith, width, within)) in
+            subst (λ n. IsAreaChoice window free bytes areas later n (get_or first.cells free 0))
+            (sym sum)
+            (even-choice width even room within (first.each free within));
+      };
+    }
 
 -- in that row, too, each free byte saves one
-pub even-again : (later sums : List ℕ) (bytes : ℕ) → HasUnitSlope later
+pub even-again : (later : List ℕ) {sums : List ℕ} (bytes : ℕ) → HasUnitSlope later
     → sums ≡ map (λ n. n + bytes) later → HasUnitSlope sums
-even-again later sums bytes even is free less =
+even-again later {sums} bytes even is free less =
     let many : length sums ≡ length later = ap length is ∙ length-map later (λ n. n + bytes) in
     let sum : (k : ℕ) → k < length sums → get_or sums k 0 ≡ get_or later k 0 + bytes =
     grind (arith, get_or-map) in
@@ -131,10 +132,10 @@ module _ (bytes : ℕ) (xs ys : List ℕ) (i d : ℕ) where
   added-here less is = grind (arith, length-map, length-take-le, get_or-append_right, get_or-drop)
 
   -- adding the main data to the sum at i adds them to one more sum
-  pub added-more : (sum : ℕ) → i < length xs → ys ≡ map (λ n. n + bytes) (take i xs) ++ drop i xs
+  pub added-more : {sum : ℕ} → i < length xs → ys ≡ map (λ n. n + bytes) (take i xs) ++ drop i xs
       → sum ≡ get_or ys i d + bytes
       → set ys i sum ≡ map (λ n. n + bytes) (take (i + 1) xs) ++ drop (i + 1) xs
-  added-more sum less is at =
+  added-more less is at =
       let f : ℕ → ℕ = λ n. n + bytes in
       let x : ℕ = get_or xs i d in
       let size : length (map f (take i xs)) ≡ i = grind (arith, length-map, length-take-le) in

@@ -17,23 +17,24 @@ use Rattle.slot_plan.specs.{Reserve.free_bytes_behind, declared.needs.{Need.Need
 -- ---- filling
 
 -- after the last frame the table is the one for no frames
-pub table-none : (window : ℕ) (choices : HeaderFields → List SlotFields) (needs : List Need)
-    (sums places : List ℕ) → IsTableEnd window sums [] → places ≡ []
+pub table-none : {window : ℕ} (choices : HeaderFields → List SlotFields) (needs : List Need)
+    {sums places : List ℕ} → IsTableEnd window sums [] → places ≡ []
     → IsTable window choices (drop (length needs) needs) sums places
 unfolding IsTable
-table-none window choices needs sums places end none = grind (arith, drop_all)
+table-none choices needs end none = grind (arith, drop_all)
 
 -- one more row is the table from one frame earlier on
-pub table-more : (window : ℕ) (choices : HeaderFields → List SlotFields) (needs : List Need) (i : ℕ)
-    (need : Need) (later sums old new : List ℕ) → i < length needs → need ≡ get_or needs i need
+pub table-more : {window : ℕ} (choices : HeaderFields → List SlotFields) (needs : List Need) {i : ℕ}
+    {need : Need} {later sums old new : List ℕ} → i < length needs → need ≡ get_or needs i need
     → AppendsRow window need.bytes (need_areas choices need) later sums old new
     → All (λ n. n ≤ 1441) (need_areas choices need)
     → Contains (need_areas choices need) (own_slot_area need)
     → IsTable window choices (drop (i + 1) needs) later old
     → IsTable window choices (drop i needs) sums new
 unfolding IsTable
-table-more window choices needs i need later sums old new within is row most own behind =
-    subst (λ l. IsTable window choices l sums new) (sym (next_need needs i need within is))
+table-more {window} choices needs
+    {i} {need} {later} {sums} {old} {new} within is row most own behind =
+    subst (λ l. IsTable window choices l sums new) (sym (next_need needs within is))
     (record {
       later = later;
       before = old;
@@ -67,8 +68,8 @@ unfolding AreItemSlots item_areas frames_with_areas frees_of
 walked-none window free = record { slots = tt; list = first-none window free; begins = refl }
 
 -- a frame with the first best area, before others that were walked, was walked
-pub walked-more : (window free : ℕ) (item : PlanItem) (items : List PlanItem) (p : Placed)
-    (placed : List Placed) (later : List ℕ) (cost place : ℕ)
+pub walked-more : {window free : ℕ} {item : PlanItem} {items : List PlanItem} {p : Placed}
+    {placed : List Placed} {later : List ℕ} {cost place : ℕ}
     → Ascend (slot_areas item.class item.protected item.choices)
     → IsAreaChoice window free item.bytes
     (slot_areas item.class item.protected item.choices) later cost place → cost < nothing →
@@ -79,32 +80,32 @@ pub walked-more : (window free : ℕ) (item : PlanItem) (items : List PlanItem) 
     (free_bytes_behind window free item.bytes (item_area item p.slot)) items placed
     → IsWalked window free (item ∷ items) (p ∷ placed)
 unfolding AreItemSlots item_areas frames_with_areas frees_of
-walked-more window free item items p placed later cost place ascend choice some behind area chosen
-    lead begin rest = record {
+walked-more {window} {free} {item} {items} {p} {placed} {later} {cost} {place} ascend choice some
+    behind area chosen lead
+    begin rest = record {
       slots = (lead, chosen, rest.slots);
       list = first-more window free (open_frame item) (map open_frame items) later cost place
-          choice behind (item_area item p.slot) ascend some (sym area) (item_areas items placed)
+          choice behind (item_area item p.slot) ascend some (sym area)
           rest.list;
       begins = ap₂ (λ n (l : List ℕ). n ∷ l) begin rest.begins;
     }
 
 -- what was walked is best for the frames
-pub best-walked : (window free : ℕ) (items : List PlanItem) (placed : List Placed) → free ≤ window
+pub best-walked : {window free : ℕ} {items : List PlanItem} {placed : List Placed} → free ≤ window
     → IsWalked window free items placed → IsBestPlanFor window free items placed
-best-walked window free items placed within is =
+best-walked {window} {free} {items} {placed} within is =
     record {
       slots = is.slots;
-      best = shortest-first window free (map open_frame items)
-          (item_areas items placed) within is.list;
+      best = shortest-first within is.list;
       begins = grind (arith, begins-frees);
     }
 
 -- what is best for the frames was walked
-pub walked-best : (window free : ℕ) (items : List PlanItem) (placed : List Placed) → free ≤ window
+pub walked-best : {window free : ℕ} {items : List PlanItem} {placed : List Placed} → free ≤ window
     → IsBestPlanFor window free items placed → IsWalked window free items placed
-walked-best window free items placed within is =
+walked-best {window} {free} {items} {placed} within is =
     let list =
-    first-shortest window free (map open_frame items) (item_areas items placed) within is.best in
+    first-shortest within is.best in
     record {
       slots = is.slots;
       list = list;
@@ -128,11 +129,13 @@ take-front : (xs ys : List ℕ) → take (length xs) (xs ++ ys) ≡ xs
 take-front [] ys = refl
 take-front (x ∷ xs) ys = ap (λ l. x ∷ l) (take-front xs ys)
 
-opened : (window : ℕ) (choices : HeaderFields → List SlotFields) (free : ℕ) (need : Need)
-    (rest : List Need) (sums places : List ℕ) → free ≤ window → get_or sums free 0 < nothing
-    → IsTable window choices (need ∷ rest) sums places → IsOpen window choices free need rest places
+opened : {window : ℕ} {choices : HeaderFields → List SlotFields} {free : ℕ} {need : Need}
+    {rest : List Need} (sums : List ℕ) {places : List ℕ} → free ≤ window
+    → get_or sums free 0 < nothing → IsTable window choices (need ∷ rest) sums places
+    → IsOpen window choices free need rest places
 unfolding IsTable
-opened window choices free need rest sums places within some table =
+opened {window} {choices} {free} {rest = rest} sums
+    {places} within some table =
     let count = ap length table.appended ∙ length-append table.before table.cells in
     let from : length places - (window + 1) ≡ length table.before =
     omega (arith, count, table.row.many) in
@@ -151,20 +154,22 @@ opened window choices free need rest sums places within some table =
 
 -- at each frame from which the walk can continue, the table has a choice
 pub walk-open : {window : ℕ} {choices : HeaderFields → List SlotFields} {free : ℕ} {places : List ℕ}
-    (needs : List Need) (i : ℕ) (need : Need) → free ≤ window → i < length needs
+    (needs : List Need) {i : ℕ} {need : Need} → free ≤ window → i < length needs
     → need ≡ get_or needs i need → CanWalkTable window choices free (drop i needs) places
     → IsOpen window choices free need (drop (i + 1) needs) places
-walk-open {window} {choices} {free} {places} needs i need within lt is can =
+walk-open {window} {choices} {free} {places} needs within lt is
+    can =
     grind (arith, opened, next_need)
 
 -- the walk can continue from what that choice leaves
-pub walk-next : (window : ℕ) (choices : HeaderFields → List SlotFields) (free after area : ℕ)
-    (need : Need) (rest : List Need) (places left : List ℕ)
+pub walk-next : {window : ℕ} {choices : HeaderFields → List SlotFields} {free after area : ℕ}
+    {need : Need} {rest : List Need} {places left : List ℕ}
     (front : IsOpen window choices free need rest places) → area
     ≡ get_or (need_areas choices need) (get_or places (length places - (window + 1) + free) 0) 0
     → after ≡ free_bytes_behind window free need.bytes area → left
     ≡ take (length places - (window + 1)) places → CanWalkTable window choices after rest left
-walk-next window choices free after area need rest places left front is gives taken =
+walk-next {window} {choices} {free} {area = area} {need = need} {rest =
+    rest} front is gives taken =
     let found : front.cost ≡ area_sum window free need.bytes front.later area = grind arith in
     record {
       sums = front.later;
@@ -188,8 +193,8 @@ goes-begun window choices free needs old =
     record { more = []; appended = sym (append-nil old); goes = λ placed is. is }
 
 -- placing the frame at i by the table continues the walk
-pub goes-more : (window : ℕ) (choices : HeaderFields → List SlotFields) (free now after : ℕ)
-    (needs : List Need) (i : ℕ) (need : Need) (p : Placed) (places : List ℕ) (old new : List Placed)
+pub goes-more : {window : ℕ} {choices : HeaderFields → List SlotFields} {free now after : ℕ}
+    {needs : List Need} {i : ℕ} {need : Need} {p : Placed} {places : List ℕ} {old new : List Placed}
     → i < length needs → need ≡ get_or needs i need
     → IsOpen window choices now need (drop (i + 1) needs) places → Ascend (need_areas choices need)
     → item_area (need_item choices need) p.slot
@@ -198,15 +203,15 @@ pub goes-more : (window : ℕ) (choices : HeaderFields → List SlotFields) (fre
     → after ≡ free_bytes_behind window now need.bytes (item_area (need_item choices need) p.slot)
     → GoesOn window choices free now needs (drop i needs) old new
     → GoesOn window choices free after needs (drop (i + 1) needs) old (new ++ p ∷ [])
-goes-more window choices free now after needs i need p places old new within is front ascend at
-    chosen lead begin gives so_far = record {
+goes-more {window} {choices} {free} {now} {needs = needs} {i =
+    i} {need = need} {p = p} {places = places} {old = old} within is front ascend at chosen lead
+    begin gives so_far = record {
       more = so_far.more ++ p ∷ [];
       appended = ap (λ l. l ++ p ∷ []) so_far.appended ∙ append_assoc old so_far.more (p ∷ []);
       goes = λ placed rest.
           let items : List PlanItem = map (need_item choices) (drop (i + 1) needs) in
           let here =
-          walked-more window now (need_item choices need) items p placed front.later front.cost
-          (get_or places (length places - (window + 1) + now) 0) ascend front.choice front.some
+          walked-more ascend front.choice front.some
           (table-sums window choices (drop (i + 1) needs)
           front.later (take (length places - (window + 1)) places) front.behind) at chosen lead
           begin
@@ -214,21 +219,21 @@ goes-more window choices free now after needs i need p places old new within is 
           subst (IsWalked window free (map (need_item choices) needs))
           (sym (append_assoc so_far.more (p ∷ []) placed))
           (so_far.goes (p ∷ placed) (subst (λ l. IsWalked window now (map (need_item choices) l)
-          (p ∷ placed)) (sym (next_need needs i need within is)) here));
+          (p ∷ placed)) (sym (next_need needs within is)) here));
     }
 
 -- after the last frame all frames were placed by the walk
-pub goes-all : (window : ℕ) (choices : HeaderFields → List SlotFields) (free after : ℕ)
-    (needs : List Need) (i : ℕ) (old new : List Placed) → free ≤ window → length needs ≤ i
+pub goes-all : {window : ℕ} {choices : HeaderFields → List SlotFields} {free after : ℕ}
+    {needs : List Need} {i : ℕ} {old new : List Placed} → free ≤ window → length needs ≤ i
     → GoesOn window choices free after needs (drop i needs) old new
     → WalksTable window choices free needs old new
-goes-all window choices free after needs i old new within all so_far =
+goes-all {window} {choices} {free} {after} {needs} {i} within all so_far =
     let none = subst (λ l. IsWalked window after (map (need_item choices) l) [])
     (sym (drop_all i needs all)) (walked-none window after) in
     record {
       more = so_far.more;
       appended = so_far.appended;
-      best = best-walked window free (map (need_item choices) needs) so_far.more within
+      best = best-walked within
           (subst (IsWalked window free (map (need_item choices) needs)) (append-nil so_far.more)
           (so_far.goes [] none));
     }
@@ -244,6 +249,6 @@ module _ {window : ℕ} {choices : HeaderFields → List SlotFields} {free : ℕ
   place-is = grind (arith, get_or_default)
 
   -- the area is the one at that place
-  pub area-is : (area : ℕ) → area ≡ get_or (need_areas choices need) value 0 → area
+  pub area-is : {area : ℕ} → area ≡ get_or (need_areas choices need) value 0 → area
       ≡ get_or (need_areas choices need) (get_or places (length places - (window + 1) + free) 0) 0
-  area-is area gives = gives ∙ ap (λ n. get_or (need_areas choices need) n 0) (sym place-is)
+  area-is gives = gives ∙ ap (λ n. get_or (need_areas choices need) n 0) (sym place-is)

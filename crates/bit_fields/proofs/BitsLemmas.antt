@@ -86,21 +86,21 @@ number-bits_of (suc width) n =
     (sym (mod-pow-add n 1 width))
 
 -- the bits of a number that fits in them spell it
-pub number-bits_of-below : (width n : ℕ) → n < 2 ^ width → number (bits_of width n) ≡ n
-number-bits_of-below width n h = number-bits_of width n ∙ mod-eq_of_lt h
+pub number-bits_of-below : (width : ℕ) {n : ℕ} → n < 2 ^ width → number (bits_of width n) ≡ n
+number-bits_of-below width {n} h = number-bits_of width n ∙ mod-eq_of_lt h
 
 -- bits above the lowest `width` don't count
-pub bits_of-cat_low : (width place high n : ℕ) → width ≤ place
+pub bits_of-cat_low : (width : ℕ) {place : ℕ} (high n : ℕ) → width ≤ place
     → bits_of width (high * 2 ^ place + n) ≡ bits_of width n
 unfolding bits_of
-bits_of-cat_low zero place high n h = refl
-bits_of-cat_low (suc width) place high n h =
-    grind (arith, bit_at_cat_low, bits_of-cat_low width place high n (omega arith))
+bits_of-cat_low zero high n h = refl
+bits_of-cat_low (suc width) {place} high n h =
+    grind (arith, bit_at_cat_low, bits_of-cat_low width {place = place} high n (omega arith))
 
 -- a number modulo the power of 2 of the width has the same bits
 pub bits_of-mod : (width n : ℕ) → bits_of width (n % 2 ^ width) ≡ bits_of width n
 bits_of-mod width n =
-    sym (bits_of-cat_low width width (n / 2 ^ width) (n % 2 ^ width) (omega arith))
+    sym (bits_of-cat_low width (n / 2 ^ width) (n % 2 ^ width) (omega arith))
     ∙ ap (bits_of width) (shr_split n width)
 
 -- the number that bits spell has these bits
@@ -120,9 +120,9 @@ bits_of-add (suc high) low n = search (arith, suc-add, add_comm, shr-shr, bits_o
 
 -- the bits of two numbers put side by side are the bits of the one followed by the bits of the
 -- other
-pub bits_of-cat : (high low a n : ℕ) → n < 2 ^ low
+pub bits_of-cat : (high low a : ℕ) {n : ℕ} → n < 2 ^ low
     → bits_of (high + low) (a * 2 ^ low + n) ≡ bits_of high a ++ bits_of low n
-bits_of-cat high low a n h = grind (arith, bits_of-add, bits_of-cat_low)
+bits_of-cat high low a h = grind (arith, bits_of-add, bits_of-cat_low)
 
 -- the high bits of a number are the bits of the number shifted right by the low ones
 pub take-bits_of : (high low n : ℕ)
@@ -146,10 +146,10 @@ pub number-middle : (before width after n : ℕ)
 number-middle before width after n = grind (arith, middle-bits_of, number-bits_of)
 
 -- the same, by the width of the whole number
-pub number-middle_of : (whole before width n : ℕ) → before + width ≤ whole
+pub number-middle_of : {whole : ℕ} (before width n : ℕ) → before + width ≤ whole
     → number (take width (drop before (bits_of whole n)))
     ≡ n / 2 ^ (whole - before - width) % 2 ^ width
-number-middle_of whole before width n h =
+number-middle_of {whole} before width n h =
     grind (arith, number-middle before width (whole - before - width) n)
 
 -- ---- the bits of bytes
@@ -210,9 +210,9 @@ pub number-bits-below : (xs : List ℕ) → number (bits xs) < 2 ^ (8 * length x
 number-bits-below xs = rw (← length-bits xs) (number-below (bits xs) (AreBits-bits xs))
 
 -- with one byte more the number is 256 times as great, plus the byte
-pub number-bits-push : (xs : List ℕ) (x : ℕ) → x < 256
+pub number-bits-push : (xs : List ℕ) {x : ℕ} → x < 256
     → number (bits (xs ++ x ∷ [])) ≡ number (bits xs) * 256 + x
-number-bits-push xs x h =
+number-bits-push xs h =
     grind (arith, bits-append, bits-one, number-append, length-bits_of, number-bits_of-below)
 
 -- ---- the bytes of bits
@@ -282,9 +282,9 @@ bytes-bits (x ∷ xs) h =
     grind (arith, bits-cons, bytes-eight, length-bits_of, number-bits_of-below, bytes-bits xs h.1)
 
 -- the bytes of bits, a multiple of eight, have these bits
-pub bits-bytes : (k : ℕ) (bs : List ℕ) → AreBits bs → length bs ≡ 8 * k → bits (bytes bs) ≡ bs
-bits-bytes zero bs all h = rw (nil_from_length bs h, bytes-nil, bits-nil)
-bits-bytes (suc k) bs all h =
+pub bits-bytes : (k : ℕ) {bs : List ℕ} → AreBits bs → length bs ≡ 8 * k → bits (bytes bs) ≡ bs
+bits-bytes zero {bs} all h = rw (nil_from_length bs h, bytes-nil, bits-nil)
+bits-bytes (suc k) {bs} all h =
     let l : length (drop 8 bs) ≡ 8 * k = simp length-drop (omega arith) in
     let m : 8 ≤ length bs = omega arith in
     let e : length (take 8 bs) ≡ 8 = length-take-le 8 bs m in
@@ -293,12 +293,12 @@ bits-bytes (suc k) bs all h =
     ∙ ap₂ (λ cs ds. cs ++ ds)
     (ap (λ w. bits_of w (number (take 8 bs))) (sym e)
     ∙ bits_of-number (take 8 bs) (AreBelow-take 2 8 bs all))
-    (bits-bytes k (drop 8 bs) (AreBelow-drop 2 8 bs all) l)
+    (bits-bytes k (AreBelow-drop 2 8 bs all) l)
     ∙ take-append-drop 8 bs
 
 -- bytes with the same bits are the same
-pub bits-injective : (xs ys : List ℕ) → AreBytes xs → AreBytes ys → bits xs ≡ bits ys → xs ≡ ys
-bits-injective xs ys hx hy e = sym (bytes-bits xs hx) ∙ ap bytes e ∙ bytes-bits ys hy
+pub bits-injective : {xs ys : List ℕ} → AreBytes xs → AreBytes ys → bits xs ≡ bits ys → xs ≡ ys
+bits-injective {xs} {ys} hx hy e = sym (bytes-bits xs hx) ∙ ap bytes e ∙ bytes-bits ys hy
 
 -- ---- each is below 256
 -- if the bytes of a slice of `u8` are below 256 at each place, all are
@@ -317,22 +317,22 @@ places_below (x ∷ xs) h zero = h.0
 places_below (x ∷ xs) h (suc i) = places_below xs h.1 i
 
 -- ---- four bytes as one big-endian number
-number-four : (a b c d : ℕ) → AreBytes (a ∷ b ∷ c ∷ d ∷ [])
+number-four : {a b c d : ℕ} → AreBytes (a ∷ b ∷ c ∷ d ∷ [])
     → number (bits (a ∷ b ∷ c ∷ d ∷ [])) ≡ from_be_bytes w32 (a ∷ b ∷ c ∷ d ∷ [])
-number-four a b c d h =
-    let one : number (bits (a ∷ [])) ≡ a = ap number (bits-one a) ∙ number-bits_of-below 8 a h.0 in
+number-four {a} {b} {c} {d} h =
+    let one : number (bits (a ∷ [])) ≡ a = ap number (bits-one a) ∙ number-bits_of-below 8 h.0 in
     let two : number (bits (a ∷ b ∷ [])) ≡ number (bits (a ∷ [])) * 256 + b =
-    number-bits-push (a ∷ []) b h.1.0 in
+    number-bits-push (a ∷ []) h.1.0 in
     let three : number (bits (a ∷ b ∷ c ∷ [])) ≡ number (bits (a ∷ b ∷ [])) * 256 + c =
-    number-bits-push (a ∷ b ∷ []) c h.1.1.0 in
+    number-bits-push (a ∷ b ∷ []) h.1.1.0 in
     let four : number (bits (a ∷ b ∷ c ∷ d ∷ [])) ≡ number (bits (a ∷ b ∷ c ∷ [])) * 256 + d =
-    number-bits-push (a ∷ b ∷ c ∷ []) d h.1.1.1.0 in
+    number-bits-push (a ∷ b ∷ c ∷ []) h.1.1.1.0 in
     omega arith
 
 -- the 32 bits of four bytes spell the big-endian number of these bytes
 pub number-bits-be_bytes : (xs : List ℕ) → length xs ≡ 4 → AreBytes xs
     → number (bits xs) ≡ from_be_bytes w32 xs
-number-bits-be_bytes (a ∷ b ∷ c ∷ d ∷ []) l h = number-four a b c d h
+number-bits-be_bytes (a ∷ b ∷ c ∷ d ∷ []) l h = number-four h
 number-bits-be_bytes xs l h = absurd (omega arith)
 
 -- four bytes have the bits of their big-endian number
@@ -341,34 +341,34 @@ pub bits-be_bytes : (xs : List ℕ) → length xs ≡ 4 → AreBytes xs
 bits-be_bytes xs l h = grind (arith, bits-bits_of, number-bits-be_bytes)
 
 -- ---- eight bytes as one big-endian number
-number-eight : (a b c d e f g h : ℕ) → AreBytes (a ∷ b ∷ c ∷ d ∷ e ∷ f ∷ g ∷ h ∷ [])
+number-eight : {a b c d e f g h : ℕ} → AreBytes (a ∷ b ∷ c ∷ d ∷ e ∷ f ∷ g ∷ h ∷ [])
     → number (bits (a ∷ b ∷ c ∷ d ∷ e ∷ f ∷ g ∷ h ∷ []))
     ≡ from_be_bytes w64 (a ∷ b ∷ c ∷ d ∷ e ∷ f ∷ g ∷ h ∷ [])
-number-eight a b c d e f g h all =
+number-eight {a} {b} {c} {d} {e} {f} {g} {h} all =
     let four : number (bits (a ∷ b ∷ c ∷ d ∷ [])) ≡ from_be_bytes w32 (a ∷ b ∷ c ∷ d ∷ []) =
-    number-four a b c d (all.0, (all.1.0, (all.1.1.0, (all.1.1.1.0, tt)))) in
+    number-four (all.0, (all.1.0, (all.1.1.0, (all.1.1.1.0, tt)))) in
     let five : number (bits (a ∷ b ∷ c ∷ d ∷ e ∷ [])) ≡ number (bits (a ∷ b ∷ c ∷ d ∷ [])) * 256
-    + e = number-bits-push (a ∷ b ∷ c ∷ d ∷ []) e all.1.1.1.1.0 in
+    + e = number-bits-push (a ∷ b ∷ c ∷ d ∷ []) all.1.1.1.1.0 in
     let six : number (bits (a ∷ b ∷ c ∷ d ∷ e ∷ f ∷ []))
     ≡ number (bits (a ∷ b ∷ c ∷ d ∷ e ∷ [])) * 256 + f =
-    number-bits-push (a ∷ b ∷ c ∷ d ∷ e ∷ []) f all.1.1.1.1.1.0 in
+    number-bits-push (a ∷ b ∷ c ∷ d ∷ e ∷ []) all.1.1.1.1.1.0 in
     let seven : number (bits (a ∷ b ∷ c ∷ d ∷ e ∷ f ∷ g ∷ []))
     ≡ number (bits (a ∷ b ∷ c ∷ d ∷ e ∷ f ∷ [])) * 256 + g =
-    number-bits-push (a ∷ b ∷ c ∷ d ∷ e ∷ f ∷ []) g all.1.1.1.1.1.1.0 in
+    number-bits-push (a ∷ b ∷ c ∷ d ∷ e ∷ f ∷ []) all.1.1.1.1.1.1.0 in
     let eight : number (bits (a ∷ b ∷ c ∷ d ∷ e ∷ f ∷ g ∷ h ∷ []))
     ≡ number (bits (a ∷ b ∷ c ∷ d ∷ e ∷ f ∷ g ∷ [])) * 256 + h =
-    number-bits-push (a ∷ b ∷ c ∷ d ∷ e ∷ f ∷ g ∷ []) h all.1.1.1.1.1.1.1.0 in
+    number-bits-push (a ∷ b ∷ c ∷ d ∷ e ∷ f ∷ g ∷ []) all.1.1.1.1.1.1.1.0 in
     omega arith
 
 -- the 64 bits of eight bytes spell the big-endian number of these bytes
 pub number-bits-be_bytes_8 : (xs : List ℕ) → length xs ≡ 8 → AreBytes xs
     → number (bits xs) ≡ from_be_bytes w64 xs
-number-bits-be_bytes_8 (a ∷ b ∷ c ∷ d ∷ e ∷ f ∷ g ∷ h ∷ []) l all = number-eight a b c d e f g h all
+number-bits-be_bytes_8 (a ∷ b ∷ c ∷ d ∷ e ∷ f ∷ g ∷ h ∷ []) l all = number-eight all
 number-bits-be_bytes_8 xs l all = absurd (omega arith)
 
 -- a number as eight big-endian bytes has the 64 bits of the number
-pub bits-to_be_bytes_8 : (n : ℕ) → n < 2 ^ 64 → bits (to_be_bytes w64 n) ≡ bits_of 64 n
-bits-to_be_bytes_8 n h = grind (arith, bits-bits_of, number-bits-be_bytes_8)
+pub bits-to_be_bytes_8 : {n : ℕ} → n < 2 ^ 64 → bits (to_be_bytes w64 n) ≡ bits_of 64 n
+bits-to_be_bytes_8 h = grind (arith, bits-bits_of, number-bits-be_bytes_8)
 
 -- bits that lie within the first of two lists of bytes are the same with the second list after it
 pub bits-front : (main rest : List ℕ) (start count : ℕ) → 8 * start + count ≤ 8 * length main

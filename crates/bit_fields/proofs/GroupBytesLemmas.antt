@@ -16,15 +16,14 @@ use Rattle.bit_fields.specs.{Bits.{bits, bits_of, number}, Groups.group}
 
 -- ---- bytes read as a number
 -- one byte more makes the number read so far 256 times as great, and adds the byte
-pub read_more : (xs : List ℕ) (i : ℕ) → i < length xs → get_or xs i 0 < 256
+pub read_more : (xs : List ℕ) {i : ℕ} → i < length xs → get_or xs i 0 < 256
     → number (bits (take (i + 1) xs)) ≡ number (bits (take i xs)) * 256 + get_or xs i 0
-read_more xs i h byte =
-    grind (arith, take_more xs i 0 h, number-bits-push (take i xs) (get_or xs i 0) byte)
+read_more xs {i} h byte = grind (arith, take_more xs i 0 h, number-bits-push (take i xs) byte)
 
 -- the number of up to four bytes, read before a fifth, is below 2 ^ 32
-pub read_small : (xs : List ℕ) (i window : ℕ) → length xs ≤ 5 → i < length xs
+pub read_small : (xs : List ℕ) {i window : ℕ} → length xs ≤ 5 → i < length xs
     → window ≡ number (bits (take i xs)) → window < 2 ^ 32
-read_small xs i window few h e =
+read_small xs {i} few h e =
     let l : 8 * length (take i xs) ≤ 32 = simp length-take (omega arith) in
     rw e (lt_of_lt_of_le (number-bits-below (take i xs)) (pow_mono l))
 
@@ -57,11 +56,11 @@ module _ (xs : List ℕ) (i window rest : ℕ) (within : i < length xs) where
 
 -- ---- a group within the few bytes that it is in
 -- a group is a shift and a remainder of the number of the bytes around it
-pub read_group : (xs : List ℕ) (from width first last window : ℕ) → 8 * first ≤ from
+pub read_group : (xs : List ℕ) {from : ℕ} (width : ℕ) {first last window : ℕ} → 8 * first ≤ from
     → from + width ≤ 8 * last → first ≤ last → last ≤ length xs
     → window ≡ number (bits (take (last - first) (drop first xs)))
     → window / 2 ^ (8 * last - (from + width)) % 2 ^ width ≡ group from width (bits xs)
-read_group xs from width first last window h l ordered within e =
+read_group xs {from} width {first} {last} h l ordered within e =
     let part : List ℕ = take (last - first) (drop first xs) in
     let size : length part ≡ last - first = grind (arith, length-take-le, length-drop) in
     let many : length (bits part) ≡ 8 * (last - first) = length-bits part ∙ ap (λ n. 8 * n) size in
@@ -69,7 +68,7 @@ read_group xs from width first last window h l ordered within e =
     omega arith in
     ap₂ (λ n k. n / 2 ^ k % 2 ^ width) e shift
     ∙ sym (group-number (from - 8 * first) width (bits part) (AreBits-bits part) (omega arith))
-    ∙ sym (group-bits_part from width first (last - first) xs h (omega arith))
+    ∙ sym (group-bits_part width first (last - first) xs h (omega arith))
 
 -- ---- a number with another group
 module _ (total window n low value : ℕ) (small : window < 2 ^ total) (room : n + low ≤ total)
@@ -112,11 +111,11 @@ module _ (total window n low value : ℕ) (small : window < 2 ^ total) (room : n
       (2 ^ (total - low)) upper_small (mod_below window (2 ^ low) (pow_pos low)))
 
 -- changing a group of bits in a number changes the same group in its bits
-put_bits : (offset n low window value : ℕ) → value < 2 ^ n
+put_bits : (offset n low window : ℕ) {value : ℕ} → value < 2 ^ n
     → bits_of (offset + n + low) ((window / 2 ^ (n + low) * 2 ^ n + value) * 2 ^ low
     + window % 2 ^ low) ≡ take offset (bits_of (offset + n + low) window) ++ bits_of n value
     ++ drop (offset + n) (bits_of (offset + n + low) window)
-put_bits offset n low window value fits =
+put_bits offset n low window {value} fits =
     grind (
       arith,
       take-bits_of offset (n + low) window,
@@ -124,17 +123,17 @@ put_bits offset n low window value fits =
       drop-bits_of
           (offset + n) low window,
       bits_of-cat (offset + n) low (window / 2 ^ (n + low) * 2 ^ n +
-          value) (window % 2 ^ low) (mod_below window (2 ^ low) (pow_pos low)),
+          value) (mod_below window (2 ^ low) (pow_pos low)),
       bits_of-cat offset n
-          (window / 2 ^ (n + low)) value fits,
+          (window / 2 ^ (n + low)) fits,
     )
 
 -- what is changed in a part of a list is changed at the same place in the list
-put_in_part : (bs : List ℕ) (start size offset n : ℕ) (vs : List ℕ) → offset + n ≤ size
+put_in_part : (bs : List ℕ) (start : ℕ) {size : ℕ} (offset n : ℕ) (vs : List ℕ) → offset + n ≤ size
     → start + size ≤ length bs → take start bs ++ ((take offset (take size (drop start bs)) ++ vs
     ++ drop (offset + n) (take size (drop start bs))) ++ drop size (drop start bs))
     ≡ take (start + offset) bs ++ vs ++ drop (start + offset + n) bs
-put_in_part bs start size offset n vs h l =
+put_in_part bs start {size} offset n vs h l =
     let rest : List ℕ = drop start bs in
     let long : size ≤ length (drop start bs) = simp length-drop (omega arith) in
     let front : take start bs ++ take offset (take size (drop start bs))
@@ -193,6 +192,6 @@ module _ (xs ys : List ℕ) (from n first last window value : ℕ) (low : 8 * fi
       ∙ ap₂ (λ cs ds. cs ++ ds) part_put
       (sym (drop-bits (last - first) (drop first xs))
       ∙ ap (drop (8 * (last - first))) (sym (drop-bits first xs))))
-      ∙ put_in_part (bits xs) (8 * first) (8 * (last - first)) offset n (bits_of n value)
+      ∙ put_in_part (bits xs) (8 * first) offset n (bits_of n value)
       (omega arith) (rw length-bits (omega arith))
       ∙ ap (λ k. take k (bits xs) ++ bits_of n value ++ drop (k + n) (bits xs)) start

@@ -96,9 +96,9 @@ numbers_at-group_bits_more (width ∷ widths) (n ∷ ns) more h =
     )
 
 -- the same where nothing follows
-pub numbers_at-group_bits : (widths ns : List ℕ) → NumbersFit widths ns
+pub numbers_at-group_bits : (widths : List ℕ) {ns : List ℕ} → NumbersFit widths ns
     → numbers_at widths (group_bits widths ns) ≡ ns
-numbers_at-group_bits widths ns h =
+numbers_at-group_bits widths {ns} h =
     grind (arith, append-nil (group_bits widths ns), numbers_at-group_bits_more widths ns)
 
 -- the first bits are those that the numbers of the groups spell
@@ -118,9 +118,9 @@ group_bits-numbers_at_front (width ∷ widths) bs all h =
     ∙ ap (λ n. take n bs) (sym both)
 
 -- the numbers of the groups that bits are spell these bits
-pub group_bits-numbers_at : (widths bs : List ℕ) → AreBits bs → length bs ≡ sum widths
+pub group_bits-numbers_at : (widths : List ℕ) {bs : List ℕ} → AreBits bs → length bs ≡ sum widths
     → group_bits widths (numbers_at widths bs) ≡ bs
-group_bits-numbers_at widths bs all h = grind (arith, group_bits-numbers_at_front, take_all)
+group_bits-numbers_at widths all h = grind (arith, group_bits-numbers_at_front, take_all)
 
 -- ---- groups that follow others
 -- the numbers of joined groups are the numbers of the first, followed by those of the groups after
@@ -157,18 +157,18 @@ numbers_at-front (width ∷ widths) bs more h =
     ∙ numbers_at-front widths (drop width bs) more m)
 
 -- the numbers of groups are those in any first bits that hold all groups
-pub numbers_at-take : (widths bs : List ℕ) (n : ℕ) → sum widths ≤ n → n ≤ length bs
+pub numbers_at-take : (widths bs : List ℕ) {n : ℕ} → sum widths ≤ n → n ≤ length bs
     → numbers_at widths (take n bs) ≡ numbers_at widths bs
-numbers_at-take widths bs n h l =
+numbers_at-take widths bs {n} h l =
     let m : sum widths ≤ length (take n bs) = simp length-take (omega arith) in
     sym (numbers_at-front widths (take n bs) (drop n bs) m)
     ∙ ap (numbers_at widths) (take-append-drop n bs)
 
 -- a group within the first n bits is the same in these n bits alone
-pub group-take : (from width n : ℕ) (bs : List ℕ) → from + width ≤ n
+pub group-take : (from width : ℕ) {n : ℕ} (bs : List ℕ) → from + width ≤ n
     → group from width (take n bs) ≡ group from width bs
 unfolding group
-group-take from width n bs h =
+group-take from width {n} bs h =
     grind (
       arith,
       drop-take from (n - from) bs,
@@ -183,15 +183,15 @@ unfolding group
 group-drop more from width bs = ap (λ ds. number (take width ds)) (drop-drop from more bs)
 
 -- a group of the bits of bytes is a group of the bits of the few bytes that it is in
-pub group-bits_part : (from width first count : ℕ) (xs : List ℕ) → 8 * first ≤ from
+pub group-bits_part : {from : ℕ} (width first count : ℕ) (xs : List ℕ) → 8 * first ≤ from
     → from + width ≤ 8 * (first + count) → group from width (bits xs)
     ≡ group (from - 8 * first) width (bits (take count (drop first xs)))
-group-bits_part from width first count xs h l =
+group-bits_part {from} width first count xs h l =
     grind (
       arith,
       group-drop (8 * first) (from - 8 * first) width (bits xs),
       drop-bits first xs,
-      group-take (from - 8 * first) width (8 * count) (bits (drop first xs)) (omega arith),
+      group-take (from - 8 * first) width {n = 8 * count} (bits (drop first xs)) (omega arith),
       take-bits count (drop first xs),
     )
 
@@ -224,27 +224,27 @@ joined [] ns = 0
 joined (width ∷ widths) [] = 0
 joined (width ∷ widths) (n ∷ ns) = n * 2 ^ sum widths + joined widths ns
 
-sliced_one : (width low place high n : ℕ) → width + low ≤ place
+sliced_one : (width low : ℕ) {place : ℕ} (high n : ℕ) → width + low ≤ place
     → (high * 2 ^ place + n) / 2 ^ low % 2 ^ width ≡ n / 2 ^ low % 2 ^ width
-sliced_one width low place high n h =
+sliced_one width low {place} high n h =
     grind (
       arith,
       number-bits_of width ((high * 2 ^ place + n) / 2 ^ low),
       take-bits_of width low (high * 2 ^ place + n),
-      bits_of-cat_low (width + low) place high n h,
+      bits_of-cat_low (width + low) high n h,
       take-bits_of width low n,
       number-bits_of width (n / 2 ^ low),
     )
 
 -- bits above the groups don't count
-sliced-cat : (widths : List ℕ) (place high n : ℕ) → sum widths ≤ place
+sliced-cat : (widths : List ℕ) {place : ℕ} (high n : ℕ) → sum widths ≤ place
     → sliced widths (high * 2 ^ place + n) ≡ sliced widths n
 unfolding sliced
-sliced-cat [] place high n h = refl
-sliced-cat (width ∷ widths) place high n h =
+sliced-cat [] high n h = refl
+sliced-cat (width ∷ widths) {place} high n h =
     let both : sum (width ∷ widths) ≡ width + sum widths = sum-cons width widths in
-    ap₂ (λ m ms. m ∷ ms) (sliced_one width (sum widths) place high n (omega arith))
-    (sliced-cat widths place high n (omega arith))
+    ap₂ (λ m ms. m ∷ ms) (sliced_one width (sum widths) high n (omega arith))
+    (sliced-cat widths high n (omega arith))
 
 -- groups that take up all bits have the numbers that division and remainder make of the number of
 -- all bits
@@ -269,7 +269,7 @@ numbers_at-number (width ∷ widths) bs all h =
     ∙ ap (λ m. m % 2 ^ width) (sym (shr_high (number (take width bs)) (sum widths)
     (number (drop width bs)) small) ∙ ap (λ m. m / 2 ^ sum widths) (sym upper)))
     (numbers_at-number widths (drop width bs) (AreBelow-drop 2 width bs all) rest
-    ∙ sym (sliced-cat widths (sum widths) (number (take width bs)) (number (drop width bs))
+    ∙ sym (sliced-cat widths (number (take width bs)) (number (drop width bs))
     (omega arith))
     ∙ ap (sliced widths) (sym upper))
 
@@ -277,7 +277,7 @@ numbers_at-number (width ∷ widths) bs all h =
 pub numbers_at-number_front : (widths bs : List ℕ) → AreBits bs → sum widths ≤ length bs
     → numbers_at widths bs ≡ sliced widths (number (take (sum widths) bs))
 numbers_at-number_front widths bs all h =
-    sym (numbers_at-take widths bs (sum widths) (omega arith) h)
+    sym (numbers_at-take widths bs (omega arith) h)
     ∙ numbers_at-number widths (take (sum widths) bs) (AreBelow-take 2 (sum widths) bs all)
     (length-take-le (sum widths) bs h)
 

@@ -9,10 +9,10 @@ use Rattle.bit_fields.proofs.BitsLemmas.{bits_of-mod, drop-bits, take-bits}
 use Rattle.bit_fields.{proofs.GroupsLemmas.{length-put, take-put}, specs.Bits.{bits, bits_of}}
 
 -- putting whole bytes in place puts their bits in place
-pub put_bytes : (xs ys vs : List ℕ) (place count : ℕ) → bits ys ≡ vs
+pub put_bytes : (xs ys : List ℕ) {vs : List ℕ} (place count : ℕ) → bits ys ≡ vs
     → bits (take place xs ++ (ys ++ drop (place + count) xs))
     ≡ take (8 * place) (bits xs) ++ vs ++ drop (8 * place + 8 * count) (bits xs)
-put_bytes xs ys vs place count e =
+put_bytes xs ys {vs} place count e =
     grind (
       arith,
       bits-append (take place xs) (ys ++ drop (place + count) xs),
@@ -23,9 +23,10 @@ put_bytes xs ys vs place count e =
     )
 
 -- setting one byte sets its eight bits
-pub bits-set : (xs : List ℕ) (place word : ℕ) → place < length xs → bits (set xs place (word % 256))
+pub bits-set : (xs : List ℕ) {place : ℕ} (word : ℕ) → place < length xs
+    → bits (set xs place (word % 256))
     ≡ take (8 * place) (bits xs) ++ bits_of 8 word ++ drop (8 * place + 8) (bits xs)
-bits-set xs place word within =
+bits-set xs {place} word within =
     grind (
       arith,
       take-append-drop place (set xs place (word % 256)),
@@ -75,7 +76,7 @@ module _ (above kept below left : ℕ) (few : kept < 64) (fits : below < 2 ^ (64
       grind (
         arith,
         upper,
-        bits_of-cat kept (64 - kept) (above % 2 ^ kept) (below / 2 ^ left) lower,
+        bits_of-cat kept (64 - kept) (above % 2 ^ kept) lower,
         bits_of-mod kept above,
       )
 
@@ -92,7 +93,7 @@ module _ (word size high low n : ℕ) (cs : List ℕ) where
   into_last e is = grind (arith, append-nil (bits_of size n), into_word, append-nil (bits_of low n))
 
 -- what was put in place follows what is before it
-pub put_next : (b0 b1 done : List ℕ) (at width value : ℕ) → take at b0 ≡ done
+pub put_next : (b0 : List ℕ) {b1 done : List ℕ} (at width value : ℕ) → take at b0 ≡ done
     → at + width ≤ length b0 → b1 ≡ take at b0 ++ bits_of width value ++ drop (at + width) b0
     → (take (at + width) b1 ≡ done ++ bits_of width value) × (length b1 ≡ length b0)
-put_next b0 b1 done at width value before room e = grind (arith, take-put, length-put)
+put_next b0 at width value before room e = grind (arith, take-put, length-put)

@@ -48,15 +48,15 @@ module _ (chosen : Chosen) (file : List ℕ) (s : SurveyFields) (has : CanBeRela
 -- ---- frames of a file without fault
 
 -- the stream of a surveyed file is the stream of its survey
-pub stream-is : (file : List ℕ) (allowed : ℕ) (s : SurveyFields) → survey_of file allowed ≡ Ok s
+pub stream-is : (file : List ℕ) (allowed : ℕ) {s : SurveyFields} → survey_of file allowed ≡ Ok s
     → stream_of file ≡ stream_of_survey file s
-stream-is file allowed s is =
-    (survey_fields-stream file allowed s (survey_of-parts file allowed s is).1).stream_is
+stream-is file allowed {s} is =
+    (survey_fields-stream file allowed s (survey_of-parts file allowed is).1).stream_is
 
 module _ (chosen : Chosen) (file : List ℕ) (s : SurveyFields) (is : survey_of file most_frames
     ≡ Ok s) (some : chosen.from < chosen.to) (within : chosen.to ≤ length s.frames) where
   abbrev had : CanBeRelaid file s
-  had = survey-had file most_frames s is
+  had = survey-had most_frames is
 
   -- the chosen frames are a part by any survey without fault
   pub chosen-part : IsPart s.class (chosen_file_part chosen file s)
@@ -66,13 +66,13 @@ module _ (chosen : Chosen) (file : List ℕ) (s : SurveyFields) (is : survey_of 
   pub own-stream : slice_range (stream_of file) chosen.from chosen.to
       ≡ part_stream (chosen_file_part chosen file s)
   own-stream = ap (λ (l : List StreamFrame). slice_range l chosen.from chosen.to)
-      (stream-is file most_frames s is)
+      (stream-is file most_frames is)
 
   -- their stream by a usual plan is exactly these frames, after at most one lead-in
-  pub chosen-exact_is : (choices : HeaderFields → List SlotFields) → AreUsualChoices choices
+  pub chosen-exact_is : {choices : HeaderFields → List SlotFields} → AreUsualChoices choices
       → IsExactly (slice_range (stream_of file) chosen.from chosen.to ∷ [])
       (stream_laid (placed_part chosen (first_plan choices s.class (chosen_needs chosen s))) file s)
-  chosen-exact_is choices usual =
+  chosen-exact_is {choices} usual =
       subst (λ (l : List StreamFrame). IsExactly (l ∷ []) (stream_with_lead_ins
       (first_plan choices s.class (chosen_needs chosen s))
       (part_stream (chosen_file_part chosen file s))))
@@ -81,9 +81,9 @@ module _ (chosen : Chosen) (file : List ℕ) (s : SurveyFields) (is : survey_of 
 -- the stream of chosen frames is exactly these, after at most one lead-in
 pub chosen-exact : ChosenStreamsAreExact
 chosen-exact = λ choices chosen file s usual is some within. chosen-exact_is chosen file s is some
-    within choices usual
+    within usual
 
 -- their plan is the first of all lists with a layout
 pub plans-first : ChosenPlansAreFirst
 plans-first = λ choices chosen file s usual is some within. had-plan chosen file s
-    (survey-had file most_frames s is) some within choices usual
+    (survey-had most_frames is) some within choices usual

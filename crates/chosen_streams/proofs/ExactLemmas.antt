@@ -1,6 +1,6 @@
 -- The lead-ins and frames of a plan, part by part.
-use Rattle.std.proofs.Common.{ap, append-nil, arith, Bool, false, length, List, map, None, Option}
-use Rattle.std.proofs.Common.{refl, Some, subst, sym, true, ℕ, [], ◌++◌, ◌∙◌, ◌∷◌, ◌≡◌}
+use Rattle.std.proofs.Common.{ap, append-nil, arith, Bool, length, List, map, None, Option, refl}
+use Rattle.std.proofs.Common.{Some, subst, sym, true, ℕ, [], ◌++◌, ◌∙◌, ◌∷◌, ◌≡◌}
 use Rattle.std.{proofs.lemmas.List.length-map, specs.Prelude.{flat_map, ◌<◌}}
 use Rattle.chosen_streams.specs.{Exact.{IsAtMostALeadIn, IsExactly}, Laws.PlannedStreamsAreExact}
 use Rattle.frame_header.specs.Fields.{ClassFields, HeaderFields, SlotFields}
@@ -29,21 +29,21 @@ pub record IsSized (needs : List Need) (stream : List StreamFrame) : Type 0 wher
   pub same : length stream ≡ length needs
 
 -- the frames of a part need the bytes of their main data
-pub part-sized : (c : ClassFields) (p : FilePart) → IsPart c p
+pub part-sized : {c : ClassFields} {p : FilePart} → IsPart c p
     → IsSized (part_needs p) (part_stream p)
-part-sized c p is =
-    let needs = needs-length (part_needs p) (part_frames p) (part-needs c p is) in
+part-sized {c} {p} is =
+    let needs = needs-length (part_needs p) (part_frames p) (part-needs is) in
     let stream : length (part_stream p) ≡ length (part_frames p) =
-    grind (arith, part-stream c p is, length-map (part_frames p) stream_entry) in
-    record { some = omega (arith, needs, part-some c p is); same = stream ∙ needs }
+    grind (arith, part-stream is, length-map (part_frames p) stream_entry) in
+    record { some = omega (arith, needs, part-some is); same = stream ∙ needs }
 
 -- ---- the stream from one place of the plan on
 
 -- one place that is a lead-in, or isn't
-pub one-on : (b : Bool) (p : Placed) (placed : List Placed) (f : StreamFrame)
+pub one-on : {b : Bool} (p : Placed) (placed : List Placed) (f : StreamFrame)
     (fs : List StreamFrame) → p.lead_in ≡ b → stream_with_lead_ins (p ∷ placed) (f ∷ fs)
     ≡ one_in_stream b f ∷ stream_with_lead_ins placed (rest_behind b f fs)
-one-on b p placed f fs is = grind (arith, stream-cons, one_in_stream)
+one-on p placed f fs is = grind (arith, stream-cons, one_in_stream)
 
 -- frames of a plan without lead-ins are as they are
 pub frames-on : (choices : HeaderFields → List SlotFields) (items : List PlanItem)
@@ -60,7 +60,7 @@ frames-on choices items (need ∷ needs) (f ∷ fs) tail [] same for_items = abs
 frames-on choices items (need ∷ needs) (f ∷ fs) tail (p ∷ placed) same for_items =
     let on = frames-on choices items needs fs tail placed (omega (arith, same)) for_items.2 in (
       on.0,
-      one-on false p placed f (fs ++ tail) for_items.0 ∙ ap (λ (l : List StreamFrame). f ∷ l) on.1,
+      one-on p placed f (fs ++ tail) for_items.0 ∙ ap (λ (l : List StreamFrame). f ∷ l) on.1,
       on.2,
     )
 
@@ -83,7 +83,7 @@ part-on choices items (first ∷ part) (Some slot) (f ∷ fs) tail (p ∷ placed
       silent_lead_in f ∷ [],
       on.0,
       refl,
-      one-on true p placed f (fs ++ tail) for_items.0
+      one-on p placed f (fs ++ tail) for_items.0
           ∙ ap (λ (l : List StreamFrame). silent_lead_in f ∷ l) on.1,
       on.2,
     )
@@ -104,7 +104,7 @@ parts-on window c choices (p ∷ parts) [] placed are alone for_items = absurd a
 parts-on window c choices (p ∷ parts) (lead_in ∷ lead_ins) placed are alone for_items =
     let on =
     part-on choices (all_items choices (map part_needs parts) lead_ins) (part_needs p) lead_in
-    (part_stream p) (flat_map part_stream parts) placed (part-sized c p are.0) for_items in (
+    (part_stream p) (flat_map part_stream parts) placed (part-sized are.0) for_items in (
       on.0,
       stream_with_lead_ins on.1 (flat_map part_stream parts),
       on.2,
@@ -134,11 +134,11 @@ own-on choices needs fs placed same for_items =
 
 module _ (choices : HeaderFields → List SlotFields) (needs : List Need) where
   -- the stream of places without a lead-in is exactly the frames
-  pub own-exact : (fs : List StreamFrame) (placed : List Placed) → IsSized needs fs
+  pub own-exact : {fs : List StreamFrame} (placed : List Placed) → IsSized needs fs
       → AreItemSlots (map (need_item choices) needs) placed
       → IsExactly (fs ∷ []) (stream_with_lead_ins placed fs)
   unfolding IsExactly
-  own-exact fs placed sized for_items = grind (arith, own-on)
+  own-exact placed sized for_items = grind (arith, own-on)
 
   -- the stream of places that begin with a lead-in is exactly the frames, after that lead-in
   pub led-exact : (lead : PlanItem) → lead.lead_in ≡ true → (fs : List StreamFrame)
@@ -153,7 +153,7 @@ module _ (choices : HeaderFields → List SlotFields) (needs : List Need) where
         silent_lead_in f ∷ [],
         on.0,
         refl,
-        one-on true p placed f fs (for_items.0 ∙ is)
+        one-on p placed f fs (for_items.0 ∙ is)
             ∙ ap (λ (l : List StreamFrame). silent_lead_in f ∷ l) on.1,
         on.2,
       )

@@ -37,10 +37,10 @@ use Rattle.sync_survey.specs.declared.survey_fault.SurveyFault.{SurveyFault}
 -- ---- the pieces of a split
 
 -- the names of two numbers differ
-names-differ : (prefix : List ℕ) (j k : ℕ) → j < k → k ≤ 99
+names-differ : (prefix : List ℕ) {j k : ℕ} → j < k → k ≤ 99
     → piece_name prefix j ≢ piece_name prefix k
 unfolding piece_name
-names-differ prefix j k less most same =
+names-differ prefix {j} {k} less most same =
     grind (
       arith,
       drop-append_seam prefix ((48 + j / 10) ∷ (48 + j % 10) ∷ codes ".mp3"),
@@ -50,14 +50,14 @@ names-differ prefix j k less most same =
     )
 
 module _ (prefix file : List ℕ) (s : SurveyFields) where
-  later-differ : (j k : ℕ) (all : List LaidPart) → j < k → k + length all ≤ 100
+  later-differ : {j k : ℕ} (all : List LaidPart) → j < k → k + length all ≤ 100
       → HasNone (piece_name prefix j) (pieces_from prefix k file s all)
-  later-differ j k [] less most = tt
-  later-differ j k (laid ∷ all) less most =
+  later-differ [] less most = tt
+  later-differ {j} {k} (laid ∷ all) less most =
       grind (
         arith,
         names-differ,
-        later-differ j (k + 1) all (omega (arith, less)) (omega (
+        later-differ {j = j} {k = k + 1} all (omega (arith, less)) (omega (
           arith,
           most,
         )),
@@ -70,7 +70,7 @@ module _ (prefix file : List ℕ) (s : SurveyFields) where
   pieces-named k (suc n) (laid ∷ all) few most =
       grind (
         arith,
-        later-differ k (k + 1) all (omega arith) (omega (arith, most)),
+        later-differ {j = k} {k = k + 1} all (omega arith) (omega (arith, most)),
         pieces-named (k
             + 1) n all (omega (arith, few)) (omega (arith, most)),
       )
@@ -81,27 +81,27 @@ unfolding piece_names
 all-named prefix file s all few = pieces-named prefix file s 1 99 all few (omega (arith, few))
 
 -- there are at most 99 pieces
-first-parts : (first : LaidPart) (r : Result (List LaidPart) EditFault) (all : List LaidPart)
+first-parts : (first : LaidPart) (r : Result (List LaidPart) EditFault) {all : List LaidPart}
     → with_first first r ≡ Ok all
     → (more : List LaidPart) × (r ≡ Ok more) × (length all ≡ suc (length more))
-first-parts first (Ok more) all e = let same : first ∷ more ≡ all = cc in
+first-parts first (Ok more) {all} e = let same : first ∷ more ≡ all = cc in
     (more, refl, ap length (sym same))
-first-parts first (Err fault) all e = absurd cc
+first-parts first (Err fault) e = absurd cc
 
 module _ {P : Type 0} (cut : Cutting P) (file : List ℕ) (s : SurveyFields) where
-  from-few : (from : P) (places : List P) (all : List LaidPart)
+  from-few : (from : P) (places : List P) {all : List LaidPart}
       → piece_parts_from cut file s from places ≡ Ok all → length all ≤ length places
-  from-few from [] all e = grind arith
-  from-few from (to ∷ places) all e =
-      let one = then_ok (cut.between from to file s)
-      (λ first. with_first first (piece_parts_from cut file s to places)) all e in
-      let more = first-parts one.0 (piece_parts_from cut file s to places) all one.2 in
-      omega (arith, from-few to places more.0 more.1, more.2)
+  from-few from [] e = grind arith
+  from-few from (to ∷ places) {all} e =
+      let one = then_ok {r = cut.between from to file s}
+      {make = λ first. with_first first (piece_parts_from cut file s to places)} {b = all} e in
+      let more = first-parts one.0 (piece_parts_from cut file s to places) {all = all} one.2 in
+      omega (arith, from-few to places {all = more.0} more.1, more.2)
 
-  at-few : (places : List P) (all : List LaidPart) → piece_parts cut file s places ≡ Ok all
+  at-few : (places : List P) {all : List LaidPart} → piece_parts cut file s places ≡ Ok all
       → length places ≤ 100 → length all ≤ 99
-  at-few [] all e most = grind arith
-  at-few (place ∷ places) all e most = omega (arith, from-few place places all e, most)
+  at-few [] e most = grind arith
+  at-few (place ∷ places) {all} e most = omega (arith, from-few place places e, most)
 
 module _ {P : Type 0} (cut : Cutting P) (input prefix : List ℕ) (f : Contents)
     (few : (places : List P) → cut.places f ≡ Ok places → length places ≤ 100) where
@@ -112,23 +112,23 @@ module _ {P : Type 0} (cut : Cutting P) (input prefix : List ℕ) (f : Contents)
 
 -- ---- the other commands
 
-surveyed-named : (text : SurveyFields → List ℕ) (r : Result SurveyFields SurveyFault) (made : Made)
+surveyed-named : (text : SurveyFields → List ℕ) (r : Result SurveyFields SurveyFault) {made : Made}
     → surveyed_text text r ≡ Ok made → AreNamed [] made.outputs
-surveyed-named text (Ok s) made e = grind arith
-surveyed-named text (Err fault) made e = absurd cc
+surveyed-named text (Ok s) e = grind arith
+surveyed-named text (Err fault) e = absurd cc
 
 -- a text is sent, and nothing written
 pub text-named : (text : List ℕ → SurveyFields → List ℕ) (o : Option (List ℕ)) (made : Made)
     → input_text text o ≡ Ok made → AreNamed [] made.outputs
 text-named text None made e = absurd cc
-text-named text (Some file) made e = surveyed-named (text file) (survey_of file most_frames) made e
+text-named text (Some file) made e = surveyed-named (text file) (survey_of file most_frames) e
 
 -- a command that makes one file makes one output, and no text
-pub one_made : (output : List ℕ) (r : Result (List ℕ) EditFault) (made : Made)
+pub one_made : {output : List ℕ} (r : Result (List ℕ) EditFault) {made : Made}
     → command_result output r ≡ Ok made → (bytes : List ℕ)
     × (record { outputs = record { name = output; bytes = bytes } ∷ []; text = [] } ≡ made)
-one_made output (Ok bytes) made is = (bytes, cc)
-one_made output (Err fault) made is = absurd cc
+one_made (Ok bytes) is = (bytes, cc)
+one_made (Err fault) is = absurd cc
 
 one-named : (task : Task) (output : List ℕ) (f : Contents) (made : Made)
     → (one_command task output).makes f ≡ Ok made → AreNamed (output ∷ []) made.outputs
@@ -141,9 +141,9 @@ named-told text names (Ok m) made named e = grind arith
 named-told text names (Err fault) made named e = absurd cc
 
 -- a cue sheet has at most 99 starts
-cue-few : (bytes : List ℕ) (starts : List Place) → cue_of bytes ≡ Ok starts → length starts ≤ 99
+cue-few : (bytes : List ℕ) {starts : List Place} → cue_of bytes ≡ Ok starts → length starts ≤ 99
 unfolding cue_of
-cue-few bytes starts e = (starts-few (cue_entries_of bytes) starts e).1
+cue-few bytes {starts} e = (starts-few (cue_entries_of bytes) e).1
 
 told-few : (o : Option (List ℕ)) (found : List Place) → cue_sheet_places o ≡ Ok found
     → length found ≤ 100
@@ -152,7 +152,8 @@ told-few o found e = grind (arith, cue-parts, cue-few, length-append)
 exact-few : (o : Option (List ℕ)) (found : List ExactPlace)
     → exact_places_result (cue_sheet_places o) ≡ Ok found → length found ≤ 100
 exact-few o found e =
-    let parts = then_ok (cue_sheet_places o) (λ list. Ok (map Position list)) found e in
+    let parts =
+    then_ok {r = cue_sheet_places o} {make = λ list. Ok (map Position list)} {b = found} e in
     let same : map Position parts.0 ≡ found = cc in
     subst (λ (l : List ExactPlace). length l ≤ 100) same
     (omega (arith, length-map parts.0 Position, told-few o parts.0 parts.1))

@@ -62,37 +62,37 @@ AreMarksOf (part ∷ parts) all = (led : Bool) × (rest : List Bool)
 -- ---- the stream of such places
 
 -- frames in places of frames are as they are
-frames-marked : (fs tail : List StreamFrame) (placed : List Placed) (rest : List Bool)
+frames-marked : (fs tail : List StreamFrame) (placed : List Placed) {rest : List Bool}
     → marks placed ≡ frame_marks (length fs) ++ rest → (left : List Placed)
     × (stream_with_lead_ins placed (fs ++ tail) ≡ fs ++ stream_with_lead_ins left tail)
     × (marks left ≡ rest)
-frames-marked [] tail placed rest e = (placed, refl, e)
-frames-marked (f ∷ fs) tail [] rest e = absurd cc
-frames-marked (f ∷ fs) tail (p ∷ placed) rest e =
-    let on = frames-marked fs tail placed rest cc in
+frames-marked [] tail placed e = (placed, refl, e)
+frames-marked (f ∷ fs) tail [] e = absurd cc
+frames-marked (f ∷ fs) tail (p ∷ placed) {rest} e =
+    let on = frames-marked fs tail placed cc in
     let own : p.lead_in ≡ false = cc in (
       on.0,
-      one-on false p placed f (fs ++ tail) own ∙ ap (λ (l : List StreamFrame). f ∷ l) on.1,
+      one-on p placed f (fs ++ tail) own ∙ ap (λ (l : List StreamFrame). f ∷ l) on.1,
       on.2,
     )
 
 -- a part in its places is at most one lead-in and then its frames
-part-marked : (led : Bool) (fs tail : List StreamFrame) (placed : List Placed) (rest : List Bool)
+part-marked : (led : Bool) (fs tail : List StreamFrame) (placed : List Placed) {rest : List Bool}
     → 0 < length fs → marks placed ≡ lead_marks led ++ frame_marks (length fs) ++ rest
     → (lead : List StreamFrame) × (left : List Placed) × IsAtMostALeadIn lead fs
     × (stream_with_lead_ins placed (fs ++ tail) ≡ lead ++ fs ++ stream_with_lead_ins left tail)
     × (marks left ≡ rest)
-part-marked false fs tail placed rest some e =
-    let on = frames-marked fs tail placed rest e in ([], on.0, tt, on.1, on.2)
-part-marked true [] tail placed rest some e = absurd (omega (arith, some))
-part-marked true (f ∷ fs) tail [] rest some e = absurd cc
-part-marked true (f ∷ fs) tail (p ∷ placed) rest some e =
-    let on = frames-marked (f ∷ fs) tail placed rest cc in
+part-marked false fs tail placed {rest} some e =
+    let on = frames-marked fs tail placed e in ([], on.0, tt, on.1, on.2)
+part-marked true [] tail placed some e = absurd (omega (arith, some))
+part-marked true (f ∷ fs) tail [] some e = absurd cc
+part-marked true (f ∷ fs) tail (p ∷ placed) {rest} some e =
+    let on = frames-marked (f ∷ fs) tail placed cc in
     let led : p.lead_in ≡ true = cc in (
       silent_lead_in f ∷ [],
       on.0,
       refl,
-      one-on true p placed f (fs ++ tail) led
+      one-on p placed f (fs ++ tail) led
           ∙ ap (λ (l : List StreamFrame). silent_lead_in f ∷ l) on.1,
       on.2,
     )
@@ -104,8 +104,8 @@ parts-marked : (c : ClassFields) (parts : List FilePart) (placed : List Placed) 
 unfolding IsExactly
 parts-marked c [] placed are marked = no-frames placed
 parts-marked c (p ∷ parts) placed are marked =
-    let sized = part-sized c p are.0 in
-    let on = part-marked marked.0 (part_stream p) (flat_map part_stream parts) placed marked.1
+    let sized = part-sized are.0 in
+    let on = part-marked marked.0 (part_stream p) (flat_map part_stream parts) placed
     (omega (arith, sized.some, sized.same))
     (marked.2 ∙ ap (λ n. lead_marks marked.0 ++ frame_marks n ++ marked.1) (sym sized.same)) in (
       on.0,
@@ -193,11 +193,11 @@ run-marked window led (first ∷ parts) some have =
 -- ---- the places of a run
 
 -- the place before a run is that of a lead-in
-front-marks : (front : List Placed)
+front-marks : {front : List Placed}
     → (front ≡ []) ⊎ ((p : Placed) × (front ≡ p ∷ []) × (p.lead_in ≡ true))
     → (led : Bool) × (marks front ≡ lead_marks led)
-front-marks front (inl none) = (false, ap marks none)
-front-marks front (inr one) = (true, ap marks one.1 ∙ ap (λ (b : Bool). b ∷ []) one.2)
+front-marks (inl none) = (false, ap marks none)
+front-marks (inr one) = (true, ap marks one.1 ∙ ap (λ (b : Bool). b ∷ []) one.2)
 
 -- a place as that of an item
 place-as : (b : Bool) (p : Placed) → p.lead_in ≡ false → (place_as b p).lead_in ≡ b
@@ -216,11 +216,11 @@ items-placed (item ∷ items) (p ∷ placed) own same =
     (items-placed items placed own.1 (omega (arith, same)))
 
 -- the places of a plan are at most one lead-in, and the items
-places-marked : (s : SurveyFields) (parts : List Part) → ArePartsLeft s parts → (led : Bool)
+places-marked : {s : SurveyFields} {parts : List Part} → ArePartsLeft s parts → (led : Bool)
     × (marks (removal_plan s parts) ≡ lead_marks led ++ item_marks (items_left s parts))
-places-marked s parts can =
+places-marked {s} {parts} can =
     let shape = items-shape s parts can in
-    let lead = front-marks shape.front shape.lead in
+    let lead = front-marks shape.lead in
     let placed = item_places (items_left s parts) shape.frames in (
       lead.0,
       ap marks (removal-places s parts can)
@@ -235,7 +235,7 @@ places-marked s parts can =
 have-frames : (c : ClassFields) (parts : List FilePart) → AreParts c parts
     → HaveFrames (map part_needs parts)
 have-frames c [] are = tt
-have-frames c (p ∷ parts) are = ((part-sized c p are.0).some, have-frames c parts are.1)
+have-frames c (p ∷ parts) are = ((part-sized are.0).some, have-frames c parts are.1)
 
 module _ (file : List ℕ) (s : SurveyFields) (parts : List Part) (has : CanBeRelaid file s)
     (can : ArePartsLeft s parts) where
@@ -245,8 +245,8 @@ module _ (file : List ℕ) (s : SurveyFields) (parts : List Part) (has : CanBeRe
   -- the stream of what stays is exactly the frames of the parts
   pub removal-exact : IsExactly (map part_stream filed) (removal_stream parts file s)
   removal-exact =
-      let are = are-parts file s 0 parts has can.order in
-      let marked = places-marked s parts can in
+      let are = are-parts 0 parts has can.order in
+      let marked = places-marked can in
       let window = window_of s.class.version in
       let needs = map (part_needs_of s) parts in
       let same = parts-as file s parts in
@@ -293,19 +293,21 @@ module _ (stretches : List (ExactPlace × ExactPlace)) (file : List ℕ) (s : Su
   left-exact : IsExactly (staying_frames stretches file) (remove_stream stretches file)
   left-exact =
       rw (chosen-are, stream-is)
-      (removal-exact file own parts (survey_without_head-relaid file s surveyed)
-      (left-parts stretches file s parts surveyed left))
+      (removal-exact file own parts (survey_without_head-relaid surveyed)
+      (left-parts stretches file surveyed left))
 
 -- a removal holds the frames that stay
 pub remove-holds : (stretches : List (ExactPlace × ExactPlace)) (input output : List ℕ)
     → HoldsChosen (Remove input output stretches)
 unfolding remove_making
 remove-holds stretches input output files made e =
-    let bytes = makes-parts (remove_task stretches input) output files made e in
-    let is = made-of (remove_making stretches) files input bytes.1 bytes.2 in
+    let bytes = makes-parts (remove_task stretches input) output {files = files} {made = made} e in
+    let is = made-of {make = remove_making stretches} {files = files} {name = input} {bytes =
+    bytes.1} bytes.2 in
     let head = fields_of_head is.file is.survey.head in
-    let left = then_ok (parts_left stretches is.survey)
-    (λ parts. Ok (removal_file parts head is.file (survey_without_head is.survey))) is.bytes
+    let left = then_ok {r = parts_left stretches is.survey}
+    {make = λ parts. Ok (removal_file parts head is.file (survey_without_head is.survey))} {b =
+    is.bytes}
     is.made in
     let exact = left-exact stretches is.file is.survey is.surveyed left.0 left.1 in
     let same : is.file ≡ file_bytes_of files input = grind (arith, is.there) in (

@@ -28,14 +28,14 @@ module _ (file : List ℕ) (d : DamagedFields) (read : damaged_of file ≡ Ok d)
   own = emptied_survey d.survey
 
   whole : damaged_fields file ≡ Ok d
-  whole = (damaged_of-is file d read).1
+  whole = (damaged_of-is file read).1
 
   laid : IsDamagedLaidOut d
-  laid = read-laid file d read
+  laid = read-laid file read
 
   -- what is left is in the file where its survey says
   pub left-had : CanBeRelaid file own
-  left-had = damaged_fields-relaid file d whole laid
+  left-had = damaged_fields-relaid whole laid
 
   -- something is left
   pub left-some : 0 < length own.frames
@@ -67,15 +67,15 @@ salvaged-first = left-plan
 
 -- ---- what is left of each frame
 
-left-by : (main : List ℕ) (head : Option Head) (rows : List Row) (i : ℕ) (r : Row) (lost : Bool)
+left-by : (main : List ℕ) (head : Option Head) (rows : List Row) (i : ℕ) {r : Row} {lost : Bool}
     → r.lost ≡ lost → IsLeftOf r (stream_frame main head rows i r)
-left-by main head rows i r lost is = grind (arith, false≢true, payload_none)
+left-by main head rows i is = grind (arith, false≢true, payload_none)
 
-numbered-at : {A B : Type 0} (f : ℕ × A → B) (n : ℕ) (xs : List A) (i : ℕ) (x : A)
+numbered-at : {A B : Type 0} (f : ℕ × A → B) (n : ℕ) (xs : List A) (i : ℕ) {x : A}
     → slice_get xs i ≡ Some x → slice_get (map f (enumerate_from n xs)) i ≡ Some (f (n + i, x))
-numbered-at f n [] i x e = absurd cc
-numbered-at f n (y ∷ xs) zero x e = grind arith
-numbered-at f n (y ∷ xs) (suc i) x e = grind (arith, numbered-at f (n + 1) xs i x e)
+numbered-at f n [] i e = absurd cc
+numbered-at f n (y ∷ xs) zero e = grind arith
+numbered-at f n (y ∷ xs) (suc i) {x} e = grind (arith, numbered-at f (n + 1) xs i e)
 
 frames-left : (main : List ℕ) (head : Option Head) (rows : List Row)
     → AreLeftOf rows (stream_frames main head rows)
@@ -87,8 +87,8 @@ frames-left main head rows =
       each = λ i r found.
           let here : 0 + i ≡ i = omega arith in (
             stream_frame main head rows i r,
-            numbered-at frame 0 rows i r found ∙ ap (λ n. Some (frame (n, r))) here,
-            left-by main head rows i r r.lost refl,
+            numbered-at frame 0 rows i found ∙ ap (λ n. Some (frame (n, r))) here,
+            left-by main head rows i refl,
           );
     }
 
@@ -96,7 +96,7 @@ frames-left main head rows =
 pub salvaged-left : SalvagedFramesAreLeft
 unfolding stream_of_survey
 salvaged-left file d read = subst (AreLeftOf d.survey.frames)
-    (stream-told file d (damaged_of-is file d read).1 (read-laid file d read))
+    (stream-told file (damaged_of-is file read).1 (read-laid file read))
     (frames-left (main_bytes file d.survey.head d.survey.frames) d.survey.head d.survey.frames)
 
 -- ---- the command

@@ -42,21 +42,21 @@ module _ (window : ℕ) (choices : HeaderFields → List SlotFields) (needs : Li
 
 -- ---- the run
 
-run-exact : (first : FilePart) (parts : List FilePart) → IsWholeFile first.survey.class first
+run-exact : {first : FilePart} (parts : List FilePart) → IsWholeFile first.survey.class first
     → AreWholeFiles first.survey.class parts → IsExactly
     (flat_map part_stream (run_parts first parts) ∷ []) (seamless_stream (first ∷ parts))
 unfolding seamless_stream
-run-exact first parts is are = grind (arith, flat_map, run-some, run-many, planned-one, run-planned)
+run-exact parts is are = grind (arith, flat_map, run-some, run-many, planned-one, run-planned)
 
 -- ---- the command
 
-parts-exact : (files : Contents) (names : List (List ℕ)) (parts : List FilePart)
+parts-exact : (files : Contents) (names : List (List ℕ)) {parts : List FilePart}
     → join_parts files names ≡ Ok parts
     → IsExactly (joined_run_frames (Ok parts) ∷ []) (seamless_stream parts)
 unfolding IsExactly seamless_stream join_parts_from
-parts-exact files [] parts e = grind arith
-parts-exact files (name ∷ names) parts e =
-    grind (arith, parts-whole files (name ∷ names) parts (omega arith) e, run-exact)
+parts-exact files [] e = grind arith
+parts-exact files (name ∷ names) {parts} e =
+    grind (arith, parts-whole files (name ∷ names) (omega arith) e, run-exact)
 
 -- a seamless join holds exactly the frames that the job chooses
 pub seamless-chosen : (output : List ℕ) (inputs : List (List ℕ))
@@ -65,17 +65,17 @@ seamless-chosen output inputs files made e =
     grind (arith, text-parts, makes-parts, then_ok, parts-exact)
 
 -- the run is planned as one part
-first-planned : (first : FilePart) (parts : List FilePart) (other : FilePart) (more : List FilePart)
+first-planned : {first : FilePart} {parts : List FilePart} {other : FilePart} {more : List FilePart}
     → other ∷ more ≡ first ∷ parts → IsWholeFile other.survey.class other
     → AreWholeFiles other.survey.class more
     → IsPlan (window_of first.survey.class.version) own_choice
     (needs_of (run_of (part_brought first) (join_of_parts first parts)) ∷ []) (run_plan first parts)
-first-planned first parts other more same is are = grind (arith, run-planned)
+first-planned same is are = grind (arith, run-planned)
 
 -- the plan of the run is the first of all its plans
 pub seamless-first : SeamlessPlansAreFirst
 unfolding join_parts_from
 seamless-first files [] first parts e = absurd cc
 seamless-first files (name ∷ names) first parts e =
-    let is = parts-whole files (name ∷ names) (first ∷ parts) (omega arith) e in
-    first-planned first parts is.first is.more is.is is.whole is.all
+    let is = parts-whole files (name ∷ names) (omega arith) e in
+    first-planned is.is is.whole is.all

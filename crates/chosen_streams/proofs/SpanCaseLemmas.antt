@@ -31,12 +31,12 @@ use Rattle.sync_survey.specs.{Row.Row, Survey.survey_of}
 -- ---- in the slots of their plan
 
 -- frames after a lead-in
-led-frames : (needs : List Need) (fs : List StreamFrame) (placed : List Placed) → IsSized needs fs
+led-frames : (needs : List Need) {fs : List StreamFrame} (placed : List Placed) → IsSized needs fs
     → AreItemSlots (led_items own_choice needs) placed
     → IsExactly (fs ∷ []) (stream_with_lead_ins placed fs)
 unfolding led_items
-led-frames [] fs placed sized for_items = absurd (omega (arith, sized.some))
-led-frames (first ∷ needs) fs placed sized for_items = led-exact own_choice (first ∷ needs)
+led-frames [] placed sized for_items = absurd (omega (arith, sized.some))
+led-frames (first ∷ needs) {fs} placed sized for_items = led-exact own_choice (first ∷ needs)
     (lead_in_item (class_of first.header) all_slots) refl fs placed sized for_items
 
 -- the frames of a span as a choice
@@ -57,7 +57,7 @@ module _ (span : Span) (file : List ℕ) (s : SurveyFields) (had : CanBeRelaid f
   span-exact true =
       let needs = chosen_needs chosen s in
       let plan = led_plan (window_of s.class.version) own_choice needs in
-      led-frames needs fs plan (part-sized s.class (chosen_file_part chosen file s)
+      led-frames needs plan (part-sized
       (had-part chosen file s had there.some there.within))
       ((led-is chosen s had.placed there.some there.within plan).1 refl).slots
 
@@ -85,15 +85,15 @@ module _ (from to : ExactPlace) (file : List ℕ) (s : SurveyFields) where
   abbrev number : ExactPlace → ℕ
   number place = sample_at s.class (length_of_played played) place
 
-  span-is : (span : Span) → file_span from to head s ≡ Ok span
+  span-is : {span : Span} → file_span from to head s ≡ Ok span
       → span_of s.class (played.start + number from) (played.start + number to) ≡ span
   unfolding file_span
-  span-is span e = grind (arith, refusal_or-ok)
+  span-is e = grind (arith, refusal_or-ok)
 
   -- the frames of the job are the frames of the span
-  pub frames-are : (span : Span) → file_span from to head s ≡ Ok span → span_frames from to file s
+  pub frames-are : {span : Span} → file_span from to head s ≡ Ok span → span_frames from to file s
       ≡ slice_range (stream_of_survey file (survey_without_head s)) span.first span.last
-  frames-are span e = grind (arith, span-is)
+  frames-are e = grind (arith, span-is)
 
   -- the frames of the span are the frames that are needed by the file's survey
   pub needed-is : survey_of file most_frames ≡ Ok s
@@ -106,17 +106,18 @@ module _ (from to : ExactPlace) (file : List ℕ) (s : SurveyFields) where
 pub exact-holds : (input : List ℕ) (from to : ExactPlace) (output : List ℕ)
     → HoldsChosen (CutExact input from to output)
 exact-holds input from to output files made e =
-    let bytes = makes-parts (exact_task from to input) output files made e in
-    let is = made-of (exact_making from to) files input bytes.1 bytes.2 in
-    let by = piece-parts from to is.file is.survey is.bytes is.made in
+    let bytes = makes-parts (exact_task from to input) output {files = files} {made = made} e in
+    let is = made-of {make = exact_making from to} {files = files} {name = input} {bytes =
+    bytes.1} bytes.2 in
+    let by = piece-parts from to {file = is.file} {s = is.survey} {made = is.bytes} is.made in
     let head = fields_of_head is.file is.survey.head in
     let own = survey_without_head is.survey in
     let there =
-    span-survey_without_head is.survey by.span
-    (span-there from to head is.survey by.span by.span_is) in
+    span-survey_without_head {s = is.survey} {span = by.span}
+    (span-there from to head {s = is.survey} {span = by.span} by.span_is) in
     let exact =
     piece-exact by.span is.file own
-    (survey_without_head-relaid is.file is.survey is.surveyed) there head in
+    (survey_without_head-relaid {file = is.file} {s = is.survey} is.surveyed) there head in
     let stream : (exact_task from to input).stream files
     ≡ stream_laid (span_piece head by.span is.file own) is.file own = grind arith in
     let frames : slice_range (stream_of_survey is.file own) by.span.first by.span.last
@@ -125,7 +126,7 @@ exact-holds input from to output files made e =
       arith,
       needed-is from to is.file is.survey is.surveyed,
       frames-are from to is.file
-          is.survey by.span by.span_is,
+          is.survey {span = by.span} by.span_is,
     ) in (
       subst (λ (l : List StreamFrame). IsExactly (l ∷ []) ((exact_task from to input).stream files))
           frames

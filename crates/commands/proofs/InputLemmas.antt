@@ -33,22 +33,22 @@ pub survey_numbers : (place : ℕ) (fault : SurveyFault) → HasRightNumbers fau
     → HasSurveyNumbers place (survey_edit_fault place fault)
 survey_numbers place fault right = grind arith
 
-made-fault : (make : Making) (bytes : List ℕ) (fault : SurveyFault)
+made-fault : (make : Making) (bytes : List ℕ) {fault : SurveyFault}
     → survey_of bytes most_frames ≡ Err fault → made_file make bytes ≡ Err (Input 0 fault)
 unfolding made_file
-made-fault make bytes fault is = ap (surveyed_result make bytes) is
+made-fault make bytes is = ap (surveyed_result make bytes) is
 
 -- what is made of a surveyed file is made by its survey
-pub made-survey : (make : Making) (bytes : List ℕ) (s : SurveyFields)
+pub made-survey : (make : Making) {bytes : List ℕ} {s : SurveyFields}
     → survey_of bytes most_frames ≡ Ok s → made_file make bytes ≡ make bytes s
 unfolding made_file
-made-survey make bytes s is = ap (surveyed_result make bytes) is
+made-survey make {bytes} is = ap (surveyed_result make bytes) is
 
 -- a file that something was made of has a survey, by which it was made
-pub made_parts : (make : Making) (file new : List ℕ) → made_file make file ≡ Ok new
+pub made_parts : (make : Making) {file new : List ℕ} → made_file make file ≡ Ok new
     → (s : SurveyFields) × (survey_of file most_frames ≡ Ok s) × (make file s ≡ Ok new)
 unfolding made_file
-made_parts make file new e = at (survey_of file most_frames) refl e
+made_parts make {file} {new} e = at (survey_of file most_frames) refl e
   where
     at : (r : Result SurveyFields SurveyFault) → survey_of file most_frames ≡ r
         → surveyed_result make file r ≡ Ok new
@@ -72,12 +72,12 @@ of_survey_input refuses fault is = grind arith
 
 module _ (make : Making) (name : List ℕ) (old new : Seen) (s : SurveyFields) where
   -- a refusal of what was read is one of the input, with its cause
-  pub refused_is_input : (refuses : Refusal → Bool) (fault : EditFault)
+  pub refused_is_input : (refuses : Refusal → Bool) {fault : EditFault}
       → IsEditRefusal refuses fault → IsFileThere old.files name
       → ((bytes : List ℕ) → Holds old.files name bytes → survey_of bytes most_frames ≡ Ok s)
       → ((bytes : List ℕ) → Holds old.files name bytes → make bytes s ≡ Err fault) → new ≡ old
       → IsInputFault make name old new fault
-  refused_is_input refuses fault is there h refused stays = grind (arith, made-survey)
+  refused_is_input refuses is there h refused stays = grind (arith, made-survey)
 
   -- running out of memory is a fault of the input, once it was surveyed
   pub memory_is_input : IsFileThere old.files name
@@ -89,15 +89,15 @@ module _ (make : Making) (name : List ℕ) (old new : Seen) (s : SurveyFields) w
 
 module _ (make : Making) (stream : List ℕ → List StreamFrame) (refuses : Refusal → Bool)
     (input : List ℕ) where
-  refuses_where : (files : Files) (fault : EditFault) (r : Option (List ℕ))
+  refuses_where : (files : Files) {fault : EditFault} (r : Option (List ℕ))
       → IfTold files (λ f. f input ≡ r) → input_result make r ≡ Err fault
       → TaskRefuses (file_task make stream refuses input) files fault
-  refuses_where files fault r held is = grind arith
+  refuses_where files r held is = grind arith
 
-  refuses_held : (files : Files) (fault : EditFault) → IsFileThere files input
+  refuses_held : (files : Files) {fault : EditFault} → IsFileThere files input
       → ((bytes : List ℕ) → Holds files input bytes → made_file make bytes ≡ Err fault)
       → TaskRefuses (file_task make stream refuses input) files fault
-  refuses_held files fault there is = grind arith
+  refuses_held files there is = grind arith
 
   module _ (old new : Seen) (fault : EditFault) where
     -- a fault of the input comes before the output is created
@@ -121,13 +121,13 @@ module _ (make : Making) (stream : List ℕ → List StreamFrame) (refuses : Ref
   input_numbers fault h = grind arith
 
   -- the file was surveyed, and the command accepts it
-  pub file_makes : (files : Files) (made : List ℕ → List ℕ) (s : SurveyFields)
+  pub file_makes : {files : Files} {made : List ℕ → List ℕ} {s : SurveyFields}
       → IsFileThere files input
       → ((bytes : List ℕ) → Holds files input bytes → survey_of bytes most_frames ≡ Ok s)
       → ((bytes : List ℕ) → Holds files input bytes → AreBytes bytes)
       → ((bytes : List ℕ) → Holds files input bytes → make bytes s ≡ Ok (made bytes))
       → IsMaking (file_task make stream refuses input) made files
-  file_makes files made s there is octets makes = grind (arith, made-survey)
+  file_makes there is octets makes = grind (arith, made-survey)
 
 -- ---- what such a command has to satisfy
 
@@ -146,26 +146,26 @@ of_bytes_behind fault is = grind arith
 
 module _ (make : Making) (stream : List ℕ → List StreamFrame)
     (proper : IsProperMaking make stream) where
-  survey_late : (bytes : List ℕ) (r : Result SurveyFields SurveyFault)
+  survey_late : (bytes : List ℕ) {r : Result SurveyFields SurveyFault}
       → ((fault : SurveyFault) → r ≡ Err fault → IsOfBytes fault)
       → IfErr (surveyed_result make bytes r) IsLateFault
-  survey_late bytes r of_bytes = grind (arith, of_bytes_behind)
+  survey_late bytes of_bytes = grind (arith, of_bytes_behind)
 
   short_late : (bytes : List ℕ) → length bytes ≤ longest_file
       → IfErr (made_file make bytes) IsLateFault
   unfolding made_file
   short_late bytes few = grind (arith, survey_of-short, survey_late, survey_fields-of_bytes)
 
-  file_late : (o : Option (List ℕ)) (bytes : List ℕ) → o ≡ Some bytes → length bytes ≤ longest_file
+  file_late : {o : Option (List ℕ)} {bytes : List ℕ} → o ≡ Some bytes → length bytes ≤ longest_file
       → IfErr (input_result make o) IsLateFault
-  file_late o bytes held few = grind (arith, short_late)
+  file_late held few = grind (arith, short_late)
 
-  file_streams : (f : Contents) (input bytes new : List ℕ) → f input ≡ Some bytes → AreBytes bytes
+  file_streams : (f : Contents) {input bytes new : List ℕ} → f input ≡ Some bytes → AreBytes bytes
       → input_result make (f input) ≡ Ok new
       → AreSoundFiles f (input ∷ []) × HoldsStream new (stream (unwrap_or (f input) []))
-  file_streams f input bytes new held octets is =
-      let parts = made_parts make bytes new (ap (input_result make) (sym held) ∙ is) in (
-        ((bytes, held, survey_of-sound bytes most_frames parts.0 parts.1), tt),
+  file_streams f {bytes = bytes} {new = new} held octets is =
+      let parts = made_parts make (ap (input_result make) (sym held) ∙ is) in (
+        ((bytes, held, survey_of-sound bytes most_frames parts.1), tt),
         rw held (proper.streams bytes parts.0 new octets parts.1 parts.2),
       )
 
@@ -176,5 +176,5 @@ module _ (make : Making) (stream : List ℕ → List StreamFrame)
     some = omega arith;
     first = refl;
     late = grind (arith, file_late);
-    streams = λ f bytes new held octets is. file_streams f input bytes new held octets is;
+    streams = λ f bytes new held octets is. file_streams f held octets is;
   }

@@ -30,9 +30,9 @@ use Rattle.outside.specs.Seen.{Heard, Seen}
 -- ---- what is made
 
 -- what is refused stays refused
-unless-err : (f : Contents) (r : Result Made EditFault) (fault : EditFault) → r ≡ Err fault
+unless-err : (f : Contents) {r : Result Made EditFault} {fault : EditFault} → r ≡ Err fault
     → unless_there f r ≡ Err fault
-unless-err f r fault is = ap (unless_there f) is
+unless-err f is = ap (unless_there f) is
 
 free-exists : (o : Option ℕ) (made : Made) → o ≡ None → AreLike (Ok made) (exists_or o made)
 free-exists None made free = refl
@@ -43,15 +43,15 @@ free-alike : (f : Contents) (r : Result Made EditFault)
 free-alike f (Ok made) free = free-exists (first_there f 0 (made_names made)) made free
 free-alike f (Err fault) free = refl
 
-exists-ok : (o : Option ℕ) (m made : Made) → exists_or o m ≡ Ok made → ok_made m ≡ ok_made made
-exists-ok None m made is = is
-exists-ok (Some place) m made is = absurd cc
+exists-ok : (o : Option ℕ) {m made : Made} → exists_or o m ≡ Ok made → ok_made m ≡ ok_made made
+exists-ok None is = is
+exists-ok (Some place) is = absurd cc
 
 -- what is made by a command that keeps what is there is made without that, too
-pub unless-ok : (f : Contents) (r : Result Made EditFault) (made : Made)
+pub unless-ok : (f : Contents) (r : Result Made EditFault) {made : Made}
     → unless_there f r ≡ Ok made → r ≡ Ok made
-unless-ok f (Ok m) made is = exists-ok (first_there f 0 (made_names m)) m made is
-unless-ok f (Err fault) made is = is
+unless-ok f (Ok m) {made} is = exists-ok (first_there f 0 (made_names m)) is
+unless-ok f (Err fault) is = is
 
 -- the refusal of an output comes after every fault of an input
 exists-after : (fault : EditFault) (place : ℕ) → IsNotBefore fault (Refused (Exists place))
@@ -161,7 +161,7 @@ module _ (c : Command) where
   kept-gives : (files : Files) (fault : EditFault) → HasAnswer c files (Err fault)
       → HasAnswer (kept c) files (Err fault)
   kept-gives (Untold t) fault is = tt
-  kept-gives (Told f) fault is = unless-err f (c.makes f) fault is
+  kept-gives (Told f) fault is = unless-err f is
 
   kept-before : (files : Files) (fault : EditFault)
       → IfTold files (λ f. IfErr (c.makes f) (IsNotBefore fault))
@@ -230,9 +230,10 @@ module _ {c : Command} {names : List (List ℕ)} {files : Files} (h : IsToWrite 
   few : length names ≤ length c.outputs
   few = omega (arith, ap length h.front, length-take (length names) c.outputs)
 
-  name-at : (place : ℕ) → place < length names
+  name-at : {place : ℕ} → place < length names
       → slice_index_or names place [] ≡ slice_index_or c.outputs place []
-  name-at place within = ap (λ (l : List (List ℕ)). slice_index_or l place []) (sym h.front)
+  name-at {place} within =
+      ap (λ (l : List (List ℕ)). slice_index_or l place []) (sym h.front)
       ∙ get_or-take (length names) c.outputs place [] within
 
 -- what a command that keeps what is there makes where one is there
@@ -247,9 +248,9 @@ kept-made c names P (Told f) made each = subst (λ r. P (unless_there f r)) (sym
 
 module _ {c : Command} {names : List (List ℕ)} (old new : Seen)
     (h : IsToWrite c names old.files) where
-  found-left : (fault : EditFault) → FindsOutput names old new fault
+  found-left : {fault : EditFault} → FindsOutput names old new fault
       → IsCommandFault (kept c) old new fault
-  found-left fault l = rw l.is (record {
+  found-left l = rw l.is (record {
     defined = kept-made c names (λ r. r ≡ Err (Refused (Exists l.place))) old.files h.made
         (at old.files l.first);
     stays = l.stays;
@@ -261,10 +262,10 @@ module _ {c : Command} {names : List (List ℕ)} (old new : Seen)
       at (Untold t) first = tt
       at (Told f) first = λ made. ap (λ o. exists_or o made) first
 
-  unasked-left : (fault : EditFault) → FailsToAsk names old new fault
+  unasked-left : {fault : EditFault} → FailsToAsk names old new fault
       → IsCommandFault (kept c) old new fault
-  unasked-left fault l = rw l.is (record {
-    rose = rw (← (name-at h l.place l.within)) l.rose;
+  unasked-left l = rw l.is (record {
+    rose = rw (← (name-at h l.within)) l.rose;
     files = inr (record {
       keeps = refl;
       before = kept-made c names (λ r. IfErr r (IsThereFrom l.place)) old.files h.made
@@ -285,30 +286,30 @@ module _ {c : Command} {names : List (List ℕ)} (old new : Seen)
       at (Untold t) before = tt
       at (Told f) before = λ made. by (first_there f 0 names) made before
 
-  stopped-left : (fault : EditFault)
+  stopped-left : {fault : EditFault}
       → FindsOutput names old new fault ⊎ FailsToAsk names old new fault
       → IsCommandFault (kept c) old new fault
-  stopped-left fault (inl found) = found-left fault found
-  stopped-left fault (inr unasked) = unasked-left fault unasked
+  stopped-left {fault} (inl found) = found-left found
+  stopped-left {fault} (inr unasked) = unasked-left unasked
 
-  stopped-numbers : (fault : EditFault)
+  stopped-numbers : {fault : EditFault}
       → FindsOutput names old new fault ⊎ FailsToAsk names old new fault
       → HasNumbers (kept c) fault
-  stopped-numbers fault (inl l) = rw l.is (ap (λ b. b || c.refuses (Exists l.place))
+  stopped-numbers (inl l) = rw l.is (ap (λ b. b || c.refuses (Exists l.place))
       (lt-ltb l.place (length c.outputs) (omega (arith, l.within, few h))))
-  stopped-numbers fault (inr l) = rw l.is (omega (arith, l.within, few h))
+  stopped-numbers (inr l) = rw l.is (omega (arith, l.within, few h))
 
 module _ {c : Command} {names : List (List ℕ)} {old : Seen}
     (h : IsToWrite c names old.files) where
   -- a call that found an output there, or could not ask for one
-  pub asked_stopped : {new : Seen} {r : Result (Unit {0}) EditFault} (fault : EditFault)
+  pub asked_stopped : {new : Seen} {r : Result (Unit {0}) EditFault} {fault : EditFault}
       → IsErrAnd r (λ y. y ≡ fault) → NoneFell old.counts new.counts
-      → (keeps : Bool) → keeps ≡ true
+      → {keeps : Bool} → keeps ≡ true
       → FindsOutput names old new fault ⊎ FailsToAsk names old new fault
       → IsRunOf (asked_of keeps c) old new r
-  asked_stopped {new} {r} fault is fell keeps asked stops = rw asked
-      (refused_run (kept c) old new r fault h.free is (stopped-left old new h fault stops)
-      (stopped-numbers old new h fault stops) fell)
+  asked_stopped {new} {r} {fault} is fell asked stops = rw asked
+      (refused_run fault h.free is (stopped-left old new h stops)
+      (stopped-numbers old new h stops) fell)
 
   -- a call that went on where none is there
   pub asked_run : (keeps : Bool) {new : Seen} {r : Result (Unit {0}) EditFault}
@@ -340,23 +341,23 @@ module _ (c : Command) where
           × (new.files ≡ Told (written_files made.outputs f))) → IfTold files (λ f. (made : Made)
           × (c.makes f ≡ Ok made) × (new.files ≡ Told (written_files made.outputs f)))
       at (Untold t) made = tt
-      at (Told f) made = (made.0, unless-ok f (c.makes f) made.0 made.1, made.2)
+      at (Told f) made = (made.0, unless-ok f (c.makes f) made.1, made.2)
 
-  kept-free : (f : Contents) (r : Result Made EditFault) (made : Made) → unless_there f r ≡ Ok made
+  kept-free : (f : Contents) (r : Result Made EditFault) {made : Made} → unless_there f r ≡ Ok made
       → first_there f 0 (made_names made) ≡ None
-  kept-free f (Err fault) made is = absurd cc
-  kept-free f (Ok m) made is = at (first_there f 0 (made_names m)) refl is
+  kept-free f (Err fault) is = absurd cc
+  kept-free f (Ok m) {made} is = at (first_there f 0 (made_names m)) refl is
     where
       at : (o : Option ℕ) → first_there f 0 (made_names m) ≡ o → exists_or o m ≡ Ok made
           → first_there f 0 (made_names made) ≡ None
       at None none e =
-          subst (λ (x : Made). first_there f 0 (made_names x) ≡ None) (made-same m made e) none
+          subst (λ (x : Made). first_there f 0 (made_names x) ≡ None) (made-same e) none
       at (Some place) some e = absurd cc
 
   -- and none of the names of its outputs was there
-  pub kept_done-free : (f : Contents) (made : Made) → (kept c).makes f ≡ Ok made
+  pub kept_done-free : (f : Contents) {made : Made} → (kept c).makes f ≡ Ok made
       → first_there f 0 (made_names made) ≡ None
-  kept_done-free f made is = kept-free f (c.makes f) made is
+  kept_done-free f {made} is = kept-free f (c.makes f) is
 
   -- the streams that it holds then, it holds without keeping what is there, too
   pub asked_streams : (keeps : Bool) {old new : Seen} → IsCommandDone (asked_of keeps c) old new
@@ -365,7 +366,7 @@ module _ (c : Command) where
   asked_streams true {old} {new} done holds = at old.files done.made holds
     where
       same : (f : Contents) (m made : Made) → c.makes f ≡ Ok m → c.makes f ≡ Ok made → m ≡ made
-      same f m made is other = made-same m made (sym is ∙ other)
+      same f m made is other = made-same (sym is ∙ other)
 
       at : (files : Files) → IfTold files (λ f. (made : Made) × ((kept c).makes f ≡ Ok made)
           × (new.files ≡ Told (written_files made.outputs f))) → HoldsStreams (kept c) files
@@ -373,7 +374,7 @@ module _ (c : Command) where
       at (Untold t) made holds = tt
       at (Told f) m holds = λ made is.
           let held = holds m.0 m.1 in
-          subst (MakesStreams c f) (same f m.0 made (unless-ok f (c.makes f) m.0 m.1) is)
+          subst (MakesStreams c f) (same f m.0 made (unless-ok f (c.makes f) m.1) is)
           (record { sources = held.sources; streams = held.streams })
 
   -- a command that makes no file is as it is without keeping what is there
@@ -391,16 +392,16 @@ module _ (c : Command) where
 -- ---- outputs that can be asked for
 
 -- the one output of a task
-pub to_write_one : (task : Task) (output : List ℕ) → clash_in task output ≡ None
+pub to_write_one : {task : Task} {output : List ℕ} → clash_in task output ≡ None
     → {file : List ℕ → List ℕ} {files : Files} → IsMaking task file files
     → IsToWrite (one_command task output) (output ∷ []) files
-to_write_one task output free {file} {files} making =
+to_write_one {task} {output} free {file} {files} making =
     record { free = free; made = at files making; front = refl }
   where
     at : (fs : Files) → IsMaking task file fs → IfTold fs (λ f. (made : Made)
         × ((one_command task output).makes f ≡ Ok made) × (made_names made ≡ output ∷ []))
     at (Untold t) making = tt
-    at (Told f) making = let gives = gives_made task output free file f making in
+    at (Told f) making = let gives = gives_made task output free file making in
         (whole_made task output free file gives.0, gives.2, refl)
 
 -- the outputs of a command with a text
@@ -427,7 +428,7 @@ asked_says true c files old new fault says = at fault says
   where
     text : (all : List ℕ) → IsCommandText (kept c) files all → IsCommandText c files all
     text all (inl always) = inl always
-    text all (inr t) = inr (t.0, t.1, t.2, unless-ok t.0 (c.makes t.0) t.1 t.3, t.4)
+    text all (inr t) = inr (t.0, t.1, t.2, unless-ok t.0 (c.makes t.0) t.3, t.4)
 
     at : (fault : Option EditFault) → SaysText c files old new fault
         → SaysText (kept c) files old new fault

@@ -19,24 +19,24 @@ AreLike (Ok m) (Ok n) = n.outputs ≡ m.outputs
 AreLike (Err fault) (Err other) = other ≡ fault
 AreLike _ _ = ⊥
 
-err-like : (r s : Result Made EditFault) (fault : EditFault) → AreLike r s → r ≡ Err fault
+err-like : (r s : Result Made EditFault) {fault : EditFault} → AreLike r s → r ≡ Err fault
     → s ≡ Err fault
-err-like (Err e) (Err f) fault like is = ap Err like ∙ is
-err-like (Ok m) s fault like is = absurd cc
-err-like (Err e) (Ok n) fault like is = absurd like
+err-like (Err e) (Err f) like is = ap Err like ∙ is
+err-like (Ok m) s like is = absurd cc
+err-like (Err e) (Ok n) like is = absurd like
 
-ok-like : (r s : Result Made EditFault) (m : Made) → AreLike r s → r ≡ Ok m
+ok-like : (r s : Result Made EditFault) {m : Made} → AreLike r s → r ≡ Ok m
     → (n : Made) × (s ≡ Ok n) × (n.outputs ≡ m.outputs)
-ok-like (Ok k) (Ok n) m like is = (n, refl, like ∙ ap (λ (x : Made). x.outputs) (made-same k m is))
-ok-like (Err e) s m like is = absurd cc
-ok-like (Ok k) (Err f) m like is = absurd like
+ok-like (Ok k) (Ok n) {m} like is = (n, refl, like ∙ ap (λ (x : Made). x.outputs) (made-same is))
+ok-like (Err e) s like is = absurd cc
+ok-like (Ok k) (Err f) like is = absurd like
 
-ok-unlike : (r s : Result Made EditFault) (n : Made) → AreLike r s → s ≡ Ok n
+ok-unlike : (r s : Result Made EditFault) {n : Made} → AreLike r s → s ≡ Ok n
     → (m : Made) × (r ≡ Ok m) × (n.outputs ≡ m.outputs)
-ok-unlike (Ok m) (Ok k) n like is =
-    (m, refl, sym (ap (λ (x : Made). x.outputs) (made-same k n is)) ∙ like)
-ok-unlike r (Err f) n like is = absurd cc
-ok-unlike (Err e) (Ok k) n like is = absurd like
+ok-unlike (Ok m) (Ok k) {n} like is =
+    (m, refl, sym (ap (λ (x : Made). x.outputs) (made-same is)) ∙ like)
+ok-unlike r (Err f) like is = absurd cc
+ok-unlike (Err e) (Ok k) like is = absurd like
 
 all-like : (r s : Result Made EditFault) (P : EditFault → Type 0) → AreLike r s → IfErr r P
     → IfErr s P
@@ -79,7 +79,7 @@ module _ (c : Command) (v : Variant) where
   gives-like : (files : Files) (fault : EditFault) → MakesLike c v files
       → HasAnswer c files (Err fault) → HasAnswer d files (Err fault)
   gives-like (Untold t) fault like is = tt
-  gives-like (Told f) fault like is = err-like (c.makes f) (v.makes f) fault like is
+  gives-like (Told f) fault like is = err-like (c.makes f) (v.makes f) like is
 
   takes-memory-like : (files : Files) → MakesLike c v files
       → IfTold files (λ f. TakesMemory (c.makes f)) → IfTold files (λ f. TakesMemory (v.makes f))
@@ -91,36 +91,37 @@ module _ (c : Command) (v : Variant) where
   all-made-like (Untold t) P like is = tt
   all-made-like (Told f) P like is = all-like (c.makes f) (v.makes f) P like is
 
-  written-like : (k : ℕ) (old new : Files) → MakesLike c v old → IsWrittenTo c k old new
+  written-like : {k : ℕ} (old : Files) {new : Files} → MakesLike c v old → IsWrittenTo c k old new
       → IsWrittenTo d k old new
-  written-like k (Untold t) new like h = record { made = tt; touches = h.touches }
-  written-like k (Told f) new like h =
+  written-like (Untold t) like h = record { made = tt; touches = h.touches }
+  written-like (Told f) like h =
       let m = h.made in
-      let n = ok-like (c.makes f) (v.makes f) m.0 like m.1 in record {
+      let n = ok-like (c.makes f) (v.makes f) like m.1 in record {
         made = (n.0, n.1, rw n.2 m.2, m.3, rw n.2 m.4);
         touches = h.touches;
       }
 
-  unfinished-like : (k : ℕ) (old new : Files) → MakesLike c v old → IsOutputUnfinished c k old new
-      → IsOutputUnfinished d k old new
-  unfinished-like k (Untold t) new like h = record { made = tt; touches = h.touches }
-  unfinished-like k (Told f) new like h =
+  unfinished-like : {k : ℕ} (old : Files) {new : Files} → MakesLike c v old
+      → IsOutputUnfinished c k old new → IsOutputUnfinished d k old new
+  unfinished-like (Untold t) like h = record { made = tt; touches = h.touches }
+  unfinished-like (Told f) like h =
       let m = h.made in
-      let n = ok-like (c.makes f) (v.makes f) m.0 like m.1 in record {
+      let n = ok-like (c.makes f) (v.makes f) like m.1 in record {
         made = (n.0, n.1, rw n.2 m.2, m.3, rw n.2 m.4, rw n.2 m.5);
         touches = h.touches;
       }
 
   -- a command that keeps what is there is like one that does, too
   module _ (keep : c.keeps ≡ true → v.keeps ≡ true) where
-    unwritten-like : (k : ℕ) (old new : Seen) → MakesLike c v old.files
+    unwritten-like : {k : ℕ} {old new : Seen} → MakesLike c v old.files
         → IsOutputUnwritten c k old new → IsOutputUnwritten d k old new
-    unwritten-like k old new like h = record { rose = h.rose; files = at h.files }
+    unwritten-like {k} {old} {new} like h =
+        record { rose = h.rose; files = at h.files }
       where
         at : IsOutputUnfinished c k old.files new.files ⊎ IsOutputUnasked c k old.files new.files
             → IsOutputUnfinished d k old.files new.files
             ⊎ IsOutputUnasked d k old.files new.files
-        at (inl part) = inl (unfinished-like k old.files new.files like part)
+        at (inl part) = inl (unfinished-like old.files like part)
         at (inr none) = inr (record {
           keeps = keep none.keeps;
           before = all-made-like old.files (IsThereFrom k) like none.before;
@@ -139,13 +140,13 @@ module _ (c : Command) (v : Variant) where
               × (new.files ≡ Told (written_files made.outputs f)))
           at (Untold t) like made = tt
           at (Told f) like made =
-              let n = ok-like (c.makes f) (v.makes f) made.0 like made.1 in
+              let n = ok-like (c.makes f) (v.makes f) like made.1 in
               (n.0, n.1, rw n.2 made.2)
 
       unread-like : (new.files ≡ old.files) ⊎ ((k : ℕ) × IsWrittenTo c k old.files new.files)
           → (new.files ≡ old.files) ⊎ ((k : ℕ) × IsWrittenTo d k old.files new.files)
       unread-like (inl same) = inl same
-      unread-like (inr wrote) = inr (wrote.0, written-like wrote.0 old.files new.files like wrote.1)
+      unread-like (inr wrote) = inr (wrote.0, written-like old.files like wrote.1)
 
       -- what a command leaves, the other leaves, too
       pub left-like : (fault : EditFault) → IsCommandFault c old new fault
@@ -165,7 +166,7 @@ module _ (c : Command) (v : Variant) where
           files = unread-like l.files;
         };
         shorter = λ l. record { ended = l.ended; touches = l.touches };
-        unwritten = λ k l. unwritten-like k old new like l;
+        unwritten = λ k l. unwritten-like like l;
         unsent = done-like;
         no_memory = λ l. record {
           names = l.names;
@@ -179,7 +180,7 @@ module _ (c : Command) (v : Variant) where
       → HoldsStreams d files
   streams-like (Untold t) like holds = tt
   streams-like (Told f) like holds = λ made is.
-      let m = ok-unlike (c.makes f) (v.makes f) made like is in
+      let m = ok-unlike (c.makes f) (v.makes f) like is in
       let held = holds m.0 m.1 in
       record { sources = held.sources; streams = rw m.2 held.streams }
 

@@ -13,24 +13,24 @@ use Rattle.sync_survey.specs.Survey.{survey_of}
 
 -- ---- one output
 
-one_parts : (output : List ℕ) (clash : Option ℕ) (r : Result (List ℕ) EditFault) (made : Made)
+one_parts : (output : List ℕ) {clash : Option ℕ} {r : Result (List ℕ) EditFault} {made : Made}
     → command_result output (clash_or clash r) ≡ Ok made
     → (clash ≡ None) × (bytes : List ℕ) × (r ≡ Ok bytes)
-one_parts output clash r made e = grind arith
+one_parts output e = grind arith
 
 -- a command that isn't refused has no clash, and makes some bytes
-pub makes-parts : (task : Task) (output : List ℕ) (files : Contents) (made : Made)
+pub makes-parts : (task : Task) (output : List ℕ) {files : Contents} {made : Made}
     → (one_command task output).makes files ≡ Ok made
     → (clash_in task output ≡ None) × (bytes : List ℕ) × (task.makes files ≡ Ok bytes)
 unfolding task_result
-makes-parts task output files made e = grind (arith, one_parts, made)
+makes-parts task output {made = made} e = grind (arith, one_parts, made)
 
 -- a command without a clash that makes some bytes isn't refused
-pub parts-make : (task : Task) (output : List ℕ) (files : Contents) (bytes : List ℕ)
+pub parts-make : (task : Task) (output : List ℕ) {files : Contents} {bytes : List ℕ}
     → clash_in task output ≡ None → task.makes files ≡ Ok bytes
     → (made : Made) × ((one_command task output).makes files ≡ Ok made)
 unfolding task_result
-parts-make task output files bytes free is = (
+parts-make task output {bytes = bytes} free is = (
   record { outputs = record { name = output; bytes = bytes } ∷ []; text = [] },
   ap₂ (λ (o : Option ℕ) (r : Result (List ℕ) EditFault). command_result output (clash_or o r)) free
       is,
@@ -47,25 +47,25 @@ pub record IsMadeOf (make : Making) (files : Contents) (name : List ℕ) : Type 
   pub bytes : List ℕ
   pub made : make file survey ≡ Ok bytes
 
-file-parts : (make : Making) (files : Contents) (name bytes : List ℕ) (o : Option (List ℕ))
+file-parts : {make : Making} {files : Contents} {name bytes : List ℕ} {o : Option (List ℕ)}
     → files name ≡ o → input_result make o ≡ Ok bytes → IsMadeOf make files name
-file-parts make files name bytes o there e = grind (arith, made_parts)
+file-parts there e = grind (arith, made_parts)
 
 -- bytes that are made of the file with a name are made by its survey
-pub made-of : (make : Making) (files : Contents) (name bytes : List ℕ)
+pub made-of : {make : Making} {files : Contents} {name bytes : List ℕ}
     → input_result make (files name) ≡ Ok bytes → IsMadeOf make files name
-made-of make files name bytes e = file-parts make files name bytes (files name) refl e
+made-of {make} {files} {name} {bytes} e = file-parts refl e
 
 -- what is made of a surveyed file with a name is made by its survey
-pub of-made : (make : Making) (files : Contents) (name file : List ℕ) (s : SurveyFields)
+pub of-made : (make : Making) (files : Contents) {name file : List ℕ} {s : SurveyFields}
     → files name ≡ Some file → survey_of file most_frames ≡ Ok s
     → input_result make (files name) ≡ make file s
-of-made make files name file s there surveyed = grind (arith, there, made-survey, surveyed)
+of-made make files there surveyed = grind (arith, there, made-survey, surveyed)
 
 -- ---- a surveyed file has a frame
 
 -- a surveyed file has a frame
-pub some-frames : (file : List ℕ) (allowed : ℕ) (s : SurveyFields) → survey_of file allowed ≡ Ok s
+pub some-frames : (file : List ℕ) (allowed : ℕ) {s : SurveyFields} → survey_of file allowed ≡ Ok s
     → 0 < length s.frames
-some-frames file allowed s e =
+some-frames file allowed e =
     grind (arith, survey_fields-parts, survey_of-parts, length-marked_rows, length-map, some_frames)

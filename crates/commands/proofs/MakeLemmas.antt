@@ -28,30 +28,30 @@ abbrev pub ok_made : Made → Result Made EditFault
 ok_made made = Ok made
 
 -- what was made is equal if the results are
-pub made-same : (a b : Made) → ok_made a ≡ ok_made b → a ≡ b
-made-same a b e = cc
+pub made-same : {a b : Made} → ok_made a ≡ ok_made b → a ≡ b
+made-same e = cc
 
 -- ---- names
 
 -- without a clash the first name is no output's, nor is any other
-pub no_clash : (b : Bool) (place : ℕ) (o : Option ℕ) → cond b (Some place) o ≡ None
+pub no_clash : {b : Bool} (place : ℕ) {o : Option ℕ} → cond b (Some place) o ≡ None
     → (b ≡ false) × (o ≡ None)
-no_clash b place o none = grind arith
+no_clash place none = grind arith
 
-or_none : (a b : Bool) → (a || b) ≡ false → a ≡ false
-or_none a b none = grind arith
+or_none : {a : Bool} (b : Bool) → (a || b) ≡ false → a ≡ false
+or_none b none = grind arith
 
 -- a name that is none of these outputs isn't the first of them
-pub other_name : (name output : List ℕ) (outputs : List (List ℕ))
+pub other_name : {name output : List ℕ} (outputs : List (List ℕ))
     → list_any (bytes_eq name) (output ∷ outputs) ≡ false → name ≢ output
-other_name name output outputs none same = grind (arith, bytes_eq, bytes_eq_same, or_none)
+other_name outputs none same = grind (arith, bytes_eq, bytes_eq_same, or_none)
 
 -- without a clash the first input isn't the output
-pub source_apart : (inputs : List (List ℕ)) (source output : List ℕ) → 1 ≤ length inputs
+pub source_apart : (inputs : List (List ℕ)) {source output : List ℕ} → 1 ≤ length inputs
     → first_input inputs ≡ source → clash_from (output ∷ []) 0 inputs ≡ None → source ≢ output
-source_apart [] source output some first free = absurd (omega (arith, some))
-source_apart (name ∷ inputs) source output some first free =
-    λ same. other_name name output [] (no_clash _ 0 _ free).0 (first ∙ same)
+source_apart [] some first free = absurd (omega (arith, some))
+source_apart (name ∷ inputs) {output = output} some first free =
+    λ same. other_name [] (no_clash 0 free).0 (first ∙ same)
 
 -- the names of the inputs are the inputs of the task
 module _ (inputs : Inputs) (task : Task) (named : names_of inputs ≡ task.inputs) where
@@ -64,24 +64,24 @@ module _ (inputs : Inputs) (task : Task) (named : names_of inputs ≡ task.input
       ≡ clash_from (output ∷ []) 0 (names_of inputs) → found ≡ place → clash_in task output ≡ place
   clash_is output of is = ap (clash_from (output ∷ []) 0) (sym named) ∙ sym of ∙ is
 
-task_result-clash : (task : Task) (output : List ℕ) (place : ℕ) (f : Contents)
+task_result-clash : (task : Task) (output : List ℕ) {place : ℕ} (f : Contents)
     → clash_in task output ≡ Some place → task_result task output f ≡ Err (EqualNames place)
 unfolding task_result
-task_result-clash task output place f clash = rw clash refl
+task_result-clash task output f clash = rw clash refl
 
 task_result-free : (task : Task) (output : List ℕ) (f : Contents) → clash_in task output ≡ None
     → task_result task output f ≡ task.makes f
 unfolding task_result
 task_result-free task output f free = rw free refl
 
-gives_clash : (task : Task) (output : List ℕ) (place : ℕ) (files : Files) → clash_in task output
+gives_clash : (task : Task) (output : List ℕ) {place : ℕ} (files : Files) → clash_in task output
     ≡ Some place → HasAnswer (one_command task output) files (Err (EqualNames place))
-gives_clash task output place files clash = grind (arith, task_result-clash)
+gives_clash task output files clash = grind (arith, task_result-clash)
 
 -- a clash is a fault of the command, with its number, that changes nothing
-pub clash_left : (task : Task) (output : List ℕ) (place : ℕ) (now : Seen) → clash_in task output
+pub clash_left : (task : Task) {output : List ℕ} {place : ℕ} (now : Seen) → clash_in task output
     ≡ Some place → IsCommandFault (one_command task output) now now (EqualNames place)
-clash_left task output place now clash = grind (arith, gives_clash)
+clash_left task now clash = grind (arith, gives_clash)
 
 -- ---- before the output is created
 
@@ -110,7 +110,7 @@ module _ (task : Task) (output : List ℕ) (free : clash_in task output ≡ None
         → IfTold files (λ f. TakesMemory ((one_command task output).makes f))
     takes_memory (Untold touched) there few = tt
     takes_memory (Told f) there few =
-        let held = there_holds f task.source there in
+        let held = there_holds f there in
         subst TakesMemory (sym (makes_free f))
         (takes (task.makes f) (late f held.0 held.1 (few held.0 held.1)))
 
@@ -144,58 +144,58 @@ module _ (task : Task) (output : List ℕ) (free : clash_in task output ≡ None
         record { outputs = record { name = output; bytes = file bytes } ∷ []; text = [] }
 
     -- what is made of a source whose content is known
-    pub gives_made : (f : Contents) → IsMaking task file (Told f) → (bytes : List ℕ)
+    pub gives_made : {f : Contents} → IsMaking task file (Told f) → (bytes : List ℕ)
         × (f task.source ≡ Some bytes) × ((one_command task output).makes f ≡ Ok (whole_made bytes))
-    gives_made f making = grind (arith, there_holds, makes_free)
+    gives_made making = grind (arith, there_holds, makes_free)
 
-    made_none : (files : Files) (P : EditFault → Type 0) → IsMaking task file files
+    made_none : {files : Files} (P : EditFault → Type 0) → IsMaking task file files
         → IfTold files (λ f. IfErr ((one_command task output).makes f) P)
-    made_none files P making = grind (arith, gives_made)
+    made_none P making = grind (arith, gives_made)
 
     -- the output was written whole
-    made_whole : (files new : Files) → IsMaking task file files → ((bytes : List ℕ)
+    made_whole : {files new : Files} → IsMaking task file files → ((bytes : List ℕ)
         → Holds files task.source bytes → new ≡ files_holding files output (file bytes))
         → IfTold files (λ f. (made : Made) × ((one_command task output).makes f ≡ Ok made)
         × (new ≡ Told (written_files made.outputs f)))
     unfolding files_holding
-    made_whole files new making wrote = grind (arith, gives_made)
+    made_whole making wrote = grind (arith, gives_made)
 
     -- the output was written in part
-    begun_to : (f : Contents) (new : Files) (moved : List ℕ) → HoldsPrefix output moved (Told f) new
+    begun_to : {f : Contents} {new : Files} {moved : List ℕ} → HoldsPrefix output moved (Told f) new
         → (count : Option ℕ)
         × (new
         ≡ Told (partly_written_files 0 count (record { name = output; bytes = moved } ∷ []) f))
     unfolding files_holding
-    begun_to f new moved (inl stays) = (None, stays)
-    begun_to f new moved (inr part) = (Some part.0, part.1)
+    begun_to (inl stays) = (None, stays)
+    begun_to (inr part) = (Some part.0, part.1)
 
-    less_to : (f : Contents) (new : Files) (moved : List ℕ) → HoldsLess output moved (Told f) new
+    less_to : {f : Contents} {new : Files} {moved : List ℕ} → HoldsLess output moved (Told f) new
         → (count : Option ℕ) × LacksBytes count (record { name = output; bytes = moved } ∷ [])
         × (new
         ≡ Told (partly_written_files 0 count (record { name = output; bytes = moved } ∷ []) f))
     unfolding files_holding
-    less_to f new moved (inl stays) = (None, tt, stays)
-    less_to f new moved (inr part) = (Some part.0, part.1, part.2)
+    less_to (inl stays) = (None, tt, stays)
+    less_to (inr part) = (Some part.0, part.1, part.2)
 
-    written_part : (old new : Files) → IsMaking task file old
+    written_part : (old : Files) {new : Files} → IsMaking task file old
         → ((bytes : List ℕ) → Holds old task.source bytes → HoldsPrefix output (file bytes) old new)
         → OnlyTouches (output ∷ []) old new → IsWrittenTo (one_command task output) 0 old new
-    written_part (Untold touched) new making part touches = record { made = tt; touches = touches }
-    written_part (Told f) new making part touches =
-        let gives = gives_made f making in
-        let begun = begun_to f new (file gives.0) (part gives.0 gives.1) in
+    written_part (Untold touched) making part touches = record { made = tt; touches = touches }
+    written_part (Told f) {new} making part touches =
+        let gives = gives_made making in
+        let begun = begun_to (part gives.0 gives.1) in
         record {
           made = (whole_made gives.0, gives.2, omega arith, begun.0, begun.1);
           touches = touches;
         }
 
-    unfinished_part : (old new : Files) → IsMaking task file old
+    unfinished_part : (old : Files) {new : Files} → IsMaking task file old
         → ((bytes : List ℕ) → Holds old task.source bytes → HoldsLess output (file bytes) old new)
         → OnlyTouches (output ∷ []) old new → IsOutputUnfinished (one_command task output) 0 old new
-    unfinished_part (Untold touched) new making part touches = grind arith
-    unfinished_part (Told f) new making part touches =
-        let gives = gives_made f making in
-        let begun = less_to f new (file gives.0) (part gives.0 gives.1) in
+    unfinished_part (Untold touched) making part touches = grind arith
+    unfinished_part (Told f) {new} making part touches =
+        let gives = gives_made making in
+        let begun = less_to (part gives.0 gives.1) in
         record {
           made = (whole_made gives.0, gives.2, omega arith, begun.0, begun.1, begun.2);
           touches = touches;
@@ -211,17 +211,17 @@ module _ (task : Task) (output : List ℕ) (free : clash_in task output ≡ None
         missing = λ w. absurd w;
         unread = λ u. record {
           names = free;
-          before = made_none old.files (IsNotBefore fault) making;
+          before = made_none (IsNotBefore fault) making;
           rose = u.rose;
           files = inr (
             0,
-            written_part old.files new.files making (rw first at u.files) touches,
+            written_part old.files making (rw first at u.files) touches,
           );
         };
         shorter = λ l. record { ended = l; touches = touches };
         unwritten = λ k w. rw w.0 (record {
           rose = w.1.rose;
-          files = inl (unfinished_part old.files new.files making (rw first at w.1.files) touches);
+          files = inl (unfinished_part old.files making (rw first at w.1.files) touches);
         });
         unsent = λ w. absurd w;
         no_memory = λ w. absurd w;
@@ -232,7 +232,7 @@ module _ (task : Task) (output : List ℕ) (free : clash_in task output ≡ None
           → WritesOutput file task.inputs output old new r
           → OnOk r (IsCommandDone (one_command task output) old new)
       wrote_done (Ok x) wrote = record {
-        made = made_whole old.files new.files making (rw (← first) wrote.written);
+        made = made_whole making (rw (← first) wrote.written);
         touches = wrote.touches;
         counts = wrote.done;
       }
@@ -280,33 +280,33 @@ pub numbers_early : (task : Task) (output : List ℕ) (fault : EditFault) → Ha
 numbers_early task output fault h = grind arith
 
 -- if no names clash, no fault is that of equal names
-pub names_free : (command : Command) (r : Result (Unit {0}) EditFault) → clash_of command ≡ None
+pub names_free : (command : Command) {r : Result (Unit {0}) EditFault} → clash_of command ≡ None
     → IfErr r (HasNumbers command) → (place : ℕ)
     → IsErrOf r (EqualNames place) ↔ (clash_of command ≡ Some place)
-names_free command r none numbers place = grind arith
+names_free command none numbers place = grind arith
 
 -- a call that ended with a fault is a run of the command
-pub refused_run : (command : Command) (old new : Seen) (r : Result (Unit {0}) EditFault)
+pub refused_run : {command : Command} {old new : Seen} {r : Result (Unit {0}) EditFault}
     (fault : EditFault) → clash_of command ≡ None → IsErrAnd r (λ y. y ≡ fault)
     → IsCommandFault command old new fault → HasNumbers command fault
     → NoneFell old.counts new.counts → IsRunOf command old new r
-refused_run command old new r fault none is left numbers fell = grind arith
+refused_run fault none is left numbers fell = grind arith
 
 -- a call that returned this fault is a run if the call ended with it
-pub returned_run : (command : Command) (old new : Seen) (r : Result (Unit {0}) EditFault)
-    (fault : EditFault) → IsErrAnd r (λ y. y ≡ fault) → IsRunOf command old new (Err fault)
+pub returned_run : {command : Command} {old new : Seen} {r : Result (Unit {0}) EditFault}
+    {fault : EditFault} → IsErrAnd r (λ y. y ≡ fault) → IsRunOf command old new (Err fault)
     → IsRunOf command old new r
-returned_run command old new r fault is ran = grind arith
+returned_run is ran = grind arith
 
 -- ---- runs of a command that makes one file
 
 module _ (task : Task) (output : List ℕ) where
   -- a call that found a clash
-  pub clash_run : (place : ℕ) (now : Seen) → clash_in task output ≡ Some place
+  pub clash_run : {place : ℕ} (now : Seen) → clash_in task output ≡ Some place
       → IsRunOf (one_command task output) now now (Err (EqualNames place))
-  clash_run place now clash = record {
+  clash_run {place} now clash = record {
     done = tt;
-    left = clash_left task output place now clash;
+    left = clash_left task now clash;
     numbers = clash;
     names = grind (arith, clash);
     streams = tt;
@@ -323,7 +323,7 @@ module _ (task : Task) (output : List ℕ) where
       → IfErr r (IsPassFault file task.inputs output old new)
   pass_all file old new (Ok x) first numbers left = tt
   pass_all file old new (Err fault) first numbers left =
-      among_all file task.inputs task.source first output old new fault numbers left
+      among_all file task.inputs first output old new fault numbers left
 
   module _ (free : clash_in task output ≡ None) {old new : Seen}
       {r : Result (Unit {0}) EditFault} where
@@ -334,9 +334,9 @@ module _ (task : Task) (output : List ℕ) where
         → HasNumbers (one_command task output) fault → OnlyReads old.counts new.counts
         → IsRunOf (one_command task output) old new r
     early_run late fault is early numbers reads =
-        refused_run (one_command task output) old new r fault free is
+        refused_run fault free is
         (early_left task output free late old new fault early) numbers
-        (none_fell_by_reads old.counts new.counts reads)
+        (none_fell_by_reads reads)
 
     module _ (file : List ℕ → List ℕ) (making : IsMaking task file old.files) where
       -- a call that wrote what the task makes, or a part of it
@@ -349,7 +349,7 @@ module _ (task : Task) (output : List ℕ) where
         done = wrote_done task output free file first old new making r wrote;
         left = wrote_left task output free file first old new making r wrote;
         numbers = numbers;
-        names = names_free (one_command task output) r free numbers;
+        names = names_free (one_command task output) free numbers;
         streams = streams;
         counts = fell;
       }

@@ -32,19 +32,19 @@ first_at [] = refl
 first_at (name ∷ inputs) = refl
 
 -- the fault is about this input, whatever other inputs there are
-source_name : (inputs : List (List ℕ)) (source : List ℕ) → first_input inputs ≡ source
+source_name : (inputs : List (List ℕ)) {source : List ℕ} → first_input inputs ≡ source
     → (fault : EditFault) → HasPassNumbers fault
     → input_of (source ∷ []) fault ≡ input_of inputs fault
-source_name inputs source first (Input place f) is = rw is.0 (sym first ∙ first_at inputs)
-source_name inputs source first _ is = refl
+source_name inputs first (Input place f) is = rw is.0 (sym first ∙ first_at inputs)
+source_name inputs first _ is = refl
 
 -- a fault of the pass over this input is one of all inputs
-pub among_all : (made : List ℕ → List ℕ) (inputs : List (List ℕ)) (source : List ℕ)
+pub among_all : (made : List ℕ → List ℕ) (inputs : List (List ℕ)) {source : List ℕ}
     → first_input inputs ≡ source → (output : List ℕ) (old new : Seen) (fault : EditFault)
     → HasPassNumbers fault → IsPassFault made (source ∷ []) output old new fault
     → IsPassFault made inputs output old new fault
-among_all made inputs source first output old new fault numbers h =
-    let named = source_name inputs source first fault numbers in
+among_all made inputs {source} first output old new fault numbers h =
+    let named = source_name inputs first fault numbers in
     each_why (why_of fault) h (record {
       rejected = λ w. w;
       missing = λ w. w;

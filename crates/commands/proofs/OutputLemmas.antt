@@ -12,16 +12,16 @@ use Rattle.outside.specs.{Seen.seen_folder, declared.pass.PassFault.PassFault}
 use Rattle.outside.specs.declared.pass.PassFault.TheVariants.{Read, Shrunk, Write}
 
 -- if the output wasn't created, it is left short
-pub not_begun : (made : List ℕ → List ℕ) (input output : List ℕ) (old new : Files)
+pub not_begun : (made : List ℕ → List ℕ) (input output : List ℕ) (old : Files) {new : Files}
     → FailsToCreate output old new → IsLeftShort made input output old new
-not_begun made input output (Told f) new failed file holds = inl (fails_told f new output failed)
-not_begun made input output (Untold touched) new failed file holds = absurd holds
+not_begun made input output (Told f) {new} failed file holds = inl (fails_told output failed)
+not_begun made input output (Untold touched) failed file holds = absurd holds
 
 -- the output was created, and then written
 module _ (made : List ℕ → List ℕ) (input output : List ℕ) (apart : input ≢ output)
     (old mid new : Files) (created : mid ≡ with_empty_file old output) where
   held_mid : (file : List ℕ) → Holds old input file → Holds mid input file
-  held_mid file holds = rw created (emptied_holds_other old output input file apart holds)
+  held_mid file holds = rw created (emptied_holds_other old file apart holds)
 
   files_holding-new : (bytes : List ℕ) → new ≡ with_appended_bytes mid output bytes
       → new ≡ files_holding old output bytes
@@ -71,21 +71,21 @@ module _ (made : List ℕ → List ℕ) (input output : List ℕ) (apart : input
 
   -- an input could not be read again, or the output could not be written
   pub pass_fault : (inputs : List (List ℕ)) → first_input inputs ≡ input
-      → (place : ℕ) (fault : PassFault) (size : ℕ) (before between after : Counts)
+      → (place : ℕ) (fault : PassFault) (size : ℕ) {before between : Counts} (after : Counts)
       → between ≡ before → AppendsPrefix input output made mid new fault
       → HasPassCause (route (slice_index_or inputs place []) output size) mid between after fault
       → IsPassFault made inputs output (seen_folder old before) (seen_folder new after)
       (pass_edit_fault place 0 fault)
-  pass_fault inputs first place Read size before between after same part h = record {
+  pass_fault inputs first place Read size after same part h = record {
     rose = rw (← same) h.0;
     files = rw first (output_prefix part);
   }
-  pass_fault inputs first place (Shrunk from to) size before between after same part h = record {
+  pass_fault inputs first place (Shrunk from to) size after same part h = record {
     rose = rw (← same) h.3;
     counts = rw (← same) h.4;
     untold = sym (ap is_told created ∙ emptied_told old output) ∙ h.0;
   }
-  pass_fault inputs first place Write size before between after same part h = (
+  pass_fault inputs first place Write size after same part h = (
     refl,
     record {
       rose = rw (← same) h.0;

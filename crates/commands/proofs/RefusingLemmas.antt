@@ -24,9 +24,9 @@ then_all P r make first rest = grind arith
 
 -- no refusal comes before the one of a first input that could not be read
 pub before_first : {A : Type 0} (files : Files) (makes : Contents → Result A EditFault)
-    (fault : EditFault) → fault ≡ Input 0 Read
+    {fault : EditFault} → fault ≡ Input 0 Read
     → IfTold files (λ f. IfErr (makes f) (IsNotBefore fault))
-before_first files makes fault is = grind arith
+before_first files makes is = grind arith
 
 -- ---- memory was taken before
 
@@ -41,9 +41,9 @@ pub then_late : {A B : Type 0} (r : Result A EditFault) (make : A → Result B E
 then_late r make first rest = grind arith
 
 -- what is true of a result's error is true of this error
-pub of_err : {A : Type 0} (P : EditFault → Type 0) (r : Result A EditFault) (fault : EditFault)
+pub of_err : {A : Type 0} (P : EditFault → Type 0) {r : Result A EditFault} {fault : EditFault}
     → IfErr r P → r ≡ Err fault → P fault
-of_err P r fault is e = grind arith
+of_err P is e = grind arith
 
 -- what is true of the fault that a `?` returns is true of the error
 pub err_with : {T E : Type 0} (P : E → Type 0) (r : Result T E) {fault : E}
@@ -51,24 +51,24 @@ pub err_with : {T E : Type 0} (P : E → Type 0) (r : Result T E) {fault : E}
 err_with P r is holds = grind arith
 
 -- a result that isn't refused has no refusal
-pub refusal_or-ok : {A : Type 0} (o : Option Refusal) (a b : A) → refusal_or o a ≡ Ok b
+pub refusal_or-ok : {A : Type 0} {o : Option Refusal} {a b : A} → refusal_or o a ≡ Ok b
     → (o ≡ None) × (a ≡ b)
-refusal_or-ok o a b e = grind arith
+refusal_or-ok e = grind arith
 
 -- a result of two steps is one of each
-pub then_ok : {A B : Type 0} (r : Result A EditFault) (make : A → Result B EditFault) (b : B)
+pub then_ok : {A B : Type 0} {r : Result A EditFault} {make : A → Result B EditFault} {b : B}
     → then_made r make ≡ Ok b → (a : A) × (r ≡ Ok a) × (make a ≡ Ok b)
-then_ok r make b e = grind arith
+then_ok e = grind arith
 
 -- ---- the first refusal
 
 -- if neither of two refusals is there, each is absent
-pub none_first : (o later : Option Refusal) → or_else o later ≡ None → (o ≡ None) × (later ≡ None)
-none_first o later e = grind arith
+pub none_first : {o later : Option Refusal} → or_else o later ≡ None → (o ≡ None) × (later ≡ None)
+none_first e = grind arith
 
 -- if each of two refusals is absent, neither is there
-pub none_both : (o later : Option Refusal) → o ≡ None → later ≡ None → or_else o later ≡ None
-none_both o later e rest = ap (λ p. or_else p later) e ∙ rest
+pub none_both : {o later : Option Refusal} → o ≡ None → later ≡ None → or_else o later ≡ None
+none_both {later = later} e rest = ap (λ p. or_else p later) e ∙ rest
 
 module _ {A : Type 0} (refuse : A → Option Refusal) where
   -- an empty list has no first refusal
@@ -83,12 +83,12 @@ module _ {A : Type 0} (refuse : A → Option Refusal) where
   first-cons a list = refl
 
   -- from item i on the first refusal is its own or, if it has none, that of the items after it
-  pub first-from : (list : List A) (i : ℕ) (a : A) (here : Option Refusal) → i < length list
+  pub first-from : (list : List A) {i : ℕ} {a : A} {here : Option Refusal} → i < length list
       → a ≡ get_or list i a → refuse a ≡ here
       → first_refusal refuse (drop i list) ≡ or_else here (first_refusal refuse (drop (i + 1) list))
-  first-from list i a here lt is refused = search (arith, drop-cons, first-cons)
+  first-from list lt is refused = search (arith, drop-cons, first-cons)
 
   -- after the last item there is no refusal
-  pub first-behind : (list : List A) (i : ℕ) → length list ≤ i
+  pub first-behind : (list : List A) {i : ℕ} → length list ≤ i
       → first_refusal refuse (drop i list) ≡ None
-  first-behind list i end = ap (first_refusal refuse) (drop_all i list end) ∙ first-nil
+  first-behind list {i} end = ap (first_refusal refuse) (drop_all i list end) ∙ first-nil

@@ -53,8 +53,8 @@ module _ (sheet : List ℕ) (files mid last : Files) (before between after : Cou
   read-number fault cause = grind arith
 
   -- a fault of reading is one of the sheet, with its cause, and has the number of the sheet
-  pub read-stops : (fault : ReadFault) (edit : EditFault) → edit ≡ Input 1 (survey_fault_of fault)
+  pub read-stops : (fault : ReadFault) {edit : EditFault} → edit ≡ Input 1 (survey_fault_of fault)
       → HasReadCause sheet size mid between after fault
       → IsSheetFault sheet (seen_folder files before) (seen_folder last after) edit
       × HasSheetNumbers edit
-  read-stops fault edit is cause = rw is (read-fault fault cause, read-number fault cause)
+  read-stops fault is cause = rw is (read-fault fault cause, read-number fault cause)

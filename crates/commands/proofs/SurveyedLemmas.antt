@@ -28,25 +28,25 @@ pub record BeginsWithSurvey (command : Command) (input : List ℕ) : Type 0 wher
       → survey_of bytes most_frames ≡ Ok s → TakesMemory (command.makes f)
 
 module _ {command : Command} {input : List ℕ} (begins : BeginsWithSurvey command input) where
-  refused_there : (files : Files) (fault : SurveyFault) → IsFileThere files input
+  refused_there : (files : Files) {fault : SurveyFault} → IsFileThere files input
       → ((bytes : List ℕ) → Holds files input bytes → survey_of bytes most_frames ≡ Err fault)
       → HasAnswer command files (Err (Input 0 fault))
-  refused_there (Untold touched) fault there refused = tt
-  refused_there (Told f) fault there refused =
-      let held = there_holds f input there in
+  refused_there (Untold touched) there refused = tt
+  refused_there (Told f) {fault} there refused =
+      let held = there_holds f there in
       begins.refused f held.0 fault held.1 (refused held.0 held.1)
 
   refused_absent : (files : Files) → IsFileMissing files input
       → HasAnswer command files (Err (Input 0 Absent))
   refused_absent files missing = grind (arith, begins)
 
-  takes_by : (f : Contents) (bytes : List ℕ) (r : Result SurveyFields SurveyFault)
+  takes_by : (f : Contents) {bytes : List ℕ} (r : Result SurveyFields SurveyFault)
       → f input ≡ Some bytes → length bytes ≤ longest_file → survey_of bytes most_frames ≡ r
       → TakesMemory (command.makes f)
-  takes_by f bytes (Ok s) held few is = begins.takes f bytes s held is
-  takes_by f bytes (Err fault) held few is =
+  takes_by f {bytes} (Ok s) held few is = begins.takes f bytes s held is
+  takes_by f {bytes} (Err fault) held few is =
       rw (begins.refused f bytes fault held is) (of_bytes_behind fault
-      (survey_fields-of_bytes bytes most_frames fault
+      (survey_fields-of_bytes bytes most_frames
       (sym (survey_of-short bytes most_frames few) ∙ is)))
 
   takes_there : (files : Files) → IsFileThere files input
@@ -54,8 +54,8 @@ module _ {command : Command} {input : List ℕ} (begins : BeginsWithSurvey comma
       → IfTold files (λ f. TakesMemory (command.makes f))
   takes_there (Untold touched) there few = tt
   takes_there (Told f) there few =
-      let held = there_holds f input there in
-      takes_by f held.0 (survey_of held.0 most_frames) held.1 (few held.0 held.1) refl
+      let held = there_holds f there in
+      takes_by f (survey_of held.0 most_frames) held.1 (few held.0 held.1) refl
 
   -- a fault of the input is one of the command, and leaves everything as it was
   pub survey_left : (old new : Seen) (fault : EditFault)
@@ -65,7 +65,7 @@ module _ {command : Command} {input : List ℕ} (begins : BeginsWithSurvey comma
       sym begins.first ∙ first_at command.inputs in
       each_why (why_of fault) h (record {
         rejected = λ r. record {
-          defined = rw r.1 (refused_there old.files r.0 r.2.there r.2.bytes);
+          defined = rw r.1 (refused_there old.files r.2.there r.2.bytes);
           stays = r.2.stays;
         };
         missing = λ m. record {
@@ -75,7 +75,7 @@ module _ {command : Command} {input : List ℕ} (begins : BeginsWithSurvey comma
         };
         unread = λ u. record {
           names = begins.names;
-          before = before_first old.files command.makes fault u.is;
+          before = before_first old.files command.makes u.is;
           rose = unread_name command.inputs 0 named u;
           files = inl u.files;
         };

@@ -9,10 +9,10 @@ use Rattle.outside.specs.{BufferOutput.SentPrefix, Counts.Rose}
 use Rattle.outside.specs.{Files.{Contents, Files, sent_and_more, Told, Untold}, Seen.{Heard, Seen}}
 
 -- what is made with a text is made without it too
-pub text-parts : (text : List ℕ) (r : Result Made EditFault) (made : Made)
+pub text-parts : (text : List ℕ) (r : Result Made EditFault) {made : Made}
     → with_text text r ≡ Ok made → (m : Made) × (r ≡ Ok m)
-text-parts text (Ok m) made e = (m, refl)
-text-parts text (Err fault) made e = absurd cc
+text-parts text (Ok m) e = (m, refl)
+text-parts text (Err fault) e = absurd cc
 
 -- what is made with a text is like what is made
 like_text : (text : List ℕ) (r : Result Made EditFault) → AreLike r (with_text text r)
@@ -36,10 +36,10 @@ module _ (text : Contents → List ℕ) (command : Command) where
   makes_text (Told f) = like_text (text f) (command.makes f)
 
   -- the text of the command is made from files whose contents are known
-  pub telling_command-text : (files : Files) (all : List ℕ) → IsCommandText told files all
+  pub telling_command-text : {files : Files} {all : List ℕ} → IsCommandText told files all
       → (f : Contents) × (files ≡ Told f) × (all ≡ text f)
-  telling_command-text files all (inl always) = absurd cc
-  telling_command-text files all (inr t) = (t.0, t.2, sym t.4 ∙ at (command.makes t.0) t.3)
+  telling_command-text (inl always) = absurd cc
+  telling_command-text (inr t) = (t.0, t.2, sym t.4 ∙ at (command.makes t.0) t.3)
     where
       at : (r : Result Made EditFault) → with_text (text t.0) r ≡ Ok t.1 → t.1.text ≡ text t.0
       at (Ok m) e = let same : (record m { text = text t.0 }) ≡ t.1 = cc in

@@ -12,17 +12,17 @@ module _ (command : Command) where
   stays_touched : (old new : Files) → new ≡ old → OnlyTouches command.outputs old new
   stays_touched old new same = rw same (touches_none command.outputs old)
 
-  first_touched : (k : ℕ) (old new : Files) → OnlyTouches (take (k + 1) command.outputs) old new
+  first_touched : (k : ℕ) {old new : Files} → OnlyTouches (take (k + 1) command.outputs) old new
       → OnlyTouches command.outputs old new
-  first_touched k old new touches =
-      touches_more (take (k + 1) command.outputs) command.outputs old new
+  first_touched k {old} {new} touches =
+      touches_more
       (λ other apart. All-take (λ name. other ≢ name) (k + 1) command.outputs apart) touches
 
   module _ (old new : Seen) (fault : EditFault) where
     unread_touched : (new.files ≡ old.files) ⊎ ((k : ℕ) × IsWrittenTo command k old.files new.files)
         → OnlyTouches command.outputs old.files new.files
     unread_touched (inl same) = stays_touched old.files new.files same
-    unread_touched (inr wrote) = first_touched wrote.0 old.files new.files wrote.1.touches
+    unread_touched (inr wrote) = first_touched wrote.0 wrote.1.touches
 
     unwritten_touched : (k : ℕ) → IsOutputUnwritten command k old new
         → OnlyTouches command.outputs old.files new.files
@@ -31,7 +31,7 @@ module _ (command : Command) where
         at : IsOutputUnfinished command k old.files new.files
             ⊎ IsOutputUnasked command k old.files new.files
             → OnlyTouches command.outputs old.files new.files
-        at (inl part) = first_touched k old.files new.files part.touches
+        at (inl part) = first_touched k part.touches
         at (inr none) = stays_touched old.files new.files none.stays
 
     -- a command that fails touches only its outputs

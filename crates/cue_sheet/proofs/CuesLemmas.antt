@@ -37,12 +37,12 @@ last_of_both o [] ys = refl
 last_of_both o (x ∷ xs) ys = last_of_both (Some x) xs ys
 
 -- the state after lines and one line more, by what that line says
-pub seen_more : (before : List CueEntry) (e : CueEntry) (s t : SheetState) → IsSheetState before s
+pub seen_more : {before : List CueEntry} (e : CueEntry) {s t : SheetState} → IsSheetState before s
     → t.lines
     ≡ s.lines + 1 → t.file ≡ (is_file e || s.file) → t.tracks ≡ s.tracks + cond (is_track e) 1 0
     → t.started ≡ cond (is_track e || is_start e) (is_start e) s.started
     → t.last ≡ last_or s.last (times_of (e ∷ [])) → IsSheetState (before ++ (e ∷ [])) t
-seen_more before e s t is lines file tracks started last = record {
+seen_more {before} e is lines file tracks started last = record {
   lines = lines ∙ ap (λ n. n + 1) is.lines ∙ sym (length-append before (e ∷ []));
   file = file ∙ ap (λ b. is_file e || b) is.file ∙ or_swapped (is_file e) (list_any is_file before)
       ∙ ap (λ b. list_any is_file before || b) (sym (or_false (is_file e)))
@@ -60,14 +60,14 @@ seen_more before e s t is lines file tracks started last = record {
 }
 
 -- the state after lines and one line more, where that line is given
-pub seen_with : (before : List CueEntry) (entry e : CueEntry) (s t : SheetState) → entry ≡ e
+pub seen_with : {before : List CueEntry} {entry e : CueEntry} {s t : SheetState} → entry ≡ e
     → IsSheetState before s → t.lines ≡ s.lines + 1 → t.file ≡ (is_file e || s.file)
     → t.tracks ≡ s.tracks + cond (is_track e) 1 0
     → t.started ≡ cond (is_track e || is_start e) (is_start e) s.started
     → t.last ≡ last_or s.last (times_of (e ∷ [])) → IsSheetState (before ++ (entry ∷ [])) t
-seen_with before entry e s t same is lines file tracks started last =
+seen_with {before} {e = e} {s = s} {t = t} same is lines file tracks started last =
     subst (λ x. IsSheetState (before ++ (x ∷ [])) t) (sym same)
-    (seen_more before e s t is lines file tracks started last)
+    (seen_more e is lines file tracks started last)
 
 -- adding nothing to a number gives the same number
 pub no_more : (n : ℕ) → n ≡ n + 0
@@ -93,26 +93,26 @@ unfolding first_cue_fault
 first_of before more e = refl
 
 -- if the next line has a fault, it is the fault of the sheet
-pub refused : (text : List ℕ) (at : ℕ) (now : SheetState) (places : List Place) (e : CueEntry)
-    (more : List CueEntry) (fault : CueFault) → HaveRead text at now places
+pub refused : {text : List ℕ} {at : ℕ} {now : SheetState} {places : List Place} {e : CueEntry}
+    {more : List CueEntry} {fault : CueFault} → HaveRead text at now places
     → cue_entries_from text at
     ≡ e ∷ more
     → ((before : List CueEntry) → IsSheetState before now → Some fault ≡ cue_fault_of before e)
     → cue_in (cue_entries_from text 0) ≡ Err fault
-refused text at now places e more fault read line found =
+refused {text} {e = e} {more = more} read line found =
     ap (λ o. fault_or_cue o (some_starts (places_of (cue_entries_from text 0))))
     (read.first ∙ ap (first_cue_fault read.before) line ∙ first_of read.before more e ∙ ap (λ o.
     option_or o (first_cue_fault (read.before ++ (e ∷ [])) more))
     (sym (found read.before read.seen)))
 
 -- if the next line has no fault, it is read too, and if it is a start, there is one start more
-pub goes_on : (text : List ℕ) (at next : ℕ) (now then : SheetState) (places : List Place)
-    (e : CueEntry) → HaveRead text at now places
+pub goes_on : {text : List ℕ} {at next : ℕ} {now then : SheetState} {places : List Place}
+    {e : CueEntry} → HaveRead text at now places
     → cue_entries_from text at ≡ e ∷ cue_entries_from text next
     → ((before : List CueEntry) → IsSheetState before now → None ≡ cue_fault_of before e)
     → ((before : List CueEntry) → IsSheetState before now → IsSheetState (before ++ (e ∷ [])) then)
     → HaveRead text next then (places ++ places_of (e ∷ []))
-goes_on text at next now then places e read line found behind = record {
+goes_on {text} {next = next} {e = e} read line found behind = record {
   before = read.before ++ (e ∷ []);
   lines = read.lines ∙ ap (λ es. read.before ++ es) line
       ∙ sym (append_assoc read.before (e ∷ []) (cue_entries_from text next));
@@ -137,10 +137,10 @@ unfolding first_cue_fault
 no_fault before = refl
 
 -- after the last line, the starts that were read are the starts of the sheet
-pub ends : (text : List ℕ) (at : ℕ) (now : SheetState) (places : List Place)
+pub ends : {text : List ℕ} {at : ℕ} {now : SheetState} {places : List Place}
     → HaveRead text at now places → length text < at
     → cue_in (cue_entries_from text 0) ≡ some_starts places
-ends text at now places read end =
+ends {text} {at} read end =
     let none = none_left text at end in
     ap (λ o. fault_or_cue o (some_starts (places_of (cue_entries_from text 0))))
     (read.first ∙ ap (first_cue_fault read.before) none ∙ no_fault read.before)
@@ -159,9 +159,9 @@ none_are [] none = refl
 none_are (place ∷ more) none = absurd (omega (arith, none))
 
 -- the starts so far rise and are positions
-pub are_starts : (text : List ℕ) (at : ℕ) (now : SheetState) (places : List Place)
+pub are_starts : {text : List ℕ} {at : ℕ} {now : SheetState} {places : List Place}
     → HaveRead text at now places → AreStarts places
-are_starts text at now places read = record {
+are_starts read = record {
   times = times_of read.before;
   all = read.starts;
   rising = read.rising;

@@ -49,8 +49,8 @@ line_is text line at within is =
     (others_are text at n within most ∙ ap (λ m. lines_from text (at + m + 1)) (sym size))
 
 -- what the lines say is what the first line says, followed by what the others say
-pub first_said : {X : Type 0} (said : List ℕ → X) (text : List ℕ) (at next : ℕ) (line : List ℕ)
-    (entry : X) → lines_from text at ≡ line ∷ lines_from text next → entry ≡ said line
+pub first_said : {X : Type 0} (said : List ℕ → X) (text : List ℕ) (at next : ℕ) {line : List ℕ}
+    {entry : X} → lines_from text at ≡ line ∷ lines_from text next → entry ≡ said line
     → map said (lines_from text at) ≡ entry ∷ map said (lines_from text next)
-first_said said text at next line entry lines is =
+first_said said text at next lines is =
     ap (map said) lines ∙ ap (λ e. e ∷ map said (lines_from text next)) (sym is)

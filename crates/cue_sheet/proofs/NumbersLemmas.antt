@@ -29,11 +29,11 @@ no_last false b c x = refl
 
 -- digits that are as many as allowed and spell a number that isn't too great are read as this
 -- number
-pub number_of_digits : (least most greatest : ℕ) (digits : List ℕ) → least ≤ length digits
+pub number_of_digits : {least most greatest : ℕ} (digits : List ℕ) → least ≤ length digits
     → length digits ≤ most → AllDigits 10 digits → digits_value 10 digits ≤ greatest
     → number_in least most greatest digits ≡ Some (digits_value 10 digits)
 unfolding number_in
-number_of_digits least most greatest digits enough few all small =
+number_of_digits {least} {most} {greatest} digits enough few all small =
     let low : leb least (length digits) ≡ true = le-leb _ _ enough in
     let high : leb (length digits) most ≡ true = le-leb _ _ few in
     let each : all_ascii_digits digits ≡ true = digits_model.from digits all in
@@ -41,27 +41,27 @@ number_of_digits least most greatest digits enough few all small =
     rw (low, high, each, top) refl
 
 -- fewer digits than allowed are no number
-pub number_of_few : (least most greatest : ℕ) (digits : List ℕ) → length digits < least
+pub number_of_few : {least : ℕ} (most greatest : ℕ) (digits : List ℕ) → length digits < least
     → number_in least most greatest digits ≡ None
 unfolding number_in
-number_of_few least most greatest digits few =
+number_of_few {least} most greatest digits few =
     let low : leb least (length digits) ≡ false = lt-leb _ _ few in
     rw low refl
 
 -- more digits than allowed are no number
-pub number_of_many : (least most greatest : ℕ) (digits : List ℕ) → most < length digits
+pub number_of_many : (least : ℕ) {most : ℕ} (greatest : ℕ) (digits : List ℕ) → most < length digits
     → number_in least most greatest digits ≡ None
 unfolding number_in
-number_of_many least most greatest digits many =
+number_of_many least {most} greatest digits many =
     let high : leb (length digits) most ≡ false = lt-leb _ _ many in
     rw high (no_second (leb least (length digits)) (all_ascii_digits digits)
     (leb (digits_value 10 digits) greatest) (Some (digits_value 10 digits)))
 
 -- bytes that aren't all digits are no number
-pub number_of_others : (least most greatest : ℕ) (digits : List ℕ) (i : ℕ) → i < length digits
+pub number_of_others : (least most greatest : ℕ) (digits : List ℕ) {i : ℕ} → i < length digits
     → (IsInRange 48 57 (get_or digits i 0) → ⊥) → number_in least most greatest digits ≡ None
 unfolding number_in
-number_of_others least most greatest digits i lt other =
+number_of_others least most greatest digits {i} lt other =
     elim (all_ascii_digits digits) as (λ b. all_ascii_digits digits ≡ b
     → number_in least most greatest digits ≡ None) [
       | true ↦ λ each. absurd (other (digit_at digits i (digits_model.to digits each) lt))
@@ -70,16 +70,16 @@ number_of_others least most greatest digits i lt other =
     ] refl
 
 -- digits of a number that is too great are no number
-pub number_of_great : (least most greatest : ℕ) (digits : List ℕ)
+pub number_of_great : (least most : ℕ) {greatest : ℕ} (digits : List ℕ)
     → greatest < digits_value 10 digits → number_in least most greatest digits ≡ None
 unfolding number_in
-number_of_great least most greatest digits great =
+number_of_great least most {greatest} digits great =
     let top : leb (digits_value 10 digits) greatest ≡ false = lt-leb _ _ great in
     rw top (no_last (leb least (length digits)) (leb (length digits) most) (all_ascii_digits digits)
     (Some (digits_value 10 digits)))
 
 -- at most nine digits spell a number below 10^9, so that one more digit can be read
-pub value_of_few : (digits : List ℕ) (i : ℕ) → i < length digits → length digits ≤ 10
+pub value_of_few : (digits : List ℕ) {i : ℕ} → i < length digits → length digits ≤ 10
     → AllDigits 10 (take i digits) → digits_value 10 (take i digits) < 1000000000
-value_of_few digits i lt few all = digits_value_short digits_model (take i digits) 9
+value_of_few digits {i} lt few all = digits_value_short digits_model (take i digits) 9
     (digits_model.from (take i digits) all) (omega (arith, length-take-le i digits (omega arith)))

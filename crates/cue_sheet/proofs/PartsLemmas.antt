@@ -14,13 +14,13 @@ pub one_more : (n : ℕ) → 1 + n ≡ suc n
 one_more n = omega arith
 
 -- a separator at the beginning ends the first part there
-pub at_first : (p : ℕ → Bool) (x : ℕ) (xs : List ℕ) → p x ≡ true → position_or_len p (x ∷ xs) ≡ 0
-at_first p x xs is = ap (λ b. cond (not b) (1 + position_or_len p xs) 0) is
+pub at_first : (p : ℕ → Bool) {x : ℕ} (xs : List ℕ) → p x ≡ true → position_or_len p (x ∷ xs) ≡ 0
+at_first p xs is = ap (λ b. cond (not b) (1 + position_or_len p xs) 0) is
 
 -- any other byte is one more of the first part
-pub past_other : (p : ℕ → Bool) (x : ℕ) (xs : List ℕ) → p x ≡ false
+pub past_other : (p : ℕ → Bool) {x : ℕ} (xs : List ℕ) → p x ≡ false
     → position_or_len p (x ∷ xs) ≡ suc (position_or_len p xs)
-past_other p x xs is =
+past_other p xs is =
     ap (λ b. cond (not b) (1 + position_or_len p xs) 0) is ∙ one_more (position_or_len p xs)
 
 -- the first part and the other parts, if the first ends at n
@@ -34,7 +34,7 @@ parts_are p (x ∷ xs) =
     elim (p x) as (λ b. p x ≡ b
     → slice_split p (x ∷ xs) ≡ parts_at p (position_or_len p (x ∷ xs)) (x ∷ xs)) [
       | true ↦ λ is. slice_split-cons_yes p x xs is
-          ∙ ap (λ n. parts_at p n (x ∷ xs)) (sym (at_first p x xs is))
+          ∙ ap (λ n. parts_at p n (x ∷ xs)) (sym (at_first p xs is))
       | false ↦ λ is. slice_split-cons_no p x xs is ∙ ap (onto_first x) (parts_are p xs)
-          ∙ ap (λ n. parts_at p n (x ∷ xs)) (sym (past_other p x xs is))
+          ∙ ap (λ n. parts_at p n (x ∷ xs)) (sym (past_other p xs is))
     ] refl

@@ -16,18 +16,18 @@ last_is x d [] = refl
 last_is x d (y ∷ ys) = last_is y d ys
 
 -- no time is later than the last
-none_above : (x : ℕ) (xs : List ℕ) → IsRising (x ∷ xs) → (k d : ℕ) → k < length (x ∷ xs)
+none_above : {x : ℕ} (xs : List ℕ) → IsRising (x ∷ xs) → {k : ℕ} (d : ℕ) → k < length (x ∷ xs)
     → get_or (x ∷ xs) k d ≤ get_or (x ∷ xs) (length xs) d
-none_above x xs rising k d within =
+none_above {x} xs rising {k} d within =
     elim (cases_lt k (length xs)) [
       | inl less ↦ omega (arith, rising k (length xs) d less (omega arith))
       | inr end ↦ let same : k ≡ length xs = omega (arith, end, within) in
           omega (arith, ap (λ i. get_or (x ∷ xs) i d) same)
     ]
 
-is_above : (x time : ℕ) (xs : List ℕ) → is_later_start (last_or (Some x) xs) time ≡ true → (d : ℕ)
-    → get_or (x ∷ xs) (length xs) d < time
-is_above x time xs behind d =
+is_above : (x : ℕ) {time : ℕ} (xs : List ℕ) → is_later_start (last_or (Some x) xs) time ≡ true
+    → (d : ℕ) → get_or (x ∷ xs) (length xs) d < time
+is_above x {time} xs behind d =
     leb-true _ _ (ap (λ o. is_later_start o time) (sym (last_is x d xs)) ∙ behind)
 
 -- rising times and one that is later than the last of them rise
@@ -36,7 +36,7 @@ pub more_rising : (times : List ℕ) (time : ℕ) → IsRising times
 more_rising [] time rising behind =
     all_pairs_push (λ s t. s < t) [] time rising (λ k d within. absurd (omega (arith, within)))
 more_rising (x ∷ xs) time rising behind = all_pairs_push (λ s t. s < t) (x ∷ xs) time rising
-    (λ k d within. omega (arith, none_above x xs rising k d within, is_above x time xs behind d))
+    (λ k d within. omega (arith, none_above xs rising d within, is_above x xs behind d))
 
 no_fault : (a b : Bool) (line : ℕ)
     → None ≡ cond {A = Option CueFault} a (Some (Line line)) (cond b None (Some (NotRising line)))

@@ -24,16 +24,10 @@ behind s e = record {
   last = last_or s.last (times_of (e ∷ []));
 }
 
-seen_behind : (before : List CueEntry) (e : CueEntry) (s : SheetState) → IsSheetState before s
+seen_behind : {before : List CueEntry} (e : CueEntry) {s : SheetState} → IsSheetState before s
     → IsSheetState (before ++ (e ∷ [])) (behind s e)
 unfolding behind
-seen_behind before e s is = seen_more before e s (record {
-  lines = s.lines + 1;
-  file = is_file e || s.file;
-  tracks = s.tracks + cond (is_track e) 1 0;
-  started = cond (is_track e || is_start e) (is_start e) s.started;
-  last = last_or s.last (times_of (e ∷ []));
-}) is refl refl refl refl refl
+seen_behind {before} e {s} is = seen_more e is refl refl refl refl refl
 
 -- there are at most 99 tracks and at most as many starts, and fewer starts than tracks while the
 -- last track has none
@@ -54,38 +48,38 @@ unless_fault : (b : Bool) (fault : CueFault) (later : Option CueFault)
 unless_fault true fault later e = absurd cc
 unless_fault false fault later e = refl
 
-has_one : (n : ℕ) → not (nat_le 1 n) ≡ false → 0 < n
-has_one n e = at (nat_le 1 n) refl e
+has_one : {n : ℕ} → not (nat_le 1 n) ≡ false → 0 < n
+has_one {n} e = at (nat_le 1 n) refl e
   where
     at : (b : Bool) → nat_le 1 n ≡ b → not b ≡ false → 0 < n
     at true is e = omega (arith, leb-true 1 n is)
     at false is e = absurd cc
 
 -- the same with one line more that has no fault
-few_more : (before : List CueEntry) (e : CueEntry) (s : SheetState) → IsSheetState before s
+few_more : {before : List CueEntry} (e : CueEntry) {s : SheetState} → IsSheetState before s
     → IsFew (length (times_of before)) s → cue_fault_of before e ≡ None
     → IsFew (length (times_of before) + length (times_of (e ∷ []))) (behind s e)
 unfolding behind cue_fault_of
-few_more before Passed s is few none = record {
+few_more Passed is few none = record {
   most = omega (arith, few.most);
   few = omega (arith, few.few);
   open_track =
       λ e some. omega (arith, few.open_track e (omega (arith, some)));
 }
-few_more before File s is few none = record {
+few_more File is few none = record {
   most = omega (arith, few.most);
   few = omega (arith, few.few);
   open_track =
       λ e some. omega (arith, few.open_track e (omega (arith, some)));
 }
-few_more before Index s is few none = record {
+few_more Index is few none = record {
   most = omega (arith, few.most);
   few = omega (arith, few.few);
   open_track =
       λ e some. omega (arith, few.open_track e (omega (arith, some)));
 }
-few_more before Broken s is few none = absurd cc
-few_more before Track s is few none =
+few_more Broken is few none = absurd cc
+few_more {before} Track is few none =
     let less = leb-false 99 (count_by is_track before)
     (if_fault (nat_le 99 (count_by is_track before)) (length before + 1) none) in
     record {
@@ -94,10 +88,10 @@ few_more before Track s is few none =
       open_track =
           λ e some. omega (arith, few.few);
     }
-few_more before (Start time) s is few none =
+few_more {before} (Start time) is few none =
     let parts = or_parts (not (has_track before)) (is_started before)
     (unless_fault (not (has_track before) || is_started before) _ _ none) in
-    let some = has_one (count_by is_track before) parts.0 in
+    let some = has_one parts.0 in
     let less = few.open_track (is.started ∙ parts.1) (omega (arith, some, is.tracks)) in
     record {
       most = omega (arith, few.most);
@@ -105,42 +99,43 @@ few_more before (Start time) s is few none =
       open_track = λ e there. absurd cc;
     }
 
-or_none : (o later : Option CueFault) → option_or o later ≡ None → (o ≡ None) × (later ≡ None)
-or_none (Some fault) later e = absurd cc
-or_none None later e = (refl, e)
+or_none : (o : Option CueFault) {later : Option CueFault} → option_or o later ≡ None
+    → (o ≡ None) × (later ≡ None)
+or_none (Some fault) e = absurd cc
+or_none None e = (refl, e)
 
-few_starts : (before more : List CueEntry) (s : SheetState) → IsSheetState before s
+few_starts : (before more : List CueEntry) {s : SheetState} → IsSheetState before s
     → IsFew (length (times_of before)) s → first_cue_fault before more ≡ None
     → length (times_of (before ++ more)) ≤ 99
-few_starts before [] s is few none =
+few_starts before [] is few none =
     omega (arith, few.most, few.few, ap (λ es. length (times_of es)) (append-nil before))
-few_starts before (e ∷ more) s is few none =
-    let parts = or_none (cue_fault_of before e) (first_cue_fault (before ++ (e ∷ [])) more)
+few_starts before (e ∷ more) {s} is few none =
+    let parts = or_none (cue_fault_of before e)
     (sym (first_of before more e) ∙ none) in
     let size : length (times_of before) + length (times_of (e ∷ []))
     ≡ length (times_of (before ++ (e ∷ []))) =
     sym (ap length (filter_map-append start_time before (e ∷ []))
     ∙ length-append (times_of before) (times_of (e ∷ []))) in
-    let rest = few_starts (before ++ (e ∷ [])) more (behind s e) (seen_behind before e s is)
-    (subst (λ n. IsFew n (behind s e)) size (few_more before e s is few parts.0)) parts.1 in
+    let rest = few_starts (before ++ (e ∷ [])) more (seen_behind e is)
+    (subst (λ n. IsFew n (behind s e)) size (few_more e is few parts.0)) parts.1 in
     subst (λ es. length (times_of es) ≤ 99) (append_assoc before (e ∷ []) more) rest
 
-starts_parts : (o : Option CueFault) (places starts : List Place)
+starts_parts : (o : Option CueFault) (places : List Place) {starts : List Place}
     → fault_or_cue o (some_starts places) ≡ Ok starts
     → (o ≡ None) × (places ≡ starts) × (1 ≤ length starts)
-starts_parts (Some fault) places starts e = absurd cc
-starts_parts None [] starts e = absurd cc
-starts_parts None (place ∷ more) starts e =
+starts_parts (Some fault) places e = absurd cc
+starts_parts None [] e = absurd cc
+starts_parts None (place ∷ more) {starts} e =
     let same : place ∷ more ≡ starts = cc in
     (refl, same, omega (arith, ap length same))
 
 -- there are 1 to 99 starts if no line is at fault
-pub starts-few : (entries : List CueEntry) (starts : List Place) → cue_in entries ≡ Ok starts
+pub starts-few : (entries : List CueEntry) {starts : List Place} → cue_in entries ≡ Ok starts
     → (1 ≤ length starts) × (length starts ≤ 99)
-starts-few entries starts e =
-    let parts = starts_parts (first_cue_fault [] entries) (places_of entries) starts e in
+starts-few entries {starts} e =
+    let parts = starts_parts (first_cue_fault [] entries) (places_of entries) e in
     let seen : IsSheetState []
     (record { lines = 0; file = false; tracks = 0; started = false; last = None }) =
     record { lines = refl; file = refl; tracks = refl; started = refl; last = refl } in
-    let few = few_starts [] entries _ seen at_front parts.0 in
+    let few = few_starts [] entries seen at_front parts.0 in
     (parts.2, omega (arith, few, length-map (times_of entries) place_at, ap length parts.1))

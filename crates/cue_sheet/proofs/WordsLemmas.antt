@@ -26,9 +26,9 @@ others_are [] = refl
 others_are (x ∷ xs) =
     elim (is_blank x) as (λ b. is_blank x ≡ b
     → others_at (position_or_len is_blank (x ∷ xs)) (x ∷ xs)) [
-      | true ↦ λ is. subst (λ n. others_at n (x ∷ xs)) (sym (at_first is_blank x xs is))
+      | true ↦ λ is. subst (λ n. others_at n (x ∷ xs)) (sym (at_first is_blank {x = x} xs is))
           (ap (filter is_some_word) (sym (slice_split-cons_yes is_blank x xs is)))
-      | false ↦ λ is. subst (λ n. others_at n (x ∷ xs)) (sym (past_other is_blank x xs is))
+      | false ↦ λ is. subst (λ n. others_at n (x ∷ xs)) (sym (past_other is_blank {x = x} xs is))
           (others_are xs)
     ] refl
 
@@ -63,7 +63,7 @@ some_word (x ∷ xs) some none =
     elim (is_blank x) as (λ b. is_blank x ≡ b
     → is_some_word (take (position_or_len is_blank (x ∷ xs)) (x ∷ xs)) ≡ true) [
       | true ↦ λ is. absurd (omega (arith, past_blank x xs is, none))
-      | false ↦ λ is. ap (λ n. is_some_word (take n (x ∷ xs))) (past_other is_blank x xs is)
+      | false ↦ λ is. ap (λ n. is_some_word (take n (x ∷ xs))) (past_other is_blank {x = x} xs is)
           ∙ ap not (ne_eqb _ 0 (λ none. omega (arith, none)))
     ] refl
 
@@ -78,10 +78,10 @@ here t some none =
     ∙ ap (λ words. take (position_or_len is_blank t) t ∷ words) (others_are t)
 
 -- the words of a line are the first word and the words after it
-pub next_word_is : (line t : List ℕ) → t ≡ drop (prefix_len is_blank line) line → 0 < length t
-    → words_of line
+pub next_word_is : (line : List ℕ) {t : List ℕ} → t ≡ drop (prefix_len is_blank line) line
+    → 0 < length t → words_of line
     ≡ take (position_or_len is_blank t) t ∷ words_of (drop (position_or_len is_blank t) t)
-next_word_is line t is some = sym (behind_blanks line) ∙ ap words_of (sym is)
+next_word_is line {t} is some = sym (behind_blanks line) ∙ ap words_of (sym is)
     ∙ here t some (ap (prefix_len is_blank) is ∙ no_more_blanks line)
 
 no_words : (t : List ℕ) → length t ≡ 0 → words_of t ≡ []
@@ -90,6 +90,6 @@ no_words [] none = refl
 no_words (x ∷ xs) none = absurd (omega (arith, none))
 
 -- a line of blanks has no words
-pub no_next_word : (line t : List ℕ) → t ≡ drop (prefix_len is_blank line) line → length t ≡ 0
-    → words_of line ≡ []
-no_next_word line t is none = sym (behind_blanks line) ∙ ap words_of (sym is) ∙ no_words t none
+pub no_next_word : (line : List ℕ) {t : List ℕ} → t ≡ drop (prefix_len is_blank line) line
+    → length t ≡ 0 → words_of line ≡ []
+no_next_word line {t} is none = sym (behind_blanks line) ∙ ap words_of (sym is) ∙ no_words t none

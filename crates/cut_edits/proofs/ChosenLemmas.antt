@@ -17,8 +17,8 @@ use Rattle.cut_edits.specs.Chosen.{all_choice, AreUsualChoices, Choosing, Chosen
 use Rattle.cut_edits.specs.Chosen.{chosen_needs, chosen_range, chosen_rows, chosen_stream}
 use Rattle.cut_edits.specs.Chosen.{cut_choice, first_plan, first_planning, laid_stream_or_none}
 use Rattle.cut_edits.specs.Chosen.{laying_making, laying_part, laying_stream, laying_task}
-use Rattle.cut_edits.specs.Chosen.{outside_fault, own_slots_part, placed_part, planned_part}
-use Rattle.cut_edits.specs.Chosen.{Planning, slot_choices, surveyed_laid_stream}
+use Rattle.cut_edits.specs.Chosen.{own_slots_part, placed_part, planned_part, Planning}
+use Rattle.cut_edits.specs.Chosen.{slot_choices, surveyed_laid_stream}
 use Rattle.cut_edits.specs.declared.choice.FrameChoice.{FrameChoice}
 use Rattle.frame_header.specs.{Fields.{ClassFields, HeaderFields, SlotFields}, Tables.window_of}
 use Rattle.info_header.specs.Info.{field_place, flags_in, info_in}
@@ -46,17 +46,17 @@ pub record IsRight (chosen : Chosen) (s : SurveyFields) : Type 0 where
   pub extension : length chosen.extension ≡ 36
 
 -- the usual choices are among the 28 slots
-pub usual_slots : (choices : HeaderFields → List SlotFields) → AreUsualChoices choices
+pub usual_slots : {choices : HeaderFields → List SlotFields} → AreUsualChoices choices
     → AreSlots choices
-usual_slots choices (inl own) h slot is has = grind (arith, only_one)
-usual_slots choices (inr any) h slot is has =
-    slot_among slot (subst (λ (f : HeaderFields → List SlotFields). Contains (f h) slot) any has)
+usual_slots (inl own) h slot is has = grind (arith, only_one)
+usual_slots (inr any) h slot is has =
+    slot_among (subst (λ (f : HeaderFields → List SlotFields). Contains (f h) slot) any has)
 
-usual_order : (choices : HeaderFields → List SlotFields) → AreUsualChoices choices
-    → (c : ClassFields)
-    (asked : PlanInput) → IsFitPlanInput c asked
+usual_order : {choices : HeaderFields → List SlotFields} → AreUsualChoices choices
+    → {c : ClassFields}
+    {asked : PlanInput} → IsFitPlanInput c asked
     → PartsChooseInOrder choices (needs_in_parts asked.needs asked.places)
-usual_order choices h c asked fit = grind arith
+usual_order h fit = grind arith
 
 -- both policies are usual choices
 pub by_usual : (least : Bool) → AreUsualChoices (slot_choices least)
@@ -79,14 +79,14 @@ module _ (chosen : Chosen) (s : SurveyFields) (placed : IsPlacedSurvey s)
 
   -- the chosen frames can be planned
   pub rows-fit : IsFitPlanInput s.class asked
-  rows-fit = one-part-fits s chosen.from chosen.to placed some within
+  rows-fit = one-part-fits s placed some within
 
   module _ (choices : HeaderFields → List SlotFields) (usual : AreUsualChoices choices) where
     one_plan : (ps : List Placed)
         → IsPlan (window_of s.class.version) choices (map need_of part_rows ∷ []) ps
         ↔ (ps ≡ first_plan choices s.class (chosen_needs chosen s))
-    one_plan ps = parts-plan s.class choices (part_rows ∷ []) ps rows-fit
-        (usual_order choices usual s.class asked rows-fit)
+    one_plan ps = parts-plan (part_rows ∷ []) ps rows-fit
+        (usual_order usual rows-fit)
 
     -- the plan is the first of all lists with a layout
     pub the-plan : IsPlan (window_of s.class.version) choices (map need_of part_rows ∷ [])
@@ -94,10 +94,10 @@ module _ (chosen : Chosen) (s : SurveyFields) (placed : IsPlacedSurvey s)
     the-plan = (one_plan (first_plan choices s.class (chosen_needs chosen s))).1 refl
 
     -- what the planner returns for these frames alone is their plan
-    pub plan_is : (ps : List Placed)
+    pub plan_is : {ps : List Placed}
         → IsPlan (window_in asked.needs) choices (needs_in_parts asked.needs asked.places) ps
         → ps ≡ first_plan choices s.class (chosen_needs chosen s)
-    plan_is ps answer =
+    plan_is {ps} answer =
         (one_plan ps).0 (asked-plans s.class choices (part_rows ∷ []) ps rows-fit answer)
 
     -- the frames can be laid by the plan
@@ -106,8 +106,7 @@ module _ (chosen : Chosen) (s : SurveyFields) (placed : IsPlacedSurvey s)
     plan-fitting =
         subst (λ (needs : List Need). IsFittingPlan (window_of s.class.version) needs
         (first_plan choices s.class (chosen_needs chosen s))) (append-nil (chosen_needs chosen s))
-        (parts-fitting (window_of s.class.version) choices (usual_slots choices usual)
-        (chosen_needs chosen s ∷ []) (first_plan choices s.class (chosen_needs chosen s))
+        (parts-fitting (window_of s.class.version) choices (usual_slots usual)
         (headers-known part_rows (part-known s chosen.from chosen.to placed), tt) the-plan)
 
     -- the plan has at most one lead-in
@@ -135,9 +134,9 @@ pub record IsPlanning (plan : Planning) : Type 0 where
       ≡ Ok placed → IsFittingPlan (window_of s.class.version) (chosen_needs chosen s) placed
 
 -- the first list of slots with a layout is such a planning
-pub first_is_planning : (choices : HeaderFields → List SlotFields) → AreUsualChoices choices
+pub first_is_planning : {choices : HeaderFields → List SlotFields} → AreUsualChoices choices
     → IsPlanning (first_planning choices)
-first_is_planning choices usual = record {
+first_is_planning {choices} usual = record {
   late = λ class needs. tt;
   fitting = λ chosen s well some within placed planned.
       let same : first_plan choices s.class (chosen_needs chosen s) ≡ placed = cc in
@@ -162,15 +161,14 @@ module _ (choose : Choosing) (plan : Planning) where
     pub is : file_laid (placed_part chosen placed) file s ≡ made
 
   -- if a file was made, there are a choice, its plan, and the file made by that plan
-  pub laid-parts : (file : List ℕ) (s : SurveyFields) (made : List ℕ)
+  pub laid-parts : {file : List ℕ} {s : SurveyFields} {made : List ℕ}
       → laying_making choose plan file s ≡ Ok made → IsLaidBy file s made
   unfolding laying_part
-  laid-parts file s made e =
+  laid-parts {file} {s} {made} e =
       let whole =
-      then_ok (laying_part choose plan file s) (λ laid. Ok (file_laid laid file s)) made e in
-      let chose = then_ok (choose file s) (planned_part plan s) whole.0 whole.1 in
-      let planned = then_ok (plan s.class (chosen_needs chose.0 s))
-      (λ placed. Ok (placed_part chose.0 placed)) whole.0 chose.2 in
+      then_ok e in
+      let chose = then_ok whole.1 in
+      let planned = then_ok chose.2 in
       let same : placed_part chose.0 planned.0 ≡ whole.0 = cc in
       let bytes : file_laid whole.0 file s ≡ made = cc in
       record {
@@ -183,27 +181,27 @@ module _ (choose : Choosing) (plan : Planning) where
       }
 
   -- what is laid are the chosen frames in the slots of their plan
-  laid-is : (file : List ℕ) (s : SurveyFields) (chosen : Chosen)
-      (r : Result (List Placed) EditFault) → choose file s ≡ Ok chosen
+  laid-is : {file : List ℕ} {s : SurveyFields} {chosen : Chosen}
+      {r : Result (List Placed) EditFault} → choose file s ≡ Ok chosen
       → plan s.class (chosen_needs chosen s) ≡ r
       → laying_part choose plan file s ≡ then_made r (λ placed. Ok (placed_part chosen placed))
   unfolding laying_part
-  laid-is file s chosen r chose planned = grind (arith, chose, chosen, planned)
+  laid-is {chosen = chosen} chose planned = grind (arith, chose, chosen, planned)
 
   -- a choice and its plan make the file
-  pub laying-is : (file : List ℕ) (s : SurveyFields) (chosen : Chosen)
-      (r : Result (List Placed) EditFault) → choose file s ≡ Ok chosen
+  pub laying-is : {file : List ℕ} {s : SurveyFields} {chosen : Chosen}
+      {r : Result (List Placed) EditFault} → choose file s ≡ Ok chosen
       → plan s.class (chosen_needs chosen s) ≡ r → laying_making choose plan file s ≡ then_made
       (then_made r (λ placed. Ok (placed_part chosen placed))) (λ laid. Ok (file_laid laid file s))
-  laying-is file s chosen r chose planned = grind (arith, laid-is, chosen, chose, planned)
+  laying-is {chosen = chosen} chose planned = grind (arith, laid-is, chosen, chose, planned)
 
   -- if nothing is made, nothing was chosen, or there is no plan
-  pub laid-fault : (file : List ℕ) (s : SurveyFields) (fault : EditFault)
+  pub laid-fault : {file : List ℕ} {s : SurveyFields} {fault : EditFault}
       → laying_making choose plan file s ≡ Err fault
       → (choose file s ≡ Err fault) ⊎ ((chosen : Chosen) × (choose file s ≡ Ok chosen)
       × (plan s.class (chosen_needs chosen s) ≡ Err fault))
   unfolding laying_part
-  laid-fault file s fault e = at (choose file s) refl e
+  laid-fault {file} {s} {fault} e = at (choose file s) refl e
     where
       unplanned : (chosen : Chosen) (r : Result (List Placed) EditFault)
           → then_made (then_made r (λ placed. Ok (placed_part chosen placed)))
@@ -218,10 +216,10 @@ module _ (choose : Choosing) (plan : Planning) where
       at r is e = grind arith
 
   -- a choice that is refused refuses the file
-  pub refused-laid : (file : List ℕ) (s : SurveyFields) (fault : EditFault)
+  pub refused-laid : {file : List ℕ} {s : SurveyFields} {fault : EditFault}
       → choose file s ≡ Err fault → laying_making choose plan file s ≡ Err fault
   unfolding laying_part
-  refused-laid file s fault e = grind arith
+  refused-laid e = grind arith
 
   module _ (is_choosing : IsChoosing choose) (is_planning : IsPlanning plan) where
     laying_late : (file : List ℕ) (s : SurveyFields)
@@ -229,13 +227,13 @@ module _ (choose : Choosing) (plan : Planning) where
     unfolding laying_part
     laying_late file s = grind (arith, then_late)
 
-    made_stream : (file : List ℕ) (s : SurveyFields) (made : List ℕ)
+    made_stream : {file : List ℕ} {s : SurveyFields} {made : List ℕ}
         → survey_of file most_frames ≡ Ok s → IsLaidBy file s made
         → HoldsStream made (laid_stream_or_none file s (laying_part choose plan file s))
-    made_stream file s made is by =
+    made_stream {file} {s} {made} is by =
         let laid = placed_part by.chosen by.placed in
         let right = is_choosing.right file s by.chosen by.chose in
-        let had = survey-had file most_frames s is in
+        let had = survey-had most_frames is in
         let fitting =
         is_planning.fitting by.chosen s had.placed right.some right.within by.placed by.planned in
         subst (λ (r : Result LaidPart EditFault). HoldsStream made (laid_stream_or_none file s r))
@@ -249,7 +247,7 @@ module _ (choose : Choosing) (plan : Planning) where
       streams = λ file s new all is made.
           subst (λ (r : Result SurveyFields SurveyFault). HoldsStream new
           (surveyed_laid_stream choose plan
-          file r)) (sym is) (made_stream file s new is (laid-parts file s new made));
+          file r)) (sym is) (made_stream is (laid-parts made));
     }
 
     -- the command is proper
@@ -258,17 +256,18 @@ module _ (choose : Choosing) (plan : Planning) where
     task_proper refuses input = search (arith, file_proper, laying_proper)
 
   -- what was laid of the input is what the command makes
-  pub task_makes : (refuses : Refusal → Bool) (input : List ℕ) (s : SurveyFields) (chosen : Chosen)
-      (laid : LaidPart) (files : Files) → IsFileThere files input
+  pub task_makes : (refuses : Refusal → Bool) {input : List ℕ} {s : SurveyFields} {chosen : Chosen}
+      {laid : LaidPart} {files : Files} → IsFileThere files input
       → ((bytes : List ℕ) → Holds files input bytes → survey_of bytes most_frames ≡ Ok s)
       → ((bytes : List ℕ) → Holds files input bytes → AreBytes bytes)
       → ((bytes : List ℕ) → Holds files input bytes → choose bytes s ≡ Ok chosen)
       → planned_part plan s chosen ≡ Ok laid
       → IsMaking (laying_task choose plan refuses input) (λ file. file_laid laid file s) files
   unfolding laying_part
-  task_makes refuses input s chosen laid files there surveyed octets chose planned =
-      file_makes (laying_making choose plan) (laying_stream choose plan) refuses input files
-      (λ file. file_laid laid file s) s there surveyed octets
+  task_makes refuses
+      {input} {s} {laid = laid} {files = files} there surveyed octets chose planned =
+      file_makes (laying_making choose plan)
+      (laying_stream choose plan) refuses input there surveyed octets
       (λ bytes holds.
       ap (λ r. then_made (then_made r (planned_part plan s)) (λ laid. Ok (file_laid laid bytes s)))
       (chose bytes holds) ∙ ap (λ r. then_made r (λ laid. Ok (file_laid laid bytes s))) planned)
@@ -279,24 +278,24 @@ abbrev no_fault : Option Refusal
 no_fault = None
 
 -- a range that isn't refused has frames, and is within the file
-pub outside-none : (from to frames : ℕ) (b : Bool) → (nat_lt from to && nat_le to frames) ≡ b
+pub outside-none : {from to frames : ℕ} {b : Bool} → (nat_lt from to && nat_le to frames) ≡ b
     → cond b None (Some (Range from to frames)) ≡ no_fault → (from < to) × (to ≤ frames)
-outside-none from to frames b is e = grind arith
+outside-none is e = grind arith
 
 -- the chosen frames are there
-pub chosen-within : (quality : Option ℕ) (extension : List ℕ) (from to : ℕ) (frames : ℕ)
-    (chosen : Chosen) → chosen_range quality extension from to frames ≡ Ok chosen
+pub chosen-within : (quality : Option ℕ) (extension : List ℕ) {from to : ℕ} {frames : ℕ}
+    {chosen : Chosen} → chosen_range quality extension from to frames ≡ Ok chosen
     → (from < to) × (to ≤ frames)
-chosen-within quality extension from to frames chosen e =
+chosen-within quality extension {chosen = chosen} e =
     grind (arith, outside-none, refusal_or-ok, chosen)
 
 -- frames chosen by a range are frames of the survey, with an extension of 36 bytes
-pub with_right : (quality : Option ℕ) (extension : List ℕ) (from to : ℕ) (s : SurveyFields)
-    (chosen : Chosen) → length extension ≡ 36
+pub with_right : (quality : Option ℕ) (extension : List ℕ) (from to : ℕ) {s : SurveyFields}
+    {chosen : Chosen} → length extension ≡ 36
     → chosen_range quality extension from to (length s.frames) ≡ Ok chosen → IsRight chosen s
-with_right quality extension from to s chosen size e =
-    let ok = refusal_or-ok (outside_fault from to (length s.frames)) _ chosen e in
-    let there = chosen-within quality extension from to (length s.frames) chosen e in
+with_right quality extension from to {s} {chosen} size e =
+    let ok = refusal_or-ok e in
+    let there = chosen-within quality extension e in
     subst (λ (c : Chosen). IsRight c s)
     ok.1 (record { some = there.0; within = there.1; extension = size })
 
@@ -321,16 +320,16 @@ unfolding head_info
 head-extension file head = search (rules, info-extension)
 
 -- all frames are frames of the survey, with an extension of 36 bytes
-pub all_right : (file : List ℕ) (s : SurveyFields) (chosen : Chosen) → all_choice file s ≡ Ok chosen
+pub all_right : (file : List ℕ) {s : SurveyFields} {chosen : Chosen} → all_choice file s ≡ Ok chosen
     → IsRight chosen s
 unfolding all_choice
-all_right file s chosen e = grind (arith, with_right, chosen, head-extension)
+all_right file {chosen = chosen} e = grind (arith, with_right, chosen, head-extension)
 
 -- all frames are chosen
-pub all-whole : (file : List ℕ) (s : SurveyFields) (chosen : Chosen) → all_choice file s ≡ Ok chosen
+pub all-whole : (file : List ℕ) (s : SurveyFields) {chosen : Chosen} → all_choice file s ≡ Ok chosen
     → (chosen.from ≡ 0) × (chosen.to ≡ length s.frames)
 unfolding all_choice
-all-whole file s chosen e = grind (arith, refusal_or-ok, chosen)
+all-whole file s {chosen} e = grind (arith, refusal_or-ok, chosen)
 
 -- what `pack` chooses is right
 pub all_choosing : IsChoosing all_choice

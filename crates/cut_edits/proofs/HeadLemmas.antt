@@ -45,16 +45,16 @@ unfolding apart_rows
 apart_whole file None rows are = are
 apart_whole file (Some head) rows are = marks_whole file rows 0 rows are
 
-row_whole : (file : List ℕ) (r : Row) (lost : Bool) → IsWholeRow file r
+row_whole : {file : List ℕ} {r : Row} (lost : Bool) → IsWholeRow file r
     → IsWholeRow file (cond lost (record r { side = no_side; lost = false }) r)
-row_whole file r true is = record { frame = is.frame; pairs = side_paired true r.side is.pairs }
-row_whole file r false is = is
+row_whole {r = r} true is = record { frame = is.frame; pairs = side_paired true is.pairs }
+row_whole false is = is
 
 -- whole rows stay whole if the lost ones are emptied
 pub emptied_whole : (file : List ℕ) (rows : List Row) → AreWholeRows file rows
     → AreWholeRows file (map emptied_row rows)
 emptied_whole file [] are = tt
-emptied_whole file (r ∷ rows) are = (row_whole file r r.lost are.0, emptied_whole file rows are.1)
+emptied_whole file (r ∷ rows) are = (row_whole r.lost are.0, emptied_whole file rows are.1)
 
 -- a survey has as many frames when its head is set apart
 pub survey_without_head-length : (s : SurveyFields)
@@ -66,14 +66,14 @@ survey_without_head-length s =
 pub survey_without_head-placed : (s : SurveyFields) → AreWellPlaced s.head s.class s.frames
     → AreWellPlaced s.head s.class (survey_without_head s).frames
 survey_without_head-placed s placed = placed-emptied s.head s.class (rows_set_apart s.head s.frames)
-    (placed-apart s.head s.class s.frames placed)
+    (placed-apart s.head placed)
 
 -- a file can be relaid by the survey whose head is set apart, if the main data are well placed
 -- there
-pub survey_without_head-had : (file : List ℕ) (s : SurveyFields) → CanBeRelaid file s
+pub survey_without_head-had : {file : List ℕ} {s : SurveyFields} → CanBeRelaid file s
     → AreWellPlaced s.head s.class (survey_without_head s).frames
     → CanBeRelaid file (survey_without_head s)
-survey_without_head-had file s is placed = record {
+survey_without_head-had {file} {s} is placed = record {
   long = is.long;
   head = is.head;
   rows = emptied_whole file (rows_set_apart s.head s.frames)

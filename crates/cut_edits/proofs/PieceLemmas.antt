@@ -16,8 +16,8 @@ use Rattle.cut_edits.proofs.{HeadLemmas.survey_without_head-placed, SealedLemmas
 use Rattle.cut_edits.{proofs.SpanLemmas.with-fitting, specs.Chosen.Chosen}
 use Rattle.cut_edits.specs.Exact.{exact_making, exact_part, exact_refuses, exact_stream}
 use Rattle.cut_edits.specs.Exact.{exact_stream_or_none, exact_surveyed_stream, exact_task}
-use Rattle.cut_edits.specs.Exact.{file_span, IsSpanIn, quality_of, row_sealed_part, samples_fault}
-use Rattle.cut_edits.specs.Exact.{span_part, span_piece, survey_without_head}
+use Rattle.cut_edits.specs.Exact.{file_span, IsSpanIn, quality_of, row_sealed_part, span_part}
+use Rattle.cut_edits.specs.Exact.{span_piece, survey_without_head}
 use Rattle.exact_span.proofs.ExtensionLemmas.{extension-length}
 use Rattle.exact_span.proofs.{PlayedLemmas.{played-within, spans-fit}, SealLemmas.sealed-whole}
 use Rattle.exact_span.specs.Places.{sample_at}
@@ -29,7 +29,7 @@ use Rattle.frame_header.specs.declared.version.Version.{Version}
 use Rattle.info_header.specs.declared.fields.Info.{Info}
 use Rattle.laying.proofs.{LaidLemmas.{first-there, laid-holds}, SurveyFrameLemmas.survey-had}
 use Rattle.laying.specs.{Fits.IsFittingPlan, KeptFields.fields_of_head}
-use Rattle.laying.specs.Laid.{file_laid, frames_laid, info_laid, LaidPart, needs_laid, stream_laid}
+use Rattle.laying.specs.Laid.{file_laid, frames_laid, LaidPart, needs_laid, stream_laid}
 use Rattle.laying.specs.Surveys.{CanBeRelaid}
 use Rattle.outside.specs.Files.{Files, Holds, IsFileThere}
 use Rattle.sync_survey.specs.{Faults.{HoldsStream, SurveyFields}, Row.Row, Survey.survey_of}
@@ -41,31 +41,30 @@ abbrev no_fault : Option Refusal
 no_fault = None
 
 -- samples that aren't refused are at least one, and within the file
-pub samples_there : (a b samples : ℕ) (test : Bool) → (nat_lt a b && nat_le b samples) ≡ test
+pub samples_there : {a b samples : ℕ} {test : Bool} → (nat_lt a b && nat_le b samples) ≡ test
     → cond test None (Some (NoSpan a b samples)) ≡ no_fault → (a < b) × (b ≤ samples)
-samples_there a b samples test is e = grind arith
+samples_there is e = grind arith
 
-most_by : (version : Version) (frames end : ℕ) → end ≤ frames * samples_of version
+most_by : (version : Version) {frames end : ℕ} → end ≤ frames * samples_of version
     → frames ≤ most_frames → end ≤ most_frames * samples_of version
-most_by version frames end within few = grind arith
+most_by version within few = grind arith
 
 -- no played position is after the last frame that a file may have
-pub played-most : (head : Option Info) (class : ClassFields) (frames : ℕ) → frames ≤ most_frames
+pub played-most : (head : Option Info) (class : ClassFields) {frames : ℕ} → frames ≤ most_frames
     → (played_of head class frames).end ≤ most_frames * samples_in class
-played-most head class frames few = grind (arith, most_by, played-within)
+played-most head class few = grind (arith, most_by, played-within)
 
 -- the frames of the span are there
-pub span-there : (from to : ExactPlace) (head : Option Info) (s : SurveyFields) (span : Span)
+pub span-there : (from to : ExactPlace) (head : Option Info) {s : SurveyFields} {span : Span}
     → file_span from to head s ≡ Ok span → IsSpanIn s span
 unfolding file_span
-span-there from to head s span e =
+span-there from to head {s} {span} e =
     let played = played_of head s.class (length s.frames) in
     let samples = length_of_played played in
     let a = sample_at s.class samples from in
     let b = sample_at s.class samples to in
-    let ok = refusal_or-ok (samples_fault a b samples)
-    (span_of s.class (played.start + a) (played.start + b)) span e in
-    let there = samples_there a b samples (nat_lt a b && nat_le b samples) refl ok.0 in
+    let ok = refusal_or-ok e in
+    let there = samples_there refl ok.0 in
     let one : AreLeads (span_of s.class (played.start + a) (played.start + b)) 1 = grind arith in
     let fits = spans-fit head s.class (length s.frames) a b 1
     (record { some = there.0; most = there.1 }) one in
@@ -93,15 +92,15 @@ pub head_long : (file : List ℕ) (head : Option Head)
 head_long file head = search (rules, head-extension)
 
 -- a span stays within the file when the head is set apart
-pub span-survey_without_head : (s : SurveyFields) (span : Span) → IsSpanIn s span
+pub span-survey_without_head : {s : SurveyFields} {span : Span} → IsSpanIn s span
     → IsSpanIn (survey_without_head s) span
-span-survey_without_head s span is = grind (arith, is, survey_without_head-length)
+span-survey_without_head is = grind (arith, is, survey_without_head-length)
 
 -- a file without fault can be relaid once its head is set apart
-pub survey_without_head-relaid : (file : List ℕ) (s : SurveyFields)
+pub survey_without_head-relaid : {file : List ℕ} {s : SurveyFields}
     → survey_of file most_frames ≡ Ok s → CanBeRelaid file (survey_without_head s)
-survey_without_head-relaid file s is = let had = survey-had file most_frames s is in
-    survey_without_head-had file s had (survey_without_head-placed s had.placed)
+survey_without_head-relaid {file} {s} is = let had = survey-had most_frames is in
+    survey_without_head-had had (survey_without_head-placed s had.placed)
 
 -- what is laid of a span holds its stream
 module _ (head : Option Info) (long : IfSome head (λ (i : Info). length i.extension ≡ 36))
@@ -119,8 +118,8 @@ module _ (head : Option Info) (long : IfSome head (λ (i : Info). length i.exten
 
   sealed_long : (first : Row) → length (row_sealed_part (Some first) plain file s).extension ≡ 36
   sealed_long first =
-      (sealed-whole first.header (info_laid plain file s) (for-whole s.class
-      (frames_laid plain file s) plain.quality plain.extension plain-long)).extension
+      (sealed-whole first.header (for-whole s.class
+      (frames_laid plain file s) plain.quality plain-long)).extension
 
   -- the span has a first frame, so what holds of every part that is sealed holds of the piece
   piece_all : (P : LaidPart → Type 0)
@@ -159,16 +158,14 @@ module _ (from to : ExactPlace) where
         ≡ made
 
   -- a piece that was made has a span, and is made from it
-  pub piece-parts : (file : List ℕ) (s : SurveyFields) (made : List ℕ)
+  pub piece-parts : {file : List ℕ} {s : SurveyFields} {made : List ℕ}
       → exact_making from to file s ≡ Ok made → IsPieceBy file s made
   unfolding exact_part
-  piece-parts file s made e =
+  piece-parts {file} {s} {made} e =
       let head = fields_of_head file s.head in
       let whole =
-      then_ok (exact_part from to file s)
-      (λ laid. Ok (file_laid laid file (survey_without_head s))) made e in
-      let chose = then_ok (file_span from to head s)
-      (λ span. Ok (span_piece head span file (survey_without_head s))) whole.0 whole.1 in
+      then_ok e in
+      let chose = then_ok whole.1 in
       let same : span_piece head chose.0 file (survey_without_head s) ≡ whole.0 = cc in
       let bytes : file_laid whole.0 file (survey_without_head s) ≡ made = cc in
       record {
@@ -187,32 +184,32 @@ module _ (from to : ExactPlace) where
       (λ laid. Ok (file_laid laid file (survey_without_head s)))
 
   -- the piece of a span that was found is made
-  pub exact-is : (file : List ℕ) (s : SurveyFields) (span : Span)
+  pub exact-is : (file : List ℕ) (s : SurveyFields) {span : Span}
       → file_span from to (fields_of_head file s.head) s ≡ Ok span → exact_making from to file s
       ≡ Ok (file_laid (span_piece (fields_of_head file s.head) span file (survey_without_head s))
       file (survey_without_head s))
   unfolding exact_part
-  exact-is file s span found = ap (made_by file s) found
+  exact-is file s found = ap (made_by file s) found
 
   -- if no piece is made, no span was found
-  pub exact-refused : (file : List ℕ) (s : SurveyFields) (fault : EditFault)
+  pub exact-refused : (file : List ℕ) (s : SurveyFields) {fault : EditFault}
       → file_span from to (fields_of_head file s.head) s ≡ Err fault
       → exact_making from to file s ≡ Err fault
   unfolding exact_part
-  exact-refused file s fault found = ap (made_by file s) found
+  exact-refused file s found = ap (made_by file s) found
 
-  made_stream : (file : List ℕ) (s : SurveyFields) (made : List ℕ)
+  made_stream : {file : List ℕ} {s : SurveyFields} {made : List ℕ}
       → survey_of file most_frames ≡ Ok s → IsPieceBy file s made
       → HoldsStream made (exact_stream_or_none file s (exact_part from to file s))
-  made_stream file s made is by =
+  made_stream {file} {s} {made} is by =
       let head = fields_of_head file s.head in
       let piece = span_piece head by.span file (survey_without_head s) in
-      let had = survey_without_head-relaid file s is in
+      let had = survey_without_head-relaid is in
       subst (λ (r : Result LaidPart EditFault). HoldsStream made (exact_stream_or_none file s r))
       (sym by.laid)
       (subst (λ (n : List ℕ). HoldsStream n (stream_laid piece file (survey_without_head s))) by.is
       (piece-holds head (head_long file s.head) by.span file (survey_without_head s) had
-      (span-survey_without_head s by.span (span-there from to head s by.span by.span_is))))
+      (span-survey_without_head (span-there from to head by.span_is))))
 
   proper : IsProperMaking (exact_making from to) (exact_stream from to)
   proper = record {
@@ -220,7 +217,7 @@ module _ (from to : ExactPlace) where
     streams = λ file s new all is made.
         subst (λ (r : Result SurveyFields SurveyFault). HoldsStream new
         (exact_surveyed_stream from to file r))
-        (sym is) (made_stream file s new is (piece-parts file s new made));
+        (sym is) (made_stream is (piece-parts made));
   }
 
   -- the command is proper
@@ -228,8 +225,8 @@ module _ (from to : ExactPlace) where
   exact-proper input = search (arith, file_proper, proper)
 
   -- what was laid of the span is what the command makes
-  pub exact-makes : (input : List ℕ) (s : SurveyFields) (span : Span) (laid : LaidPart)
-      (files : Files) → IsFileThere files input
+  pub exact-makes : {input : List ℕ} {s : SurveyFields} {span : Span} {laid : LaidPart}
+      {files : Files} → IsFileThere files input
       → ((bytes : List ℕ) → Holds files input bytes → survey_of bytes most_frames ≡ Ok s)
       → ((bytes : List ℕ) → Holds files input bytes → AreBytes bytes) → ((bytes : List ℕ)
       → Holds files input bytes → file_span from to (fields_of_head bytes s.head) s ≡ Ok span)
@@ -237,9 +234,10 @@ module _ (from to : ExactPlace) where
       → laid ≡ span_piece (fields_of_head bytes s.head) span bytes (survey_without_head s))
       → IsMaking (exact_task from to input)
       (λ file. file_laid laid file (survey_without_head s)) files
-  exact-makes input s span laid files there surveyed octets found is =
-      file_makes (exact_making from to) (exact_stream from to) exact_refuses input files
-      (λ file. file_laid laid file (survey_without_head s)) s there surveyed octets
-      (λ bytes holds. exact-is bytes s span (found bytes holds)
+  exact-makes {input} {s} {span} {laid} {files} there surveyed
+      octets found is =
+      file_makes (exact_making from to)
+      (exact_stream from to) exact_refuses input there surveyed octets
+      (λ bytes holds. exact-is bytes s (found bytes holds)
       ∙ ap (λ (l : LaidPart). Ok (file_laid l bytes (survey_without_head s)))
       (sym (is bytes holds)))

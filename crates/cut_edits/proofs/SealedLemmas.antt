@@ -22,9 +22,9 @@ slots_of h [] = refl
 slots_of h (p ∷ placed) = ap (λ (l : List SlotFields). p.slot ∷ l) (slots_of h placed)
 
 -- the fields of an Info frame with an extension of 36 bytes are whole
-pub for-whole : (c : ClassFields) (frames : List Frame) (quality : Option ℕ) (extension : List ℕ)
+pub for-whole : (c : ClassFields) (frames : List Frame) (quality : Option ℕ) {extension : List ℕ}
     → length extension ≡ 36 → AreInfoFields (info_for c frames quality extension)
-for-whole c frames quality extension long = record {
+for-whole c frames quality {extension} long = record {
   table = length-map (range_with_len 0 100) (table_entry c frames) ∙ length-range_with_len 0 100;
   extension = long;
 }
@@ -39,8 +39,8 @@ IsInfoFor s from placed quality extension bytes =
 module _ (s : SurveyFields) (well : IsPlacedSurvey s) (from : ℕ) (inside : from < length s.frames)
     (placed : List Placed) (quality : Option ℕ) (extension : List ℕ) (long : length extension ≡ 36)
     (old : List ℕ) (is : IsInfoFor s from placed quality extension old) where
-  class_is : (first : Row) → slice_get s.frames from ≡ Some first → class_of first.header ≡ s.class
-  class_is first found = (well from first found).class_is
+  class_is : {first : Row} → slice_get s.frames from ≡ Some first → class_of first.header ≡ s.class
+  class_is {first} found = (well from first found).class_is
 
   -- an Info frame with any fields that a head can have has room for all of them
   room-with : (fields : HeaderFields → List Frame → Info) (bytes : List ℕ)
@@ -53,13 +53,13 @@ module _ (s : SurveyFields) (well : IsPlacedSurvey s) (from : ℕ) (inside : fro
       let found = first-there s.frames from inside in
       let h = found.0.header in
       let frames = map (λ (p : Placed). lead_in_before p h) placed in
-      subst (λ (c : ClassFields). text_place c + 156 ≤ length bytes) (class_is found.0 found.1)
+      subst (λ (c : ClassFields). text_place c + 156 ≤ length bytes) (class_is found.1)
       (subst (λ (l : List ℕ). text_place (class_of h) + 156 ≤ length l)
       (sym (are found.0 frames found.1 (slots_of h placed)))
-      (frames-sealed h (fields h frames) (whole h frames)).room)
+      (frames-sealed h (whole h frames)).room)
 
   whole-for : (frames : List Frame) → AreInfoFields (info_for s.class frames quality extension)
-  whole-for frames = for-whole s.class frames quality extension long
+  whole-for frames = for-whole s.class frames quality long
 
   -- the Info frame of the piece has room for the fields
   pub info-room : text_place s.class + 156 ≤ length old
@@ -73,23 +73,24 @@ module _ (s : SurveyFields) (well : IsPlacedSurvey s) (from : ℕ) (inside : fro
         (sealed_info first.header (info_for s.class frames quality extension))
     sealed-is first frames found slots =
         seals
-        ∙ ap (λ (c : ClassFields). sealed_frame c old) (sym (class_is first found))
+        ∙ ap (λ (c : ClassFields). sealed_frame c old) (sym (class_is found))
         ∙ ap (sealed_frame (class_of first.header)) (is first frames found slots)
-        ∙ (frames-sealed first.header (info_for s.class frames quality extension)
+        ∙ (frames-sealed first.header
         (whole-for frames)).is
 
     -- the sealed frame has room for the fields
     pub sealed-room : text_place s.class + 156 ≤ length new
     sealed-room =
         room-with (λ h frames. sealed_info h (info_for s.class frames quality extension)) new
-        (λ h frames. sealed-whole h (info_for s.class frames quality extension) (whole-for frames))
+        (λ h frames. sealed-whole h
+        {info = info_for s.class frames quality extension} (whole-for frames))
         sealed-is
 
 -- the extension that is read from a sealed Info frame is the extension of the sealed fields
-pub sealed-read : (c : ClassFields) (first : HeaderFields) (info : Info) (bytes : List ℕ)
+pub sealed-read : {c : ClassFields} (first : HeaderFields) {info : Info} {bytes : List ℕ}
     → AreInfoFields info → class_of first ≡ c → bytes ≡ info_frame first (sealed_info first info)
     → take 36 (drop (text_place c + 120) bytes) ≡ (sealed_info first info).extension
-sealed-read c first info bytes whole same is =
+sealed-read first {info} {bytes} whole same is =
     ap (λ (k : ClassFields). take 36 (drop (text_place k + 120) bytes)) (sym same)
     ∙ ap (λ (l : List ℕ). take 36 (drop (text_place (class_of first) + 120) l)) is
-    ∙ extension-there first (sealed_info first info) (sealed-whole first info whole)
+    ∙ extension-there first (sealed-whole first whole)

@@ -37,7 +37,7 @@ frames_open (need ∷ needs) are = grind (arith, usual_slots, by_usual, frames_o
 led_open : (needs : List Need) → AreHeaders needs → AreOpen (led_items own_choice needs)
 unfolding led_items
 led_open [] are = tt
-led_open (need ∷ needs) are = ((λ slot has. slot_among slot has), frames_open (need ∷ needs) are)
+led_open (need ∷ needs) are = ((λ slot has. slot_among has), frames_open (need ∷ needs) are)
 
 -- a list of slots for items is as long as the items
 pub for_length : (items : List PlanItem) (placed : List Placed) → AreItemSlots items placed
@@ -89,7 +89,7 @@ module _ (chosen : Chosen) (s : SurveyFields) (placed : IsPlacedSurvey s)
   needs-length = grind (arith, length-map, length-take, length-drop)
 
   parts_is : needs_in_parts asked.needs asked.places ≡ needs ∷ []
-  parts_is = parts_are [] 0 (chosen_rows chosen s ∷ []) refl
+  parts_is = parts_are [] (chosen_rows chosen s ∷ []) refl
 
   -- what the planner returns for these needs is the led plan
   pub led-is : (ps : List Placed) → IsLedPlan (window_of s.class.version) own_choice needs ps
@@ -107,9 +107,9 @@ module _ (chosen : Chosen) (s : SurveyFields) (placed : IsPlacedSurvey s)
   flat = append-nil needs
 
   -- a plan with a lead-in is the one of the definition
-  pub led-answer : (ps : List Placed) → IsLedPlan (window_in asked.needs) own_choice asked.needs ps
+  pub led-answer : {ps : List Placed} → IsLedPlan (window_in asked.needs) own_choice asked.needs ps
       → ps ≡ led_plan (window_of s.class.version) own_choice needs
-  led-answer ps plan = grind (arith, rows-fit chosen s placed some within, led-is ps, flat)
+  led-answer {ps} plan = grind (arith, rows-fit chosen s placed some within, led-is ps, flat)
 
   -- the frames can be planned
   pub led-can : CanBePlanned asked.needs (0 ∷ [])
@@ -165,11 +165,11 @@ module _ (chosen : Chosen) (s : SurveyFields) (placed : IsPlacedSurvey s)
     needs-length,
   )
 
-  with_led : (led : Bool) → IsTrue led
+  with_led : {led : Bool} → IsTrue led
       → length (span_plan led s.class needs) - (chosen.to - chosen.from) ≡ 1
-  with_led led is = grind (arith, led_many)
+  with_led is = grind (arith, led_many)
 
   -- the plan has a lead-in if the span has to have one
-  pub with-leads : (span : Span) → chosen.from ≡ span.first → chosen.to ≡ span.last
+  pub with-leads : {span : Span} → chosen.from ≡ span.first → chosen.to ≡ span.last
       → AreLeads span (span_lead_ins span (span_plan span.led s.class needs))
-  with-leads span from to = grind (arith, with-few, with_led)
+  with-leads from to = grind (arith, with-few, with_led)

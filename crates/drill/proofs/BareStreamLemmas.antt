@@ -80,7 +80,7 @@ module _ (c : ClassFields) (f : Frame) (more : List Frame) (is : IsBare c f more
 
   many : areas_length (fields_of_frames frames) ≡ length area_data
   many = omega
-      (arith, length-laid 0 0 (all_frame_data frames) (omega arith) is.fits, areas-all 0 frames)
+      (arith, length-laid 0 (all_frame_data frames) (omega arith) is.fits, areas-all 0 frames)
 
   file-is : file ≡ own ++ rest
   file-is = grind (arith, append_assoc)
@@ -100,11 +100,11 @@ module _ (c : ClassFields) (f : Frame) (more : List Frame) (is : IsBare c f more
   first_item =
       item_at-known file 0 0 (own ++ rest) (FrameItem f.kept.header) refl file-is
       ((entry_item f.kept.header f.kept.side (take (frame_area f.kept) area_data)
-      is.entries.0.header (shaped f.kept.side is.entries.0.pairs) long_area).known rest)
+      is.entries.0.header (shaped is.entries.0.pairs) long_area).known rest)
 
   front_run : item_run Front file 0 ≡ record { items = []; stop = 0 }
-  front_run = items-item_run Front file 0 [] [] file refl (omega arith) refl
-      (not_in_front file 0 f.kept.header first_item)
+  front_run = items-item_run Front file [] [] file refl (omega arith) refl
+      (not_in_front file 0 first_item)
 
   start-is : start_of file ≡ Ok begin
   start-is =
@@ -113,7 +113,7 @@ module _ (c : ClassFields) (f : Frame) (more : List Frame) (is : IsBare c f more
   stream : stream_run file begin
       ≡ record { items = placed 0 (frame_items frames); stop = 0 + length file }
   stream =
-      items-item_run Stream file 0 (frame_items frames) file []
+      items-item_run Stream file (frame_items frames) file []
       (framed_bytes-items c frames area_data is.entries many) (omega arith) (sym (append-nil file))
       (whole_item_at-past Stream file (0 + length file) (omega arith))
 
@@ -144,10 +144,10 @@ module _ (c : ClassFields) (f : Frame) (more : List Frame) (is : IsBare c f more
 
   -- ---- the end
 
-  ended_at : (r : ItemRun)
+  ended_at : {r : ItemRun}
       → r ≡ record { items = placed 0 (frame_items frames); stop = 0 + length file }
       → fault_at r.stop (item_at file r.stop) ≡ None
-  ended_at r same =
+  ended_at same =
       grind (
         arith,
         stands-only_at file (0 + length file) End (drop_all (0 + length file) file
@@ -164,17 +164,17 @@ module _ (c : ClassFields) (f : Frame) (more : List Frame) (is : IsBare c f more
   rows-are : rows_of file (frames_from file begin) ≡ rows
   rows-are = ap (rows_of file) frames-are ∙ rows-there c file 0 frames area_data is.entries stand
 
-  no_faults : (allowed : ℕ) → length frames ≤ allowed → all_faults file (head_of file begin.first)
+  no_faults : {allowed : ℕ} → length frames ≤ allowed → all_faults file (head_of file begin.first)
       (class_of begin.first.header) allowed (rows_of file (frames_from file begin)) ≡ []
-  no_faults allowed few =
+  no_faults {allowed} few =
       ap₂ (λ (o : Option Head) (rs : List Row). all_faults file o
       (class_of f.kept.header) allowed rs) head-is rows-are
       ∙ ap (λ d. all_faults file None d allowed rows) is.entries.0.class
       ∙ sound-no_all_faults file None c allowed rows
       (laid-sound file c None 0 frames area_data is.entries stand is.fits allowed few)
 
-  read : (allowed : ℕ) → length frames ≤ allowed → IsRead file allowed begin
-  read allowed few = grind (arith, start-is, no_faults, no-end_fault)
+  read : {allowed : ℕ} → length frames ≤ allowed → IsRead file allowed begin
+  read few = grind (arith, start-is, no_faults, no-end_fault)
 
   marked-are : (told_from file begin).frames ≡ rows
   marked-are = ap₂ marked_rows head-is rows-are
@@ -184,19 +184,19 @@ module _ (c : ClassFields) (f : Frame) (more : List Frame) (is : IsBare c f more
   told = grind (arith, marked-are, blocks-are, head-is)
 
   -- the survey of the file finds its frames
-  pub bare-survey : (allowed : ℕ) → length frames ≤ allowed
+  pub bare-survey : {allowed : ℕ} → length frames ≤ allowed
       → survey_fields file allowed ≡ Ok (bare_fields f more)
-  bare-survey allowed few = survey_fields-told file allowed begin (read allowed few) ∙ ap Ok told
+  bare-survey {allowed} few = survey_fields-told (read few) ∙ ap Ok told
 
   -- ---- its stream
 
   main-is : main_bytes file None rows ≡ [] ++ area_data
   unfolding main_bytes
-  main-is = areas-there c file 0 frames area_data is.entries stand
+  main-is = areas-there c file 0 frames is.entries stand
 
-  payloads : (i : ℕ) (g : Frame) → slice_get frames i ≡ Some g
+  payloads : (i : ℕ) {g : Frame} → slice_get frames i ≡ Some g
       → HasPayload (main_bytes file None rows) None rows i g
-  payloads i g found = λ offset row.
+  payloads i {g} found = λ offset row.
       let starts = starts-there file c None 0 frames area_data is.entries stand is.fits i
       (row_at offset g) row in
       let same : starts.0 ≡ g = cc in
@@ -218,4 +218,4 @@ module _ (c : ClassFields) (f : Frame) (more : List Frame) (is : IsBare c f more
   -- the file holds the stream of its frames
   pub bare-holds : HoldsStream file (map stream_entry frames)
   bare-holds = subst (HoldsStream file) stream-is (survey_fields-stream file (length frames)
-      (bare_fields f more) (bare-survey (length frames) (omega arith)))
+      (bare_fields f more) (bare-survey (omega arith)))

@@ -16,12 +16,12 @@ behind-twice state = refl
 
 -- ---- with any draws
 
-granule-fits : (bit_count gain : ℕ) → bit_count < 4096 → gain < 256
+granule-fits : {bit_count gain : ℕ} → bit_count < 4096 → gain < 256
     → GranuleFits One (granule_with bit_count gain)
-granule-fits bit_count gain few low = grind (arith, lit<)
+granule-fits few low = grind (arith, lit<)
 
-length-few : (begin draw : ℕ) → begin ≤ 511 → draw % (2 * drill_room begin + 1) < 4096
-length-few begin draw few = grind (arith, mod_below)
+length-few : {begin : ℕ} (draw : ℕ) → begin ≤ 511 → draw % (2 * drill_room begin + 1) < 4096
+length-few draw few = grind (arith, mod_below)
 
 gain-few : (draw : ℕ) → 100 + draw % 100 < 256
 gain-few draw = omega (arith, mod_below draw 100 (lit< tt))
@@ -55,10 +55,10 @@ unfolding drawn_side draws
 drawn_side-pairs begin state = by-pairs begin _ _ _ _ _ _ _ _
 
 -- the fields of the drawn side information are within their bits
-pub drawn_side-fits : (begin state : ℕ) → begin ≤ 511
+pub drawn_side-fits : {begin : ℕ} (state : ℕ) → begin ≤ 511
     → SideFits (class_of drill_header) (drawn_side begin state)
 unfolding drawn_side draws
-drawn_side-fits begin state few = by-fits begin _ _ _ _ _ _ _ _ few
+drawn_side-fits {begin} state few = by-fits begin _ _ _ _ _ _ _ _ few
 
 -- there is room for the main data
 pub drawn_side-room : (begin state : ℕ)
@@ -72,7 +72,7 @@ unfolding drawn_side
 drawn_side-begin begin state = refl
 
 -- the code's draws, in two arrays of four, make the drawn side information
-pub side-drawn : (begin state : ℕ) (ls gs : List ℕ) → ls ≡ draws 4 state
+pub side-drawn : (begin state : ℕ) {ls gs : List ℕ} → ls ≡ draws 4 state
     → gs ≡ draws 4 (state_after 4 state) → side_by begin ls gs ≡ drawn_side begin state
 unfolding drawn_side
-side-drawn begin state ls gs is are = λ i. side_by begin (is i) (are i)
+side-drawn begin state is are = λ i. side_by begin (is i) (are i)

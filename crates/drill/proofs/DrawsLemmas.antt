@@ -54,11 +54,11 @@ unfolding draws
 no-byte state octets = refl
 
 -- the byte at i is drawn from the next state
-pub byte-more : (octets now : List ℕ) (i state : ℕ) → i < length octets
+pub byte-more : (octets : List ℕ) {now : List ℕ} {i : ℕ} (state : ℕ) → i < length octets
     → now ≡ drawn_bytes i state ++ drop i octets
     → set now i (drawn_number (next_state (state_after i state)) % 64)
     ≡ drawn_bytes (i + 1) state ++ drop (i + 1) octets
-byte-more octets now i state within is =
+byte-more octets {i = i} state within is =
     let this = drawn_number (next_state (state_after i state)) % 64 in
     let one : i + 1 ≡ suc i = omega arith in
     ap (λ (xs : List ℕ). set xs i this)
@@ -75,7 +75,7 @@ byte-more octets now i state within is =
 -- ---- the main data
 
 -- the first bits of bytes that begin where the window does
-pub packed-first : (packed octets : List ℕ) (count from : ℕ) → AreBytes packed → from ≡ 0
+pub packed-first : {packed : List ℕ} (octets : List ℕ) {count from : ℕ} → AreBytes packed → from ≡ 0
     → length octets ≡ (count + 7) / 8 → AreBitsPacked packed count (main_bits octets from count)
     → packed ≡ first_bits count octets
-packed-first packed octets count from are none long is = grind (arith, bytes-bits)
+packed-first octets are none long is = grind (arith, bytes-bits)

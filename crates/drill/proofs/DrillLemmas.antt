@@ -64,10 +64,10 @@ AreBits-spelled count octets = AreBelow-append 2 (take count (bits octets))
     (zeros (8 * length octets - count)) (AreBelow-take 2 count (bits octets) (AreBits-bits octets))
     (AreBits-zeros (8 * length octets - count))
 
-bits-first : (count : ℕ) (octets : List ℕ) → count ≤ 8 * length octets
+bits-first : {count : ℕ} (octets : List ℕ) → count ≤ 8 * length octets
     → bits (first_bits count octets) ≡ spelled count octets
-bits-first count octets few = bits-bytes (length octets) (spelled count octets)
-    (AreBits-spelled count octets) (length-spelled count octets few)
+bits-first {count} octets few = bits-bytes (length octets)
+    (AreBits-spelled count octets) (length-spelled octets few)
 
 -- after its bits the payload is 0
 filled : (count state : ℕ)
@@ -77,7 +77,7 @@ filled count state =
     let octets = drawn_bytes ((count + 7) / 8) state in
     let many = length-drawn ((count + 7) / 8) state in
     let few : count ≤ 8 * length octets = omega (arith, many) in
-    ap (drop count) (bits-first count octets few)
+    ap (drop count) (bits-first octets few)
     ∙ drop_at (take count (bits octets)) (zeros (8 * length octets - count)) count
     (length-take-le count (bits octets) (omega (arith, few, length-bits octets)))
     ∙ ap (λ n. zeros (8 * n - count)) many
@@ -102,7 +102,7 @@ is_entry seed i =
       header = header-is;
       class = refl;
       pairs = drawn_side-pairs begin b.state;
-      fits = drawn_side-fits begin b.state (begin-few seed i);
+      fits = drawn_side-fits b.state (begin-few seed i);
       octets = octets-are count (state_after 8 b.state);
       size = length-payload count (state_after 8 b.state) ∙ sym (bytes-is begin b.state);
       filled = grind (arith, filled, bytes-is);
@@ -153,8 +153,8 @@ number-zeros zero = refl
 number-zeros (suc n) = omega (arith, number-zeros n)
 
 -- the first bits of a byte, and zeros after them, are below 64
-part-low : (high low octet : ℕ) → octet < 64 → octet / 2 ^ low % 2 ^ high * 2 ^ low < 64
-part-low high low octet small = omega (
+part-low : (high low : ℕ) {octet : ℕ} → octet < 64 → octet / 2 ^ low % 2 ^ high * 2 ^ low < 64
+part-low high low {octet} small = omega (
   arith,
   small,
   mod-most (octet / 2 ^ low) (2 ^ high),
@@ -171,9 +171,9 @@ part-low high low octet small = omega (
     part-most : (a b n k : ℕ) → a ≤ b → b * k ≤ n → a * k ≤ n
     part-most a b n k less most = grind arith
 
-last-low : (count octet : ℕ) → count < 8 → octet < 64
+last-low : {count octet : ℕ} → count < 8 → octet < 64
     → number (take count (bits_of 8 octet) ++ zeros (8 - count)) < 64
-last-low count octet few small =
+last-low {count} {octet} few small =
     let low = 8 - count in
     let eight : 8 ≡ count + low = omega (arith, few) in
     let front : take count (bits_of 8 octet) ≡ bits_of count (octet / 2 ^ low) =
@@ -181,12 +181,12 @@ last-low count octet few small =
     let is : number (take count (bits_of 8 octet) ++ zeros low)
     ≡ octet / 2 ^ low % 2 ^ count * 2 ^ low + 0 =
     grind (arith, number-append, number-bits_of, length-replicate, number-zeros) in
-    omega (arith, is, part-low count low octet small)
+    omega (arith, is, part-low count low small)
 
 -- the whole first byte, and what is kept of the others
-spelled-front : (o : ℕ) (os : List ℕ) (count : ℕ) → 8 ≤ count
+spelled-front : (o : ℕ) (os : List ℕ) {count : ℕ} → 8 ≤ count
     → spelled count (o ∷ os) ≡ bits_of 8 o ++ spelled (count - 8) os
-spelled-front o os count many =
+spelled-front o os {count} many =
     let long = length-bits_of 8 o in
     let split : count ≡ length (bits_of 8 o) + (count - 8) = omega (arith, many, long) in
     let left : 8 * length (o ∷ os) - count ≡ 8 * length os - (count - 8) = omega (arith, many) in
@@ -194,10 +194,10 @@ spelled-front o os count many =
     (ap₂ take split (bits-cons o os) ∙ take-append-add (bits_of 8 o) (bits os) (count - 8)) left
     ∙ append_assoc (bits_of 8 o) (take (count - 8) (bits os)) (zeros (8 * length os - (count - 8)))
 
-first-byte : (o : ℕ) (os : List ℕ) (count : ℕ) → All IsLow (o ∷ os)
+first-byte : {o : ℕ} (os : List ℕ) {count : ℕ} → All IsLow (o ∷ os)
     → length (o ∷ os) ≡ (count + 7) / 8 → (8 ≤ count → All IsLow (first_bits (count - 8) os))
     → (count < 8) ⊎ (8 ≤ count) → All IsLow (first_bits count (o ∷ os))
-first-byte o os count low long later (inl few) =
+first-byte {o} os {count} low long later (inl few) =
     let one : os ≡ [] = nil_from_length os (omega (arith, few, long)) in
     let eight = take count (bits_of 8 o) ++ zeros (8 - count) in
     let long_eight : length eight ≡ 8 = omega (
@@ -210,13 +210,13 @@ first-byte o os count low long later (inl few) =
     let is : spelled count (o ∷ os) ≡ eight ++ [] = grind (arith, bits-one, append-nil) in
     subst (λ (xs : List ℕ). All IsLow xs) (sym (ap bytes is ∙ bytes-eight eight [] long_eight
     ∙ ap (λ (xs : List ℕ). number eight ∷ xs) bytes-nil))
-    (All-cons IsLow (number eight) [] (last-low count o few (All-head IsLow o os low))
+    (All-cons IsLow (number eight) [] (last-low few (All-head IsLow o os low))
     (All-nil IsLow))
-first-byte o os count low long later (inr many) =
+first-byte {o} os {count} low long later (inr many) =
     let this = All-head IsLow o os low in
-    let number_is : number (bits_of 8 o) ≡ o = number-bits_of-below 8 o (omega (arith, this)) in
+    let number_is : number (bits_of 8 o) ≡ o = number-bits_of-below 8 (omega (arith, this)) in
     subst (λ (xs : List ℕ). All IsLow xs)
-    (sym (ap bytes (spelled-front o os count many)
+    (sym (ap bytes (spelled-front o os many)
     ∙ bytes-eight (bits_of 8 o) (spelled (count - 8) os) (length-bits_of 8 o)))
     (All-cons IsLow (number (bits_of 8 o)) (first_bits (count - 8) os)
     (omega (arith, number_is, this)) (later many))
@@ -226,7 +226,7 @@ first-low : (octets : List ℕ) (count : ℕ) → All IsLow octets → length oc
 first-low [] count low long =
     let none : spelled count [] ≡ [] = grind (arith, nil_from_length, length-spelled) in
     subst (λ (xs : List ℕ). All IsLow xs) (sym (ap bytes none ∙ bytes-nil)) (All-nil IsLow)
-first-low (o ∷ os) count low long = first-byte o os count low long (λ many. first-low os (count - 8)
+first-low (o ∷ os) count low long = first-byte os low long (λ many. first-low os (count - 8)
     (All-tail IsLow o os low) (omega (arith, many, long))) (cases_lt count 8)
 
 drawn-low : (count state : ℕ) → All IsLow (drawn_bytes count state)
@@ -260,17 +260,16 @@ no-text (b ∷ text) low =
     let small = All-head IsLow b text low in
     rw (ne_eqb b 88 (λ e. omega (arith, e, small)), ne_eqb b 73 (λ e. omega (arith, e, small))) refl
 
-no-head : (header : HeaderFields) (own : List ℕ) → header ≡ drill_header → All IsLow (drop 36 own)
+no-head : {header : HeaderFields} (own : List ℕ) → header ≡ drill_header → All IsLow (drop 36 own)
     → head_text_of drill_header own ≡ None
 unfolding head_text_of has_text low_place side_size_of
-no-head header own is low =
-    rw (no-text (take 4 (drop 36 own)) (All-take IsLow 4 (drop 36 own) low)) refl
+no-head own is low = rw (no-text (take 4 (drop 36 own)) (All-take IsLow 4 (drop 36 own) low)) refl
 
 front-size : (seed i : ℕ)
     → length (frame_front_bytes drill_header (drill_frame_at seed i).kept.side) ≡ 36
 unfolding overhead_of side_size_of
-front-size seed i = length-front drill_header (drill_frame_at seed i).kept.side header-is
-    (shaped (drill_frame_at seed i).kept.side (is_entry seed i).pairs)
+front-size seed i = length-front header-is
+    (shaped (is_entry seed i).pairs)
 
 -- ---- the stream
 
@@ -301,7 +300,7 @@ is_bare seed count =
     record {
       entries = entries-are seed 0 (suc count);
       fits = grind (arith, first-begin seed, can-be-laid seed 0 (suc count));
-      no_head = no-head drill_header (front ++ take (frame_area f.kept) area_data) refl
+      no_head = no-head (front ++ take (frame_area f.kept) area_data) refl
           (subst (λ (xs : List ℕ). All IsLow xs)
           (sym (drop_at front (take (frame_area f.kept) area_data) 36 (front-size seed 0)))
           (All-take IsLow (frame_area f.kept) area_data (laid-low seed 0 (suc count) 0 0)));
@@ -345,7 +344,7 @@ streams-long seed count =
     stream-long seed 0 count (laid_data (all_frame_data (from_on seed 0 count)))
     (omega (
       arith,
-      length-laid 0 0 (all_frame_data (from_on seed 0 count)) (omega arith) fits,
+      length-laid 0 (all_frame_data (from_on seed 0 count)) (omega arith) fits,
       areas-all 0 (from_on seed 0 count),
       areas-long seed 0 count,
     ))
@@ -379,7 +378,7 @@ streams-surveyed seed (suc count) allowed some few within =
     let more = from_on seed 1 count in
     survey_of-short (drill_stream seed (suc count)) allowed (omega (arith, size, few))
     ∙ ap (λ (file : List ℕ). survey_fields file allowed) (stream-first seed count)
-    ∙ bare-survey (class_of drill_header) (drill_frame_at seed 0) more (is_bare seed count) allowed
+    ∙ bare-survey (class_of drill_header) (drill_frame_at seed 0) more (is_bare seed count)
     (omega (
       arith,
       within,

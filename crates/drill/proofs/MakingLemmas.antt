@@ -31,15 +31,15 @@ unfolding area_of length_of rate_of frequency_of overhead_of side_size_of
 area-is = refl
 
 -- the bits that are kept and the zeros are as many as the bits of the bytes
-pub length-spelled : (count : ℕ) (octets : List ℕ) → count ≤ 8 * length octets
+pub length-spelled : {count : ℕ} (octets : List ℕ) → count ≤ 8 * length octets
     → length (take count (bits octets) ++ zeros (8 * length octets - count)) ≡ 8 * length octets
-length-spelled count octets few =
+length-spelled octets few =
     grind (arith, length-append, length-take-le, length-bits, length-replicate)
 
 -- keeping the first bits of bytes keeps the number of bytes
-pub length-first_bits : (count : ℕ) (octets : List ℕ) → count ≤ 8 * length octets
+pub length-first_bits : {count : ℕ} (octets : List ℕ) → count ≤ 8 * length octets
     → length (first_bits count octets) ≡ length octets
-length-first_bits count octets few = search (arith, length-bytes, length-spelled)
+length-first_bits octets few = search (arith, length-bytes, length-spelled)
 
 -- the main data have as many bytes as are needed for their bits
 pub length-payload : (bit_count state : ℕ)
@@ -93,18 +93,18 @@ module _ (seed i : ℕ) (old : DrillWriter) (is : IsBeforeFrame seed i old) wher
   reach-next held reach = grind (arith, frame-is, reach-frame, next-begin, before-ended)
 
   -- after this frame the writer is before the next one
-  pub before-more : (new : DrillWriter) → IsNextDrawn new → new.draws.state
+  pub before-more : {new : DrillWriter} → IsNextDrawn new → new.draws.state
       ≡ state_after (draws_of (reach_of old.writer) old.draws.state) old.draws.state
       → reach_of new.writer ≡ reach_after_frame (class_of drill_header) (next_frame old)
       → IsBeforeFrame seed (suc i) new
   unfolding drill_state_at
-  before-more new next state reach = grind (arith, reach-next)
+  before-more next state reach = grind (arith, reach-next)
 
 -- a new writer is before the first frame
-pub before-first : (seed : ℕ) (making : DrillWriter) → making.draws.state ≡ seed
+pub before-first : {seed : ℕ} {making : DrillWriter} → making.draws.state ≡ seed
     → IsNewQueue (class_of drill_header) making.writer → IsBeforeFrame seed 0 making
 unfolding drill_state_at
-before-first seed making state new = grind arith
+before-first state new = grind arith
 
 -- ---- all frames
 
@@ -134,51 +134,50 @@ range-sum f from (suc first) second =
 frames_behind : ℕ → ℕ → ℕ → List Frame
 frames_behind seed i count = map (drill_frame_at seed) (range_with_len i count)
 
-frames-behind : (seed i count : ℕ) → i ≤ count
+frames-behind : (seed : ℕ) {i count : ℕ} → i ≤ count
     → drill_frames seed i ++ frames_behind seed i (count - i) ≡ drill_frames seed count
 unfolding drill_frames frames_behind
-frames-behind seed i count within =
+frames-behind seed {i} {count} within =
     grind (arith, zero-add i, range-sum (drill_frame_at seed) 0 i (count - i))
 
-begins-behind : (seed i count free : ℕ) → data_begin i (drill_state_at seed i) ≤ free
+begins-behind : (seed i count : ℕ) {free : ℕ} → data_begin i (drill_state_at seed i) ≤ free
     → BeginsWithin free (all_frame_data (frames_behind seed i count))
 unfolding frames_behind
-begins-behind seed i zero free within = tt
-begins-behind seed i (suc count) free within = grind (arith, drawn_side-begin)
+begins-behind seed i zero within = tt
+begins-behind seed i (suc count) within = grind (arith, drawn_side-begin)
 
 -- ---- what was appended
 
 module _ (name : List ℕ) where
   -- at first nothing was appended
-  pub made-none : (seed : ℕ) (making : DrillWriter) (files : Files) → IsFileThere files name
+  pub made-none : (seed : ℕ) (making : DrillWriter) {files : Files} → IsFileThere files name
       → IsNewQueue (class_of drill_header) making.writer → making.unsent ≡ []
       → HasMade name (drill_writing making) (drill_frames seed 0) files files
-  made-none seed making files there new none = grind (arith, appended_nothing, frames-none)
+  made-none seed making there new none = grind (arith, appended_nothing, frames-none)
 
   module _ (seed i : ℕ) (old : DrillWriter) (is : IsBeforeFrame seed i old) (before mid : Files)
       (made : HasMade name (drill_writing old) (drill_frames seed i) before mid) where
     -- with one more frame the stream is one frame longer
-    pub made-more : (new : Writing) (after : Files)
+    pub made-more : {new : Writing} {after : Files}
         → AcceptsFrame name (next_frame old) (drill_writing old) new mid after
         → HasMade name new (drill_frames seed (suc i)) before after
-    made-more new after on = grind (arith, appended_twice, frame-is, frames-more)
+    made-more on = grind (arith, appended_twice, frame-is, frames-more)
 
     -- if a write failed at a frame, a prefix of the stream was appended
-    pub made-part : (count : ℕ) (held : WaitingFrames) (after : Files) → i < count
+    pub made-part : {count : ℕ} {held : WaitingFrames} {after : Files} → i < count
         → reach_of held ≡ reach_after_frame (class_of drill_header) (next_frame old)
         → WritesPart name (next_frame old) (drill_writing old) held mid after
         → AppendedPrefix name (drill_stream seed count) before after
     unfolding drill_stream
-    made-part count held after within reach part =
+    made-part {count} {held} {after} within reach part =
         let are = part.writer [] made.passed (drill_frames seed i) made.writer in
         let given : drill_frames seed i ++ next_frame old ∷ [] ≡ drill_frames seed (suc i) =
         grind (arith, frame-is, frames-more) in
         let left = frames_behind seed (suc i) (count - suc i) in
         let next = reach-next seed i old is held reach in
         let begins : BeginsWithin held.waiting.free (all_frame_data left) =
-        begins-behind seed (suc i) (count - suc i) held.waiting.free (omega (arith, next)) in
-        let later = later-frames are.taken held
-        (drill_frames seed i ++ next_frame old ∷ []) left are.written begins in
+        begins-behind seed (suc i) (count - suc i) (omega (arith, next)) in
+        let later = later-frames left are.written begins in
         let whole : bytes_of_frames (drill_frames seed count) ≡ are.taken ++ later.0 =
         grind (arith, frames-behind) in
         let passed : AppendsWaiting name (made.passed ++ part.settled) part.settled before mid =
@@ -188,8 +187,8 @@ module _ (name : List ℕ) where
         after) are.is (passed_then_prefix passed part.prefix)))
 
   -- the bytes of the frames were appended, except those that wait
-  pub made-passed : (seed count : ℕ) (w : Writing) (before after : Files)
+  pub made-passed : (seed count : ℕ) {w : Writing} {before after : Files}
       → HasMade name w (drill_frames seed count) before after
       → AppendsWaiting name (drill_stream seed count) (waiting_bytes w) before after
   unfolding drill_stream
-  made-passed seed count w before after made = grind (arith, laid-steps, append_assoc)
+  made-passed seed count made = grind (arith, laid-steps, append_assoc)

@@ -44,7 +44,7 @@ module _ (choices : HeaderFields → List SlotFields)
 
   own-area : Contains (header_areas choices drill_header) 381
   own-area = subst (Contains (header_areas choices drill_header)) area-is
-      (Contains-area (class_of drill_header) false (choices drill_header) drill_header.slot own)
+      (Contains-area (class_of drill_header) false (choices drill_header) own)
 
   chosen : (seed at i count : ℕ)
       → AreChosenAreas (opens (needs_on seed at i count)) (areas_on count)
@@ -117,12 +117,11 @@ module _ (choices : HeaderFields → List SlotFields)
   items-alone part = append-nil (map (need_item choices) part)
 
   -- no place of the plan is a lead-in
-  pub no-lead_in : (seed count : ℕ) (placed : List Placed)
+  pub no-lead_in : (seed count : ℕ) {placed : List Placed}
       → IsPlan 511 choices (drill_needs seed count ∷ []) placed
       → All (λ p. p.lead_in ≡ false) placed
-  no-lead_in seed count placed plan = grind (arith, none-alone, can-be, items-alone, none-placed)
+  no-lead_in seed count plan = grind (arith, none-alone, can-be, items-alone, none-placed)
 
 -- a drawn stream needs no lead-in
 pub streams-need_no_lead_in : StreamsNeedNoLeadIn
-streams-need_no_lead_in seed count choices placed own plan =
-    no-lead_in choices own seed count placed plan
+streams-need_no_lead_in seed count choices placed own plan = no-lead_in choices own seed count plan

@@ -43,15 +43,15 @@ use Rattle.sync_survey.specs.{MainData.StreamFrame, Row.Row, Survey.{AreWellPlac
 
 -- ---- plans without lead-ins
 
-rest-none : (p : Placed) (placed : List Placed) → All (λ p. p.lead_in ≡ false) (p ∷ placed)
+rest-none : {p : Placed} (placed : List Placed) → All (λ p. p.lead_in ≡ false) (p ∷ placed)
     → All (λ p. p.lead_in ≡ false) placed
-rest-none p placed none k d lt = none (suc k) d (omega (arith, lt))
+rest-none placed none k d lt = none (suc k) d (omega (arith, lt))
 
 none-counted : (placed : List Placed) → All (λ p. p.lead_in ≡ false) placed → lead_ins_in placed ≡ 0
 none-counted [] none = refl
 none-counted (p ∷ placed) none =
     let here : p.lead_in ≡ false = none 0 p (omega arith) in
-    rw here (none-counted placed (rest-none p placed none))
+    rw here (none-counted placed (rest-none placed none))
 
 -- a plan without lead-ins leaves the stream as it is
 same-stream : (window reach : ℕ) (needs : List Need) (placed : List Placed)
@@ -67,24 +67,24 @@ same-stream window reach (need ∷ needs) (p ∷ placed) (f ∷ stream) fits non
     let behind : FitsFromReach window (reach_behind window p need) needs placed =
     grind (arith, placed) in
     rw here (ap (λ l. f ∷ l) (same-stream window (reach_behind window p need) needs placed stream
-    behind (rest-none p placed none) (omega (arith, many))))
+    behind (rest-none placed none) (omega (arith, many))))
 same-stream window reach _ _ _ fits none many = absurd (omega (arith, many))
 
 -- ---- lists and surveys
 
-survey-length : (file : List ℕ) (allowed : ℕ) (s : SurveyFields) → survey_fields file allowed ≡ Ok s
+survey-length : (file : List ℕ) (allowed : ℕ) {s : SurveyFields} → survey_fields file allowed ≡ Ok s
     → s.length ≡ length file
-survey-length file allowed s e = grind (arith, survey_fields-parts)
+survey-length file allowed e = grind (arith, survey_fields-parts)
 
 -- ---- what the packing chooses
 
-inside : (n : ℕ) → 0 < n → (nat_lt 0 n && nat_le n n) ≡ true
-inside n some = search rules
+inside : {n : ℕ} → 0 < n → (nat_lt 0 n && nat_le n n) ≡ true
+inside some = search rules
 
-all-chosen : (quality : Option ℕ) (extension : List ℕ) (n : ℕ) → 0 < n
+all-chosen : (quality : Option ℕ) (extension : List ℕ) {n : ℕ} → 0 < n
     → chosen_range quality extension 0 n n
     ≡ Ok (record { from = 0; to = n; quality = quality; extension = extension })
-all-chosen quality extension n some = rw (inside n some) refl
+all-chosen quality extension {n} some = rw (inside some) refl
 
 abbrev outputs_in : Result Made EditFault → List Output
 outputs_in (Ok made) = made.outputs
@@ -106,7 +106,7 @@ module _ (seed count : ℕ) (some : 0 < count) (few : count ≤ 20000) where
   is-surveyed = streams-surveyed seed count most_frames some few (omega (arith, few))
 
   whole : survey_fields file most_frames ≡ Ok told
-  whole = (survey_of-parts file most_frames told is-surveyed).1
+  whole = (survey_of-parts file most_frames is-surveyed).1
 
   frames-many : length (drill_frames seed count) ≡ count
   unfolding drill_frames
@@ -132,7 +132,7 @@ module _ (seed count : ℕ) (some : 0 < count) (few : count ≤ 20000) where
   choice-is = grind (arith, all-chosen, rows-many)
 
   right : IsRight all told
-  right = all_right file told all choice-is
+  right = all_right file choice-is
 
   -- the frames of the stream in the slots of their plan
   abbrev plan_all : List Placed
@@ -145,15 +145,15 @@ module _ (seed count : ℕ) (some : 0 < count) (few : count ≤ 20000) where
   make = laying_making all_choice (first_planning any_choice)
 
   made-is : packing_of seed count ≡ Ok (file_laid laid file told)
-  made-is = made-survey make file told is-surveyed
-      ∙ laying-is all_choice (first_planning any_choice) file told all (Ok plan_all) choice-is refl
+  made-is = made-survey make is-surveyed
+      ∙ laying-is all_choice (first_planning any_choice) choice-is refl
 
   packed-is : packed_file seed count ≡ file_laid laid file told
   unfolding packed_file
   packed-is = ap file_in made-is
 
   placed : AreWellPlaced told.head told.class told.frames
-  placed = survey_fields-placed file most_frames told whole
+  placed = survey_fields-placed file most_frames whole
 
   rows-whole : chosen_rows all told ≡ told.frames
   rows-whole = range-whole told.frames
@@ -203,26 +203,26 @@ module _ (seed count : ℕ) (some : 0 < count) (few : count ≤ 20000) where
     made = made-is ∙ ap Ok (sym packed-is);
     holds = subst (λ (l : List ℕ). HoldsStream l drawn) (sym packed-is)
         (subst (HoldsStream (file_laid laid file told)) packed-stream
-        (laid-holds laid file told (survey-had file most_frames told is-surveyed)
+        (laid-holds laid file told (survey-had most_frames is-surveyed)
         right.some right.within fitting right.extension));
   }
 
   -- how many frames a survey finds in the packed file
-  pub packed-frames : (t : SurveyFields) → survey_of (packed_file seed count) most_frames ≡ Ok t
+  pub packed-frames : {t : SurveyFields} → survey_of (packed_file seed count) most_frames ≡ Ok t
       → length t.frames ≡ count
-  packed-frames t e =
+  packed-frames {t} e =
       let packed = packed_file seed count in
       let found =
-      survey_fields-stream packed most_frames t (survey_of-parts packed most_frames t e).1 in
+      survey_fields-stream packed most_frames t (survey_of-parts packed most_frames e).1 in
       sym (stream-length packed t) ∙ ap length (sym found.stream_is ∙ is-packed.holds.stream_is)
       ∙ drawn-many
 
   -- once the file of a folder was packed, the folder holds the packed file
-  pub packed-there : (stream packed : List ℕ) (f : Contents) (new : Files) → f stream ≡ Some file
+  pub packed-there : (stream packed : List ℕ) {f : Contents} {new : Files} → f stream ≡ Some file
       → ((made : Made) × ((pack_command stream packed).makes f ≡ Ok made)
       × (new ≡ Told (written_files made.outputs f))) → Holds new packed (packed_file seed count)
   unfolding task_result
-  packed-there stream packed f new there done =
+  packed-there stream packed {f} there done =
       let bytes = packed_file seed count in
       subst (λ (files : Files). Holds files packed bytes) (sym (done.2
       ∙ ap (λ (outputs : List Output). Told (written_files outputs f))
@@ -238,9 +238,9 @@ module _ (seed count : ℕ) (some : 0 < count) (few : count ≤ 20000) where
           (sym (ap (command_result packed) (ap (input_result make) there ∙ is-packed.made)) ∙ e))
 
 -- a survey says how long the file is
-pub packed-length : (file : List ℕ) (t : SurveyFields) → survey_of file most_frames ≡ Ok t
+pub packed-length : (file : List ℕ) {t : SurveyFields} → survey_of file most_frames ≡ Ok t
     → t.length ≡ length file
-packed-length file t e = survey-length file most_frames t (survey_of-parts file most_frames t e).1
+packed-length file {t} e = survey-length file most_frames (survey_of-parts file most_frames e).1
 
 -- the packed file holds the frames that were drawn
 pub drills-packed : DrillsArePacked
@@ -253,30 +253,32 @@ drills-no_lead_in = no-lead_ins
 -- ---- the line
 
 -- the line of the summary is the line of the stream
-pub text-of : (seed count : ℕ) (s : Summary) → s ≡ drill_summary seed count
+pub text-of : (seed : ℕ) {count : ℕ} {s : Summary} → s ≡ drill_summary seed count
     → summary_text s ≡ drill_text seed count
 unfolding drill_text
-text-of seed count s is = ap summary_text is
+text-of seed is = ap summary_text is
 
 abbrev text_in : Result Made EditFault → List ℕ
 text_in (Ok made) = made.text
 text_in (Err fault) = []
 
 module _ (seed count : ℕ) (files : Files) (old new : Heard) where
-  text-is : (text : List ℕ) → IsCommandText (drill_command seed count) files text
+  text-is : {text : List ℕ} → IsCommandText (drill_command seed count) files text
       → drill_text seed count ≡ text
-  text-is text (inl always) = same_Some (drill_text seed count) text always
-  text-is text (inr told) = ap text_in told.3 ∙ told.4
+  text-is {text} (inl always) = same_Some (drill_text seed count) text always
+  text-is (inr told) = ap text_in told.3 ∙ told.4
 
   -- if all of the line was sent, the command sent its text
   pub told-all : new.sent ≡ sent_and_more old.sent (drill_text seed count) → new.faults ≡ old.faults
       → SaysAll (drill_command seed count) files old new
-  told-all = says-all (drill_command seed count) files old new (drill_text seed count) text-is
+  told-all = says-all (drill_command seed count) files old new (drill_text seed count)
+      (λ text. text-is {text = text})
 
   -- if a prefix of the line was sent, the command sent a prefix of its text
   pub told-part : SentPrefix (drill_text seed count) old.sent new.sent → Rose old.faults new.faults
       → SaysPrefix (drill_command seed count) files old new
-  told-part = says-prefix (drill_command seed count) files old new (drill_text seed count) text-is
+  told-part = says-prefix (drill_command seed count) files old new (drill_text seed count)
+      (λ text. text-is {text = text})
 
 behind-some : (front rest : List ℕ) (x : ℕ) → Some (front ++ x ∷ rest) ≢ Some []
 behind-some [] rest x e = absurd cc

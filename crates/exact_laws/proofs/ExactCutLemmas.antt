@@ -16,8 +16,7 @@ use Rattle.exact_laws.proofs.ExactNumberLemmas.{whole_span}
 use Rattle.exact_laws.proofs.ExactRunLemmas.{at, ends-later, first_of, FirstSpan, high, inputs, low}
 use Rattle.exact_laws.proofs.ExactRunLemmas.{mid, run-fits, run-frames, run-stream, run_frames, st}
 use Rattle.exact_laws.proofs.ExactRunLemmas.{stays-fit, whole}
-use Rattle.exact_laws.proofs.ExactSpanLemmas.{counted, has-led-span, has-own-span, has-span}
-use Rattle.exact_laws.proofs.ExactSpanLemmas.{read-head}
+use Rattle.exact_laws.proofs.ExactSpanLemmas.{has-led-span, has-own-span, has-span, read-head}
 use Rattle.exact_laws.proofs.InfoFieldLemmas.{gain-same, Keeps, keeps-by, made-again, made-front}
 use Rattle.exact_laws.proofs.InfoFieldLemmas.{quality-again, quality_bytes, sealed-front}
 use Rattle.exact_laws.proofs.InfoFieldLemmas.{sealed-same}
@@ -67,10 +66,10 @@ use Rattle.sync_survey.specs.{Faults.SurveyFields, MainData.StreamFrame, Row.Row
 
 -- ---- lists
 
-find-same : {X : Type 0} (f g : X → Bool) (xs : List X) → ((x : X) → f x ≡ g x)
+find-same : {X : Type 0} {f g : X → Bool} (xs : List X) → ((x : X) → f x ≡ g x)
     → find f xs ≡ find g xs
-find-same f g [] same = refl
-find-same f g (x ∷ xs) same = grind (arith, find-same f g xs same)
+find-same [] same = refl
+find-same {f = f} {g = g} (x ∷ xs) same = grind (arith, find-same xs same)
 
 -- ---- lead-ins
 
@@ -85,18 +84,16 @@ same-lead window first xs ys one two =
     → fits_behind window n needs ≡ true = grind (arith, fits-tested, more-behind) in
     let class = class_of first.header in
     ap (option_map (λ slot. record first.header { protected = false; slot = slot }))
-    (find-same
-    (λ slot. fits_behind window (area_of class slot false) (first ∷ xs))
-    (λ slot. fits_behind window (area_of class slot false) (first ∷ ys)) all_slots
+    (find-same all_slots
     (λ slot. all (first ∷ xs) one (area_of class slot false)
     ∙ sym (all (first ∷ ys) two (area_of class slot false))))
 
 -- a lead-in has the header of the frame after it but for its slot and its check word
-lead-header : (window : ℕ) (first : Need) (needs : List Need) (h : HeaderFields)
+lead-header : (window : ℕ) (first : Need) (needs : List Need) {h : HeaderFields}
     → lead_in_header window (first ∷ needs) ≡ Some h
     → info_header_of h ≡ info_header_of first.header
 unfolding lead_in_header
-lead-header window first needs h is = grind arith
+lead-header window first needs is = grind arith
 
 -- ---- the plan after an unconditional lead-in
 
@@ -110,13 +107,13 @@ record IsLedRun (window : ℕ) (first : Need) (needs : List Need) (led run : Lis
     leads : lead.lead_in ≡ true
     run_is : run ≡ record lead { lead_in = false } ∷ rest
 
-led-run : (window : ℕ) (first : Need) (needs : List Need) (led run : List Placed)
+led-run : {window : ℕ} {first : Need} {needs : List Need} {led run : List Placed}
     (is : IsLedAs window first needs led)
     → AreInOwnSlots (lead_need first.header is.lead.slot ∷ first ∷ needs) run
     → OwnBegins window (lead_need first.header is.lead.slot ∷ first ∷ needs) run
     → IsLedRun window first needs led run
 unfolding AreItemSlots AreLedInOwnSlots
-led-run window first needs led run is own begins =
+led-run {window} {first} {needs} {run = run} is own begins =
     let lead : Placed = record is.lead { lead_in = false } in
     let all = lead_need first.header is.lead.slot ∷ first ∷ needs in
     let is_led = subst (AreLedInOwnSlots window (first ∷ needs)) is.are is.led in
@@ -144,25 +141,24 @@ module _ {file : List ℕ} {s : SurveyFields} (r : Recording file s) where
   piece-keeps : {from to : ExactPlace} {p : FilePart}
       (at : IsExact r from to p)
       → Keeps (head r) (read at.piece).extension
-  piece-keeps {from = from} {to = to} at =
+  piece-keeps {from} {to} at =
       let t = span r from to in
       let made = at.piece.made in
       let long = head_long file s.head in
       keeps-by (head r) long (delay_of s.class (leads at.piece) t) (padding_of t)
-      (read at.piece).extension
       (ap (take 28)
       (read-extension at.piece
-      ∙ ap (λ (l : LaidPart). l.extension) (piece-by r t at.there.there made.row made.row_is))
+      ∙ ap (λ (l : LaidPart). l.extension) (piece-by r t at.there.there made.row_is))
       ∙ sealed-front made.row.header (info_laid (plain r t) file (own r))
       (plain-long (head r) long t file (own r) (has-own r) (inside r t at.there.there)))
       (read-head r at).numbers.encoder
 
   -- all pieces have the same peak and gains
-  gains-are : (gain : List ℕ) → gain ≡ replay_gain (kept_extension (head r))
+  gains-are : {gain : List ℕ} → gain ≡ replay_gain (kept_extension (head r))
       → {from : ExactPlace} {tos : List ExactPlace} {parts : List FilePart}
       → AreExact r from tos parts → list_all (part_says_gain gain) parts ≡ true
-  gains-are gain is no_pieces = refl
-  gains-are gain is (piece_then {p = p} {parts = parts} here more) =
+  gains-are is no_pieces = refl
+  gains-are {gain} is (piece_then {p = p} {parts = parts} here more) =
       let own_gain = ap gain_of (read-is here.piece)
       ∙ gain-same (read here.piece).extension (kept_extension (head r)) (piece-keeps here).front
       ∙ sym is in
@@ -170,7 +166,7 @@ module _ {file : List ℕ} {s : SurveyFields} (r : Recording file s) where
       (and_from (is_some (part_brought p).played) (bytes_eq (gain_of (part_head p)) gain)
       (ap is_some (has-span r here).spans.counted)
       ((bytes_eq-Decides (gain_of (part_head p)) gain).1 own_gain))
-      (gains-are gain is more)
+      (gains-are is more)
 
 -- ---- the join
 
@@ -276,12 +272,11 @@ module _ {file : List ℕ} {s : SurveyFields} (r : Recording file s) {place next
   bare-frames : stream (inputs r pieces) ≡ stream_all → run_plan first parts ≡ placed
       → seamless_frames first parts ≡ relaid_frames (part_frames part) placed
   bare-frames streams plans =
-      frames-of-part r.known (inputs r pieces) part part-is (streams ∙ part-streams) placed plans
+      frames-of-part r.known (inputs r pieces) part-is (streams ∙ part-streams) plans
 
   headers : front ≡ leads piece → (q : Row) → slice_get first.survey.frames front ≡ Some q
       → info_header_of q.header ≡ info_header_of row.header
-  headers same q found =
-      ap (λ (n : Need). info_header_of n.header) (row-after piece front q same found)
+  headers same q found = ap (λ (n : Need). info_header_of n.header) (row-after piece same found)
 
   -- both the cut_span and the first piece must have a lead-in, or neither
   led-as-first : (first_of r pieces).led ≡ cut_span.led
@@ -349,14 +344,13 @@ module _ {file : List ℕ} {s : SurveyFields} (r : Recording file s) {place next
       own_more = map need_of (slice_range t.frames (begin_at + 1) middle)
 
       needs-cons : needs ≡ need_of row ∷ more
-      needs-cons =
-          ap (map need_of) (range-next t.frames cut_span.first cut_span.last row row-is there.some)
+      needs-cons = ap (map need_of) (range-next t.frames row-is there.some)
 
       own-cons : needs_of own_run ≡ need_of row ∷ own_more
       own-cons =
           between-needs (has-own r) begin_at middle
           ∙ ap (map need_of)
-          (range-next t.frames begin_at middle row piece.made.row_is piece.right.some)
+          (range-next t.frames piece.made.row_is piece.right.some)
 
       ends : middle ≤ high_end
       ends = ends-later r pieces
@@ -368,7 +362,7 @@ module _ {file : List ℕ} {s : SurveyFields} (r : Recording file s) {place next
       own-fit =
           front-fits window 0 own_run (run_between file t middle high_end)
           (ap (λ l. fits_behind window 0 (needs_of l))
-          (between-append (has-own r) begin_at middle high_end
+          (between-append (has-own r)
           (omega (arith, piece.right.some)) ends)
           ∙ ap (fits_behind window 0) run-needs ∙ all-fit)
 
@@ -394,18 +388,18 @@ module _ {file : List ℕ} {s : SurveyFields} (r : Recording file s) {place next
           let plan =
           (led-is chosen t (has-own r).placed there.some there.within led_places).1
           refl in
-          led-as window (need_of row) more led_places
+          led-as window (need_of row) more
           (subst (λ ns. IsLedPlan window own_choice ns led_places) needs-cons plan)
 
       abbrev lead : Need
       lead = lead_need row.header as-led.lead.slot
 
       known-class : IsClass (class_of row.header)
-      known-class = IsClass-class_of row.header ((has-own r).placed cut_span.first row row-is).known
+      known-class = IsClass-class_of ((has-own r).placed cut_span.first row row-is).known
 
       lead-found : lead_in_header window (need_of row ∷ more) ≡ Some lead.header
       unfolding IsLeadInHeader
-      lead-found = lead-in-is window (need_of row) more lead.header known-class (as-led.slot, refl)
+      lead-found = lead-in-is window (need_of row) more known-class (as-led.slot, refl)
 
       own-found : lead_in_header window (need_of row ∷ own_more)
           ≡ Some brought.lead_in.need.header
@@ -442,17 +436,17 @@ module _ {file : List ℕ} {s : SurveyFields} (r : Recording file s) {place next
 
       as-run : IsLedRun window (need_of row) more led_places (run_plan first parts)
       as-run =
-          led-run window (need_of row) more led_places (run_plan first parts) as-led
+          led-run as-led
           ((lead-where-wanted window (lead ∷ need_of row ∷ more) (run_plan first parts)
           run-plan).0 run-fit)
-          (plan-begins window (lead ∷ need_of row ∷ more) (run_plan first parts) run-plan run-fit)
+          (plan-begins run-plan run-fit)
 
       lead-begins : as-led.lead.begin ≡ 0
       unfolding begins_of
       lead-begins = grind (arith, as-led.lead.begin, as-led.rest, as-led.are, as-led.begins)
 
       part-entry : map stream_entry (part_frames part) ≡ stream_all
-      part-entry = part-stream s.class part part-is ∙ sym part-streams
+      part-entry = part-stream part-is ∙ sym part-streams
 
       streams : stream (inputs r pieces) ≡ silent_lead_in brought.first ∷ stream_all
       streams =
@@ -462,7 +456,7 @@ module _ {file : List ℕ} {s : SurveyFields} (r : Recording file s) {place next
       stream-first : stream_all
           ≡ brought.first ∷ (brought.rest ++ slice_range (st r) middle high_end)
       stream-first =
-          sym (range-append (st r) begin_at middle high_end
+          sym (range-append (st r)
           (omega (arith, piece.right.some)) ends)
           ∙ ap (λ l. l ++ slice_range (st r) middle high_end)
           brought.own_is
@@ -474,14 +468,14 @@ module _ {file : List ℕ} {s : SurveyFields} (r : Recording file s) {place next
           let none = sym (ap (map stream_entry) are) ∙ part-entry ∙ stream-first in
           absurd cc
       frames-led (f ∷ fs) are =
-          let entries = subst (AreStreamEntries s.class) are (part-entries s.class part part-is) in
+          let entries = subst (AreStreamEntries s.class) are (part-entries part-is) in
           let all = sym (ap (map stream_entry) are) ∙ part-entry in
           let begins = all ∙ stream-first in
           let entry : stream_entry f ≡ brought.first = cc in
           let led_frame = lead_in_with_place as-run.lead f in
           let near : as-led.lead.begin ≤ window = omega (arith, lead-begins) in
           let own_entry =
-          one-entry s.class as-led.lead f (slot_among as-led.lead.slot as-led.slot.chosen) near
+          one-entry s.class as-led.lead f (slot_among as-led.slot.chosen) near
           entries.0 true in
           let heard = ap₂ ◌∷◌
           (one-stream true as-run.lead f ∙ ap silent_lead_in entry) all in
@@ -497,9 +491,9 @@ module _ {file : List ℕ} {s : SurveyFields} (r : Recording file s) {place next
         frames = frames-led (part_frames part) refl;
         header = λ q found.
             ap (λ (n : Need). info_header_of n.header)
-            (row-need first.survey.frames front q brought.lead_in.need found
+            (row-need first.survey.frames front found
             (ap₂ (λ (ns : List Need) n. slice_get ns n) brought.rows_need stays))
-            ∙ lead-header window (need_of row) own_more brought.lead_in.need.header own-found;
+            ∙ lead-header window (need_of row) own_more own-found;
       }
 
   -- the frames are the frames that are cut, unless the first piece begins with a look-alike
@@ -534,7 +528,7 @@ module _ {file : List ℕ} {s : SurveyFields} (r : Recording file s) {place next
   made-is : made ≡ extension_of (head r) written (padding_of cut_span)
   made-is =
       ap₂ (λ o n. extension_of o written n) (read-is piece) (padding-is r pieces)
-      ∙ made-again (head r) (read piece) written (padding_of cut_span) (piece-keeps r (at r pieces))
+      ∙ made-again (read piece) written (padding_of cut_span) (piece-keeps r (at r pieces))
 
   -- peak and gains stay as they are
   run-made : run_extension written first parts ≡ made
@@ -562,10 +556,10 @@ module _ {file : List ℕ} {s : SurveyFields} (r : Recording file s) {place next
     extension-is : run_extension written first parts ≡ (plain r cut_span).extension
     extension-is = grind (arith, run-made, made-is, s.class, is.frames, frames-many, placed-many)
 
-    info-is : (q : Row) → slice_get first.survey.frames front ≡ Some q
+    info-is : {q : Row} → slice_get first.survey.frames front ≡ Some q
         → info_frame q.header (seamless_info (delay_of_run first parts) q first parts)
         ≡ info_frame row.header (info_laid cut file t)
-    info-is q found_row =
+    info-is {q} found_row =
         let quality = quality_of (part_head first) in
         ap (λ o. info_frame q.header (seamless_info o q first parts)) (delay-is r pieces)
         ∙ ap (λ e. info_frame q.header (sealed_info q.header
@@ -576,10 +570,10 @@ module _ {file : List ℕ} {s : SurveyFields} (r : Recording file s) {place next
         row.header (plain r cut_span).extension (is.header q found_row)
         ∙ ap (λ e.
         info_frame row.header (info_laid (record (plain r cut_span) { extension = e }) file t))
-        (sym (ap (λ (l : LaidPart). l.extension) (piece-by r cut_span found.there row row-is)))
+        (sym (ap (λ (l : LaidPart). l.extension) (piece-by r cut_span found.there row-is)))
 
     -- the join is what is cut, without the blocks after the frames
     pub cut-file : seamless_file (first ∷ parts) ≡ bare_file cut file t
     cut-file =
-        file-same r.known (inputs r pieces) cut file t row row-is is.frames info-is
-        (front-same (laid-input piece) most_frames s r.told refl)
+        file-same r.known (inputs r pieces) cut file t row row-is is.frames (λ q. info-is {q = q})
+        (front-same (laid-input piece) most_frames {t = s} r.told refl)

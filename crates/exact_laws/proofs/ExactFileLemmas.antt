@@ -3,7 +3,7 @@ use Rattle.std.proofs.Common.{ap, arith, IsTrue, length, List, map, None, Ok, Op
 use Rattle.std.proofs.Common.{subst, sym, true, ℕ, ◌&&◌, ◌+◌, ◌<◌, ◌∙◌, ◌≡◌, ◌≤◌}
 use Rattle.std.proofs.lemmas.Bool.{and_from, le-leb, lt-ltb}
 use Rattle.std.proofs.lemmas.List.{drop-map, length-map, take-map}
-use Rattle.std.specs.Prelude.{if◌then◌else◌, nat_le, nat_lt, slice_get, slice_range}
+use Rattle.std.specs.Prelude.{if◌then◌else◌, slice_get, slice_range}
 use Rattle.commands.proofs.RefusingLemmas.{refusal_or-ok, then_ok}
 use Rattle.cut_edits.proofs.ChosenLemmas.{IsRight}
 use Rattle.cut_edits.proofs.HeadLemmas.{survey_without_head-had, survey_without_head-placed}
@@ -11,7 +11,7 @@ use Rattle.cut_edits.proofs.PieceLemmas.{head_long, plain-long, samples_there}
 use Rattle.cut_edits.proofs.PieceLemmas.{span-survey_without_head, span-there}
 use Rattle.cut_edits.{proofs.SealedLemmas.for-whole, specs.Chosen.Chosen}
 use Rattle.cut_edits.specs.Exact.{exact_part, file_span, IsSpanIn, quality_of, row_sealed_part}
-use Rattle.cut_edits.specs.Exact.{samples_fault, span_part, span_piece, survey_without_head}
+use Rattle.cut_edits.specs.Exact.{span_part, span_piece, survey_without_head}
 use Rattle.exact_span.proofs.SealLemmas.{sealed-whole}
 use Rattle.exact_span.specs.Extensions.{counts_of, counts_with_frames, delay_in, has_encoder}
 use Rattle.exact_span.specs.{Extensions.padding_in, Laws.IsPieceHead}
@@ -36,10 +36,10 @@ use Rattle.sync_survey.specs.{Faults.SurveyFields, Row.Row}
 
 -- ---- heads that count
 
-counts-there : (fields : Info) (many : ℕ) → fields.frames ≡ Some many → 1 ≤ many
+counts-there : (fields : Info) {many : ℕ} → fields.frames ≡ Some many → 1 ≤ many
     → IsTrue (has_encoder fields.extension)
     → (counts : HeadCounts) × (counts_of (Some fields) ≡ Some counts)
-counts-there fields many is some encoder =
+counts-there fields {many} is some encoder =
     let counts : HeadCounts =
     record {
       frames = many;
@@ -54,11 +54,11 @@ counts-there fields many is some encoder =
     )
 
 -- a head of a span counts what is played by it
-pub counted-is : (class : ClassFields) (leads : ℕ) (span : Span) (fields : Info) (frames : ℕ)
+pub counted-is : {class : ClassFields} {leads : ℕ} {span : Span} {fields : Info} (frames : ℕ)
     → span.first < span.last → IsPieceHead class leads span fields
     → counted_positions (Some fields) class frames ≡ Some (played_of (Some fields) class frames)
 unfolding counted_positions played_of
-counted-is class leads span fields frames some is = grind (arith, counts-there, some)
+counted-is frames some is = grind (arith, counts-there, some)
 
 -- ---- a span of the recording
 
@@ -72,7 +72,7 @@ module _ {file : List ℕ} {s : SurveyFields} (r : Recording file s) where
 
   -- frames can be laid by this survey
   pub has-own : CanBeRelaid file own
-  has-own = survey_without_head-had file s r.has (survey_without_head-placed s r.has.placed)
+  has-own = survey_without_head-had r.has (survey_without_head-placed s r.has.placed)
 
   -- the number of the sample that a place names
   abbrev pub sample : ExactPlace → ℕ
@@ -127,47 +127,46 @@ module _ {file : List ℕ} {s : SurveyFields} (r : Recording file s) where
   AreExact from tos parts = AreAt exact_cuts file own s.class from tos parts
 
   -- a span that is found
-  pub span-found : (from to : ExactPlace) (found : Span) → file_span from to head s ≡ Ok found
+  pub span-found : {from to : ExactPlace} {found : Span} → file_span from to head s ≡ Ok found
       → IsFound from to × (span from to ≡ found)
   unfolding file_span
-  span-found from to found e =
+  span-found {from} {to} {found} e =
       let samples = length_of_played (input_played file s) in
-      let ok = refusal_or-ok (samples_fault (sample from) (sample to) samples) (span from to) found
+      let ok = refusal_or-ok
       e in
       let inside =
-      samples_there (sample from) (sample to) samples
-      (nat_lt (sample from) (sample to) && nat_le (sample to) samples) refl ok.0 in (
+      samples_there refl ok.0 in (
         record {
           some = inside.0;
           within = inside.1;
-          there = subst (IsSpanIn s) (sym ok.1) (span-there from to head s found e);
+          there = subst (IsSpanIn s) (sym ok.1) (span-there from to head e);
           found = e ∙ ap Ok (sym ok.1);
         },
         ok.1,
       )
 
   -- two places whose samples rise and are played have a span
-  pub span-of-places : (from to : ExactPlace) → sample from < sample to
+  pub span-of-places : {from to : ExactPlace} → sample from < sample to
       → sample to ≤ length_of_played (input_played file s) → IsFound from to
   unfolding file_span
-  span-of-places from to some most =
+  span-of-places {from} {to} some most =
       let e : file_span from to head s ≡ Ok (span from to) =
       grind (arith, sample, position, and_from, lt-ltb, le-leb) in
-      (span-found from to (span from to) e).0
+      (span-found e).0
 
   module _ (span : Span) (there : IsSpanIn s span) where
     -- the frames of the span are there when the head is set apart
     pub inside : IsSpanIn own span
-    inside = span-survey_without_head s span there
+    inside = span-survey_without_head there
 
     -- the piece by the row of its first frame
-    pub piece-by : (row : Row) → slice_get own.frames span.first ≡ Some row
+    pub piece-by : {row : Row} → slice_get own.frames span.first ≡ Some row
         → span_piece head span file own
         ≡ record (plain span) {
           extension = (sealed_info row.header (info_laid (plain span) file own)).extension;
         }
     unfolding span_piece
-    piece-by row found = ap (λ o. row_sealed_part o (plain span) file own) found
+    piece-by found = ap (λ o. row_sealed_part o (plain span) file own) found
 
     first-row : (row : Row) × (slice_get own.frames span.first ≡ Some row)
     first-row = first-there own.frames span.first (omega (arith, inside.some, inside.within))
@@ -175,7 +174,7 @@ module _ {file : List ℕ} {s : SurveyFields} (r : Recording file s) where
     -- it is what is laid of the span
     pub piece-is : span_piece head span file own ≡ laid span
     piece-is =
-        let by = piece-by first-row.0 first-row.1 in
+        let by = piece-by first-row.1 in
         grind (arith, by)
 
     -- what is laid of the span can be laid
@@ -184,10 +183,9 @@ module _ {file : List ℕ} {s : SurveyFields} (r : Recording file s) where
       some = inside.some;
       within = inside.within;
       extension =
-          ap (λ (l : LaidPart). length l.extension) (piece-by first-row.0 first-row.1)
-          ∙ (sealed-whole first-row.0.header (info_laid (plain span) file own)
+          ap (λ (l : LaidPart). length l.extension) (piece-by first-row.1)
+          ∙ (sealed-whole first-row.0.header
           (for-whole s.class (frames_laid (plain span) file own) (plain span).quality
-          (plain span).extension
           (plain-long head (head_long file s.head) span file own has-own inside))).extension;
     }
 
@@ -197,8 +195,8 @@ module _ {file : List ℕ} {s : SurveyFields} (r : Recording file s) where
   unfolding exact_part
   exact-laid from to l e =
       let one =
-      then_ok (file_span from to head s) (λ sp. Ok (span_piece head sp file own)) l e in
-      let found = span-found from to one.0 one.1 in
+      then_ok e in
+      let found = span-found one.1 in
       let same : span_piece head one.0 file own ≡ l = cc in
       record {
         there = found.0;

@@ -71,7 +71,7 @@ module _ {file : List ℕ} {s : SurveyFields} (r : Recording file s) {place next
 pub exact-joins : ExactSplitThenSeamlessJoin
 unfolding has-span
 exact-joins points file s place next places laid first parts read e inputs =
-    let r = recording file s read in
+    let r = recording read in
     let pieces =
     map-pieces (λ a b p at. at.0)
     (laid-pieces (exact_cutting_of points) (exact_cuts r) file s (has-own r)

@@ -8,8 +8,8 @@ use Rattle.exact_laws.proofs.ExactFileLemmas.{AreExact, has-own, inside, IsExact
 use Rattle.exact_laws.proofs.ExactFileLemmas.{sample, span, span-of-places}
 use Rattle.exact_laws.proofs.ExactRunLemmas.{at, begins, ended_at, ends, first_leads, high, inputs}
 use Rattle.exact_laws.proofs.ExactRunLemmas.{IsJoined, joined-is, low, st}
-use Rattle.exact_laws.proofs.ExactSpanLemmas.{counted, first-before, has-span, HasSpan, leads-are}
-use Rattle.exact_laws.proofs.{ExactSpanLemmas.places-of, SpanRunLemmas.span-many}
+use Rattle.exact_laws.proofs.ExactSpanLemmas.{first-before, has-span, HasSpan, leads-are, places-of}
+use Rattle.exact_laws.proofs.SpanRunLemmas.{span-many}
 use Rattle.exact_span.proofs.{SealLemmas.frames-sealed, SpanLemmas.span-in_range}
 use Rattle.exact_span.specs.Laws.{IsPieceHead, KeepsPlaces, SaysNumbers}
 use Rattle.exact_span.specs.PlayedPositions.{decoder_delay, length_of_played, played_of, rest_of}
@@ -20,7 +20,6 @@ use Rattle.exact_span.specs.declared.{played.Played.Played, span.Span.Span}
 use Rattle.frame_header.specs.{Fields.ClassFields, Tables.samples_of}
 use Rattle.frame_header.specs.declared.version.Version.{Version}
 use Rattle.laying.specs.{Relaid.FilePart, Written.info_for}
-use Rattle.pack_edits.specs.Fewest.{lead_ins}
 use Rattle.seam_laws.proofs.FrameRangeLemmas.{range-length, stream-many}
 use Rattle.seam_laws.proofs.JoinNumberLemmas.{run-long, run-says}
 use Rattle.seam_laws.proofs.PieceListLemmas.{later-at, no_pieces, piece_then, Recording}
@@ -36,18 +35,18 @@ use Rattle.sync_survey.specs.{Faults.SurveyFields, Row.Row}
 -- ---- positions
 
 -- the delay of the span by the played positions of the first piece
-delay-same : (v : Version) (start first p given leads front many : ℕ)
+delay-same : (v : Version) (start first : ℕ) {p : ℕ} (given leads front many : ℕ)
     → start + first * samples_of v ≡ p + given * samples_of v → first * samples_of v ≤ p
     → many + front ≡ given + leads
     → start + leads * samples_of v - front * samples_of v - decoder_delay
     ≡ many * samples_of v + (p - first * samples_of v) - decoder_delay
-delay-same v start first p given h front many starts before same = grind arith
+delay-same v start first given h front many starts before same = grind arith
 
 -- what is left after the last position of a piece
-rest-same : (v : Version) (frames leads from to end q : ℕ) → frames ≡ leads + (to - from)
-    → end + from * samples_of v ≡ q + leads * samples_of v → from < to → q ≤ to * samples_of v
-    → frames * samples_of v - end ≡ to * samples_of v - q
-rest-same v frames h from to end q same ends some most = grind arith
+rest-same : (v : Version) {frames : ℕ} (leads : ℕ) {from to : ℕ} (end : ℕ) {q : ℕ}
+    → frames ≡ leads + (to - from) → end + from * samples_of v ≡ q + leads * samples_of v
+    → from < to → q ≤ to * samples_of v → frames * samples_of v - end ≡ to * samples_of v - q
+rest-same v h end same ends some most = grind arith
 
 from-is : (class : ClassFields) (p q : ℕ)
     → (span_of class p q).from ≡ p - warm_up_frame (samples_in class) p * samples_in class
@@ -69,15 +68,15 @@ module _ {file : List ℕ} {s : SurveyFields} (r : Recording file s) where
   piece-rest : {from to : ExactPlace} {p : FilePart}
       → IsExact r from to p
       → part_rest p ≡ ended_at r to * samples_in s.class - position r to
-  piece-rest {from = from} {to = to} {p = p} at =
+  piece-rest {from} {to} {p} at =
       let n = length p.survey.frames in
       let sp = has-span r at in
       let many = sym (brought-many at.piece.is)
       ∙ span-many sp.spans in
-      rest-counted (part_head p) p.survey.class n sp.spans.played (sym sp.spans.counted)
+      rest-counted (part_head p) p.survey.class n (sym sp.spans.counted)
       ∙ ap (λ d. rest_of d n sp.spans.played) at.piece.is.of_class
-      ∙ rest-same s.class.version n (length sp.spans.lead_ins) sp.spans.from sp.spans.to
-      sp.spans.played.end (position r to) many sp.spans.ended sp.spans.some sp.spans.behind
+      ∙ rest-same s.class.version (length sp.spans.lead_ins)
+      sp.spans.played.end many sp.spans.ended sp.spans.some sp.spans.behind
       ∙ ap (λ k. k * samples_in s.class - position r to) (sp.to_is ∙ ends r from to)
 
   last-rest : {from to : ExactPlace} {p : FilePart}
@@ -130,7 +129,7 @@ module _ {file : List ℕ} {s : SurveyFields} (r : Recording file s) {place next
       let within =
       places-within r place (later-at pieces) here.some
       here.within in
-      span-of-places r place goal within.0 within.1
+      span-of-places r within.0 within.1
 
   -- its first frame is the first frame of the first piece
   pub whole-first : low r pieces ≡ whole_span.first
@@ -174,7 +173,7 @@ module _ {file : List ℕ} {s : SurveyFields} (r : Recording file s) {place next
       played.start + run_lead_ins first parts * samples_in d
       - (join_of_parts first parts).front * samples_in d - decoder_delay)
       (at r pieces).piece.is.of_class
-      ∙ delay-same v played.start (warm_up_frame (samples_in s.class) p) p
+      ∙ delay-same v played.start (warm_up_frame (samples_in s.class) p)
       (length first-span.spans.lead_ins) (run_lead_ins first parts)
       (join_of_parts first parts).front many
       starts (first-before v p) (omega (arith, joined.many, first-span.many_is))
@@ -182,7 +181,7 @@ module _ {file : List ℕ} {s : SurveyFields} (r : Recording file s) {place next
 
   -- the delay is in range
   pub delay-most : delay ≤ 2830
-  delay-most = (span-in_range s.class whole_span many whole-found.there.is many-leads).delay_most
+  delay-most = (span-in_range whole-found.there.is many-leads).delay_most
 
   -- it is the delay of the join
   pub delay-is : delay_of_run first parts ≡ Some delay
@@ -201,8 +200,7 @@ module _ {file : List ℕ} {s : SurveyFields} (r : Recording file s) {place next
 
   -- the padding is at most a frame more than that
   pub padding-most : padding_of whole_span ≤ 1680
-  padding-most =
-      (span-in_range s.class whole_span many whole-found.there.is many-leads).padding_most
+  padding-most = (span-in_range whole-found.there.is many-leads).padding_most
 
   -- ---- the Info frame
 
@@ -249,9 +247,9 @@ module _ {file : List ℕ} {s : SurveyFields} (r : Recording file s) {place next
   info-head row =
       let info = info_for first.survey.class (seamless_frames first parts)
       (quality_of (part_head first)) (run_extension delay first parts) in
-      let sealed = frames-sealed row.header info
+      let sealed = frames-sealed row.header
       (for-whole first.survey.class (seamless_frames first parts) (quality_of (part_head first))
-      (run_extension delay first parts) (run-long first parts delay)) in
+      (run-long first parts delay)) in
       record {
         frames = ap Some frames-many;
         numbers = sealed.says delay (padding_of whole_span) run-numbers;
@@ -262,6 +260,4 @@ module _ {file : List ℕ} {s : SurveyFields} (r : Recording file s) {place next
       → KeepsPlaces s.class many whole_span.first (sample r place) (sample r goal)
       (played_of (Some (seamless_info (Some delay) row first parts)) s.class
       (many + (whole_span.last - whole_span.first))) (input_played file s)
-  join-plays row =
-      places-of r whole-found many
-      (seamless_info (Some delay) row first parts) many-leads (info-head row)
+  join-plays row = places-of r whole-found many-leads (info-head row)

@@ -7,7 +7,6 @@ use Rattle.exact_laws.proofs.ExactNumberLemmas.{delay, delay-is, frames-many, go
 use Rattle.exact_laws.proofs.ExactNumberLemmas.{many-leads, whole-found, whole_span}
 use Rattle.exact_laws.proofs.{ExactRunLemmas.{at, inputs}, ExactSpanLemmas.places-of}
 use Rattle.exact_span.specs.{Laws.{IsPieceHead, KeepsPlaces}, PlayedPositions.played_of}
-use Rattle.exact_span.specs.Spans.{delay_of, padding_of}
 use Rattle.exact_span.specs.declared.{exact_place.ExactPlace.ExactPlace, span.Span.Span}
 use Rattle.frame_header.specs.Fields.{ClassFields}
 use Rattle.info_header.specs.declared.fields.Info.{Info}
@@ -58,24 +57,23 @@ module _ {file : List ℕ} {s : SurveyFields} (r : Recording file s) {place next
   read-head : IsPieceHead s.class leads t read
   read-head = record {
     frames =
-        read-count raw written-is (leads + (t.last - t.first))
+        read-count raw written-is
         says.frames count-small;
     numbers =
-        read-says raw written-is (delay_of s.class leads t)
-        (padding_of t) says.numbers;
+        read-says raw written-is says.numbers;
   }
 
   -- by this head the join plays the samples from the first place to the last
-  pub read-plays : (allowed : ℕ) (j : SurveyFields)
+  pub read-plays : (allowed : ℕ) {j : SurveyFields}
       → survey_of (seamless_file (first ∷ parts)) allowed ≡ Ok j
       → KeepsPlaces s.class leads t.first (sample r place) (sample r (goal r pieces))
       (input_played (seamless_file (first ∷ parts)) j) (input_played file s)
-  read-plays allowed j e =
+  read-plays allowed {j} e =
       let played = read-played raw written-is allowed j e
       ∙ ap₂ (λ (d : ClassFields) (n : ℕ). played_of (Some read) d n)
       (at r pieces).piece.is.of_class
       (frames-many r pieces) in
       subst (λ u. KeepsPlaces s.class leads t.first (sample r place) (sample r (goal r pieces)) u
       (input_played file s)) (sym played)
-      (places-of r (whole-found r pieces) leads read
+      (places-of r (whole-found r pieces)
       (many-leads r pieces) read-head)

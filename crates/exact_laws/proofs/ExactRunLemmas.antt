@@ -7,7 +7,7 @@ use Rattle.std.proofs.{Common.{◌++◌, ◌+◌, ◌-◌, ◌<◌, ◌∙◌, �
 use Rattle.std.proofs.lemmas.{Bool.cases_lt, List.{drop-append-le, length-append}}
 use Rattle.std.specs.{List.list_all, Prelude.slice_range}
 use Rattle.exact_laws.proofs.ExactFileLemmas.{all-range, all_run, AreExact, exact_cuts, has-own}
-use Rattle.exact_laws.proofs.ExactFileLemmas.{inside, IsExact, IsFound, own, position, span}
+use Rattle.exact_laws.proofs.ExactFileLemmas.{IsExact, IsFound, own, position, span}
 use Rattle.exact_laws.proofs.ExactSpanLemmas.{first-early, first-is, first-rises, has-led-span}
 use Rattle.exact_laws.proofs.ExactSpanLemmas.{has-own-span, has-span, HasSpan, last-behind, last-is}
 use Rattle.exact_laws.proofs.ExactSpanLemmas.{last-rises}
@@ -17,7 +17,6 @@ use Rattle.exact_span.specs.{PlayedPositions.samples_in, Spans.{frames_before, w
 use Rattle.exact_span.specs.declared.{exact_place.ExactPlace.ExactPlace, span.Span.Span}
 use Rattle.frame_header.specs.{Tables.window_of, declared.version.Version.Version}
 use Rattle.laying.specs.Relaid.{FilePart, part_stream, silent_lead_in}
-use Rattle.pack_edits.specs.Fewest.{lead_ins}
 use Rattle.seam_laws.proofs.FrameRangeLemmas.{all_stream, between-fits, between-known, range-append}
 use Rattle.seam_laws.proofs.FrameRangeLemmas.{range-drop, range-length, range-none, run_between}
 use Rattle.seam_laws.proofs.FrameRangeLemmas.{stream-many}
@@ -61,15 +60,14 @@ module _ {file : List ℕ} {s : SurveyFields} (r : Recording file s) where
 
   -- where the span between two places begins
   pub begins : (from to : ExactPlace) → (span r from to).first ≡ begun_at from
-  begins from to = first-is s.class (position r from) (position r to) (span r from to) refl
+  begins from to = first-is s.class (position r from) (position r to) refl
 
   -- and where it ends
   pub ends : (from to : ExactPlace) → (span r from to).last ≡ ended_at to
-  ends from to = last-is s.class (position r from) (position r to) (span r from to) refl
+  ends from to = last-is s.class (position r from) (position r to) refl
 
   rises : {from to : ExactPlace} → IsFound r from to → ended_at from ≤ ended_at to
-  rises {from = from} {to = to} found =
-      last-rises v (position r from) (position r to) (omega (arith, found.some))
+  rises {from} {to} found = last-rises v (omega (arith, found.some))
 
   -- no later piece ends earlier
   ends-rise : {from : ExactPlace} {tos : List ExactPlace} {parts : List FilePart}
@@ -92,28 +90,28 @@ module _ {file : List ℕ} {s : SurveyFields} (r : Recording file s) where
         (map (position r) tos) are) parts)
         ≡ slice_range st last (ended_at (last_place from tos))
 
-  are-spans : (low last : ℕ) {from : ExactPlace} {tos : List ExactPlace} {parts : List FilePart}
-      → AreExact r from tos parts → low ≤ begun_at from → 0 < position r from
-      → last ≡ ended_at from → AreSpans low last from tos parts
-  are-spans low last no_pieces late some is = record {
+  are-spans : {low : ℕ} (last : ℕ) {from : ExactPlace} {tos : List ExactPlace}
+      {parts : List FilePart} → AreExact r from tos parts → low ≤ begun_at from
+      → 0 < position r from → last ≡ ended_at from → AreSpans low last from tos parts
+  are-spans last no_pieces late some is = record {
     are = tt;
     to_is = is;
     left = sym (ap (λ n. slice_range st last n) (sym is) ∙ range-none st last);
   }
-  are-spans low last {from = from} (piece_then {to = to} {tos = tos} {p = p} here more) late some
-      is =
+  are-spans {low} last
+      {from} (piece_then {to = to} {tos = tos} {p = p} here more) late some is =
       let sp = has-span r here in
       let t = span r from to in
       let first = sp.from_is ∙ begins from to in
       let to_is = sp.to_is ∙ ends from to in
       let later : position r from ≤ position r to = omega (arith, here.there.some) in
       let on =
-      are-spans low sp.spans.to more
-      (omega (arith, late, first-rises v (position r from) (position r to) later))
+      are-spans sp.spans.to more
+      (omega (arith, late, first-rises v later))
       (omega (arith, here.there.some)) to_is in
       let early = subst (λ n. n * samples_in s.class < position r from) (sym first)
-      (first-early v (position r from) some) in
-      let inside = below-last v sp.spans.from last (position r from) early
+      (first-early v some) in
+      let inside = below-last v early
       (subst (λ n. position r from ≤ n * samples_in s.class) (sym is)
       (last-behind v (position r from))) in
       let out = last - sp.spans.from in
@@ -133,22 +131,22 @@ module _ {file : List ℕ} {s : SurveyFields} (r : Recording file s) where
             ∙ ap₂ (λ (n : ℕ) (l : List StreamFrame). drop n l)
             (omega (arith, inside, sp.same)) sp.stream_is
             ∙ drop-append-add sp.leads (own_stream here.piece) out
-            ∙ range-drop st t.first t.last out
+            ∙ range-drop st t.first t.last
             (omega (arith, inside, on_to, ends from to, sp.from_is))
             ∙ ap₂ (λ i j. slice_range st i j) (omega (arith, inside, sp.from_is))
             (ends from to))
             (on.left ∙ ap (λ n. slice_range st n (ended_at (last_place to tos))) to_is)
-            ∙ range-append st last (ended_at to) (ended_at (last_place to tos)) on_to
+            ∙ range-append st on_to
             (ends-rise more);
       }
 
 -- ---- the join of all pieces
 
-no-front : (b : Bool) (n : ℕ) → cond b 1 0 ≡ n → n ≡ 0 → b ≡ false
-no-front b n is none = grind arith
+no-front : {b : Bool} {n : ℕ} → cond b 1 0 ≡ n → n ≡ 0 → b ≡ false
+no-front is none = grind arith
 
-not-both : (x y : Bool) → (x && not y) ≡ false → x ≡ true → y ≡ true
-not-both x y is first = grind arith
+not-both : {x y : Bool} → (x && not y) ≡ false → x ≡ true → y ≡ true
+not-both is first = grind arith
 
 -- a frame without main data, followed by frames that
 -- fit with no free bytes before them, fits so too
@@ -168,7 +166,7 @@ module _ {file : List ℕ} {s : SurveyFields} (r : Recording file s) {place next
 
   -- the pieces are the inputs of a join
   pub inputs : Joins s.class first parts
-  inputs = pieces-join (exact_cuts r) file (own r) s.class pieces
+  inputs = pieces-join (exact_cuts r) file (own r) pieces
 
   abbrev window : ℕ
   window = window_of s.class.version
@@ -214,9 +212,9 @@ module _ {file : List ℕ} {s : SurveyFields} (r : Recording file s) {place next
       → AreSpans r sp.spans.from sp.spans.to next places parts
   spans sp =
       let later_begins =
-      first-rises s.class.version (position r place) (position r next)
+      first-rises s.class.version {p = position r place} {q = position r next}
       (omega (arith, at.there.some)) in
-      are-spans r sp.spans.from sp.spans.to later
+      are-spans r {low = sp.spans.from} sp.spans.to later
       (omega (arith, sp.from_is, begins r place next, later_begins))
       (omega (arith, at.there.some)) (sp.to_is ∙ ends r place next)
 
@@ -259,7 +257,7 @@ module _ {file : List ℕ} {s : SurveyFields} (r : Recording file s) {place next
 
   -- the frames of the first piece and those after it
   pub stream-parts : slice_range (st r) low mid ++ slice_range (st r) mid high ≡ whole
-  stream-parts = range-append (st r) low mid high (omega (arith, at.there.there.some)) ends-later
+  stream-parts = range-append (st r) (omega (arith, at.there.there.some)) ends-later
 
   later-stream : (sp : FirstSpan)
       → flat_map part_stream (later_parts (join_of_parts first parts).joints parts)
@@ -267,8 +265,8 @@ module _ {file : List ℕ} {s : SurveyFields} (r : Recording file s) {place next
   later-stream sp =
       ap (λ js. flat_map part_stream (later_parts js parts))
       (joints-are inputs
-      ∙ spans-are s.class (all r) all-known all-fit (position r place) (position r next)
-      (part_brought first) (map part_brought parts) (map (position r) places) sp.spans
+      ∙ spans-are s.class (all r) all-known all-fit (map part_brought parts)
+      (map (position r) places) sp.spans
       (spans sp).are)
       ∙ (spans sp).left ∙ ap (λ n. slice_range (st r) n high) sp.to_is
 
@@ -330,9 +328,9 @@ module _ {file : List ℕ} {s : SurveyFields} (r : Recording file s) {place next
       many = omega (arith, out, many-got);
     }
 
-    joined-with : (f : StreamFrame) (given : ℕ) → given ≤ 1
+    joined-with : (f : StreamFrame) {given : ℕ} → given ≤ 1
         → got ++ left ≡ silent_lead_in f ∷ whole → 1 + front ≡ given + length got → IsJoined given
-    joined-with f given few same out = record {
+    joined-with f few same out = record {
       leads = silent_lead_in f ∷ [];
       one = omega arith;
       led = omega (arith, few);
@@ -357,7 +355,7 @@ module _ {file : List ℕ} {s : SurveyFields} (r : Recording file s) {place next
       by_fit true fits = joined-without [] whole ((run-leads inputs).own fits) here refl stays
       by_fit false lacks =
           let led = (run-leads inputs).led lacks in
-          joined-with (silent_lead_in led.0 ∷ []) whole led.3 here led.0 0 (omega arith) refl
+          joined-with (silent_lead_in led.0 ∷ []) whole led.3 here led.0 (omega arith) refl
           (omega (arith, stays))
 
   -- no lead-in was given, but a frame that looks like one leaves the run, which gets it again
@@ -365,7 +363,7 @@ module _ {file : List ℕ} {s : SurveyFields} (r : Recording file s) {place next
   joined-alike sp none out =
       let led = run-lead out in
       let one : front ≡ 1 = omega (arith, out, front-few inputs) in
-      let silent = front-silent inputs out led.0 led.1 led.2 in
+      let silent = front-silent inputs out led.2 in
       let one_stream = slice_range (st r) low mid in
       let behind = slice_range (st r) mid high in
       let begins = sym (sp.stream_is ∙ ap (λ l. l ++ one_stream) none) ∙ silent.1 in
@@ -395,8 +393,8 @@ module _ {file : List ℕ} {s : SurveyFields} (r : Recording file s) {place next
         let fits : List RunFrame → Bool =
         λ fs. fits_behind window 0 (needs_of (drop 1 fs)) in
         let leads_here = has_lead_in window (part_brought first) in
-        not-both leads_here (fits all_frames)
-        (no-front (leads_here && not (fits all_frames)) front
+        not-both
+        (no-front
         (ap (λ fs. cond (leads_here && not (fits fs)) 1 0) (sym all-frames)
         ∙ sym (front-is inputs)) stays)
         led.brings.has
@@ -418,15 +416,16 @@ module _ {file : List ℕ} {s : SurveyFields} (r : Recording file s) {place next
           stays-fit,
         )
 
-    after : (n : ℕ) → front ≡ n
+    after : {n : ℕ} → front ≡ n
         → stream inputs ≡ drop n (silent_lead_in led.brings.first ∷ whole)
-    after n is = run-stream led-span ∙ ap (λ n. drop n (silent_lead_in led.brings.first ∷ whole)) is
+    after {n} is =
+        run-stream led-span ∙ ap (λ n. drop n (silent_lead_in led.brings.first ∷ whole)) is
 
     -- a lead-in was given, and stays
     joined-led : front ≡ 0 → IsJoined 1
     joined-led stays =
         joined-with [] (silent_lead_in led.brings.first ∷ whole)
-        ((run-leads inputs).own (run-fits stays)) (after 0 stays) led.brings.first 1
+        ((run-leads inputs).own (run-fits stays)) (after stays) led.brings.first
         (omega arith) refl (omega (arith, stays))
 
     -- a lead-in was given and leaves the run, which gets another
@@ -434,7 +433,7 @@ module _ {file : List ℕ} {s : SurveyFields} (r : Recording file s) {place next
     joined-again out =
         let led = run-lead out in
         let one : front ≡ 1 = omega (arith, out, front-few inputs) in
-        joined-with (silent_lead_in led.0 ∷ []) whole led.3 (after 1 one) led.0 1 (omega arith) refl
+        joined-with (silent_lead_in led.0 ∷ []) whole led.3 (after one) led.0 (omega arith) refl
         (omega (arith, one))
 
   abbrev pub first_leads : ℕ

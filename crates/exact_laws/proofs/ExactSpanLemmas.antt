@@ -31,61 +31,61 @@ use Rattle.sync_survey.specs.{Faults.SurveyFields, MainData.StreamFrame}
 -- ---- the first and the last frame of a span
 
 -- the first frame of a span
-pub first-is : (class : ClassFields) (p q : ℕ) (span : Span) → span_of class p q ≡ span
+pub first-is : (class : ClassFields) (p q : ℕ) {span : Span} → span_of class p q ≡ span
     → span.first ≡ warm_up_frame (samples_in class) p
 unfolding span_of
-first-is class p q span is = sym (ap (λ (t : Span). t.first) is)
+first-is class p q is = sym (ap (λ (t : Span). t.first) is)
 
 -- the frame after the last frame of a span
-pub last-is : (class : ClassFields) (p q : ℕ) (span : Span) → span_of class p q ≡ span
+pub last-is : (class : ClassFields) (p q : ℕ) {span : Span} → span_of class p q ≡ span
     → span.last ≡ frames_before (samples_in class) q
 unfolding span_of
-last-is class p q span is = sym (ap (λ (t : Span). t.last) is)
+last-is class p q is = sym (ap (λ (t : Span). t.last) is)
 
 -- a span begins no later than its first position
 pub first-before : (v : Version) (p : ℕ) → warm_up_frame (samples_of v) p * samples_of v ≤ p
 first-before v p = grind arith
 
 -- it begins earlier, if that isn't the first position of all
-pub first-early : (v : Version) (p : ℕ) → 0 < p → warm_up_frame (samples_of v) p * samples_of v < p
-first-early v p some = grind arith
+pub first-early : (v : Version) {p : ℕ} → 0 < p → warm_up_frame (samples_of v) p * samples_of v < p
+first-early v some = grind arith
 
 -- a span ends no earlier than its last position
 pub last-behind : (v : Version) (q : ℕ) → q ≤ frames_before (samples_of v) q * samples_of v
 last-behind v q = grind arith
 
 -- a later span begins no earlier
-pub first-rises : (v : Version) (p q : ℕ) → p ≤ q
+pub first-rises : (v : Version) {p q : ℕ} → p ≤ q
     → warm_up_frame (samples_of v) p ≤ warm_up_frame (samples_of v) q
-first-rises v p q later = grind arith
+first-rises v later = grind arith
 
 -- a later span ends no earlier
-pub last-rises : (v : Version) (p q : ℕ) → p ≤ q
+pub last-rises : (v : Version) {p q : ℕ} → p ≤ q
     → frames_before (samples_of v) p ≤ frames_before (samples_of v) q
-last-rises v p q later = grind arith
+last-rises v later = grind arith
 
 -- ---- one piece
 
 module _ {file : List ℕ} {s : SurveyFields} (r : Recording file s) where
   -- the run between two numbers has as many frames as their difference
-  pub run-many : (i j : ℕ) → j ≤ length (own r).frames
+  pub run-many : (i : ℕ) {j : ℕ} → j ≤ length (own r).frames
       → length (run_between file (own r) i j) ≡ j - i
-  run-many i j within =
+  run-many i {j} within =
       let run = run_between file (own r) i j in
       sym (length-map run (λ (f : RunFrame). f.need))
       ∙ ap length (between-needs (has-own r) i j)
       ∙ length-map (slice_range (own r).frames i j) need_of
-      ∙ range-length (own r).frames i j within
+      ∙ range-length (own r).frames i within
 
   -- a head that describes the span between two places
   -- plays its samples where the recording has them
-  pub places-of : {from to : ExactPlace} → IsFound r from to → (many : ℕ) (fields : Info)
+  pub places-of : {from to : ExactPlace} → IsFound r from to → {many : ℕ} {fields : Info}
       → AreLeads (span r from to) many
       → IsPieceHead s.class many (span r from to) fields
       → KeepsPlaces s.class many (span r from to).first (sample r from) (sample r to)
       (played_of (Some fields) s.class (many + ((span r from to).last - (span r from to).first)))
       (input_played file s)
-  places-of found many fields are is = grind (arith, sample, places-kept)
+  places-of found are is = grind (arith, sample, places-kept)
 
   module _ {from to : ExactPlace} {p : FilePart}
       (at : IsExact r from to p) where
@@ -124,7 +124,7 @@ module _ {file : List ℕ} {s : SurveyFields} (r : Recording file s) where
     -- what is read of the head describes the span
     pub read-head : IsPieceHead s.class many t (read at.piece)
     read-head = record {
-      frames = read-count at.piece (many + (t.last - t.first)) plays.head.frames count-small;
+      frames = read-count at.piece plays.head.frames count-small;
       numbers =
           subst (SaysNumbers (delay_of s.class many t) (padding_of t))
           (sym (read-extension at.piece))
@@ -134,7 +134,7 @@ module _ {file : List ℕ} {s : SurveyFields} (r : Recording file s) where
     -- the samples are played where the recording has them
     pub kept : KeepsPlaces s.class many t.first (sample r from) (sample r to)
         (played_of (Some (read at.piece)) s.class (many + (t.last - t.first))) (input_played file s)
-    kept = places-of at.there many (read at.piece) leads-are read-head
+    kept = places-of at.there leads-are read-head
 
     abbrev pub all : List RunFrame
     all = all_run r
@@ -165,19 +165,19 @@ module _ {file : List ℕ} {s : SurveyFields} (r : Recording file s) where
           let count = sym (brought-many at.piece.is)
           ∙ ap length frames_are
           ∙ length-append lead_ins (own_frames at.piece)
-          ∙ ap₂ (λ m n. m + n) same (run-many t.first t.last (inside r t at.there.there).within) in
+          ∙ ap₂ (λ m n. m + n) same (run-many t.first (inside r t at.there.there).within) in
           ap (λ h. counted_positions h p.survey.class (length p.survey.frames)) (read-is at.piece)
           ∙ ap₂ (λ (d : ClassFields) (n : ℕ). counted_positions (Some (read at.piece)) d n)
           at.piece.is.of_class count
-          ∙ counted-is s.class many t (read at.piece)
+          ∙ counted-is
           (many + (t.last - t.first)) at.there.there.some
           read-head
 
       -- an input with these lead-ins is a span of the recording
       abbrev pub span-by : IsSpanOf s.class all start end (part_brought p)
       span-by =
-          let first = first-is s.class start end t refl in
-          let last = last-is s.class start end t refl in
+          let first = first-is s.class start end refl in
+          let last = last-is s.class start end refl in
           record {
             lead_ins = lead_ins;
             from = t.first;

@@ -11,7 +11,7 @@ use Rattle.split_edits.specs.Split.{exact_cutting_of}
 -- a join of exact pieces in two steps makes the same file as a join of all at once
 pub exact-in-steps : ExactInSteps
 exact-in-steps points file s place next places laid first parts others read e inputs filled steps =
-    let r = recording file s read in
+    let r = recording {file = file} {s = s} read in
     let pieces =
     map-pieces (λ a b p at. at.0)
     (laid-pieces (exact_cutting_of points) (exact_cuts r) file s (has-own r)

@@ -31,11 +31,11 @@ with_extension info extension = record info { extension = extension }
 
 module _ (c : ClassFields) (frames : List Frame) (first second : Option ℕ)
     (quality : quality_bytes first ≡ quality_bytes second) where
-  fields-same : (x a b : List ℕ) → a ≡ b
+  fields-same : (x : List ℕ) {a b : List ℕ} → a ≡ b
       → info_bytes (with_extension (info_for c frames first x) a)
       ≡ info_bytes (with_extension (info_for c frames second x) b)
   unfolding info_bytes
-  fields-same x a b same = grind (arith)
+  fields-same x same = grind (arith)
 
   -- sealed Info frames whose qualities are written alike are the same
   pub sealed-same : (g h : HeaderFields) (extension : List ℕ)
@@ -109,9 +109,9 @@ module _ (head : Option Info) (long : IfSome head (λ (i : Info). length i.exten
   made-mid = grind (arith, drop-drop, drop_at, front-long, take_at, mid-long)
 
   -- any extension that begins with the same 28 bytes keeps them
-  pub keeps-by : (extension : List ℕ) → take 28 extension ≡ take 28 made
+  pub keeps-by : {extension : List ℕ} → take 28 extension ≡ take 28 made
       → IsTrue (has_encoder extension) → Keeps head extension
-  keeps-by extension same encoder = record {
+  keeps-by {extension} same encoder = record {
     front =
         sym (take-take 21 28 extension (omega arith)) ∙ ap (take 21) same
         ∙ take-take 21 28 made (omega arith) ∙ made-front;
@@ -120,11 +120,11 @@ module _ (head : Option Info) (long : IfSome head (λ (i : Info). length i.exten
   }
 
 -- what is made from an extension that keeps the bytes of a head is made from the head
-pub made-again : (head : Option Info) (fields : Info) (delay padding : ℕ)
+pub made-again : {head : Option Info} (fields : Info) (delay padding : ℕ)
     → Keeps head fields.extension
     → extension_of (Some fields) delay padding ≡ extension_of head delay padding
 unfolding extension_of
-made-again head fields delay padding keeps = grind arith
+made-again fields delay padding keeps = grind arith
 
 -- peak and gains are in the first 21 bytes
 pub gain-same : (x y : List ℕ) → take 21 x ≡ take 21 y → replay_gain x ≡ replay_gain y

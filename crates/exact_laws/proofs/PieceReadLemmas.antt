@@ -31,10 +31,10 @@ use Rattle.slot_plan.specs.{LeastPlan.led_plan, declared.needs.Need.Need}
 use Rattle.sync_survey.specs.{Faults.SurveyFields, Survey.survey_of}
 
 -- whether a span has to have a lead-in
-led-by : (class : ClassFields) (p q : ℕ) (span : Span) → span_of class p q ≡ span
+led-by : (class : ClassFields) (p q : ℕ) {span : Span} → span_of class p q ≡ span
     → nat_lt p 529 ≡ span.led
 unfolding span_of
-led-by class p q span is = ap (λ (t : Span). t.led) is
+led-by class p q is = ap (λ (t : Span). t.led) is
 
 module _ {file : List ℕ} {s : SurveyFields} (r : Recording file s) where
   -- ---- one piece
@@ -42,7 +42,7 @@ module _ {file : List ℕ} {s : SurveyFields} (r : Recording file s) where
   module _ (from to : ExactPlace) (laid_is : LaidPart) (is : PlaysBetween file s from to laid_is)
     where
       found : IsFound r from to
-      found = (span-found r from to is.span is.found).0
+      found = (span-found r is.found).0
 
       abbrev t : Span
       t = span r from to
@@ -52,7 +52,7 @@ module _ {file : List ℕ} {s : SurveyFields} (r : Recording file s) where
       piece = laid r t
 
       span-same : is.span ≡ t
-      span-same = sym (span-found r from to is.span is.found).1
+      span-same = sym (span-found r is.found).1
 
       same : laid_is ≡ piece
       same =
@@ -89,8 +89,7 @@ module _ {file : List ℕ} {s : SurveyFields} (r : Recording file s) where
           subst (IsExactPlan file s from to) (sym same)
           (planned-by t.led
           (led-by s.class (first_position file s from)
-          ((input_played file s).start + sample_named file s to)
-          t refl))
+          ((input_played file s).start + sample_named file s to) refl))
 
       -- ---- its file as it is read
 
@@ -107,30 +106,30 @@ module _ {file : List ℕ} {s : SurveyFields} (r : Recording file s) where
             laid-whole piece (has-own r)
             (omega (arith, (inside r t found.there).some, (inside r t found.there).within))
 
-        input : (c : ClassFields) → j.class ≡ c → IsInput c p
-        input c of_class = record {
+        input : {c : ClassFields} → j.class ≡ c → IsInput c p
+        input of_class = record {
           allowed = allowed;
           surveyed = e;
-          has = survey-had bytes allowed j e;
+          has = survey-had allowed e;
           of_class = of_class;
           from = refl;
           to = refl;
-          some = some-frames bytes allowed j e;
+          some = some-frames bytes allowed e;
         }
 
-        one : (c : ClassFields) → j.class ≡ c → IsPiece t.led (choice r t) file (own r) c p
-        one c of_class = record {
+        one : {c : ClassFields} → j.class ≡ c → IsPiece t.led (choice r t) file (own r) c p
+        one {c} of_class = record {
           has = has-own r;
           right = span-right r t found.there;
           made = made;
-          is = input c of_class;
+          is = input of_class;
         }
 
         class : j.class ≡ s.class
-        class = class-same (laid-input (one j.class refl))
+        class = class-same (laid-input (one refl))
 
         at : IsExact r from to p
-        at = record { there = found; piece = one s.class class }
+        at = record { there = found; piece = one class }
 
         many : length j.frames ≡ leads at.piece + (t.last - t.first)
         many =
@@ -169,11 +168,11 @@ module _ {file : List ℕ} {s : SurveyFields} (r : Recording file s) where
           (pieces-play file s from to t r.has found.found)).places
 
       -- what is played of it as it is read is what its Info frame says
-      samples-by : (allowed : ℕ) (j : SurveyFields)
+      samples-by : (allowed : ℕ) {j : SurveyFields}
           → survey_of (piece_file file s piece) allowed ≡ Ok j
           → read_samples file s piece j ≡ piece_samples file s piece
       unfolding piece_samples
-      samples-by allowed j e = grind (arith, piece-kept, s.class, said.start, said.length)
+      samples-by allowed e = grind (arith, piece-kept, s.class, said.start, said.length)
 
       samples-same : (allowed : ℕ) (j : SurveyFields)
           → survey_of (piece_file file s laid_is) allowed ≡ Ok j
@@ -185,10 +184,10 @@ module _ {file : List ℕ} {s : SurveyFields} (r : Recording file s) where
 
   -- ---- pieces in order
 
-  cut-plays : (from to : ExactPlace) (laid : LaidPart) → exact_part from to file s ≡ Ok laid
+  cut-plays : {from to : ExactPlace} {laid : LaidPart} → exact_part from to file s ≡ Ok laid
       → PlaysBetween file s from to laid
   unfolding exact_part
-  cut-plays from to laid e = grind (arith, then_ok, between-plays file s r.has)
+  cut-plays e = grind (arith, then_ok, between-plays file s r.has)
 
   in-turn : (Holds : ExactPlace → ExactPlace → LaidPart → Type 0)
       → ((from to : ExactPlace) (laid : LaidPart) → PlaysBetween file s from to laid
@@ -218,11 +217,11 @@ module _ {file : List ℕ} {s : SurveyFields} (r : Recording file s) where
 pub exact-plans-first : ExactPlansAreFirst
 exact-plans-first = record {
   cut = λ from to file s laid surveyed e.
-      planned (recording file s surveyed) from to laid
-      (cut-plays (recording file s surveyed) from to laid e);
+      planned (recording surveyed) from to laid
+      (cut-plays (recording surveyed) e);
   split = λ points file s place places laid surveyed e.
-      in-turn (recording file s surveyed) (IsExactPlan file s)
-      (planned (recording file s surveyed)) place places laid
+      in-turn (recording surveyed) (IsExactPlan file s)
+      (planned (recording surveyed)) place places laid
       (pieces-recording points file s place places laid surveyed e).each;
 }
 
@@ -230,17 +229,17 @@ exact-plans-first = record {
 pub exact-pieces-play : ExactPiecesPlayAsRead
 exact-pieces-play = record {
   cut = λ from to file s laid surveyed e.
-      kept-as-read (recording file s surveyed) from to laid
-      (cut-plays (recording file s surveyed) from to laid e);
+      kept-as-read (recording surveyed) from to laid
+      (cut-plays (recording surveyed) e);
   split = λ points file s place places laid surveyed e.
       let turns = pieces-recording points file s place places laid surveyed e in
       record {
         each =
-            in-turn (recording file s surveyed) (PlaysAsRead file s)
-            (kept-as-read (recording file s surveyed)) place places
+            in-turn (recording surveyed) (PlaysAsRead file s)
+            (kept-as-read (recording surveyed)) place places
             laid turns.each;
         all = λ surveys read_back.
-            all-same (recording file s surveyed) place places laid surveys turns.each read_back
+            all-same (recording surveyed) place places laid surveys turns.each read_back
             ∙ turns.all;
       };
 }

@@ -63,7 +63,7 @@ module _ (head : Option Info) (whole : IfSome head AreInfoFields)
 
   -- the piece has the lead-ins that its span has to have
   pub leads-are : AreLeads span leads
-  leads-are = with-leads (span_chosen head span) s is.placed there.some there.within span refl refl
+  leads-are = with-leads (span_chosen head span) s is.placed there.some there.within refl refl
 
   count : length (frames_laid plain file s) ≡ leads + (span.last - span.first)
   count =
@@ -83,11 +83,11 @@ module _ (head : Option Info) (whole : IfSome head AreInfoFields)
   says None found = let some =
       (first-there s.frames span.first (omega (arith, there.some, there.within))).1 in absurd cc
   says (Some first) found =
-      let in_range = span-in_range s.class span leads there.is leads-are in
+      let in_range = span-in_range there.is leads-are in
       let fields = info_laid plain file s in
-      let sealed = frames-sealed first.header fields (for-whole s.class (frames_laid plain file s)
-      plain.quality plain.extension (plain-long head long span file s is there)) in
-      let said = extension-says head (delay_of s.class leads span) (padding_of span) whole
+      let sealed = frames-sealed first.header (for-whole s.class (frames_laid plain file s)
+      plain.quality (plain-long head long span file s is there)) in
+      let said = extension-says head whole
       (omega (arith, in_range.delay_most)) (omega (arith, in_range.padding_most)) in
       record {
         frames = ap Some count;
@@ -137,11 +137,14 @@ pieces-play file s from to span is e =
     let b = sample_at s.class samples to in
     let piece = span_piece head span file (survey_without_head s) in
     let fields = info_laid piece file (survey_without_head s) in
-    let ok = refusal_or-ok (samples_fault a b samples)
-    (span_of s.class (played.start + a) (played.start + b)) span e in
-    let inside = samples_there a b samples (nat_lt a b && nat_le b samples) refl ok.0 in
-    let had = survey_without_head-had file s is (survey_without_head-placed s is.placed) in
-    let there = span-survey_without_head s span (span-there from to head s span e) in
+    let ok = refusal_or-ok {o = samples_fault a b samples}
+    {a = span_of s.class (played.start + a) (played.start + b)} {b = span} e in
+    let inside = samples_there {a = a} {b = b} {samples = samples} {test =
+    nat_lt a b && nat_le b samples} refl ok.0 in
+    let had =
+    survey_without_head-had {file = file} {s = s} is (survey_without_head-placed s is.placed) in
+    let there = span-survey_without_head {s = s} {span =
+    span} (span-there from to head {s = s} {span = span} e) in
     let placed = piece_placed head span file (survey_without_head s) in
     let leads = subst (λ p. AreLeads span (span_lead_ins span p)) (sym placed) (leads-are head
     (head_whole file s.head) (head_long file s.head) span file (survey_without_head s) had there) in

@@ -19,9 +19,8 @@ use Rattle.info_header.specs.declared.fields.Info.{Info}
 use Rattle.laying.{proofs.SurveyFrameLemmas.survey-had, specs.KeptFields.fields_of_head}
 use Rattle.laying.specs.{Laid.{info_laid, LaidPart}, Surveys.CanBeRelaid}
 use Rattle.seam_laws.specs.PlayedParts.{input_played, piece_lead_ins, sample_named}
-use Rattle.split_edits.proofs.CommandLemmas.{first-parts}
-use Rattle.split_edits.specs.{Cutting.{piece_parts_from, with_first}, Split.exact_cutting_of}
-use Rattle.split_edits.specs.declared.exact_points.ExactPoints.{ExactPoints}
+use Rattle.split_edits.{proofs.CommandLemmas.first-parts, specs.Cutting.piece_parts_from}
+use Rattle.split_edits.specs.{Split.exact_cutting_of, declared.exact_points.ExactPoints.ExactPoints}
 use Rattle.sync_survey.specs.Faults.{SurveyFields}
 
 -- ---- the samples of one piece
@@ -98,16 +97,16 @@ module _ (file : List ℕ) (s : SurveyFields) (is : CanBeRelaid file s) where
         grind (arith, plays, played-samples piece (sample from) (sample to) starts.0 starts.1)
 
   -- a piece that was laid plays its samples
-  laid-plays : (from to : ExactPlace) (laid : LaidPart) → exact_part from to file s ≡ Ok laid
+  laid-plays : {from to : ExactPlace} {laid : LaidPart} → exact_part from to file s ≡ Ok laid
       → PlaysBetween file s from to laid
   unfolding exact_part
-  laid-plays from to laid e = grind (arith, then_ok, between-plays)
+  laid-plays e = grind (arith, then_ok, between-plays)
 
   -- the places of a piece are in order
-  laid-ascends : (from to : ExactPlace) (laid : LaidPart) → PlaysBetween file s from to laid
+  laid-ascends : {from to : ExactPlace} {laid : LaidPart} → PlaysBetween file s from to laid
       → sample from ≤ sample to
   unfolding file_span
-  laid-ascends from to laid is = grind (arith, refusal_or-ok, samples_there)
+  laid-ascends is = grind (arith, refusal_or-ok, samples_there)
 
   -- ---- all pieces
 
@@ -116,8 +115,7 @@ module _ (file : List ℕ) (s : SurveyFields) (is : CanBeRelaid file s) where
   turns-ascend from [] [] are = tt
   turns-ascend from [] (l ∷ laid) are = absurd are
   turns-ascend from (to ∷ tos) [] are = absurd are
-  turns-ascend from (to ∷ tos) (l ∷ laid) are =
-      (laid-ascends from to l are.0, turns-ascend to tos laid are.1)
+  turns-ascend from (to ∷ tos) (l ∷ laid) are = (laid-ascends are.0, turns-ascend to tos laid are.1)
 
   turns-samples : (from : ExactPlace) (tos : List ExactPlace) (laid : List LaidPart)
       → PlayInTurn file s from tos laid
@@ -129,25 +127,24 @@ module _ (file : List ℕ) (s : SurveyFields) (is : CanBeRelaid file s) where
   turns-samples from (to ∷ tos) (l ∷ laid) are = grind (arith, turns-samples to tos laid are.1)
 
   module _ (points : ExactPoints) where
-    from-turns : (from : ExactPlace) (tos : List ExactPlace) (laid : List LaidPart)
+    from-turns : (from : ExactPlace) (tos : List ExactPlace) {laid : List LaidPart}
         → piece_parts_from (exact_cutting_of points) file s from tos ≡ Ok laid
         → PlayInTurn file s from tos laid
-    from-turns from [] laid e = grind arith
-    from-turns from (to ∷ tos) laid e =
-        let parts = then_ok (exact_part from to file s)
-        (λ first. with_first first (piece_parts_from (exact_cutting_of points) file s to tos)) laid
+    from-turns from [] e = grind arith
+    from-turns from (to ∷ tos) {laid} e =
+        let parts = then_ok
         e in
         let more =
-        first-parts parts.0 (piece_parts_from (exact_cutting_of points) file s to tos) laid
+        first-parts
         parts.2 in
         subst (PlayInTurn file s from (to ∷ tos))
-        more.2 (laid-plays from to parts.0 parts.1, from-turns to tos more.0 more.1)
+        more.2 (laid-plays parts.1, from-turns to tos more.1)
 
 -- the pieces, in order, play the samples from the first place to the last
 pub pieces-recording : PiecesAreTheRecording
 pieces-recording points file s place places laid surveyed e =
-    let is = survey-had file most_frames s surveyed in
-    let each = from-turns file s is points place places laid e in
+    let is = survey-had most_frames surveyed in
+    let each = from-turns file s is points place places e in
     record {
       each = each;
       all = grind (arith, turns-samples, pieces-whole, turns-ascend);

@@ -8,14 +8,12 @@ use Rattle.std.proofs.lemmas.List.{drop-map, length-append, take-append-drop, ta
 use Rattle.std.{proofs.lemmas.Slice.Eq.bytes_eq-Decides, specs.{List.list_all, Option.option_or}}
 use Rattle.std.specs.Prelude.{if◌then◌else◌, nat_le, option_and_then, option_map, slice_range}
 use Rattle.std.specs.Prelude.{unwrap_or, ◌&&◌}
-use Rattle.exact_laws.proofs.ExactSpanLemmas.{counted}
 use Rattle.exact_laws.specs.SpanLaws.{AreEmptyFrames, AreSpansOf, is_following_seam, IsSpanOf}
 use Rattle.exact_laws.specs.SpanLaws.{spans_end, SpansAreOneRun}
 use Rattle.exact_span.specs.{Overlaps.shared_overlap, PlayedPositions.{rest_of, samples_in}}
 use Rattle.exact_span.specs.declared.overlap.Overlap.{Overlap}
 use Rattle.frame_header.specs.{Fields.ClassFields, Tables.{samples_of, window_of}}
 use Rattle.frame_header.specs.declared.version.Version.{Version}
-use Rattle.pack_edits.specs.Fewest.{lead_ins}
 use Rattle.seam_laws.proofs.FrameRangeLemmas.{range-append, range-drop, range-length}
 use Rattle.seam_laws.proofs.PieceRunLemmas.{empty-fits, front-fits, joining_frames-own}
 use Rattle.seam_laws.proofs.PieceRunLemmas.{known-behind, known-front}
@@ -32,9 +30,9 @@ use Rattle.slot_plan.proofs.FreeByteLemmas.{fits-drop}
 -- ---- ranges of frames
 
 module _ (all : List RunFrame) where
-  take-range : (from to k : ℕ) → k ≤ to - from
+  take-range : (from to : ℕ) {k : ℕ} → k ≤ to - from
       → take k (slice_range all from to) ≡ slice_range all from (from + k)
-  take-range from to k few = grind (arith, take-take)
+  take-range from to few = grind (arith, take-take)
 
   range-known : (from to : ℕ) → AreHeadersKnown all → AreHeadersKnown (slice_range all from to)
   range-known from to known =
@@ -76,30 +74,29 @@ record AreShared (v : Version) (start rest shared frames : ℕ) : Type 0 where
   whole : (start + rest) / samples_of v ≡ shared
 
 module _ (start rest shared frames : ℕ) (there : shared ≤ frames) where
-  are-shared : (v : Version) → start + rest ≡ shared * samples_of v
+  are-shared : {v : Version} → start + rest ≡ shared * samples_of v
       → AreShared v start rest shared frames
-  are-shared v same = grind arith
+  are-shared same = grind arith
 
 -- the sum of what is before the first played position of a
 -- span and what is after the last one of the span before it
-sum-is : (v : Version) (start end leads leads_before from from_before last mid : ℕ)
+sum-is : (v : Version) (start end leads leads_before : ℕ) {from from_before last mid : ℕ}
     → start + from * samples_of v ≡ mid + leads * samples_of v
     → end + from_before * samples_of v ≡ mid + leads_before * samples_of v
     → mid ≤ last * samples_of v → from < last → from_before ≤ last
     → start + ((leads_before + (last - from_before)) * samples_of v - end)
     ≡ (leads + last - from) * samples_of v
-sum-is v start end leads leads_before from from_before last mid starts ends most some before =
-    grind arith
+sum-is v start end leads leads_before starts ends most some before = grind arith
 
-first-late : (v : Version) (start leads from mid : ℕ)
+first-late : (v : Version) (start : ℕ) {leads : ℕ} (from : ℕ) {mid : ℕ}
     → start + from * samples_of v ≡ mid + leads * samples_of v → from * samples_of v ≤ mid
     → leads ≤ start / samples_of v
-first-late v start leads from mid starts before = grind arith
+first-late v start from starts before = grind arith
 
 -- a span whose first frame begins before a position begins before the frame after it
-pub below-last : (v : Version) (from last mid : ℕ) → from * samples_of v < mid
+pub below-last : (v : Version) {from last mid : ℕ} → from * samples_of v < mid
     → mid ≤ last * samples_of v → from < last
-below-last v from last mid early most = grind arith
+below-last v early most = grind arith
 
 -- the frames of a span are its lead-ins and those of the recording
 pub span-many : {class : ClassFields} {all : List RunFrame} {begin end : ℕ} {input : Brought}
@@ -108,7 +105,7 @@ pub span-many : {class : ClassFields} {all : List RunFrame} {begin end : ℕ} {i
 span-many {all = all} is =
     ap length is.frames_are
     ∙ length-append is.lead_ins (slice_range all is.from is.to)
-    ∙ ap (λ n. length is.lead_ins + n) (range-length all is.from is.to is.within)
+    ∙ ap (λ n. length is.lead_ins + n) (range-length all is.from is.within)
 
 -- ---- what becomes of spans
 
@@ -137,7 +134,7 @@ module _ (class : ClassFields) (all : List RunFrame) (low : ℕ) where
   spans-added last begin (input ∷ inputs) (end ∷ points) are late =
       let later = added (spans_joints are.0.to end inputs points are.4) in
       sym (append_assoc (slice_range all low last) (slice_range all last are.0.to) later)
-      ∙ ap (λ l. l ++ later) (range-append all low last are.0.to late are.3)
+      ∙ ap (λ l. l ++ later) (range-append all late are.3)
       ∙ spans-added are.0.to end inputs points are.4 (omega (arith, late, are.3))
   spans-added last begin [] [] are late = append-nil (slice_range all low last)
   spans-added last begin [] (end ∷ points) are late = absurd are
@@ -180,16 +177,15 @@ module _ (class : ClassFields) (all : List RunFrame) (known : AreHeadersKnown al
       overlap = made shared
 
       some : is.from < last
-      some = below-last class.version is.from last mid early one.behind
+      some = below-last class.version early one.behind
 
       sum : is.played.start + rest_of class (length before.frames) one.played
           ≡ shared * samples_in class
       sum =
           ap (λ n. is.played.start + rest_of class n one.played)
           (span-many one)
-          ∙ sum-is class.version is.played.start one.played.end z (length one.lead_ins) is.from
-          one.from
-          last mid is.start one.ended one.behind some (omega (arith, one.some))
+          ∙ sum-is class.version is.played.start one.played.end z
+          (length one.lead_ins) is.start one.ended one.behind some (omega (arith, one.some))
 
       input-many : length input.frames ≡ z + (is.to - is.from)
       input-many = span-many is
@@ -201,8 +197,7 @@ module _ (class : ClassFields) (all : List RunFrame) (known : AreHeadersKnown al
       unfolding shared_overlap
       overlap-is =
           let rest = rest_of class (length before.frames) one.played in
-          let are = are-shared is.played.start rest shared (length input.frames) within
-          class.version sum in
+          let are = are-shared is.played.start rest shared (length input.frames) within sum in
           grind (
             arith,
             before.frames,
@@ -219,14 +214,14 @@ module _ (class : ClassFields) (all : List RunFrame) (known : AreHeadersKnown al
       leads-before =
           omega (
             arith,
-            first-late class.version is.played.start z is.from mid is.start is.before,
+            first-late class.version is.played.start is.from is.start is.before,
             some,
           )
 
       -- the frames of the input from one after its lead-ins on
-      input-drop : (k : ℕ) → z ≤ k → k ≤ length input.frames
+      input-drop : {k : ℕ} → z ≤ k → k ≤ length input.frames
           → drop k input.frames ≡ slice_range all (is.from + (k - z)) is.to
-      input-drop k behind few =
+      input-drop {k} behind few =
           let there : k ≡ z + (k - z) = omega (arith, behind) in
           grind (
             arith,
@@ -246,19 +241,19 @@ module _ (class : ClassFields) (all : List RunFrame) (known : AreHeadersKnown al
       compared_frames-is : compared_frames overlap input ≡ slice_range all alike_from last
       compared_frames-is =
           let end_is : alike_from + (shared - first) ≡ last = omega (arith, leads-before, some) in
-          ap (take (shared - first)) (input-drop first leads-before (omega (arith, within)))
-          ∙ take-range all alike_from is.to (shared - first) (omega (arith, leads-before, some, on))
+          ap (take (shared - first)) (input-drop leads-before (omega (arith, within)))
+          ∙ take-range all alike_from is.to (omega (arith, leads-before, some, on))
           ∙ ap (slice_range all alike_from) end_is
 
       compared_frames-many : length (compared_frames overlap input) ≡ last - alike_from
       compared_frames-many =
           ap length compared_frames-is
-          ∙ range-length all alike_from last one.within
+          ∙ range-length all alike_from one.within
 
       run-many : length run ≡ length leads + (last - low)
       run-many =
           length-append leads (slice_range all low last)
-          ∙ ap (λ n. length leads + n) (range-length all low last one.within)
+          ∙ ap (λ n. length leads + n) (range-length all low one.within)
 
       run-drop : drop (length run - length (compared_frames overlap input)) run
           ≡ slice_range all alike_from last
@@ -269,7 +264,7 @@ module _ (class : ClassFields) (all : List RunFrame) (known : AreHeadersKnown al
           let from_is : low + (alike_from - low) ≡ alike_from = omega (arith, late) in
           ap (λ n. drop n run) there
           ∙ drop-append-add leads (slice_range all low last) (alike_from - low)
-          ∙ range-drop all low last (alike_from - low) (omega (arith, leads-before, some, late))
+          ∙ range-drop all low last (omega (arith, leads-before, some, late))
           ∙ ap (λ n. slice_range all n last) from_is
 
       alike : ends_alike run (compared_frames overlap input) ≡ true
@@ -280,12 +275,12 @@ module _ (class : ClassFields) (all : List RunFrame) (known : AreHeadersKnown al
       added-is : drop shared input.frames ≡ slice_range all last is.to
       added-is =
           let there : is.from + (shared - z) ≡ last = omega (arith, some) in
-          input-drop shared (omega (arith, some)) within ∙ ap (λ n. slice_range all n is.to) there
+          input-drop (omega (arith, some)) within ∙ ap (λ n. slice_range all n is.to) there
 
       run-on : run ++ slice_range all last is.to ≡ leads ++ slice_range all low is.to
       run-on =
           append_assoc leads (slice_range all low last) (slice_range all last is.to)
-          ∙ ap (leads ++◌) (range-append all low last is.to low_last on)
+          ∙ ap (leads ++◌) (range-append all low_last on)
 
       joins : joining_frames window run (drop shared input.frames)
           ≡ Some (slice_range all last is.to)
@@ -313,14 +308,15 @@ module _ (class : ClassFields) (all : List RunFrame) (known : AreHeadersKnown al
 
     -- ---- all spans
 
-    spans-joints : (leads : List RunFrame) → AreEmptyFrames leads → (low begin mid : ℕ)
-        (before : Brought) (one : IsSpanOf class all begin mid before) → low ≤ one.to
+    spans-joints : (leads : List RunFrame) → AreEmptyFrames leads → {low begin mid : ℕ}
+        {before : Brought} (one : IsSpanOf class all begin mid before) → low ≤ one.to
         → (inputs : List Brought) (points : List ℕ)
         (are : AreSpansOf class all low one.to mid inputs points)
         → joints_from class (leads ++ slice_range all low one.to) before inputs
         ≡ spans_joints class all low one.to mid inputs points are
     unfolding joints_from
-    spans-joints leads empty low begin mid before one low_last (input ∷ inputs) (end ∷ points) are =
+    spans-joints leads empty {low} {begin} {mid} {before} one low_last
+        (input ∷ inputs) (end ∷ points) are =
         let is = are.0 in
         let made =
         joint_with (Follows (length is.lead_ins + one.to - is.from)) (slice_range all one.to is.to)
@@ -331,25 +327,25 @@ module _ (class : ClassFields) (all : List RunFrame) (known : AreHeadersKnown al
         ∙ ap (λ l. made ∷ joints_from class l input inputs)
         (run-on leads empty low begin mid end before input one is are.1 low_last are.2 are.3)
         ∙ ap (made ∷◌)
-        (spans-joints leads empty low mid end input is (omega (arith, low_last, are.3)) inputs
+        (spans-joints leads empty is (omega (arith, low_last, are.3)) inputs
         points are.4)
-    spans-joints leads empty low begin mid before one low_last (input ∷ inputs) [] are = absurd are
-    spans-joints leads empty low begin mid before one low_last [] points are = refl
+    spans-joints leads empty one low_last (input ∷ inputs) [] are = absurd are
+    spans-joints leads empty one low_last [] points are = refl
 
     -- what becomes of the spans after the first
-    pub spans-are : (begin end : ℕ) (first : Brought) (inputs : List Brought) (points : List ℕ)
+    pub spans-are : {begin end : ℕ} {first : Brought} (inputs : List Brought) (points : List ℕ)
         (is : IsSpanOf class all begin end first)
         (are : AreSpansOf class all is.from is.to end inputs points)
         → joints_of class first inputs ≡ spans_joints class all is.from is.to end inputs points are
-    spans-are begin end first inputs points is are =
+    spans-are {begin} {end} {first} inputs points is are =
         ap (λ l. joints_from class l first inputs) is.frames_are
-        ∙ spans-joints is.lead_ins is.empty is.from begin end first is (omega (arith, is.some))
+        ∙ spans-joints is.lead_ins is.empty is (omega (arith, is.some))
         inputs points are
 
 -- each span follows, and the run has all frames once
 pub spans-one-run : SpansAreOneRun
 spans-one-run class all begin end first inputs points is are known fits =
-    let joints = spans-are class all known fits begin end first inputs points is are in
+    let joints = spans-are class all known fits inputs points is are in
     let more = spans_joints class all is.from is.to end inputs points are in (
       ap (λ js. list_all (λ (j : JointFrames). is_following_seam j.seam) js)
           joints

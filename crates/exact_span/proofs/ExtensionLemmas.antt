@@ -40,27 +40,27 @@ unfolding has_encoder
 same-encoder xs ys same = ap (λ (text : List ℕ). bytes_eq text (codes "LAME")
     || bytes_eq text (codes "Lavf") || bytes_eq text (codes "Lavc")) same
 
-byte-of : (front rest : List ℕ) (k n : ℕ) → length front ≡ 21 → n ≡ 21 + k
+byte-of : (front rest : List ℕ) (k : ℕ) {n : ℕ} → length front ≡ 21 → n ≡ 21 + k
     → get_or (front ++ rest) n 0 ≡ get_or rest k 0
-byte-of front rest k n long is = ap (λ i. get_or (front ++ rest) i 0) (omega (arith, long, is))
+byte-of front rest k long is = ap (λ i. get_or (front ++ rest) i 0) (omega (arith, long, is))
     ∙ get_or-append-add front rest k 0
 
-delay-said : (front rest : List ℕ) (delay padding : ℕ) → length front ≡ 21 → padding < 4096
+delay-said : (front rest : List ℕ) (delay : ℕ) {padding : ℕ} → length front ≡ 21 → padding < 4096
     → delay_in (front ++ (three_bytes delay padding ++ rest)) ≡ delay
-delay-said front rest delay padding long small =
+delay-said front rest delay {padding} long small =
     let three = three_bytes delay padding ++ rest in
-    omega (arith, byte-of front three 0 21 long refl, byte-of front three 1 22 long refl)
+    omega (arith, byte-of front three 0 long refl, byte-of front three 1 long refl)
 
-padding-said : (front rest : List ℕ) (delay padding : ℕ) → length front ≡ 21 → padding < 4096
+padding-said : (front rest : List ℕ) (delay : ℕ) {padding : ℕ} → length front ≡ 21 → padding < 4096
     → padding_in (front ++ (three_bytes delay padding ++ rest)) ≡ padding
-padding-said front rest delay padding long small =
+padding-said front rest delay {padding} long small =
     let three = three_bytes delay padding ++ rest in
-    omega (arith, byte-of front three 1 22 long refl, byte-of front three 2 23 long refl)
+    omega (arith, byte-of front three 1 long refl, byte-of front three 2 long refl)
 
 -- encoder, delay and padding are in the first 28 bytes
-pub says-front : (xs ys : List ℕ) (d p : ℕ) → take 28 xs ≡ take 28 ys → SaysNumbers d p ys
+pub says-front : {xs ys : List ℕ} {d p : ℕ} → take 28 xs ≡ take 28 ys → SaysNumbers d p ys
     → SaysNumbers d p xs
-says-front xs ys d p same says =
+says-front {xs} {ys} same says =
     let byte = λ (i : ℕ) (below : i < 28). sym (get_or-take 28 xs i 0 below)
     ∙ ap (λ (zs : List ℕ). get_or zs i 0) same ∙ get_or-take 28 ys i 0 below in
     let text : take 4 xs ≡ take 4 ys = sym (take-take 4 28 xs (omega arith))
@@ -74,11 +74,11 @@ says-front xs ys d p same says =
       padding = ap₂ (λ a b. 256 * (a % 16) + b) second third ∙ says.padding;
     }
 
-says-by : (old : List ℕ) (delay padding : ℕ) → length old ≡ 36 → has_encoder old ≡ true
+says-by : (old : List ℕ) (delay : ℕ) {padding : ℕ} → length old ≡ 36 → has_encoder old ≡ true
     → padding < 4096 →
     SaysNumbers delay padding
     (take 21 old ++ (three_bytes delay padding ++ (take 4 (drop 24 old) ++ replicate 8 0)))
-says-by old delay padding long encoder small =
+says-by old delay {padding} long encoder small =
     let front = take 21 old in
     let rest : List ℕ = take 4 (drop 24 old) ++ replicate 8 0 in
     let many : length front ≡ 21 = length-take-le 21 old (omega (arith, long)) in
@@ -87,18 +87,18 @@ says-by old delay padding long encoder small =
     ∙ take-take 4 21 old (omega arith) in
     record {
       encoder = same-encoder (front ++ (three_bytes delay padding ++ rest)) old text ∙ encoder;
-      delay = delay-said front rest delay padding many small;
-      padding = padding-said front rest delay padding many small;
+      delay = delay-said front rest delay many small;
+      padding = padding-said front rest delay many small;
     }
 
 -- an extension has the delay and the padding that it was written with
-pub extension-says : (info : Option Info) (delay padding : ℕ) → IfSome info AreInfoFields
+pub extension-says : (info : Option Info) {delay padding : ℕ} → IfSome info AreInfoFields
     → delay < 4096 → padding < 4096 →
     SaysNumbers delay padding (extension_of info delay padding)
 unfolding extension_of
-extension-says info delay padding whole short small =
+extension-says info {delay} {padding} whole short small =
     let old = kept_extension-is info whole in
-    says-by (kept_extension info) delay padding old.0 old.1 small
+    says-by (kept_extension info) delay old.0 old.1 small
 
 kept_extension-length : (info : Option Info) → IfSome info (λ (i : Info). length i.extension ≡ 36)
     → length (kept_extension info) ≡ 36

@@ -48,17 +48,17 @@ module _ (class : ClassFields) (played : Played) where
   heard-cons x xs = grind (arith, joined_heard-append)
 
   -- what is heard from stretch i on is what is heard of it and of those after it, joined
-  pub heard-from : (xs : List WrittenFrames) (i : ℕ) (d : WrittenFrames) → i < length xs
+  pub heard-from : (xs : List WrittenFrames) {i : ℕ} (d : WrittenFrames) → i < length xs
       → heard_of class played (drop i xs)
       ≡ joined_heard (first_to_last (heard_in (samples_in class) played (get_or xs i d)))
       (heard_of class played (drop (i + 1) xs))
-  heard-from xs i d lt = grind (arith, drop_more, heard-cons)
+  heard-from xs d lt = grind (arith, drop_more, heard-cons)
 
   -- after the last stretch what was found is all
-  pub heard-all : (xs : List WrittenFrames) (i : ℕ) (found : Option Heard) → length xs ≤ i
+  pub heard-all : (xs : List WrittenFrames) {i : ℕ} {found : Option Heard} → length xs ≤ i
       → heard_of class played xs ≡ joined_heard found (heard_of class played (drop i xs))
       → heard_of class played xs ≡ found
-  heard-all xs i found end is = grind (arith, drop_all, heard-nil, joined_heard-None)
+  heard-all xs end is = grind (arith, drop_all, heard-nil, joined_heard-None)
 
   -- what is heard of two lists of stretches is what is heard of one and of the other, joined
   pub heard-append : (xs ys : List WrittenFrames) → heard_of class played (xs ++ ys)

@@ -35,10 +35,10 @@ played-within head class frames = end_within (samples_in class) frames (counts_o
 
 -- ---- the played positions of a piece
 
-counts-are : (piece : Info) (frames delay padding : ℕ) → piece.frames ≡ Some frames → 1 ≤ frames
+counts-are : (piece : Info) {frames delay padding : ℕ} → piece.frames ≡ Some frames → 1 ≤ frames
     → SaysNumbers delay padding piece.extension
     → counts_of (Some piece) ≡ Some (record { frames = frames; delay = delay; padding = padding })
-counts-are piece frames delay padding is some says =
+counts-are piece {frames} {delay} {padding} is some says =
     ap (counts_with_frames piece) is
     ∙ ap (λ b. cond (b && has_encoder piece.extension) (Some (record {
       frames = frames;
@@ -52,28 +52,28 @@ counts-are piece frames delay padding is some says =
     })) None) says.encoder
     ∙ ap₂ (λ d p. Some (record { frames = frames; delay = d; padding = p })) says.delay says.padding
 
-end-own : (samples frames padding : ℕ) → 529 ≤ padding →
+end-own : (samples frames : ℕ) {padding : ℕ} → 529 ≤ padding →
     cond (ltb frames frames) (frames * samples) (min (frames * samples)
     (frames * samples + decoder_delay - padding)) ≡ frames * samples + decoder_delay - padding
-end-own samples frames padding enough =
+end-own samples frames {padding} enough =
     ap (λ b. cond b (frames * samples) (min (frames * samples)
     (frames * samples + decoder_delay - padding))) (le-ltb frames frames (omega arith))
     ∙ min-eq_right (omega arith)
 
 -- a piece of `frames` frames with these numbers plays the positions from `delay` + 529 on, up to
 -- `padding` - 529 before its end
-piece-played : (class : ClassFields) (piece : Info) (frames delay padding : ℕ)
+piece-played : (class : ClassFields) (piece : Info) {frames delay padding : ℕ}
     → piece.frames ≡ Some frames → 1 ≤ frames → 529 ≤ padding
     → SaysNumbers delay padding piece.extension → played_of (Some piece) class frames ≡ record {
       start = delay + decoder_delay;
       end = frames * samples_in class + decoder_delay - padding;
     }
 unfolding played_of
-piece-played class piece frames delay padding is some enough says =
+piece-played class piece {frames} {delay} {padding} is some enough says =
     ap (played_or_all (samples_in class) frames)
-    (counts-are piece frames delay padding is some says)
+    (counts-are piece is some says)
     ∙ ap (λ e. record { start = delay + decoder_delay; end = e })
-    (end-own (samples_in class) frames padding enough)
+    (end-own (samples_in class) frames enough)
 
 -- ---- the places of samples
 
@@ -86,15 +86,15 @@ starts-at One leads p enough = omega arith
 starts-at Two leads p enough = omega arith
 starts-at TwoFive leads p enough = omega arith
 
-ends-at : (version : Version) (leads p q : ℕ) → p < q
+ends-at : (version : Version) (leads : ℕ) {p q : ℕ} → p < q
     → (leads + (frames_before (samples_of version) q - warm_up_frame (samples_of version) p))
     * samples_of version + decoder_delay
     - (frames_before (samples_of version) q * samples_of version - q + decoder_delay)
     + warm_up_frame (samples_of version) p * samples_of version
     ≡ q + leads * samples_of version
-ends-at One leads p q some = omega arith
-ends-at Two leads p q some = omega arith
-ends-at TwoFive leads p q some = omega arith
+ends-at One leads some = omega arith
+ends-at Two leads some = omega arith
+ends-at TwoFive leads some = omega arith
 
 -- positions that differ by whole frames are at one offset in one and the same frame
 at-one-place : (version : Version) (leads first x y : ℕ)
@@ -109,43 +109,43 @@ length-kept : (start end before a b after from : ℕ) → start + before ≡ fro
     → end + before ≡ from + b + after → end - start ≡ b - a
 length-kept start end before a b after from first last = omega arith
 
-sample-kept : (class : ClassFields) (leads first start from a k : ℕ)
+sample-kept : {class : ClassFields} {leads first : ℕ} (start from a k : ℕ)
     → start + first * samples_in class ≡ from + a + leads * samples_in class
     → IsAtOnePlace class leads first (start + k) (from + a + k)
-sample-kept class leads first start from a k same =
+sample-kept {class} {leads} {first} start from a k same =
     let further : start + k + first * samples_in class ≡ from + a + k + leads * samples_in class =
     omega (arith, same) in
     let place = at-one-place class.version leads first (start + k) (from + a + k) further in
     record { frame = place.0; offset = place.1 }
 
-kept-by : (class : ClassFields) (leads first a b : ℕ) (piece file : Played)
+kept-by : {class : ClassFields} {leads first a b : ℕ} {piece file : Played}
     → piece.start + first * samples_in class ≡ file.start + a + leads * samples_in class
     → piece.end + first * samples_in class ≡ file.start + b + leads * samples_in class
     → KeepsPlaces class leads first a b piece file
-kept-by class leads first a b piece file start end = record {
+kept-by {class} {leads} {first} {a} {b} {piece} {file} start end = record {
   start = start;
   end = end;
   length = length-kept piece.start piece.end (first * samples_in class) a b
       (leads * samples_in class) file.start start end;
-  samples = λ k _. sample-kept class leads first piece.start file.start a k start;
+  samples = λ k _. sample-kept piece.start file.start a k start;
 }
 
 -- ---- spans of played positions
 
-last-within : (version : Version) (frames p q : ℕ) → p < q → q ≤ frames * samples_of version
+last-within : (version : Version) {frames p q : ℕ} → p < q → q ≤ frames * samples_of version
     → (warm_up_frame (samples_of version) p < frames_before (samples_of version) q)
     × (frames_before (samples_of version) q ≤ frames)
-last-within One frames p q some most = (omega arith, omega arith)
-last-within Two frames p q some most = (omega arith, omega arith)
-last-within TwoFive frames p q some most = (omega arith, omega arith)
+last-within One some most = (omega arith, omega arith)
+last-within Two some most = (omega arith, omega arith)
+last-within TwoFive some most = (omega arith, omega arith)
 
 module _ (class : ClassFields) (frames p q leads : ℕ) where
   span-fits : p < q → q ≤ frames * samples_in class → AreLeads (span_of class p q) leads
       → SpanFits class frames leads (span_of class p q)
   unfolding span_of
   span-fits some most are =
-      let in_range = numbers-in_range class p q leads are in
-      let within = last-within class.version frames p q some most in
+      let in_range = numbers-in_range {class = class} p q {leads = leads} are in
+      let within = last-within class.version {frames = frames} {p = p} {q = q} some most in
       record {
         some = within.0;
         most = within.1;
@@ -156,7 +156,7 @@ module _ (class : ClassFields) (frames p q leads : ℕ) where
       }
 
   -- the played positions of a piece keep their places
-  piece-kept : (piece : Info) → p < q → SpanFits class frames leads (span_of class p q)
+  piece-kept : {piece : Info} → p < q → SpanFits class frames leads (span_of class p q)
       → IsPieceHead class leads (span_of class p q) piece →
       let played = played_of (Some piece) class
       (leads + ((span_of class p q).last - (span_of class p q).first)) in
@@ -164,18 +164,18 @@ module _ (class : ClassFields) (frames p q leads : ℕ) where
       (played.start + before ≡ p + leads * samples_in class)
       × (played.end + before ≡ q + leads * samples_in class)
   unfolding span_of
-  piece-kept piece some fits head =
+  piece-kept {piece} some fits head =
       let first = warm_up_frame (samples_in class) p in
       let last = frames_before (samples_in class) q in
       let count = leads + (last - first) in
       let delay = leads * samples_in class + (p - first * samples_in class) - decoder_delay in
       let padding = last * samples_in class - q + decoder_delay in
-      let is = piece-played class piece count delay padding head.frames (omega (arith, fits.some))
+      let is = piece-played class piece head.frames (omega (arith, fits.some))
       (omega arith) head.numbers in (
         ap (λ (played : Played). played.start + first * samples_in class) is
             ∙ starts-at class.version leads p fits.delay_least,
         ap (λ (played : Played). played.end + first * samples_in class) is
-            ∙ ends-at class.version leads p q some,
+            ∙ ends-at class.version leads some,
       )
 
 -- the span of played positions is within the frames, and its numbers are in range
@@ -200,7 +200,6 @@ pub places-kept : (file : Option Info) (piece : Info) (class : ClassFields) (fra
 places-kept file piece class frames a b leads played are head =
     let start = (played_of file class frames).start in
     let some : start + a < start + b = omega (arith, played.some) in
-    let kept = piece-kept class frames (start + a) (start + b) leads piece some
+    let kept = piece-kept class frames (start + a) (start + b) leads some
     (spans-fit file class frames a b leads played are) head in
-    kept-by class leads (played_span file class frames a b).first a b _
-    (played_of file class frames) kept.0 kept.1
+    kept-by kept.0 kept.1

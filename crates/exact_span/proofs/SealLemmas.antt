@@ -21,11 +21,12 @@ use Rattle.info_header.specs.declared.fields.Info.{Info}
 -- ---- parts of a list
 
 -- taking more than the first part takes all of it and some of the second
-take-behind : (xs ys : List ℕ) (k n : ℕ) → n ≡ length xs + k → take n (xs ++ ys) ≡ xs ++ take k ys
-take-behind xs ys k n is = ap (λ i. take i (xs ++ ys)) is ∙ take-append-add xs ys k
+take-behind : (xs ys : List ℕ) (k : ℕ) {n : ℕ} → n ≡ length xs + k
+    → take n (xs ++ ys) ≡ xs ++ take k ys
+take-behind xs ys k is = ap (λ i. take i (xs ++ ys)) is ∙ take-append-add xs ys k
 
-drop-behind : (xs ys : List ℕ) (k n : ℕ) → n ≡ length xs + k → drop n (xs ++ ys) ≡ drop k ys
-drop-behind xs ys k n is = ap (λ i. drop i (xs ++ ys)) is ∙ drop-append-add xs ys k
+drop-behind : (xs ys : List ℕ) (k : ℕ) {n : ℕ} → n ≡ length xs + k → drop n (xs ++ ys) ≡ drop k ys
+drop-behind xs ys k is = ap (λ i. drop i (xs ++ ys)) is ∙ drop-append-add xs ys k
 
 -- ---- the parts of an Info frame
 
@@ -94,9 +95,9 @@ table-length : (table : Option (List ℕ)) → IfSome table (λ table. length ta
 table-length None long = length-replicate {A = ℕ} 100 0
 table-length (Some table) long = long
 
-tail-length : (info : Info) → AreInfoFields info → length (tail_of info) ≡ 104
+tail-length : {info : Info} → AreInfoFields info → length (tail_of info) ≡ 104
 unfolding tail_of
-tail-length info whole =
+tail-length {info} whole =
     omega (
       arith,
       length-append (table_or_zeros info.table) (big_bytes 4 (number_or_zero info.quality)),
@@ -114,17 +115,17 @@ module _ (c : ClassFields) (front number tail extension rest : List ℕ)
   put-length =
       let whole = front ++ (number ++ (tail ++ (extension ++ rest))) in
       let before : take (music_place c) whole ≡ front ++ (number ++ (tail ++ take 28 extension)) =
-      take-behind front _ 136 (music_place c) (omega (arith, at))
-      ∙ ap (λ (xs : List ℕ). front ++ xs) (take-behind number _ 132 136 (omega (arith, four))
-      ∙ ap (λ (xs : List ℕ). number ++ xs) (take-behind tail _ 28 132 (omega (arith, middle))
+      take-behind front _ 136 {n = music_place c} (omega (arith, at))
+      ∙ ap (λ (xs : List ℕ). front ++ xs) (take-behind number _ 132 {n = 136} (omega (arith, four))
+      ∙ ap (λ (xs : List ℕ). number ++ xs) (take-behind tail _ 28 {n = 132} (omega (arith, middle))
       ∙ ap (λ (xs : List ℕ). tail ++ xs) (take-append-le 28 extension rest (omega (arith, long)))))
       in
       let own : take 4 (drop (bytes_place c) whole) ≡ number =
       ap (take 4) (drop_at front _ (bytes_place c) at) ∙ take_at number _ 4 four in
       let behind : drop (music_place c + 4) whole ≡ drop 32 extension ++ rest =
-      drop-behind front _ 140 (music_place c + 4) (omega (arith, at))
-      ∙ drop-behind number _ 136 140 (omega (arith, four))
-      ∙ drop-behind tail _ 32 136 (omega (arith, middle))
+      drop-behind front _ 140 {n = music_place c + 4} (omega (arith, at))
+      ∙ drop-behind number _ 136 {n = 140} (omega (arith, four))
+      ∙ drop-behind tail _ 32 {n = 136} (omega (arith, middle))
       ∙ drop-append-le 32 extension rest (omega (arith, long)) in
       ap₂ (λ (xs ys : List ℕ). xs ++ ys) before (ap₂ (λ (xs ys : List ℕ). xs ++ ys) own behind)
       ∙ simp append_assoc
@@ -137,15 +138,15 @@ module _ (c : ClassFields) (front number tail extension rest : List ℕ)
       let whole = front ++ (number ++ (tail ++ (extension ++ rest))) in
       let word = big_bytes 2 (arc_of 0 (take (crc_place c) whole)) in
       let before : take (crc_place c) whole ≡ front ++ (number ++ (tail ++ take 34 extension)) =
-      take-behind front _ 142 (crc_place c) (omega (arith, at))
-      ∙ ap (λ (xs : List ℕ). front ++ xs) (take-behind number _ 138 142 (omega (arith, four))
-      ∙ ap (λ (xs : List ℕ). number ++ xs) (take-behind tail _ 34 138 (omega (arith, middle))
+      take-behind front _ 142 {n = crc_place c} (omega (arith, at))
+      ∙ ap (λ (xs : List ℕ). front ++ xs) (take-behind number _ 138 {n = 142} (omega (arith, four))
+      ∙ ap (λ (xs : List ℕ). number ++ xs) (take-behind tail _ 34 {n = 138} (omega (arith, middle))
       ∙ ap (λ (xs : List ℕ). tail ++ xs) (take-append-le 34 extension rest (omega (arith, long)))))
       in
       let behind : drop (crc_place c + 2) whole ≡ rest =
-      drop-behind front _ 144 (crc_place c + 2) (omega (arith, at))
-      ∙ drop-behind number _ 140 144 (omega (arith, four))
-      ∙ drop-behind tail _ 36 140 (omega (arith, middle))
+      drop-behind front _ 144 {n = crc_place c + 2} (omega (arith, at))
+      ∙ drop-behind number _ 140 {n = 144} (omega (arith, four))
+      ∙ drop-behind tail _ 36 {n = 140} (omega (arith, middle))
       ∙ drop_at extension rest 36 long in
       ap₂ (λ (xs ys : List ℕ). xs ++ (word ++ ys)) before behind ∙ simp append_assoc
 
@@ -156,8 +157,8 @@ front-place : (first : HeaderFields) (info : Info)
 front-place first info = omega
     (arith, length-append (front_of first) (head_of info), front-length first, head-length info)
 
-field-length : (info : Info) → AreInfoFields info → length (with_length_field info).extension ≡ 36
-field-length info whole =
+field-length : {info : Info} → AreInfoFields info → length (with_length_field info).extension ≡ 36
+field-length {info} whole =
     let long = whole.extension in
     omega (
       arith,
@@ -168,36 +169,36 @@ field-length info whole =
       length-drop 32 info.extension,
     )
 
-music-put : (first : HeaderFields) (info : Info) → AreInfoFields info
+music-put : (first : HeaderFields) {info : Info} → AreInfoFields info
     → with_music_length (class_of first) (info_frame first info)
     ≡ info_frame first (with_length_field info)
 unfolding framed number_of
-music-put first info whole =
+music-put first {info} whole =
     ap (with_music_length (class_of first)) (frame-parts first info info.extension)
     ∙ put-length (class_of first) (front_of first ++ head_of info) (number_of info)
     (tail_of info) info.extension (rest_of first)
-    (front-place first info) (number-length info) (tail-length info whole) whole.extension
+    (front-place first info) (number-length info) (tail-length whole) whole.extension
     ∙ sym (frame-parts first info (with_length_field info).extension)
 
-crc-put : (first : HeaderFields) (info : Info) → AreInfoFields info
+crc-put : (first : HeaderFields) {info : Info} → AreInfoFields info
     → with_tag_crc (class_of first) (info_frame first info)
     ≡ info_frame first (with_crc_field first info)
 unfolding framed
-crc-put first info whole =
+crc-put first {info} whole =
     let is = frame-parts first info info.extension in
     let word =
     λ (frame : List ℕ). big_bytes 2 (arc_of 0 (take (crc_place (class_of first)) frame)) in
     ap (with_tag_crc (class_of first)) is
     ∙ put-crc (class_of first) (front_of first ++ head_of info) (number_of info)
     (tail_of info) info.extension (rest_of first)
-    (front-place first info) (number-length info) (tail-length info whole) whole.extension
+    (front-place first info) (number-length info) (tail-length whole) whole.extension
     ∙ ap (λ (frame : List ℕ). framed first info (take 34 info.extension ++ word frame)) (sym is)
     ∙ sym (frame-parts first info (with_crc_field first info).extension)
 
-frame-room : (first : HeaderFields) (info : Info) → AreInfoFields info
+frame-room : (first : HeaderFields) {info : Info} → AreInfoFields info
     → text_place (class_of first) + 156 ≤ length (info_frame first info)
 unfolding framed
-frame-room first info whole =
+frame-room first {info} whole =
     let front = front_of first ++ head_of info in
     let rest = rest_of first in
     omega (
@@ -205,7 +206,7 @@ frame-room first info whole =
       ap length (frame-parts first info info.extension),
       front-place first info,
       number-length info,
-      tail-length info whole,
+      tail-length whole,
       whole.extension,
       length-append front (number_of info ++ (tail_of info ++ (info.extension ++ rest))),
       length-append (number_of info) (tail_of info ++ (info.extension ++ rest)),
@@ -214,13 +215,13 @@ frame-room first info whole =
     )
 
 -- sealing doesn't change the first 28 bytes of the extension
-field-front : (first : HeaderFields) (info : Info) → AreInfoFields info
+field-front : (first : HeaderFields) {info : Info} → AreInfoFields info
     → take 28 (sealed_info first info).extension ≡ take 28 info.extension
-field-front first info whole =
+field-front first {info} whole =
     let long = whole.extension in
     let extension = (with_length_field info).extension in
     let many : length (take 34 extension) ≡ 34 =
-    length-take-le 34 extension (omega (arith, field-length info whole)) in
+    length-take-le 34 extension (omega (arith, field-length whole)) in
     let few : length (take 28 info.extension) ≡ 28 =
     length-take-le 28 info.extension (omega (arith, long)) in
     take-append-le 28 (take 34 extension) (big_bytes 2 (tag_crc_of first (with_length_field info)))
@@ -231,42 +232,42 @@ field-front first info whole =
     ∙ take-take 28 28 info.extension (omega arith)
 
 -- a sealed Info frame is the Info frame of fields that differ in music length and tag CRC alone
-pub frames-sealed : (first : HeaderFields) (info : Info) → AreInfoFields info
+pub frames-sealed : (first : HeaderFields) {info : Info} → AreInfoFields info
     → IsInfoSealed first info
-frames-sealed first info whole = record {
-  room = frame-room first info whole;
-  is = ap (with_tag_crc (class_of first)) (music-put first info whole)
-      ∙ crc-put first (with_length_field info)
-      (record { table = whole.table; extension = field-length info whole });
-  says = λ d p. says-front (sealed_info first info).extension info.extension d p
-      (field-front first info whole);
+frames-sealed first {info} whole = record {
+  room = frame-room first whole;
+  is = ap (with_tag_crc (class_of first)) (music-put first whole)
+      ∙ crc-put first
+      (record { table = whole.table; extension = field-length whole });
+  says = λ d p. says-front
+      (field-front first whole);
 }
 
 -- the fields of a sealed frame are fields that a struct can have
-pub sealed-whole : (first : HeaderFields) (info : Info) → AreInfoFields info
+pub sealed-whole : (first : HeaderFields) {info : Info} → AreInfoFields info
     → AreInfoFields (sealed_info first info)
-sealed-whole first info whole =
+sealed-whole first {info} whole =
     let extension = (with_length_field info).extension in
     record {
       table = whole.table;
       extension = omega (
         arith,
         length-append (take 34 extension) (big_bytes 2 (tag_crc_of first (with_length_field info))),
-        length-take-le 34 extension (omega (arith, field-length info whole)),
+        length-take-le 34 extension (omega (arith, field-length whole)),
       );
     }
 
 -- where the extension is in an Info frame
-pub extension-there : (first : HeaderFields) (info : Info) → AreInfoFields info
+pub extension-there : (first : HeaderFields) {info : Info} → AreInfoFields info
     → take 36 (drop (text_place (class_of first) + 120) (info_frame first info)) ≡ info.extension
 unfolding framed
-extension-there first info whole =
+extension-there first {info} whole =
     let front = front_of first ++ head_of info in
     ap (λ (l : List ℕ). take 36 (drop (text_place (class_of first) + 120) l))
     (frame-parts first info info.extension)
     ∙ ap (λ (l : List ℕ). take 36 l)
-    (drop-behind front _ 108 (text_place (class_of first) + 120)
+    (drop-behind front _ 108 {n = text_place (class_of first) + 120}
     (omega (arith, front-place first info))
-    ∙ drop-behind (number_of info) _ 104 108 (omega (arith, number-length info))
-    ∙ drop_at (tail_of info) _ 104 (tail-length info whole))
+    ∙ drop-behind (number_of info) _ 104 {n = 108} (omega (arith, number-length info))
+    ∙ drop_at (tail_of info) _ 104 (tail-length {info = info} whole))
     ∙ take_at info.extension (rest_of first) 36 whole.extension

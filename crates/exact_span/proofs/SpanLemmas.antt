@@ -38,21 +38,22 @@ pub record AreInRange (class : ClassFields) (leads : ℕ) (span : Span) : Type 0
   pub padding_most : padding_of span ≤ 1680
 
 -- either the first position is after the decoder's delay, or there is a lead-in
-enough : (p leads : ℕ) → (IsTrue (ltb p decoder_delay) → leads ≡ 1)
+enough : (p : ℕ) {leads : ℕ} → (IsTrue (ltb p decoder_delay) → leads ≡ 1)
     → decoder_delay ≤ leads * 576 + p
-enough p leads led =
+enough p led =
     elim (cases_lt p decoder_delay) [
       | inl early ↦ let one = led (lt-ltb p decoder_delay early) in omega (arith, one)
       | inr late ↦ omega (arith, late)
     ]
 
-delay-in_range : (version : Version) (p leads : ℕ) → leads ≤ 1 → decoder_delay ≤ leads * 576 + p →
+delay-in_range : (version : Version) (p : ℕ) {leads : ℕ} → leads ≤ 1
+    → decoder_delay ≤ leads * 576 + p →
     let from = p - warm_up_frame (samples_of version) p * samples_of version in
     (decoder_delay ≤ leads * samples_of version + from)
     × (leads * samples_of version + from - decoder_delay ≤ 2830)
-delay-in_range One p leads one late = (omega arith, omega arith)
-delay-in_range Two p leads one late = (omega arith, omega arith)
-delay-in_range TwoFive p leads one late = (omega arith, omega arith)
+delay-in_range One p one late = (omega arith, omega arith)
+delay-in_range Two p one late = (omega arith, omega arith)
+delay-in_range TwoFive p one late = (omega arith, omega arith)
 
 padding-in_range : (version : Version) (q : ℕ)
     → frames_before (samples_of version) q * samples_of version - q + decoder_delay ≤ 1680
@@ -61,11 +62,11 @@ padding-in_range Two q = omega arith
 padding-in_range TwoFive q = omega arith
 
 -- the numbers of a span with its lead-ins are in range
-pub numbers-in_range : (class : ClassFields) (p q leads : ℕ) → AreLeads (span_of class p q) leads
-    → AreInRange class leads (span_of class p q)
+pub numbers-in_range : {class : ClassFields} (p q : ℕ) {leads : ℕ}
+    → AreLeads (span_of class p q) leads → AreInRange class leads (span_of class p q)
 unfolding span_of
-numbers-in_range class p q leads are =
-    let delay = delay-in_range class.version p leads are.one (enough p leads are.led) in
+numbers-in_range {class} p q {leads} are =
+    let delay = delay-in_range class.version p are.one (enough p are.led) in
     record {
       delay_least = delay.0;
       delay_most = delay.1;
@@ -75,9 +76,9 @@ numbers-in_range class p q leads are =
     }
 
 -- the numbers of any span of positions are in range too
-pub span-in_range : (class : ClassFields) (span : Span) (leads : ℕ) → IsSpan class span
+pub span-in_range : {class : ClassFields} {span : Span} {leads : ℕ} → IsSpan class span
     → AreLeads span leads → AreInRange class leads span
-span-in_range class span leads of are =
+span-in_range {class} {leads = leads} of are =
     let P : Span → Type 0 = λ s. AreInRange class leads s in
     let Q : Span → Type 0 = λ s. AreLeads s leads in
-    subst P (sym of.is) (numbers-in_range class of.p of.q leads (subst Q of.is are))
+    subst P (sym of.is) (numbers-in_range of.p of.q (subst Q of.is are))

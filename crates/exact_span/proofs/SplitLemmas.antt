@@ -13,17 +13,17 @@ ranges a (suc m) n =
     ap (λ (xs : List ℕ). a ∷ xs) (ap (λ k. range_with_len (a + 1) m ++ range_with_len k n) from
     ∙ ranges (a + 1) m n) ∙ ap (range_with_len a) many
 
-between-more : (a b c : ℕ) → a ≤ b → b ≤ c
+between-more : {a b c : ℕ} → a ≤ b → b ≤ c
     → samples_between a b ++ samples_between b c ≡ samples_between a c
-between-more a b c first then =
+between-more {a} {b} {c} first then =
     let there : b ≡ a + (b - a) = omega arith in
     let many : b - a + (c - b) ≡ c - a = omega arith in
     ap (λ k. range_with_len a (b - a) ++ range_with_len k (c - b)) there ∙ ranges a (b - a) (c - b)
     ∙ ap (range_with_len a) many
 
-last-after : (a : ℕ) (points : List ℕ) → PointsAscend a points → a ≤ last_point a points
-last-after a [] ascend = omega arith
-last-after a (b ∷ points) ascend = omega (arith, ascend.0, last-after b points ascend.1)
+last-after : {a : ℕ} (points : List ℕ) → PointsAscend a points → a ≤ last_point a points
+last-after [] ascend = omega arith
+last-after (b ∷ points) ascend = omega (arith, ascend.0, last-after points ascend.1)
 
 -- the samples of all pieces, joined, are the samples between the first and the last point
 pub pieces-whole : (a : ℕ) (points : List ℕ) → PointsAscend a points
@@ -32,4 +32,4 @@ unfolding pieces_samples
 pieces-whole a [] ascend = let none : 0 ≡ a - a = omega arith in ap (range_with_len a) none
 pieces-whole a (b ∷ points) ascend =
     ap (λ (xs : List ℕ). samples_between a b ++ xs) (pieces-whole b points ascend.1)
-    ∙ between-more a b (last_point b points) ascend.0 (last-after b points ascend.1)
+    ∙ between-more ascend.0 (last-after points ascend.1)

@@ -99,11 +99,11 @@ pub record AreParted (frame : ℕ) (points xs ys : List Point) : Type 0 where
   pub front : All (λ p. up_to frame p ≡ true) xs
   pub back : All (λ p. up_to frame p ≡ false) ys
 
-steps_of : (frame : ℕ) (points xs ys : List Point) → AreParted frame points xs ys
+steps_of : {frame : ℕ} {points xs ys : List Point} → AreParted frame points xs ys
     → steps_at (map curve_point_of points) frame ≡ neighbour_steps (option_map curve_point_of
     (find (up_to frame) (reverse xs))) (option_map curve_point_of (find (behind frame) ys)) frame
 unfolding steps_at
-steps_of frame points xs ys parted =
+steps_of {frame} {xs = xs} {ys = ys} parted =
     ap (λ ps. neighbour_steps (last_point_up_to (map curve_point_of ps) frame)
     (first_point_after (map curve_point_of ps) frame) frame) parted.whole
     ∙ ap₂ (λ p q. neighbour_steps p q frame) (last_of frame xs ys parted.back)
@@ -133,7 +133,7 @@ module _ (frame : ℕ) (points xs ys : List Point) (q : Point)
   steps_of_first none first =
       grind (
         arith,
-        steps_of frame points xs ys parted,
+        steps_of parted,
         option_map,
         no_last (up_to frame) xs none,
         first_is first,
@@ -156,13 +156,13 @@ module _ (frame : ℕ) (points xs ys : List Point) (p : Point) where
   last_is parted there = grind (arith, last_passes)
 
   -- between two points, the steps are on the line from the one to the other
-  pub steps_of_two : (q : Point) → AreParted frame points xs ys → last_there xs p → first_there ys q
+  pub steps_of_two : {q : Point} → AreParted frame points xs ys → last_there xs p → first_there ys q
       → steps_at (map curve_point_of points) frame
       ≡ neighbour_steps (Some (curve_point_of p)) (Some (curve_point_of q)) frame
-  steps_of_two q parted last first =
+  steps_of_two {q} parted last first =
       grind (
         arith,
-        steps_of frame points xs ys parted,
+        steps_of parted,
         option_map,
         last_is parted last,
         first_is
@@ -175,7 +175,7 @@ module _ (frame : ℕ) (points xs ys : List Point) (p : Point) where
   steps_of_last parted last none =
       grind (
         arith,
-        steps_of frame points xs ys parted,
+        steps_of parted,
         option_map,
         last_is parted last,
         empty_find
@@ -188,50 +188,50 @@ module _ (frame : ℕ) (points xs ys : List Point) (p : Point) where
   last_kept parted all there = grind (arith, length-append xs ys, get_or-append, leb-true)
 
 -- without points, the steps are 0
-pub steps_of_none : (frame : ℕ) (points xs ys : List Point) → AreParted frame points xs ys
+pub steps_of_none : {frame : ℕ} {points xs ys : List Point} → AreParted frame points xs ys
     → length xs ≡ 0 → length ys ≡ 0
     → steps_at (map curve_point_of points) frame ≡ neighbour_steps None None frame
-steps_of_none frame points xs ys parted none other =
+steps_of_none {frame} {points} {xs} {ys} parted none other =
     grind (
       arith,
-      steps_of frame points xs ys parted,
+      steps_of parted,
       option_map,
       no_last (up_to frame) xs none,
       empty_find (behind frame) ys other,
     )
 
 -- points are split where the ones up to a frame end and the ones after it begin
-pub parted_at : (frame : ℕ) (points : List Point) (k : ℕ) → k ≤ length points
+pub parted_at : {frame : ℕ} {points : List Point} {k : ℕ} → k ≤ length points
     → ((j : ℕ) (d : Point) → 0 ≤ j → j < k → nat_le (get_or points j d).frame frame ≡ true)
     → ((j : ℕ) (d : Point) → k ≤ j → j < length points → nat_le (get_or points j d).frame frame
     ≡ false) → AreParted frame points (take k points) (drop k points)
-parted_at frame points k within front back = record {
+parted_at {points = points} {k = k} within front back = record {
   whole = sym (take-append-drop k points);
   front = grind (arith, length-take-le, get_or-take, front);
   back = grind (arith, get_or-drop, back, length-drop);
 }
 
 -- the same for two lists that are these parts
-pub parted_as : (frame : ℕ) (points : List Point) (k : ℕ) (xs ys : List Point) → k ≤ length points
+pub parted_as : {frame : ℕ} {points : List Point} {k : ℕ} {xs ys : List Point} → k ≤ length points
     → ((j : ℕ) (d : Point) → 0 ≤ j → j < k → nat_le (get_or points j d).frame frame ≡ true)
     → ((j : ℕ) (d : Point) → k ≤ j → j < length points → nat_le (get_or points j d).frame frame
     ≡ false) → xs ≡ take k points → ys ≡ drop k points → AreParted frame points xs ys
-parted_as frame points k xs ys within front back first second =
+parted_as {frame} {points} {k} {ys = ys} within front back first second =
     subst (λ t. AreParted frame points t ys) (sym first) (subst (λ t. AreParted frame points
-    (take k points) t) (sym second) (parted_at frame points k within front back))
+    (take k points) t) (sym second) (parted_at within front back))
 
 -- ---- what `last` and `first` give
 
 -- the point at the last place is the last
-pub last_some : (xs : List Point) (p : Point) → Some p ≡ slice_get xs (length xs - 1)
+pub last_some : (xs : List Point) {p : Point} → Some p ≡ slice_get xs (length xs - 1)
     → last_there xs p
-last_some [] p is = absurd (none-some _ (sym is))
-last_some (x ∷ xs) p is = grind (arith, get_or_from_slice_get)
+last_some [] is = absurd (none-some _ (sym is))
+last_some (x ∷ xs) is = grind (arith, get_or_from_slice_get)
 
 -- the point at the first place is the first
-pub first_some : (ys : List Point) (q : Point) → Some q ≡ slice_get ys 0 → first_there ys q
-first_some [] q is = absurd (none-some _ (sym is))
-first_some (y ∷ ys) q is = (omega arith, λ d. sym (get_or_from_slice_get (y ∷ ys) 0 q d (sym is)))
+pub first_some : (ys : List Point) {q : Point} → Some q ≡ slice_get ys 0 → first_there ys q
+first_some [] is = absurd (none-some _ (sym is))
+first_some (y ∷ ys) {q} is = (omega arith, λ d. sym (get_or_from_slice_get (y ∷ ys) 0 q d (sym is)))
 
 -- if there is no point at the first place, there are no points
 pub first_none : (ys : List Point) → None ≡ slice_get ys 0 → length ys ≡ 0
@@ -251,11 +251,11 @@ last_none (x ∷ xs) is = grind (arith, none-some, some_at xs x)
 -- ---- how many of rising points are up to a frame
 
 -- if the last of the first `count` points is up to the frame, all of them are
-pub all_up_to : (frame : ℕ) (points : List Point) (count : ℕ) (e : Point)
+pub all_up_to : (frame : ℕ) (points : List Point) {count : ℕ} (e : Point)
     → IsNonDecreasingBy (λ p. p.frame) points → count ≤ length points → 0 < count
     → up_to frame (get_or points (count - 1) e) ≡ true
     → AllWithin (λ p. nat_le p.frame frame ≡ true) points 0 count
-all_up_to frame points count e rising within some last k d from below =
+all_up_to frame points {count} e rising within some last k d from below =
     grind (
       arith,
       get_or_default points (count - 1) e d (omega (arith, within, some)),
@@ -264,21 +264,21 @@ all_up_to frame points count e rising within some last k d from below =
     )
 
 -- if the first of the points after these is after the frame, all of them are
-pub all_behind : (frame : ℕ) (points : List Point) (count : ℕ) (e : Point)
+pub all_behind : (frame : ℕ) (points : List Point) {count : ℕ} (e : Point)
     → IsNonDecreasingBy (λ p. p.frame) points → count < length points
     → behind frame (get_or points count e) ≡ true
     → AllWithin (λ p. nat_le p.frame frame ≡ false) points count (length points)
-all_behind frame points count e rising within first k d from below =
+all_behind frame points {count} e rising within first k d from below =
     grind (arith, get_or_default points count e d within, lt-leb, ltb-true)
 
 -- ---- points that rise
 
 -- if there is no fault at all, the first test passes and the rest has no fault
-pub none_of : (b : Bool) (o : Option ℕ) (line : ℕ) → cond b o (Some line) ≡ None
+pub none_of : {b : Bool} {o : Option ℕ} (line : ℕ) → cond b o (Some line) ≡ None
     → (b ≡ true) × (o ≡ None)
-none_of b o line e = grind arith
+none_of line e = grind arith
 
 -- there is a curve only if no point is at fault, and it is these points
-pub made_of : (o : Option ℕ) (points curve : List CurvePoint) → line_or_curve o points ≡ Ok curve
+pub made_of : {o : Option ℕ} {points curve : List CurvePoint} → line_or_curve o points ≡ Ok curve
     → (o ≡ None) × (points ≡ curve)
-made_of o points curve e = grind arith
+made_of e = grind arith

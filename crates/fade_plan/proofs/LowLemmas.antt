@@ -43,11 +43,11 @@ short_low (p ∷ q ∷ more) short = absurd (omega (arith, short))
 -- ---- placed points
 
 -- one point more has its frame
-pub placed_point-more : (class : ClassFields) (frames : ℕ) (xs : List Point) (i : ℕ) (d : Point)
+pub placed_point-more : (class : ClassFields) (frames : ℕ) (xs : List Point) {i : ℕ} (d : Point)
     → i < length xs
     → set (map (placed_point class frames) (take i xs) ++ drop i xs) i (placed_point class
     frames (get_or xs i d)) ≡ map (placed_point class frames) (take (i + 1) xs) ++ drop (i + 1) xs
-placed_point-more class frames xs i d less =
+placed_point-more class frames xs {i} d less =
     let f = placed_point class frames in
     let x = get_or xs i d in
     let size : length (map f (take i xs)) ≡ i = grind (arith, length-map, length-take-le) in
@@ -73,40 +73,42 @@ low-placed_point class frames xs = placed_of class frames xs
 
 -- ---- the loop over the points, at the point with number m
 
-before_next : (m : ℕ) → 1 ≤ m → m - 1 + 1 ≡ m
-before_next m some = omega (arith, some)
+before_next : {m : ℕ} → 1 ≤ m → m - 1 + 1 ≡ m
+before_next some = omega (arith, some)
 
 -- a point after the one before it is passed
-pub passes : (xs : List Point) (m : ℕ) (d : Point) → 1 ≤ m → m < length xs
+pub passes : (xs : List Point) {m : ℕ} (d : Point) → 1 ≤ m → m < length xs
     → (get_or xs (m - 1) d).frame < (get_or xs m d).frame
     → first_not_rising (drop (m - 1) xs) ≡ first_not_rising (drop (m + 1 - 1) xs)
-passes xs m d some less = grind (arith, before_next, low_past)
+passes xs d some less = grind (arith, before_next, low_past)
 
 -- a point that isn't after the one before it is the first fault
-pub stops : (xs : List Point) (m : ℕ) (d : Point) → 1 ≤ m → m < length xs → (get_or xs m d).frame
+pub stops : (xs : List Point) {m : ℕ} (d : Point) → 1 ≤ m → m < length xs → (get_or xs m d).frame
     ≤ (get_or xs (m - 1) d).frame → first_not_rising (drop (m - 1) xs) ≡ Some (get_or xs m d).line
-stops xs m d some less = grind (arith, before_next, low_here)
+stops xs d some less = grind (arith, before_next, low_here)
 
 -- after the last point there is no fault
-pub ends : (xs : List Point) (m : ℕ) → 1 ≤ m → length xs ≤ m
+pub ends : (xs : List Point) {m : ℕ} → 1 ≤ m → length xs ≤ m
     → first_not_rising (drop (m - 1) xs) ≡ None
-ends xs m some end = short_low (drop (m - 1) xs) (omega (arith, some, end, length-drop (m - 1) xs))
+ends xs {m} some end =
+    short_low (drop (m - 1) xs) (omega (arith, some, end, length-drop (m - 1) xs))
 
 -- points in order and one that is after the last of them are in order
-pub adjacent_more : (xs : List Point) (m : ℕ) (e : Point) → m < length xs
+pub adjacent_more : (xs : List Point) {m : ℕ} (e : Point) → m < length xs
     → AllAdjacentBelow (λ x y. x.frame ≤ y.frame) xs m → (get_or xs (m - 1) e).frame
     < (get_or xs m e).frame → AllAdjacentBelow (λ x y. x.frame ≤ y.frame) xs (m + 1)
-adjacent_more xs m e within so rises k d less = grind (arith, cases_lt, get_or_default)
+adjacent_more xs e within so rises k d less = grind (arith, cases_lt, get_or_default)
 
 -- ---- the loop that places points
 
 -- giving the point at i its frame places one point more
-pub placed_point-step : (class : ClassFields) (frames : ℕ) (xs ps : List Point) (i frame : ℕ)
+pub placed_point-step : (class : ClassFields) (frames : ℕ) (xs : List Point) {ps : List Point}
+    {i frame : ℕ}
     (d : Point) → i < length xs → ps ≡ map (placed_point class frames) (take i xs) ++ drop i xs
     → frame ≡ frame_at class frames (get_or ps i d).place
     → set ps i (record (get_or ps i d) { frame = frame })
     ≡ map (placed_point class frames) (take (i + 1) xs) ++ drop (i + 1) xs
-placed_point-step class frames xs ps i frame d less is at =
+placed_point-step class frames xs {i = i} d less is at =
     grind (
       arith,
       length-map (take i xs) (placed_point class frames),
@@ -116,17 +118,17 @@ placed_point-step class frames xs ps i frame d less is at =
       get_or-drop i xs (i - i) d,
       set,
       placed_point-more class
-          frames xs i d less,
+          frames xs d less,
     )
 
 -- ---- the curve of placed points
 
 -- if some point isn't after the one before it, its line is the fault
-pub curve_refused : (class : ClassFields) (frames : ℕ) (xs ys : List Point) (line : ℕ)
-    → ys ≡ map (placed_point class frames) xs → Some line ≡ first_not_rising ys
+pub curve_refused : (class : ClassFields) (frames : ℕ) (xs : List Point) {ys : List Point}
+    {line : ℕ} → ys ≡ map (placed_point class frames) xs → Some line ≡ first_not_rising ys
     → Err line ≡ curve_of class frames (map envelope_point_of xs)
 unfolding curve_of
-curve_refused class frames xs ys line is low = grind (arith, low-placed_point)
+curve_refused class frames xs is low = grind (arith, low-placed_point)
 
 same_points : (class : ClassFields) (frames : ℕ) (xs : List Point)
     → map curve_point_of (map (placed_point class frames) xs)
@@ -135,19 +137,19 @@ same_points class frames [] = refl
 same_points class frames (x ∷ xs) = grind (arith, same_points class frames xs)
 
 -- if no line is at fault, the placed points are the curve
-pub curve_made : (class : ClassFields) (frames : ℕ) (xs ys : List Point)
+pub curve_made : (class : ClassFields) (frames : ℕ) (xs : List Point) {ys : List Point}
     → ys ≡ map (placed_point class frames) xs → None ≡ first_not_rising ys
     → Ok (map curve_point_of ys) ≡ curve_of class frames (map envelope_point_of xs)
 unfolding curve_of
-curve_made class frames xs ys is low = grind (arith, same_points, low-placed_point)
+curve_made class frames xs is low = grind (arith, same_points, low-placed_point)
 
 -- what a vector contains after its points were overwritten
-pub whole_again : (n : ℕ) (new old : List Point) → length new ≡ n → length old ≡ n
+pub whole_again : {n : ℕ} {new : List Point} (old : List Point) → length new ≡ n → length old ≡ n
     → take n (new ++ drop (length new) old) ≡ new
-whole_again n new old size same = grind (arith, drop_all, append-nil, take_all)
+whole_again old size same = grind (arith, drop_all, append-nil, take_all)
 
 -- points that are overwritten with their frames are the placed points
-pub written_again : (class : ClassFields) (frames n : ℕ) (xs ms new ys : List Point) → n ≡ length xs
-    → ms ≡ xs → new ≡ map (placed_point class frames) ms → ys ≡ take n (new ++ drop (length new) xs)
-    → ys ≡ map (placed_point class frames) xs
-written_again class frames n xs ms new ys size same is now = grind (arith, whole_again, length-map)
+pub written_again : (class : ClassFields) (frames : ℕ) {n : ℕ} {xs ms new ys : List Point}
+    → n ≡ length xs → ms ≡ xs → new ≡ map (placed_point class frames) ms
+    → ys ≡ take n (new ++ drop (length new) xs) → ys ≡ map (placed_point class frames) xs
+written_again class frames size same is now = grind (arith, whole_again, length-map)

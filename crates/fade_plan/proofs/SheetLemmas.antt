@@ -62,18 +62,18 @@ at_front text = record {
 }
 
 -- if the next line is at fault, the sheet is refused with the number of this line
-pub refused : (text : List ℕ) (at line : ℕ) (points : List Point) (e : FadeEntry)
-    (more : List FadeEntry) → HaveRead text at line points → fade_entries_from text at ≡ e ∷ more
+pub refused : {text : List ℕ} {at line : ℕ} {points : List Point} {e : FadeEntry}
+    {more : List FadeEntry} → HaveRead text at line points → fade_entries_from text at ≡ e ∷ more
     → is_at_fault (length points) e ≡ true
     → envelope_in (fade_entries_from text 0) ≡ Err (Line line)
-refused text at line points e more read here wrong = grind (arith, fault_of)
+refused read here wrong = grind (arith, fault_of)
 
 -- if the next line isn't at fault, it is read, and if it is a point, there is one point more
-pub goes_on : (text : List ℕ) (at next line : ℕ) (points then : List Point) (e : FadeEntry)
+pub goes_on : {text : List ℕ} {at next line : ℕ} {points then : List Point} {e : FadeEntry}
     → HaveRead text at line points → fade_entries_from text at ≡ e ∷ fade_entries_from text next
     → is_at_fault (length points) e ≡ false → map envelope_point_of
     then ≡ map envelope_point_of points ++ point_at line e → HaveRead text next (line + 1) then
-goes_on text at next line points then e read here right kept = record {
+goes_on {e = e} read here right kept = record {
   before = read.before ++ (e ∷ []);
   lines = grind (arith, append_assoc);
   first = grind (arith, fault_of);
@@ -82,14 +82,14 @@ goes_on text at next line points then e read here right kept = record {
   kept = grind (arith, kept, points_more);
 }
 
-none_left : (text : List ℕ) (at : ℕ) → length text < at → fade_entries_from text at ≡ []
-none_left text at end = ap (map fade_entry_in) (no_lines text at end)
+none_left : (text : List ℕ) {at : ℕ} → length text < at → fade_entries_from text at ≡ []
+none_left text {at} end = ap (map fade_entry_in) (no_lines text at end)
 
 -- after the last line, the sheet has the points so far
-pub ends : (text : List ℕ) (at line : ℕ) (points : List Point) → HaveRead text at line points
+pub ends : {text : List ℕ} {at line : ℕ} {points : List Point} → HaveRead text at line points
     → length text < at
     → envelope_in (fade_entries_from text 0) ≡ some_points (map envelope_point_of points)
-ends text at line points read end = grind (arith, none_left, no_fault, append-nil)
+ends read end = grind (arith, none_left, no_fault, append-nil)
 
 -- if there is a point, these are the points of the sheet
 pub some_are : (points : List Point) → 0 < length points

@@ -27,10 +27,10 @@ size_between n d small = grind (arith, size_of_quotient, div-le_of_le-mul)
 -- ---- what the code computes
 
 -- the quotient is the same in 64 bits, and in 16
-pub evenly : (n : ℤ) (d : ℕ) → FitsSigned w64 n → d < 2 ^ 48 → unsigned_abs n ≤ 255 * d
+pub evenly : {n : ℤ} {d : ℕ} → FitsSigned w64 n → d < 2 ^ 48 → unsigned_abs n ≤ 255 * d
     → to_z w16 (of_z w16 (to_z w64 (of_z w64 (int_div (to_z w64 (of_z w64 n)) (to_z w64 d)))))
     ≡ int_div n (pos d)
-evenly n d fits few small =
+evenly {n} {d} fits few small =
     let size : unsigned_abs (int_div n (pos d)) ≤ 255 = size_between n d small in
     ap (λ q. to_z w16 (of_z w16 (to_z w64 (of_z w64 q))))
     (ap₂ int_div (to_z-of_z w64 n fits) (to_z_pos w64 d (omega (arith, few))))
@@ -40,15 +40,15 @@ evenly n d fits few small =
     (fits_signed_from_abs w16 (int_div n (pos d)) (omega (arith, size)))
 
 -- steps from -255 to 255 fit in 16 bits
-pub small_fits : (z : ℤ) → unsigned_abs z ≤ 255 → to_z w16 (of_z w16 z) ≡ z
-small_fits z small = to_z-of_z w16 z (fits_signed_from_abs w16 z (omega (arith, small)))
+pub small_fits : {z : ℤ} → unsigned_abs z ≤ 255 → to_z w16 (of_z w16 z) ≡ z
+small_fits {z} small = to_z-of_z w16 z (fits_signed_from_abs w16 z (omega (arith, small)))
 
 -- the sum of two weighted steps is the same in 64 bits
-pub weighted_sum : (a b l p : ℤ) (left passed : ℕ) → unsigned_abs a ≤ 255 → unsigned_abs b ≤ 255
-    → l ≡ a *ℤ pos left → p ≡ b *ℤ pos passed → left + passed < 2 ^ 48
+pub weighted_sum : (a b : ℤ) {l p : ℤ} (left passed : ℕ) → unsigned_abs a ≤ 255
+    → unsigned_abs b ≤ 255 → l ≡ a *ℤ pos left → p ≡ b *ℤ pos passed → left + passed < 2 ^ 48
     → to_z w64 (of_z w64 (to_z w64 (of_z w64 l) +ℤ to_z w64 (of_z w64 p)))
     ≡ (a *ℤ pos left) +ℤ (b *ℤ pos passed)
-weighted_sum a b l p left passed small other is and few =
+weighted_sum a b left passed small other is and few =
     grind (
       arith,
       pos left,

@@ -59,7 +59,7 @@ module _ (file : List ℕ) (n : ℕ) (within : n ≤ length file) where
   in_cases at (Frame h) ps is are =
       let here = whole_item_at-is Stream now at (Frame h) is in (
         record {
-          header = header_front-in_range (drop at now) h (stands-at now at (Frame h) here.is);
+          header = header_front-in_range (drop at now) (stands-at now at (Frame h) here.is);
           high = omega (arith, here.within, length-cut file n within);
         },
         are,
@@ -81,7 +81,7 @@ module _ (file : List ℕ) (n : ℕ) (within : n ≤ length file) where
     low = omega (arith, is.high)
 
     least : overhead_of (class_of p.header) p.header.protected ≤ n - p.offset
-    least = omega (arith, overhead-within p.header is.header, is.high)
+    least = omega (arith, overhead-within is.header, is.high)
 
     six : 6 ≤ n - p.offset
     six = grind (arith, area_some, IsClass-class_of)
@@ -89,8 +89,8 @@ module _ (file : List ℕ) (n : ℕ) (within : n ≤ length file) where
     row-same : row_of now p ≡ row_of file p
     row-same =
         ap (λ (s : Side). record { offset = p.offset; header = p.header; side = s; lost = false })
-        (ap (side_in p.header) (drop-cut file n within p.offset low)
-        ∙ side_in-take p.header (n - p.offset) (drop p.offset file) least)
+        (ap (side_in p.header) (drop-cut file n within low)
+        ∙ side_in-take p.header (drop p.offset file) least)
 
     -- the check word of a frame that is still whole is the same
     pub word-same : stored_crc (drop p.offset now) ≡ stored_crc (drop p.offset file)
@@ -107,25 +107,25 @@ module _ (file : List ℕ) (n : ℕ) (within : n ≤ length file) where
   rows-same (p ∷ ps) are = grind (arith, row-same, rows-same ps are.1)
 
   -- each row belongs to a frame that is still whole
-  pub row-in : (ps : List PlacedFrame) (i : ℕ) (r : Row) → AreIn (rows_of file ps)
+  pub row-in : (ps : List PlacedFrame) (i : ℕ) {r : Row} → AreIn (rows_of file ps)
       → slice_get (rows_of file ps) i ≡ Some r
       → (p : PlacedFrame) × IsIn p.offset p.header × (r ≡ row_of file p)
-  row-in [] i r are is = absurd cc
-  row-in (p ∷ ps) zero r are is = let same : row_of file p ≡ r = cc in (p, are.0, sym same)
-  row-in (p ∷ ps) (suc i) r are is = row-in ps i r are.1 is
+  row-in [] i are is = absurd cc
+  row-in (p ∷ ps) zero {r} are is = let same : row_of file p ≡ r = cc in (p, are.0, sym same)
+  row-in (p ∷ ps) (suc i) {r} are is = row-in ps i are.1 is
 
   -- ---- their faults
 
   -- the frames that are still whole are still sound
-  pub sound-now : (head : Option Head) (class : ClassFields) (allowed many : ℕ)
+  pub sound-now : (head : Option Head) {class : ClassFields} {allowed many : ℕ}
       (ps : List PlacedFrame) (more : List Row) → AreIn (rows_of file ps)
       → AreSound file head class allowed (rows_of file ps ++ more) → length (rows_of file ps) ≤ many
       → AreSound now head class many (rows_of file ps)
-  sound-now head class allowed many ps more are sound few i r is =
+  sound-now head {class} {allowed} ps more are sound few i r is =
       let rows = rows_of file ps in
       let low = slice_get_within rows i r is in
       let here = sound i r (get_more rows more i low ∙ is) in
-      let found = row-in ps i r are is in
+      let found = row-in ps i are is in
       let word : stored_crc (drop r.offset now) ≡ stored_crc (drop r.offset file) =
       grind (arith, word-same) in
       let moved : IsSound (stored_crc (drop r.offset now)) class allowed (place head rows i)
@@ -156,18 +156,18 @@ module _ (file : List ℕ) (n : ℕ) (within : n ≤ length file) (start : Start
   behind = at + size_of (Frame h)
 
   frame : IsItemOf Stream file at (Frame h)
-  frame = (start-first file start read.start_is).frame
+  frame = (start-first read.start_is).frame
 
   whole : whole_item_at Stream file at ≡ Some (Frame h)
   whole = whole_item_at-whole Stream file at (Frame h) frame.is refl frame.within
 
   whole_now : whole_item_at Stream front at ≡ Some (Frame h)
-  whole_now = item-kept file n within Stream at (Frame h) whole kept
+  whole_now = item-kept file n within Stream at whole kept
 
   -- the first frame is still whole
   pub first_in : IsIn file n within start.first.offset start.first.header
   first_in = record {
-    header = header_front-in_range (drop at file) h (stands-at file at (Frame h) frame.is);
+    header = header_front-in_range (drop at file) (stands-at file at (Frame h) frame.is);
     high = kept;
   }
 
@@ -180,12 +180,12 @@ module _ (file : List ℕ) (n : ℕ) (within : n ≤ length file) (start : Start
 
   runs-on : stream_run file start
       ≡ record { items = record { offset = at; item = Frame h } ∷ later.items; stop = later.stop }
-  runs-on = item_run-next Stream file at (Frame h) whole
+  runs-on = item_run-next Stream file whole
 
   to_end : length file ≤ later.stop
   to_end =
       let none = nothing_left file
-      (stream_run file start).stop (no_fault file (frames_from file start) _ read.end) in
+      (stream_run file start).stop (no_fault file (frames_from file start) read.end) in
       omega (
         arith,
         ap (λ (q : ItemRun). q.stop) runs-on,
@@ -197,7 +197,7 @@ module _ (file : List ℕ) (n : ℕ) (within : n ≤ length file) (start : Start
       → whole_item_at Stream front r.stop ≡ None
   unfolding r
   stopped_by (inl end) = grind (arith, whole_item_at-past, to_end, length-cut)
-  stopped_by (inr found) = cut-none file n within Stream r.stop found.0 found.1
+  stopped_by (inr found) = cut-none file n within found.1
 
   stopped : whole_item_at Stream front r.stop ≡ None
   stopped = stopped_by r.last
@@ -206,11 +206,11 @@ module _ (file : List ℕ) (n : ℕ) (within : n ≤ length file) (start : Start
   pub runs-now : stream_run front start
       ≡ record { items = record { offset = at; item = Frame h } ∷ r.front; stop = r.stop }
   runs-now =
-      item_run-next Stream front at (Frame h) whole_now
+      item_run-next Stream front whole_now
       ∙ ap (λ (q : ItemRun). record {
         items = record { offset = at; item = Frame h } ∷ q.items;
         stop = q.stop;
-      }) (item_run-only Stream front behind r.front r.stop r.ends stopped)
+      }) (item_run-only Stream front behind r.front r.ends stopped)
 
   -- ---- its head and its frames
 
@@ -272,12 +272,12 @@ module _ (file : List ℕ) (n : ℕ) (within : n ≤ length file) (start : Start
       (sym (ap (all_faults file head (class_from start) allowed) rows-were) ∙ read.frames)
 
   -- none has a fault
-  pub no-faults : (many : ℕ) → length rows ≤ many
+  pub no-faults : {many : ℕ} → length rows ≤ many
       → all_faults front head (class_from start) many (rows_of front frames) ≡ []
-  no-faults many few =
+  no-faults {many} few =
       ap (all_faults front head (class_from start) many) rows-now
-      ∙ sound-no_all_faults front head (class_from start) many rows (sound-now file n within head
-      (class_from start) allowed many frames more are-in sound-were few)
+      ∙ sound-no_all_faults front head (class_from start) many rows
+      (sound-now file n within head frames more are-in sound-were few)
 
   -- ---- where the stream stops
 
@@ -287,16 +287,16 @@ module _ (file : List ℕ) (n : ℕ) (within : n ≤ length file) (start : Start
   fault_now (inl end) =
       inl (ap (fault_at r.stop) (sym (stands-only_at front r.stop End
       (drop_all r.stop front (omega (arith, end.0, to_end, within, length-cut file n within))))))
-  fault_now (inr found) = stop-fault file n within r.stop found.0 found.1
+  fault_now (inr found) = stop-fault file n within found.1
 
-  end_cases : (ps : List PlacedFrame) (o : Option SurveyFault) → MayBeCut file n within o
+  end_cases : (ps : List PlacedFrame) {o : Option SurveyFault} → MayBeCut file n within o
       → MayBeCut file n within (end_fault front ps o)
-  end_cases ps o h = grind arith
+  end_cases ps h = grind arith
 
   -- the fault at the end is one of a file that was cut short
   pub end-now : MayBeCut file n within
       (end_fault front frames (fault_at r.stop (item_at front r.stop)))
-  end-now = end_cases frames (fault_at r.stop (item_at front r.stop)) (fault_now r.last)
+  end-now = end_cases frames (fault_now r.last)
 
   -- this is what the walk finds
   pub found-now : IsFound front start head frames (all_blocks front start) r.stop

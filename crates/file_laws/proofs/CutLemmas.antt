@@ -20,9 +20,9 @@ use Rattle.sync_survey.specs.declared.{items.Item.TheVariants.Frame, places.Star
 use Rattle.sync_survey.specs.declared.survey_fault.SurveyFault.{SurveyFault}
 
 -- what a survey returns, by what it is equal to
-fault_answer : (file front : List ℕ) (answer : Result SurveyFields SurveyFault)
-    (fault : SurveyFault) → answer ≡ Err fault → IsCutFault fault → IsCutAnswer file front answer
-fault_answer file front answer fault is kind = subst (IsCutAnswer file front) (sym is) kind
+fault_answer : (file front : List ℕ) {answer : Result SurveyFields SurveyFault}
+    {fault : SurveyFault} → answer ≡ Err fault → IsCutFault fault → IsCutAnswer file front answer
+fault_answer file front is kind = subst (IsCutAnswer file front) (sym is) kind
 
 module _ (file : List ℕ) (n : ℕ) (within : n ≤ length file) (allowed : ℕ) (start : Start)
     (read : IsRead file allowed start) (no_junk : start.first.offset ≡ start.front_end) where
@@ -64,10 +64,10 @@ module _ (file : List ℕ) (n : ℕ) (within : n ≤ length file) (allowed : ℕ
         let all = head file n within start start_now kept allowed read in
         let placed =
         subst (λ (rs : List Row). AreWellPlaced all t.class (marked_rows all rs)) now_rows
-        (survey_fields-placed front allowed_now t is) in
+        (survey_fields-placed front allowed_now is) in
         let found =
         marked_rows-front file n within
-        start.first (first_in file n within start start_now kept allowed read) t.class
+        start.first (first_in file n within start start_now kept allowed read)
         (frames file n within start start_now kept allowed read) left
         (are-in file n within start start_now kept allowed read) placed in (
           found.0,
@@ -83,12 +83,12 @@ module _ (file : List ℕ) (n : ℕ) (within : n ≤ length file) (allowed : ℕ
         → survey_fields file allowed ≡ Ok s
         → IsCutAnswer file front (survey_fields front (length s.frames))
     answer (inr found) is =
-        fault_answer file front (survey_fields front (length s.frames)) found.0
+        fault_answer file front
         (survey-stopped front (length s.frames) start (head file n within start start_now kept
         allowed read) (frames file n within start start_now kept allowed read)
         (all_blocks front start) (r file n within start start_now kept allowed read).stop
         (found-now file n within start start_now kept allowed read) found.0 (ap first_of
-        (no-faults file n within start start_now kept allowed read (length s.frames) few)) found.1)
+        (no-faults file n within start start_now kept allowed read few)) found.1)
         found.2
     answer (inl none) is =
         let now_is = whole none in

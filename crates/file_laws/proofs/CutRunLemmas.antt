@@ -43,12 +43,12 @@ module _ (file : List ℕ) (n : ℕ) (within : n ≤ length file) where
     pub low : stop ≤ n
     pub last : IsStop part to stop rest
 
-  run-more : (part : Region) (from : ℕ) (p : PlacedItem) (ps : List PlacedItem) (to : ℕ)
+  run-more : {part : Region} {from : ℕ} {p : PlacedItem} {ps : List PlacedItem} {to : ℕ}
       → AreEndToEnd part file from (p ∷ ps) to → from ≤ n
       → (p.offset + size_of p.item ≤ n → IsCutRun part (p.offset + size_of p.item) ps to)
       → (n < p.offset + size_of p.item) ⊎ (p.offset + size_of p.item ≤ n)
       → IsCutRun part from (p ∷ ps) to
-  run-more part from p ps to ends low later (inl over) = record {
+  run-more {from = from} {p = p} {ps = ps} ends low later (inl over) = record {
     front = [];
     rest = p ∷ ps;
     stop = from;
@@ -57,22 +57,22 @@ module _ (file : List ℕ) (n : ℕ) (within : n ≤ length file) where
     low = low;
     last = grind (arith, low);
   }
-  run-more part from p ps to ends low later (inr kept) =
+  run-more {part} {p = p} ends low later (inr kept) =
       let behind = later kept in
       record {
         front = p ∷ behind.front;
         rest = behind.rest;
         stop = behind.stop;
         split = ap (λ (qs : List PlacedItem). p ∷ qs) behind.split;
-        ends = (ends.0, item-kept file n within part p.offset p.item ends.1 kept, behind.ends);
+        ends = (ends.0, item-kept file n within part p.offset ends.1 kept, behind.ends);
         low = behind.low;
         last = behind.last;
       }
 
   -- the run has the items that are still whole, and stops after them
-  pub cut-run : (part : Region) (from : ℕ) (ps : List PlacedItem) (to : ℕ)
+  pub cut-run : {part : Region} (from : ℕ) (ps : List PlacedItem) {to : ℕ}
       → AreEndToEnd part file from ps to → from ≤ n → IsCutRun part from ps to
-  cut-run part from [] to ends low = record {
+  cut-run from [] ends low = record {
     front = [];
     rest = [];
     stop = from;
@@ -81,9 +81,9 @@ module _ (file : List ℕ) (n : ℕ) (within : n ≤ length file) where
     low = low;
     last = grind (arith, ends);
   }
-  cut-run part from (p ∷ ps) to ends low =
-      run-more part from p ps to ends low (λ kept. cut-run part
-      (p.offset + size_of p.item) ps to ends.2 kept) (cases_lt n (p.offset + size_of p.item))
+  cut-run {part} from (p ∷ ps) {to} ends low =
+      run-more ends low (λ kept. cut-run
+      (p.offset + size_of p.item) ps ends.2 kept) (cases_lt n (p.offset + size_of p.item))
 
   -- ---- where no item of the part is whole
 
@@ -91,37 +91,37 @@ module _ (file : List ℕ) (n : ℕ) (within : n ≤ length file) where
   abbrev pub MayBeCut : Option SurveyFault → Type 0
   MayBeCut o = (o ≡ None) ⊎ ((fault : SurveyFault) × (o ≡ Some fault) × IsCutFault fault)
 
-  fault_cases : (at : ℕ) (x item : Item) → belongs Stream item ≡ true → IsCutItem x item
+  fault_cases : (at : ℕ) {x item : Item} → belongs Stream item ≡ true → IsCutItem x item
       → MayBeCut (fault_at at x)
-  fault_cases at x item is h = grind arith
+  fault_cases at is h = grind arith
 
   -- where the stream stops now
-  pub stop-fault : (at : ℕ) (item : Item) → IsCutThrough file n within Stream at item
+  pub stop-fault : {at : ℕ} {item : Item} → IsCutThrough file n within Stream at item
       → MayBeCut (fault_at at (item_at now at))
-  stop-fault at item through = grind (arith, whole_item_at-is, fault_cases, item-cut)
+  stop-fault through = grind (arith, whole_item_at-is, fault_cases, item-cut)
 
   -- ---- the start
 
-  front-item : (x : Item) (h : HeaderFields) → IsCutItem x (Frame h) → belongs Front x ≡ false
-  front-item x h h2 = grind arith
+  front-item : {x : Item} {h : HeaderFields} → IsCutItem x (Frame h) → belongs Front x ≡ false
+  front-item h2 = grind arith
 
-  not-in-front : (at : ℕ) (x : Item) → item_at now at ≡ x → belongs Front x ≡ false
+  not-in-front : (at : ℕ) {x : Item} → item_at now at ≡ x → belongs Front x ≡ false
       → whole_item_at Front now at ≡ None
   unfolding whole_item_at
-  not-in-front at x is out = ap (item_if_whole Front now at) is ∙ rw out refl
+  not-in-front at is out = ap (item_if_whole Front now at) is ∙ rw out refl
 
   abbrev pub IsCutStart : Start → Type 0
   IsCutStart start =
       ((start_of now ≡ Ok start) × (start.first.offset + size_of (Frame start.first.header) ≤ n))
       ⊎ ((fault : SurveyFault) × (start_of now ≡ Err fault) × IsCutFault fault)
 
-  none_starts : (at : ℕ) (item : Item) → IsCutThrough file n within Stream at item → (x end : Item)
+  none_starts : {at : ℕ} {item : Item} → IsCutThrough file n within Stream at item → {x end : Item}
       → item_at now at ≡ x → x ≡ end → belongs Stream end ≡ false
       → start_at now at end ≡ start_at now at End
       → (fault : SurveyFault) × (start_at now at x ≡ Err fault) × IsCutFault fault
-  none_starts at item through x end is same apart ends = (
+  none_starts {at} {item} through is same apart ends = (
     NoFrame at,
-    ap (start_at now at) same ∙ ends ∙ no-start file n within at item through (λ e. false≢true (
+    ap (start_at now at) same ∙ ends ∙ no-start file n within through (λ e. false≢true (
         sym apart ∙ ap (belongs Stream) (sym same ∙ sym is ∙ e)
         ∙ (whole_item_at-is Stream file at item through.is).belongs
         )),
@@ -129,10 +129,10 @@ module _ (file : List ℕ) (n : ℕ) (within : n ≤ length file) where
   )
 
   -- no start, if the item at which the front ends was cut through
-  no_start : (at : ℕ) (item : Item) → IsCutThrough file n within Stream at item → (x : Item)
+  no_start : {at : ℕ} {item : Item} → IsCutThrough file n within Stream at item → {x : Item}
       → item_at now at ≡ x → IsCutItem x item
       → (fault : SurveyFault) × (start_at now at x ≡ Err fault) × IsCutFault fault
-  no_start at item through x is (inl same) =
+  no_start {at} {item} through {x} is (inl same) =
       whole_start item same (whole_item_at-is Stream file at item through.is).belongs through
     where
       unfit : (h : HeaderFields) → n < at + size_of (Frame h)
@@ -154,14 +154,12 @@ module _ (file : List ℕ) (n : ℕ) (within : n ≤ length file) where
           let no : End ≡ Zero = none ∙ is ∙ same in absurd cc
       whole_start End same is through = absurd (false≢true is)
       whole_start Nothing same is through = absurd (false≢true is)
-  no_start at item through x is (inr (inl same)) =
-      none_starts at item through x End is same refl refl
-  no_start at item through x is (inr (inr same)) =
-      none_starts at item through x Nothing is same refl refl
+  no_start {at} {item} through {x} is (inr (inl same)) = none_starts through is same refl refl
+  no_start {at} {item} through {x} is (inr (inr same)) = none_starts through is same refl refl
 
-  in_stream : (part : Region) (at : ℕ) (item : Item) → IsCutThrough file n within part at item
+  in_stream : {part : Region} {at : ℕ} {item : Item} → IsCutThrough file n within part at item
       → IsCutThrough file n within Stream at item
-  in_stream part at item through =
+  in_stream {part} {at} {item} through =
       let here = whole_item_at-is part file at item through.is in
       record {
         is = grind (arith, whole_item_at-whole, stream_belongs);
@@ -170,9 +168,9 @@ module _ (file : List ℕ) (n : ℕ) (within : n ≤ length file) where
       }
 
   -- the front ends at this offset now
-  front-now : (front : List PlacedItem) (stop : ℕ) → AreEndToEnd Front now 0 front stop
+  front-now : (front : List PlacedItem) {stop : ℕ} → AreEndToEnd Front now 0 front stop
       → whole_item_at Front now stop ≡ None → stop ≡ front_end_of now
-  front-now front stop ends none = grind (arith, item_run-only, ends, front_end-is)
+  front-now front ends none = grind (arith, item_run-only, ends, front_end-is)
 
   module _ (start : Start) (is : start_of file ≡ Ok start)
       (no_junk : start.first.offset ≡ start.front_end) where
@@ -183,18 +181,18 @@ module _ (file : List ℕ) (n : ℕ) (within : n ≤ length file) where
     h = start.first.header
 
     frame : IsItemOf Stream file at (Frame h)
-    frame = (start-first file start is).frame
+    frame = (start-first is).frame
 
     at_front : at ≡ front_end_of file
-    at_front = no_junk ∙ start-front file start is
+    at_front = no_junk ∙ start-front file is
 
     -- the first frame isn't whole
-    cut_through : (stop : ℕ) (item : Item) → IsCutThrough file n within Stream stop item
+    cut_through : {stop : ℕ} {item : Item} → IsCutThrough file n within Stream stop item
         → stop ≡ front_end_of now → IsCutStart start
-    cut_through stop item through front =
-        let cut_item = item-cut file n within stop item
+    cut_through {stop} {item} through front =
+        let cut_item = item-cut file n within
         through.low (whole_item_at-is Stream file stop item through.is).is in
-        let none = no_start stop item through (item_at now stop) refl cut_item in
+        let none = no_start through refl cut_item in
         inr (none.0, start_is now stop (item_at now stop) front refl ∙ none.1, none.2)
 
     -- it is whole
@@ -202,7 +200,7 @@ module _ (file : List ℕ) (n : ℕ) (within : n ≤ length file) where
     still_there kept front =
         let there = whole_item_at-whole Stream file at (Frame h) frame.is refl frame.within in
         let here = whole_item_at-is Stream now at (Frame h)
-        (item-kept file n within Stream at (Frame h) there kept) in
+        (item-kept file n within Stream at there kept) in
         let fit : item_fits now at (Frame h) ≡ true = grind (arith, le-leb, length-cut) in
         let same : Ok (record { front_end = at; first = start.first }) ≡ Ok start = grind arith in
         inl (start_is now at (Frame h) front here.is ∙ rw fit refl ∙ same, kept)
@@ -213,11 +211,11 @@ module _ (file : List ℕ) (n : ℕ) (within : n ≤ length file) where
         let stop : r.stop ≡ at = end.0 ∙ front_end-is file ∙ sym at_front in
         let none : whole_item_at Front now r.stop ≡ None =
         subst (λ k. whole_item_at Front now k ≡ None) (sym stop)
-        (not-in-front at (item_at now at) refl (front-item (item_at now at) h
-        (item-cut file n within at (Frame h) (omega (arith, stop, r.low)) frame.is))) in
-        let front : at ≡ front_end_of now = sym stop ∙ front-now r.front r.stop r.ends none in
+        (not-in-front at refl (front-item
+        (item-cut file n within (omega (arith, stop, r.low)) frame.is))) in
+        let front : at ≡ front_end_of now = sym stop ∙ front-now r.front r.ends none in
         elim (cases_lt n (at + size_of (Frame h))) as (λ _. IsCutStart start) [
-          | inl over ↦ cut_through at (Frame h) (record {
+          | inl over ↦ cut_through (record {
             is = whole_item_at-whole Stream file at (Frame h) frame.is refl frame.within;
             low = omega (arith, stop, r.low);
             over = over;
@@ -225,13 +223,13 @@ module _ (file : List ℕ) (n : ℕ) (within : n ≤ length file) where
           | inr kept ↦ still_there kept front
         ]
     by_front r (inr found) =
-        cut_through r.stop found.0 (in_stream Front r.stop found.0 found.1)
-        (front-now r.front r.stop r.ends (cut-none file n within Front r.stop found.0 found.1))
+        cut_through (in_stream found.1)
+        (front-now r.front r.ends (cut-none file n within found.1))
 
     -- the start is the same and its frame still whole, or there is none, with a fault of a cut file
     pub cut-start : IsCutStart start
     cut-start =
-        let r = cut-run Front 0
-        (item_run Front file 0).items (item_run Front file 0).stop (item_run-ends Front file 0)
+        let r = cut-run 0
+        (item_run Front file 0).items (item_run-ends Front file 0)
         (omega arith) in
         by_front r r.last

@@ -37,11 +37,11 @@ marks-front head rows more =
     ∙ ap (λ n. map each (enumerate_from 0 rows) ++ map each (enumerate_from n more))
     (let e : 0 + length rows ≡ length rows = omega arith in e)
     ∙ ap (λ (rs : List Row). rs ++ map each (enumerate_from (length rows) more))
-    (map-numbers (marked_row head (rows ++ more)) (marked_row head rows) 0 rows (λ i r low.
+    (map-numbers 0 rows (λ i r low.
     let before : i ≤ length rows = omega (arith, low) in
     λ j. record r {
       lost =
-          lacks_data (place-more head rows more i before j) (end-more head rows more i before j) r;
+          lacks_data (place-more head rows more before j) (end-more head rows more i before j) r;
     }))
 
 -- ---- numbered rows
@@ -82,7 +82,7 @@ module _ (file : List ℕ) (n : ℕ) (within : n ≤ length file) where
         let left = n - at in
         let split : left ≡ over + (left - over) = omega (arith, parts, high) in
         ap (λ (xs : List ℕ). take (own_area h) (drop over xs))
-        (drop-cut file n within at (omega (arith, high)) ∙ ap (λ k. take k (drop at file)) split)
+        (drop-cut file n within (omega (arith, high)) ∙ ap (λ k. take k (drop at file)) split)
         ∙ ap (take (own_area h)) (drop-take over (left - over) (drop at file))
         ∙ take-take (own_area h) (left - over) (drop over (drop at file))
         (omega (arith, parts, high))
@@ -123,17 +123,17 @@ module _ (file : List ℕ) (n : ℕ) (within : n ≤ length file) where
       )
 
   -- the areas of a frame and of the frames before it are among all areas
-  own-within : (rows : List Row) (i : ℕ) (r : Row) → slice_get rows i ≡ Some r
+  own-within : (rows : List Row) (i : ℕ) {r : Row} → slice_get rows i ≡ Some r
       → all_own (take i rows) + own_area r.header ≤ all_own rows
-  own-within [] i r is = absurd cc
-  own-within (q ∷ rows) zero r is =
+  own-within [] i is = absurd cc
+  own-within (q ∷ rows) zero {r} is =
       let one : q ≡ r = cc in
       let same : own_area q.header ≡ own_area r.header = ap (λ (x : Row). own_area x.header) one in
       omega (arith, same, sum_by-cons (λ (x : Row). own_area x.header) q rows)
-  own-within (q ∷ rows) (suc i) r is =
+  own-within (q ∷ rows) (suc i) {r} is =
       omega (
         arith,
-        own-within rows i r is,
+        own-within rows i is,
         sum_by-cons (λ (x : Row). own_area x.header) q rows,
         sum_by-cons (λ (x : Row). own_area x.header) q (take i rows),
       )
@@ -180,10 +180,10 @@ module _ (file : List ℕ) (n : ℕ) (within : n ≤ length file) where
       areas-long rows are,
     )
 
-    place-within : (rows : List Row) (i : ℕ) (r : Row) → AreIn file n within rows → slice_get rows i
+    place-within : (rows : List Row) (i : ℕ) {r : Row} → AreIn file n within rows → slice_get rows i
         ≡ Some r → place head rows i + own_area r.header ≤ length (main_bytes now head rows)
     unfolding place
-    place-within rows i r are found = omega (arith, main-long rows are, own-within rows i r found)
+    place-within rows i {r} are found = omega (arith, main-long rows are, own-within rows i found)
 
     -- ---- the frames of the stream
 
@@ -192,11 +192,11 @@ module _ (file : List ℕ) (n : ℕ) (within : n ≤ length file) where
       abbrev main : List ℕ
       main = main_bytes now head rows
 
-      payload_by : (i : ℕ) (r : Row) (lost : Bool) → slice_get rows i ≡ Some r → r.lost ≡ lost
+      payload_by : (i : ℕ) {r : Row} {lost : Bool} → slice_get rows i ≡ Some r → r.lost ≡ lost
           → let start = start_of_data (place head rows i) r in
           payload_at (main ++ (main-front rows more are).0) start (cond lost no_side r.side)
           ≡ payload_at main start (cond lost no_side r.side)
-      payload_by i r lost found is =
+      payload_by i found is =
           grind (
             arith,
             main-front,
@@ -208,17 +208,17 @@ module _ (file : List ℕ) (n : ℕ) (within : n ≤ length file) where
             place-within,
           )
 
-      frame-same : (i : ℕ) (r : Row) → slice_get rows i ≡ Some r
+      frame-same : (i : ℕ) {r : Row} → slice_get rows i ≡ Some r
           → stream_frame (main_bytes file head (rows ++ more)) head (rows ++ more) i r
           ≡ stream_frame main head rows i r
-      frame-same i r found =
+      frame-same i {r} found =
           let low : i ≤ length rows = omega (arith, slice_get_within rows i r found) in
           let start = start_of_data (place head rows i) r in
           let payload : payload_at (main_bytes file head (rows ++ more)) (start_of_data (place head
           (rows ++ more) i) r) (row_side r) ≡ payload_at main start (row_side r) =
           ap₂ (λ (m : List ℕ) k. payload_at m (start_of_data k r) (row_side r))
-          (main-front rows more are).1 (place-more head rows more i low)
-          ∙ payload_by i r r.lost found refl in
+          (main-front rows more are).1 (place-more head rows more low)
+          ∙ payload_by i found refl in
           ap (λ (bs : List ℕ). record {
             header = (stream_frame main head rows i r).header;
             side = (stream_frame main head rows i r).side;
@@ -241,18 +241,18 @@ module _ (file : List ℕ) (n : ℕ) (within : n ≤ length file) where
                 (numbers-same (stream_frame (main_bytes file head (rows ++ more)) head
                 (rows ++ more)) (stream_frame main head rows) 0 rows (λ i r found.
                 subst (λ k. stream_frame (main_bytes file head (rows ++ more)) head (rows ++ more) k
-                r ≡ stream_frame main head rows k r) (sym (zero_more i)) (frame-same i r found)))),
+                r ≡ stream_frame main head rows k r) (sym (zero_more i)) (frame-same i found)))),
           )
 
     -- with the rows marked, the stream of the first frames begins the stream of all frames too
-    pub marked_rows-front : (class : ClassFields) (ps : List PlacedFrame) (gone : List Row)
+    pub marked_rows-front : {class : ClassFields} (ps : List PlacedFrame) (gone : List Row)
         → AreIn file n within (rows_of file ps)
         → AreWellPlaced head class (marked_rows head (rows_of file ps))
         → (rest : List StreamFrame) × (stream_frames (main_bytes now head
         (marked_rows head (rows_of file ps))) head (marked_rows head (rows_of file ps)) ++ rest
         ≡ stream_frames (main_bytes file head (marked_rows head (rows_of file ps ++ gone))) head
         (marked_rows head (rows_of file ps ++ gone)))
-    marked_rows-front class ps gone are placed =
+    marked_rows-front {class} ps gone are placed =
         let rows = rows_of file ps in
         let later = map (λ (p : ℕ × Row). marked_row head (rows ++ gone) p.0 p.1)
         (enumerate_from (length rows) gone) in

@@ -55,8 +55,8 @@ use Rattle.pack_edits.specs.Modes.{mode_planning, pack_mode_command, pack_task}
 use Rattle.remove_edits.proofs.CommandLemmas.{left-parts}
 use Rattle.remove_edits.proofs.RemovalLemmas.{file-is as removal-laid-file, found as first-left}
 use Rattle.remove_edits.{proofs.RemovalLemmas.removal-is, specs.Ready.ArePartsLeft}
-use Rattle.remove_edits.specs.Removed.{parts_left, removal_file, removal_frames, removal_kept}
-use Rattle.remove_edits.specs.Removed.{remove_command, remove_making, remove_task}
+use Rattle.remove_edits.specs.Removed.{removal_file, removal_frames, removal_kept, remove_command}
+use Rattle.remove_edits.specs.Removed.{remove_making, remove_task}
 use Rattle.requests.specs.declared.mode.PackMode.{PackMode}
 use Rattle.salvage.specs.DamagedFiles.{damaged_of, DamagedFields}
 use Rattle.salvage_edits.specs.Salvaged.{all_chosen, input_salvage_text, input_salvaged}
@@ -71,7 +71,7 @@ use Rattle.seamless_edits.specs.Seamless.{seamless_frames, seamless_info}
 use Rattle.slot_plan.specs.declared.needs.{Need.Need, Placed.Placed}
 use Rattle.split_edits.proofs.{CommandLemmas.first-parts, PartsLemmas.split-parts}
 use Rattle.split_edits.specs.Cutting.{Cutting, piece_parts, piece_parts_from, pieces_from}
-use Rattle.split_edits.specs.Cutting.{split_command, with_first}
+use Rattle.split_edits.specs.Cutting.{split_command}
 use Rattle.split_edits.specs.Split.{cut_part, given_cutting, given_exact_cutting, sheet_cutting}
 use Rattle.split_edits.specs.Split.{sheet_exact_cutting}
 use Rattle.sync_survey.specs.{Faults.SurveyFields, HeadApart.emptied_survey, Row.Row}
@@ -79,10 +79,10 @@ use Rattle.sync_survey.specs.{Survey.survey_of, declared.survey_fault.SurveyFaul
 
 -- ---- one output
 
-one-stays : (output : List ℕ) (clash : Option ℕ) (r : Result (List ℕ) EditFault)
-    → ((bytes : List ℕ) → r ≡ Ok bytes → IsCountedFile bytes) → (made : Made)
+one-stays : (output : List ℕ) (clash : Option ℕ) {r : Result (List ℕ) EditFault}
+    → ((bytes : List ℕ) → r ≡ Ok bytes → IsCountedFile bytes) → {made : Made}
     → command_result output (clash_or clash r) ≡ Ok made → AllOutputs IsCountedFile made.outputs
-one-stays output clash r stays made e = grind arith
+one-stays output clash stays e = grind arith
 
 one_writes : (task : Task) (output : List ℕ)
     → ((files : Contents) (bytes : List ℕ) → task.makes files ≡ Ok bytes → IsCountedFile bytes)
@@ -122,7 +122,7 @@ module _ (laid : LaidPart) (file : List ℕ) (s : SurveyFields) (has : CanBeRela
       let row = has.placed laid.from first.0 first.1 in
       let blocks = blocks-kept file s has in
       let sizes =
-      for-whole s.class (frames_laid laid file s) laid.quality laid.extension long in
+      for-whole s.class (frames_laid laid file s) laid.quality long in
       let are = fitting-laid s.class (source_part laid file s) laid.placed
       (record { has = has; class = refl; some = some; within = within }) fitting in
       subst (λ (o : Option Row). IsCountedFile (file_with_first o laid file s)) (sym first.1)
@@ -152,23 +152,23 @@ module _ (laid : LaidPart) (file : List ℕ) (s : SurveyFields) (has : CanBeRela
 
 module _ (choose : Choosing) (plan : Planning) (choosing : IsChoosing choose)
     (planned : IsPlanning plan) where
-  chosen-stay : (file : List ℕ) (s : SurveyFields) (made : List ℕ) → survey_of file most_frames
+  chosen-stay : (file : List ℕ) {s : SurveyFields} {made : List ℕ} → survey_of file most_frames
       ≡ Ok s → laying_making choose plan file s ≡ Ok made → IsCountedFile made
-  chosen-stay file s made surveyed e =
-      let by = laid-parts choose plan file s made e in
+  chosen-stay file {s} {made} surveyed e =
+      let by = laid-parts choose plan e in
       let right = choosing.right file s by.chosen by.chose in
-      let had = survey-had file most_frames s surveyed in
+      let had = survey-had most_frames surveyed in
       let fitting =
       planned.fitting by.chosen s had.placed right.some right.within by.placed by.planned in
       subst IsCountedFile by.is (laid-counted (placed_part by.chosen by.placed) file s had
       right.some right.within fitting right.extension)
 
-  where-stay : (o : Option (List ℕ)) (made : List ℕ)
+  where-stay : (o : Option (List ℕ)) {made : List ℕ}
       → input_result (laying_making choose plan) o ≡ Ok made → IsCountedFile made
-  where-stay None made e = absurd cc
-  where-stay (Some file) made e =
-      let parts = made_parts (laying_making choose plan) file made e in
-      chosen-stay file parts.0 made parts.1 parts.2
+  where-stay None e = absurd cc
+  where-stay (Some file) {made} e =
+      let parts = made_parts (laying_making choose plan) e in
+      chosen-stay file parts.1 parts.2
 
 cut-stay : (from to : Place) (least : Bool) (input output : List ℕ)
     → WritesOnly IsCountedFile (cut_command from to least input output)
@@ -180,30 +180,29 @@ pack-stay : (mode : PackMode) (input output : List ℕ)
 pack-stay mode input output =
     let plan = mode_planning mode in
     one_writes (pack_task mode input) output
-    (λ files bytes e. where-stay all_choice plan all_choosing (planning mode) (files input) bytes
-    (packed-made mode (files input) (input_result (laying_making all_choice plan) (files input))
-    bytes e))
+    (λ files bytes e. where-stay all_choice plan all_choosing (planning mode) (files input)
+    (packed-made mode (files input) e))
 
 -- ---- the frames that a decoder needs for some samples
 
 module _ (from to : ExactPlace) (file : List ℕ) (s : SurveyFields)
     (surveyed : survey_of file most_frames ≡ Ok s) where
-  span-stays : (span : Span) → file_span from to (fields_of_head file s.head) s ≡ Ok span
+  span-stays : {span : Span} → file_span from to (fields_of_head file s.head) s ≡ Ok span
       → IsCountedFile
       (file_laid (span_piece (fields_of_head file s.head) span file (survey_without_head s)) file
       (survey_without_head s))
   unfolding span_piece
-  span-stays span e =
+  span-stays {span} e =
       let head = fields_of_head file s.head in
       let own = survey_without_head s in
-      let has = survey_without_head-relaid file s surveyed in
-      let inside = span-survey_without_head s span (span-there from to head s span e) in
+      let has = survey_without_head-relaid surveyed in
+      let inside = span-survey_without_head (span-there from to head e) in
       let plain = span_part head span own in
       let first = first-there own.frames span.first (omega (arith, inside.some, inside.within)) in
       let whole =
-      for-whole own.class (frames_laid plain file own) plain.quality plain.extension
+      for-whole own.class (frames_laid plain file own) plain.quality
       (plain-long head (head_long file s.head) span file own has inside) in
-      let sealed = sealed-whole first.0.header (info_laid plain file own) whole in
+      let sealed = sealed-whole first.0.header whole in
       subst
       (λ (o : Option Row). IsCountedFile (file_laid (row_sealed_part o plain file own) file own))
       (sym first.1)
@@ -213,18 +212,18 @@ module _ (from to : ExactPlace) (file : List ℕ) (s : SurveyFields)
       sealed.extension)
 
   -- the file of the samples between two places
-  pub samples-stay : (laid : LaidPart) → exact_part from to file s ≡ Ok laid
+  pub samples-stay : {laid : LaidPart} → exact_part from to file s ≡ Ok laid
       → IsCountedFile (file_laid laid file (survey_without_head s))
   unfolding exact_part
-  samples-stay laid e = grind (arith, then_ok, span-stays)
+  samples-stay e = grind (arith, then_ok, span-stays)
 
-exact-stays : (from to : ExactPlace) (o : Option (List ℕ)) (made : List ℕ)
+exact-stays : (from to : ExactPlace) (o : Option (List ℕ)) {made : List ℕ}
     → input_result (exact_making from to) o ≡ Ok made → IsCountedFile made
-exact-stays from to None made e = absurd cc
-exact-stays from to (Some file) made e =
-    let parts = made_parts (exact_making from to) file made e in
-    let by = piece-parts from to file parts.0 made parts.2 in
-    subst IsCountedFile by.is (span-stays from to file parts.0 parts.1 by.span by.span_is)
+exact-stays from to None e = absurd cc
+exact-stays from to (Some file) {made} e =
+    let parts = made_parts (exact_making from to) e in
+    let by = piece-parts from to parts.2 in
+    subst IsCountedFile by.is (span-stays from to file parts.0 parts.1 by.span_is)
 
 exact-stay : (input : List ℕ) (from to : ExactPlace) (output : List ℕ)
     → WritesOnly IsCountedFile (exact_command from to input output)
@@ -233,12 +232,12 @@ exact-stay input from to output = search (arith, one_writes, exact-stays)
 -- ---- the pieces of a split
 
 -- the frames between two positions, in the slots of their plan
-range-stays : (from to : Place) (file : List ℕ) (s : SurveyFields)
-    → survey_of file most_frames ≡ Ok s → (laid : LaidPart) → cut_part from to file s ≡ Ok laid
+range-stays : (from to : Place) (file : List ℕ) {s : SurveyFields}
+    → survey_of file most_frames ≡ Ok s → {laid : LaidPart} → cut_part from to file s ≡ Ok laid
     → IsCountedFile (file_laid laid file s)
-range-stays from to file s surveyed laid e =
+range-stays from to file {s} surveyed {laid} e =
     chosen-stay (cut_choice from to) (first_planning own_choice) (cut_choosing from to)
-    (first_is_planning own_choice (inl refl)) file s (file_laid laid file s) surveyed
+    (first_is_planning (inl refl)) file surveyed
     (ap (λ (r : Result LaidPart EditFault). then_made r (λ laid. Ok (file_laid laid file s))) e)
 
 module _ {P : Type 0} (cut : Cutting P) (prefix : List ℕ)
@@ -249,19 +248,18 @@ module _ {P : Type 0} (cut : Cutting P) (prefix : List ℕ)
     abbrev AllStay : ℕ → List LaidPart → Type 0
     AllStay k all = AllOutputs IsCountedFile (pieces_from prefix k file (cut.survey s) all)
 
-    from-stay : (k : ℕ) (from : P) (places : List P) (all : List LaidPart)
+    from-stay : (k : ℕ) (from : P) (places : List P) {all : List LaidPart}
         → piece_parts_from cut file s from places ≡ Ok all → AllStay k all
-    from-stay k from [] all e = let none : [] ≡ all = cc in subst (AllStay k) none tt
-    from-stay k from (to ∷ places) all e =
-        let one = then_ok (cut.between from to file s)
-        (λ first. with_first first (piece_parts_from cut file s to places)) all e in
-        let more = first-parts one.0 (piece_parts_from cut file s to places) all one.2 in
+    from-stay k from [] {all} e = let none : [] ≡ all = cc in subst (AllStay k) none tt
+    from-stay k from (to ∷ places) {all} e =
+        let one = then_ok e in
+        let more = first-parts one.2 in
         subst (AllStay k) more.2
-        (stays from to file s surveyed one.0 one.1, from-stay (k + 1) to places more.0 more.1)
+        (stays from to file s surveyed one.0 one.1, from-stay (k + 1) to places more.1)
 
-    pieces-stay : (places : List P) (all : List LaidPart) → piece_parts cut file s places ≡ Ok all
+    pieces-stay : (places : List P) {all : List LaidPart} → piece_parts cut file s places ≡ Ok all
         → AllStay 1 all
-    pieces-stay places all e = grind (arith, from-stay)
+    pieces-stay places e = grind (arith, from-stay)
 
   split-stays : (input : List ℕ) → WritesOnly IsCountedFile (split_command cut input prefix)
   split-stays input files made e = grind (arith, split-parts, pieces-stay)
@@ -288,7 +286,7 @@ module _ (first : FilePart) (more : List FilePart)
       let row = part.has.placed 0 found.0 found.1 in
       let hold =
       entries-hold class own_choice (first ∷ more) plan (omega arith) are
-      (usual_slots own_choice (inl refl)) (join-plan first more are) in
+      (usual_slots (inl refl)) (join-plan first more are) in
       subst (λ (o : Option Row). IsCountedFile (joined_row_file o first (first ∷ more)))
       (sym found.1)
       (record {
@@ -314,10 +312,9 @@ module _ (first : FilePart) (more : List FilePart)
       })
 
 inputs-stay : (files : Contents) (inputs : List (List ℕ)) → 1 ≤ length inputs →
-    (parts : List FilePart) → join_parts files inputs ≡ Ok parts → IsCountedFile (joined_file parts)
-inputs-stay files [] some parts e = absurd (omega (arith, some))
-inputs-stay files (name ∷ names) some parts e =
-    grind (arith, parts-join files name names parts e, joined-stays)
+    {parts : List FilePart} → join_parts files inputs ≡ Ok parts → IsCountedFile (joined_file parts)
+inputs-stay files [] some e = absurd (omega (arith, some))
+inputs-stay files (name ∷ names) some {parts} e = grind (arith, parts-join e, joined-stays)
 
 join-stay : (output : List ℕ) (inputs : List (List ℕ)) → 1 ≤ length inputs
     → WritesOnly IsCountedFile (join_command output inputs)
@@ -325,10 +322,10 @@ join-stay output inputs some = grind (arith, one_writes, then_ok, inputs-stay)
 
 -- ---- what is left of a damaged file
 
-left-stays : (file : List ℕ) (d : DamagedFields) → damaged_of file ≡ Ok d
+left-stays : (file : List ℕ) {d : DamagedFields} → damaged_of file ≡ Ok d
     → IsCountedFile (salvaged_file file d)
 unfolding salvaged_file chosen_file
-left-stays file d read =
+left-stays file {d} read =
     let own = emptied_survey d.survey in
     let had = left-had file d read in
     let some = left-some file d read in
@@ -344,7 +341,7 @@ read-stays (Some file) bytes e = at (damaged_of file) refl e
         → salvaged_or_fault file r ≡ Ok bytes → IsCountedFile bytes
     at (Err fault) read e = absurd cc
     at (Ok d) read e = let same : salvaged_file file d ≡ bytes = cc in
-        subst IsCountedFile same (left-stays file d read)
+        subst IsCountedFile same (left-stays file read)
 
 text-stays : (text : List ℕ) (r : Result Made EditFault)
     → ((made : Made) → r ≡ Ok made → AllOutputs IsCountedFile made.outputs) → (made : Made)
@@ -371,10 +368,10 @@ run-bytes : (delay : Option ℕ) (row : Row) (first : FilePart) (parts : List Fi
 run-bytes None row first parts = refl
 run-bytes (Some delay) row first parts = refl
 
-run-stays : (first : FilePart) (parts : List FilePart)
+run-stays : {first : FilePart} (parts : List FilePart)
     → IsWholeFile first.survey.class first → AreWholeFiles first.survey.class parts
     → IsCountedFile (seamless_file (first ∷ parts))
-run-stays first parts is are =
+run-stays {first} parts is are =
     let row : Row = (found first parts is are).0 in
     record {
       class = first.survey.class;
@@ -389,9 +386,9 @@ run-stays first parts is are =
       bytes_are = run-bytes (delay_of_run first parts) row first parts;
     }
 
-files-stay : (files : Contents) (names : List (List ℕ)) (parts : List FilePart)
+files-stay : (files : Contents) (names : List (List ℕ)) {parts : List FilePart}
     → 1 ≤ length names → join_parts files names ≡ Ok parts → IsCountedFile (seamless_file parts)
-files-stay files names parts some e = grind (arith, parts-whole files names parts some e, run-stays)
+files-stay files names {parts} some e = grind (arith, parts-whole files names some e, run-stays)
 
 seamless-stay : (output : List ℕ) (inputs : List (List ℕ)) → 1 ≤ length inputs
     → WritesOnly IsCountedFile (seamless_command output inputs)
@@ -413,11 +410,11 @@ kept-bytes None h c frames = refl
 kept-bytes (Some kept) h c frames = refl
 
 -- the file of the parts that stay
-ranges-stay : (s : SurveyFields) (parts : List Part) (can : ArePartsLeft s parts)
-    (file : List ℕ) → CanBeRelaid file s → (head : Option Info)
+ranges-stay : {s : SurveyFields} {parts : List Part} (can : ArePartsLeft s parts)
+    {file : List ℕ} → CanBeRelaid file s → (head : Option Info)
     → IfSome head (λ (i : Info). length i.extension ≡ 36)
     → IsCountedFile (removal_file parts head file s)
-ranges-stay s parts can file has head long =
+ranges-stay {s} {parts} can {file} has head long =
     let first : HeaderFields = (first-left s parts can file has).0.header in
     let frames = removal_frames parts file s in
     let kept = removal_kept head s parts in
@@ -440,16 +437,16 @@ left-stay : (stretches : List (ExactPlace × ExactPlace)) (o : Option (List ℕ)
 unfolding remove_making
 left-stay stretches None made e = absurd cc
 left-stay stretches (Some file) made e =
-    let parts = made_parts (remove_making stretches) file made e in
+    let parts = made_parts (remove_making stretches) e in
     let s : SurveyFields = parts.0 in
     let head = fields_of_head file s.head in
     let own = survey_without_head s in
-    let left = then_ok (parts_left stretches s) (λ all. Ok (removal_file all head file own)) made
+    let left = then_ok
     parts.2 in
     let same : removal_file left.0 head file own ≡ made = cc in
     subst IsCountedFile same
-    (ranges-stay own left.0 (left-parts stretches file s left.0 parts.1 left.1) file
-    (survey_without_head-relaid file s parts.1) head (head_long file s.head))
+    (ranges-stay (left-parts stretches file parts.1 left.1)
+    (survey_without_head-relaid parts.1) head (head_long file s.head))
 
 remove-stay : (stretches : List (ExactPlace × ExactPlace)) (input output : List ℕ)
     → WritesOnly IsCountedFile (remove_command stretches input output)
@@ -507,11 +504,11 @@ module _ (P : List ℕ → Type 0) (each : (bytes : List ℕ) → IsCountedFile 
   pub all-written : AllWritten P
   all-written asked moved some = all-made (command_of asked) (files-counted asked moved some)
 
-counted-loses-none : (bytes : List ℕ) → IsCountedFile bytes → LosesNoFrame bytes
-counted-loses-none bytes is =
+counted-loses-none : {bytes : List ℕ} → IsCountedFile bytes → LosesNoFrame bytes
+counted-loses-none is =
     subst LosesNoFrame (sym is.is)
     (laid-frames-stay is.class is.front is.first is.info is.frames is.back is.laid)
 
 -- no frame of a written file is lost
 pub frames-stay : WrittenFramesStay
-frames-stay = all-written LosesNoFrame counted-loses-none
+frames-stay = all-written LosesNoFrame (λ bytes. counted-loses-none {bytes = bytes})

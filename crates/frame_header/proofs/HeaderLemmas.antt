@@ -26,10 +26,10 @@ abbrev pub good : HeaderFields → Result HeaderFields NotHeader
 good fields = Ok fields
 
 -- a group of a number's bits is a shift and a remainder
-pub group-bits_of : (whole from width n : ℕ) → from + width ≤ whole
+pub group-bits_of : {whole : ℕ} (from width n : ℕ) → from + width ≤ whole
     → group from width (bits_of whole n) ≡ n / 2 ^ (whole - from - width) % 2 ^ width
 unfolding group
-group-bits_of whole from width n within = number-middle_of whole from width n within
+group-bits_of {whole} from width n within = number-middle_of from width n within
 
 -- readable bits with a bit rate other than free are a header with these fields
 pub header_in-good : (h : List ℕ) → is_readable h ≡ true → rate_bits h ≢ 0
@@ -43,8 +43,8 @@ unfolding header_in
 header_in-no h fails = rw fails refl
 
 -- the header's fields, made of its groups
-pub header_fields-groups : (h : List ℕ) (v : Version) (p : Bool) (rate : ℕ) (padding : Bool)
-    (frequency : ℕ) (private : Bool) (mode extension : ℕ) (copyright original : Bool) (emphasis : ℕ)
+pub header_fields-groups : (h : List ℕ) {v : Version} {p : Bool} {rate : ℕ} {padding : Bool}
+    {frequency : ℕ} {private : Bool} {mode extension : ℕ} {copyright original : Bool} {emphasis : ℕ}
     → v ≡ version_of h → p ≡ eqb (protection_bit h) 0 → rate ≡ rate_bits h
     → padding ≡ eqb (group 22 1 h) 1 → frequency ≡ frequency_bits h → private ≡ eqb (group 23 1 h) 1
     → mode ≡ group 24 2 h → extension ≡ group 26 2 h → copyright ≡ eqb (group 28 1 h) 1
@@ -61,8 +61,8 @@ pub header_fields-groups : (h : List ℕ) (v : Version) (p : Bool) (rate : ℕ) 
       emphasis = emphasis;
     } ≡ header_fields h
 unfolding header_fields
-header_fields-groups h v p rate padding frequency private mode extension copyright original emphasis
-    e0 e1 e2 e3 e4 e5 e6 e7 e8 e9 e10 =
+header_fields-groups h {padding = padding} {mode = mode} {copyright = copyright} {original =
+    original} {emphasis = emphasis} e0 e1 e2 e3 e4 e5 e6 e7 e8 e9 e10 =
     λ i. record {
       version = e0 i;
       protected = e1 i;
@@ -78,19 +78,19 @@ header_fields-groups h v p rate padding frequency private mode extension copyrig
 
 -- ---- what is read is within its ranges
 
-ok_is : (a b : HeaderFields) → good a ≡ good b → a ≡ b
-ok_is a b e = cc
+ok_is : {a b : HeaderFields} → good a ≡ good b → a ≡ b
+ok_is e = cc
 
-header_in-ok : (h : List ℕ) (fields : HeaderFields) → header_in h ≡ good fields
+header_in-ok : (h : List ℕ) {fields : HeaderFields} → header_in h ≡ good fields
     → (is_readable h ≡ true) × (rate_bits h ≢ 0) × (header_fields h ≡ fields)
 unfolding header_in
-header_in-ok h fields is = by_cases (is_readable h) (eqb (rate_bits h) 0) refl refl is
+header_in-ok h {fields} is = by_cases (is_readable h) (eqb (rate_bits h) 0) refl refl is
   where
     by_cases : (r z : Bool) → is_readable h ≡ r → eqb (rate_bits h) 0 ≡ z
         → cond r (cond z (Err Free) (good (header_fields h))) (Err No) ≡ good fields
         → (is_readable h ≡ true) × (rate_bits h ≢ 0) × (header_fields h ≡ fields)
     by_cases true false readable some e =
-        (readable, (λ none. true≢false (sym (eq-eqb _ _ none) ∙ some)), ok_is _ _ e)
+        (readable, (λ none. true≢false (sym (eq-eqb _ _ none) ∙ some)), ok_is e)
     by_cases _ _ readable none e = absurd cc
 
 -- the single tests of a readable header
@@ -116,19 +116,19 @@ readable h passes =
       frequency = eqb-false _ _ (not-true _ parts.1);
     }
 
-fields_in_range : (h : List ℕ) → AreBits h → IsReadable h → rate_bits h ≢ 0
+fields_in_range : {h : List ℕ} → AreBits h → IsReadable h → rate_bits h ≢ 0
     → IsHeader (header_fields h)
 unfolding header_fields
-fields_in_range h bits tests some = grind (arith, some, group-below)
+fields_in_range bits tests some = grind (arith, some, group-below)
 
 -- each field of a header that was read is in its range
-pub IsHeader-read : (h : List ℕ) (fields : HeaderFields) → AreBits h → header_in h ≡ good fields
+pub IsHeader-read : (h : List ℕ) {fields : HeaderFields} → AreBits h → header_in h ≡ good fields
     → IsHeader fields
-IsHeader-read h fields bits is = grind (arith, header_in-ok, fields_in_range, readable)
+IsHeader-read h bits is = grind (arith, header_in-ok, fields_in_range, readable)
 
-version_again : (n : ℕ) → n < 4 → n ≢ 1
+version_again : {n : ℕ} → n < 4 → n ≢ 1
     → version_number (cond (eqb n 3) One (cond (eqb n 2) Two TwoFive)) ≡ n
-version_again n h some = grind arith
+version_again h some = grind arith
 
 -- the bits of a header give its version, its frequency and its bit rate
 pub record SaysClass (h : List ℕ) (fields : HeaderFields) : Type 0 where
@@ -144,7 +144,7 @@ pub says_class : (h : List ℕ) (fields : HeaderFields) → AreBits h → header
     → SaysClass h fields
 unfolding header_fields
 says_class h fields bits is =
-    let ok = header_in-ok h fields is in
+    let ok = header_in-ok h is in
     let tests = readable h ok.0 in
     record {
       sync = tests.sync;
@@ -156,23 +156,23 @@ says_class h fields bits is =
     }
 
 -- a header that is read from four bytes has each field in its range
-pub IsHeader-header_at : (four : List ℕ) (fields : HeaderFields) → header_at four ≡ good fields
+pub IsHeader-header_at : (four : List ℕ) {fields : HeaderFields} → header_at four ≡ good fields
     → IsHeader fields
 unfolding header_at
-IsHeader-header_at four fields is = IsHeader-read (bits four) fields (AreBits-bits four) is
+IsHeader-header_at four {fields} is = IsHeader-read (bits four) (AreBits-bits four) is
 
 -- what was read is what the bits say
-pub header_fields-header_at : (four : List ℕ) (fields : HeaderFields) → header_at four ≡ good fields
+pub header_fields-header_at : (four : List ℕ) {fields : HeaderFields} → header_at four ≡ good fields
     → header_fields (bits four) ≡ fields
 unfolding header_at
-header_fields-header_at four fields is = (header_in-ok (bits four) fields is).2
+header_fields-header_at four {fields} is = (header_in-ok (bits four) is).2
 
 channels_in_range : (mono : Bool) → (1 ≤ cond mono 1 2) × (cond mono 1 2 ≤ 2)
 channels_in_range mono = grind arith
 
 -- the class of a header has a frequency index and a number of channels in range
-pub IsClass-class_of : (h : HeaderFields) → IsHeader h → IsClass (class_of h)
-IsClass-class_of h is = grind (arith, channels_in_range)
+pub IsClass-class_of : {h : HeaderFields} → IsHeader h → IsClass (class_of h)
+IsClass-class_of is = grind (arith, channels_in_range)
 
 -- ---- the bits that a header is written as
 -- the numbers of groups that follow each other from a bit on
@@ -197,10 +197,10 @@ protection-below : (protected : Bool) → protection_of protected < 2
 protection-below protected = grind arith
 
 -- each number is within its bits
-pub NumbersFit-header_numbers : (h : HeaderFields) → IsHeader h
+pub NumbersFit-header_numbers : {h : HeaderFields} → IsHeader h
     → NumbersFit header_widths (header_numbers h)
 unfolding header_numbers
-NumbersFit-header_numbers h is =
+NumbersFit-header_numbers is =
     grind (arith, lit<, version_number-below, protection-below, flag-below)
 
 -- a header is written as zeros and ones
@@ -233,17 +233,17 @@ unfolding joined header_numbers
 header_number-joined h = grind (arith, protection-not, flag-byte)
 
 -- the one number of a header has the header's 32 bits
-pub bits_of-header_number : (h : HeaderFields) → IsHeader h
+pub bits_of-header_number : {h : HeaderFields} → IsHeader h
     → bits_of 32 (header_number h) ≡ header_bits h
 unfolding header_bits
-bits_of-header_number h is = ap (bits_of 32) (header_number-joined h)
-    ∙ sym (group_bits-joined header_widths (header_numbers h) (NumbersFit-header_numbers h is))
+bits_of-header_number {h} is = ap (bits_of 32) (header_number-joined h)
+    ∙ sym (group_bits-joined header_widths (header_numbers h) (NumbersFit-header_numbers is))
 
-groups_written : (h : HeaderFields) → IsHeader h
+groups_written : {h : HeaderFields} → IsHeader h
     → groups_from 0 header_widths (header_bits h) ≡ header_numbers h
 unfolding header_bits
-groups_written h is = sym (numbers_at-groups 0 header_widths (header_bits h))
-    ∙ numbers_at-group_bits header_widths (header_numbers h) (NumbersFit-header_numbers h is)
+groups_written {h} is = sym (numbers_at-groups 0 header_widths (header_bits h))
+    ∙ numbers_at-group_bits header_widths (NumbersFit-header_numbers is)
 
 version_back : (v : Version)
     → v ≡ cond (eqb (version_number v) 3) One (cond (eqb (version_number v) 2) Two TwoFive)
@@ -259,36 +259,36 @@ protection_back : (protected : Bool) → protected ≡ eqb (protection_of protec
 protection_back protected = grind arith
 
 -- bits that give a header's version, its frequency and a bit rate are readable
-pub readable_by : (h : List ℕ) (fields : HeaderFields) → IsHeader fields → SaysClass h fields
+pub readable_by : {h : List ℕ} {fields : HeaderFields} → IsHeader fields → SaysClass h fields
     → is_readable h ≡ true
 unfolding is_readable
-readable_by h fields is says = grind (arith, version_some, ne_eqb)
+readable_by is says = grind (arith, version_some, ne_eqb)
 
 -- the version that bits give is the header's
-pub version_by : (h : List ℕ) (fields : HeaderFields) → SaysClass h fields
+pub version_by : {h : List ℕ} {fields : HeaderFields} → SaysClass h fields
     → fields.version ≡ version_of h
-version_by h fields says = grind (arith, version_back)
+version_by says = grind (arith, version_back)
 
 -- bits with the sync bits, the layer, the version and the frequency
 -- of others, and a bit rate, give the same as these
-pub says_same : (h own : List ℕ) (fields : HeaderFields) → SaysClass own fields
+pub says_same : {h own : List ℕ} {fields : HeaderFields} → SaysClass own fields
     → group 0 11 h ≡ group 0 11 own → group 13 2 h ≡ group 13 2 own → group 11 2 h ≡ group 11 2 own
     → group 20 2 h ≡ group 20 2 own → 1 ≤ rate_bits h → rate_bits h ≤ 14 → SaysClass h fields
-says_same h own fields says sync layer version frequency some most =
+says_same says sync layer version frequency some most =
     grind (arith, sync, layer, version, frequency, some, most)
 
 -- the bits of a header are read as that header
-pub header_in-header_bits : (h : HeaderFields) → IsHeader h → header_in (header_bits h) ≡ good h
+pub header_in-header_bits : {h : HeaderFields} → IsHeader h → header_in (header_bits h) ≡ good h
 unfolding is_readable header_numbers
-header_in-header_bits h is =
+header_in-header_bits {h} is =
     let bs : List ℕ = header_bits h in
-    let g = λ (k : ℕ). ap (λ ns. get_or ns k 0) (groups_written h is) in
+    let g = λ (k : ℕ). ap (λ ns. get_or ns k 0) (groups_written is) in
     let sync : group 0 11 bs ≡ 2047 = g 0 in
     let version : group 11 2 bs ≡ version_number h.version = g 1 in
     let layer : group 13 2 bs ≡ 1 = g 2 in
     let rate : group 16 4 bs ≡ h.slot.rate_index = g 4 in
     let frequency : group 20 2 bs ≡ h.frequency_index = g 5 in
-    let readable : is_readable bs ≡ true = readable_by bs h is (record {
+    let readable : is_readable bs ≡ true = readable_by is (record {
       sync = sync;
       layer = layer;
       version = version;
@@ -297,8 +297,7 @@ header_in-header_bits h is =
       most = omega (arith, rate, is.slot.1);
     }) in
     header_in-good bs readable (omega (arith, is.slot.0))
-    ∙ ap good (sym (header_fields-groups bs h.version h.protected h.slot.rate_index h.slot.padding
-    h.frequency_index h.private_bit h.mode h.mode_extension h.copyright h.original h.emphasis
+    ∙ ap good (sym (header_fields-groups bs
     (version_back h.version ∙ ap (λ n. cond (eqb n 3) One (cond (eqb n 2) Two TwoFive)) (sym (g 1)))
     (protection_back h.protected ∙ ap (λ n. eqb n 0) (sym (g 3)))
     (sym rate)
@@ -311,49 +310,49 @@ header_in-header_bits h is =
     (flag_back h.original ∙ ap (λ n. eqb n 1) (sym (g 11)))
     (sym (g 12))))
 
-flag_again : (bit : ℕ) → bit < 2 → flag_of (eqb bit 1) ≡ bit
-flag_again bit h = grind arith
+flag_again : {bit : ℕ} → bit < 2 → flag_of (eqb bit 1) ≡ bit
+flag_again h = grind arith
 
-protection_again : (bit : ℕ) → bit < 2 → protection_of (eqb bit 0) ≡ bit
-protection_again bit h = grind arith
+protection_again : {bit : ℕ} → bit < 2 → protection_of (eqb bit 0) ≡ bit
+protection_again h = grind arith
 
-numbers_read : (bs : List ℕ) → AreBits bs → IsReadable bs
+numbers_read : {bs : List ℕ} → AreBits bs → IsReadable bs
     → header_numbers (header_fields bs) ≡ groups_from 0 header_widths bs
 unfolding header_numbers header_fields
-numbers_read bs all is = grind (arith, group-below, version_again, protection_again, flag_again)
+numbers_read all is = grind (arith, group-below, version_again, protection_again, flag_again)
 
 -- a header that was read is written as the bits that it was read from
-pub header_bits-header_in : (bs : List ℕ) (fields : HeaderFields) → AreBits bs → length bs ≡ 32
+pub header_bits-header_in : {bs : List ℕ} {fields : HeaderFields} → AreBits bs → length bs ≡ 32
     → header_in bs ≡ good fields → header_bits fields ≡ bs
 unfolding header_bits
-header_bits-header_in bs fields all l is =
+header_bits-header_in {bs} {fields} all l is =
     grind (
       arith,
-      header_in-ok bs fields is,
+      header_in-ok bs is,
       numbers_read,
       readable,
       numbers_at-groups 0
           header_widths bs,
-      group_bits-numbers_at header_widths bs all l,
+      group_bits-numbers_at header_widths all l,
     )
 
 -- ---- the four bytes
 -- the bytes of a header are read as that header
-pub header_at-bytes : (four : List ℕ) (h : HeaderFields) → IsHeader h → bits four ≡ header_bits h
+pub header_at-bytes : (four : List ℕ) {h : HeaderFields} → IsHeader h → bits four ≡ header_bits h
     → header_at four ≡ good h
 unfolding header_at
-header_at-bytes four h is e = ap header_in e ∙ header_in-header_bits h is
+header_at-bytes four {h} is e = ap header_in e ∙ header_in-header_bits is
 
 -- a header that was read has the bits of the bytes that it was read from
-pub header_bits-header_at : (four : List ℕ) (h : HeaderFields) → length four ≡ 4
+pub header_bits-header_at : (four : List ℕ) {h : HeaderFields} → length four ≡ 4
     → header_at four ≡ good h → header_bits h ≡ bits four
 unfolding header_at
-header_bits-header_at four h l is = grind (arith, header_bits-header_in, AreBits-bits, length-bits)
+header_bits-header_at four l is = grind (arith, header_bits-header_in, AreBits-bits, length-bits)
 
 -- bytes with these bits are these bytes
-pub header_bytes-same : (xs four : List ℕ) (h : HeaderFields) → bits xs ≡ header_bits h
+pub header_bytes-same : {xs four : List ℕ} {h : HeaderFields} → bits xs ≡ header_bits h
     → AreBytes xs → AreBytes four → length four ≡ 4 → header_at four ≡ good h → xs ≡ four
-header_bytes-same xs four h e hx hy l is = grind (arith, bits-injective, header_bits-header_at)
+header_bytes-same e hx hy l is = grind (arith, bits-injective, header_bits-header_at)
 
 -- ---- a number as four bytes
 -- a number is written as four bytes
@@ -361,6 +360,6 @@ pub AreBytes-to_be_bytes : (n : ℕ) → AreBytes (to_be_bytes w32 n)
 AreBytes-to_be_bytes n = grind (arith, mod_below, lit<)
 
 -- a number as four big-endian bytes has the 32 bits of the number
-pub bits-to_be_bytes : (n : ℕ) → n < 2 ^ 32 → bits (to_be_bytes w32 n) ≡ bits_of 32 n
-bits-to_be_bytes n h = bits-be_bytes (to_be_bytes w32 n) refl (AreBytes-to_be_bytes n)
+pub bits-to_be_bytes : {n : ℕ} → n < 2 ^ 32 → bits (to_be_bytes w32 n) ≡ bits_of 32 n
+bits-to_be_bytes {n} h = bits-be_bytes (to_be_bytes w32 n) refl (AreBytes-to_be_bytes n)
     ∙ ap (bits_of 32) (from_be_bytes-to_be_bytes_4 n h)

@@ -20,15 +20,15 @@ abbrev pub highest_frequency : Version → ℕ
 highest_frequency version = get_or (frequencies version) 1 0
 
 -- if a test passes for a whole table, it passes at each of its places
-all_pass : (p : ℕ → Bool) (xs : List ℕ) (i : ℕ) → list_all p xs ≡ true → i < length xs
+all_pass : (p : ℕ → Bool) (xs : List ℕ) {i : ℕ} → list_all p xs ≡ true → i < length xs
     → p (get_or xs i 0) ≡ true
-all_pass p xs i all lt = grind (arith, true_from_ne_false, true≢false, list_all_at)
+all_pass p xs all lt = grind (arith, true_from_ne_false, true≢false, list_all_at)
 
-least : (version : Version) (i : ℕ) → i < 14 → least_rate version ≤ get_or (rates version) i 0
-least version i lt = grind arith
+least : (version : Version) {i : ℕ} → i < 14 → least_rate version ≤ get_or (rates version) i 0
+least version lt = grind arith
 
-greatest : (version : Version) (i : ℕ) → i < 14 → get_or (rates version) i 0 ≤ 320
-greatest version i lt = grind arith
+greatest : (version : Version) {i : ℕ} → i < 14 → get_or (rates version) i 0 ≤ 320
+greatest version lt = grind arith
 
 lowest : (version : Version) → 8 ≤ least_rate version
 lowest version = grind arith
@@ -41,12 +41,12 @@ rate-least c s slot = grind (arith, lowest, least)
 -- no bit rate is above 320 kbit/s
 pub rate-most : (c : ClassFields) (s : SlotFields) → IsSlot s → rate_of c s ≤ 320
 unfolding rate_of
-rate-most c s slot = greatest c.version (s.rate_index - 1) (omega (arith, slot.0, slot.1))
+rate-most c s slot = greatest c.version (omega (arith, slot.0, slot.1))
 
-highest : (version : Version) (i : ℕ) → i < 3
+highest : (version : Version) {i : ℕ} → i < 3
     → (get_or (frequencies version) i 0 ≤ highest_frequency version)
     × (8000 ≤ get_or (frequencies version) i 0)
-highest version i lt = grind arith
+highest version lt = grind arith
 
 -- the shortest frame of a version
 abbrev pub least_length : Version → ℕ
@@ -54,10 +54,10 @@ least_length One = 96
 least_length Two = 24
 least_length TwoFive = 48
 
-shortest : (version : Version) (rate frequency : ℕ) → least_rate version ≤ rate → 0 < frequency
+shortest : (version : Version) {rate frequency : ℕ} → least_rate version ≤ rate → 0 < frequency
     → frequency ≤ highest_frequency version
     → least_length version ≤ (length_factor version * (1000 * rate)) / frequency
-shortest version rate frequency most some few = grind (arith, le-div)
+shortest version most some few = grind (arith, le-div)
 
 -- no frame is shorter than the least length of its version
 pub length-least : (c : ClassFields) (s : SlotFields) → IsClass c → IsSlot s
@@ -113,13 +113,13 @@ length_in_table-is c s class slot =
     )
 
 -- no entry is above 1,440
-entries_most : (row i : ℕ) → row < 9 → i < 14 → get_or (get_or LENGTHS row []) i 0 ≤ 1440
-entries_most row i lt within =
+entries_most : {row i : ℕ} → row < 9 → i < 14 → get_or (get_or LENGTHS row []) i 0 ≤ 1440
+entries_most lt within =
     search (arith, eqb-true, true_from_ne_false, true≢false, list_all_at, leb-true, all_pass)
 
-row_below : (version : Version) (frequency : ℕ) → frequency < 3
+row_below : (version : Version) {frequency : ℕ} → frequency < 3
     → 3 * version_place version + frequency < 9
-row_below version frequency h = grind arith
+row_below version h = grind arith
 
 bool_byte-most : (flag : Bool) → bool_byte flag ≤ 1
 bool_byte-most flag = grind arith

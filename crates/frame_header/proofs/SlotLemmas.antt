@@ -26,10 +26,10 @@ unfolding all_slots
 slots_to-all = refl
 
 -- one index more adds its two slots
-pub slots_to-more : (i : ℕ) (xs ys zs : List SlotFields) → 1 ≤ i → xs ≡ slots_to (i - 1)
+pub slots_to-more : {i : ℕ} {xs ys zs : List SlotFields} → 1 ≤ i → xs ≡ slots_to (i - 1)
     → ys ≡ xs ++ slot_of i false ∷ [] → zs ≡ ys ++ slot_of i true ∷ [] → zs ≡ slots_to (i + 1 - 1)
 unfolding slots_to
-slots_to-more i xs ys zs some ex ey ez = grind (arith, append_assoc)
+slots_to-more some ex ey ez = grind (arith, append_assoc)
 
 length-slots_to : (n : ℕ) → length (slots_to n) ≡ 2 * n
 unfolding slots_to
@@ -48,17 +48,17 @@ one_of_two n padding d = grind arith
 byte-most : (padding : Bool) → bool_byte padding ≤ 1
 byte-most padding = grind arith
 
-get_or-slots_to : (n i : ℕ) (padding : Bool) (d : SlotFields) → i < n
+get_or-slots_to : (n : ℕ) {i : ℕ} (padding : Bool) (d : SlotFields) → i < n
     → get_or (slots_to n) (2 * i + bool_byte padding) d ≡ slot_of (suc i) padding
 unfolding slots_to
-get_or-slots_to zero i padding d h = absurd (omega arith)
-get_or-slots_to (suc n) i padding d h =
+get_or-slots_to zero padding d h = absurd (omega arith)
+get_or-slots_to (suc n) {i} padding d h =
     let last : List SlotFields = slot_of (suc n) false ∷ slot_of (suc n) true ∷ [] in
     let many = length-slots_to n in
     let byte = byte-most padding in
     elim (cases_lt i n)
     as (λ _. get_or (slots_to n ++ last) (2 * i + bool_byte padding) d ≡ slot_of (suc i) padding) [
-      | inl below ↦ grind (arith, get_or_append_left, get_or-slots_to n i padding d below)
+      | inl below ↦ grind (arith, get_or_append_left, get_or-slots_to n padding d below)
       | inr at ↦ grind (arith, get_or-append_right, one_of_two)
     ]
 
@@ -71,9 +71,10 @@ pub place_of-below : (s : SlotFields) → IsSlot s → place_of s < 28
 place_of-below s slot = omega (arith, slot.0, slot.1, byte-most s.padding)
 
 -- the slot at the place of a slot is this slot
-pub get_or-place_of : (s d : SlotFields) → IsSlot s → get_or all_slots (place_of s) d ≡ s
+pub get_or-place_of : {s : SlotFields} (d : SlotFields) → IsSlot s
+    → get_or all_slots (place_of s) d ≡ s
 unfolding all_slots
-get_or-place_of s d slot = grind (arith, get_or-slots_to)
+get_or-place_of d slot = grind (arith, get_or-slots_to)
 
 -- every slot is one of the 28
 pub Contains-all_slots : (s : SlotFields) → IsSlot s → Contains all_slots s
@@ -108,20 +109,20 @@ unfolding all_slots slots_to
 are_slots = refl
 
 -- there is a slot at each of the 28 places
-pub IsSlot-nth_slot : (i : ℕ) → i < 28 → IsSlot (nth_slot i)
-IsSlot-nth_slot i within =
+pub IsSlot-nth_slot : {i : ℕ} → i < 28 → IsSlot (nth_slot i)
+IsSlot-nth_slot {i} within =
     let parts = and_parts _ _ (all_below-pass 28
-    (λ k. leb 1 (nth_slot k).rate_index && leb (nth_slot k).rate_index 14) i are_slots within) in
+    (λ k. leb 1 (nth_slot k).rate_index && leb (nth_slot k).rate_index 14) are_slots within) in
     (leb-true 1 _ parts.0, leb-true _ 14 parts.1)
 
-length_rises : (c : ClassFields) (i j : ℕ) → IsClass c → i < j → j < 28
+length_rises : (c : ClassFields) {i j : ℕ} → IsClass c → i < j → j < 28
     → length_of c (nth_slot i) < length_of c (nth_slot j)
-length_rises c i j class before within =
+length_rises c {i} {j} class before within =
     let long : length (lengths c) ≡ 28 = length-map all_slots (length_of c) ∙ length-all_slots in
     let step : (k : ℕ) → k + 1 < length (lengths c)
     → get_or (lengths c) k 0 < get_or (lengths c) (k + 1) 0 =
     λ k h. ltb-true _ _
-    (all_below-pass 27 (λ n. ltb (get_or (lengths c) n 0) (get_or (lengths c) (n + 1) 0)) k
+    (all_below-pass 27 (λ n. ltb (get_or (lengths c) n 0) (get_or (lengths c) (n + 1) 0))
     (lengths-rise c.version c.frequency_index c.channels (omega (arith, class.0))) (omega arith)) in
     let all = AllPairs-from_increasing (lengths c) step i j 0 before (omega arith) in
     let at_i : get_or (lengths c) i 0 ≡ length_of c (nth_slot i) =
@@ -136,10 +137,10 @@ pub length-before : (c : ClassFields) (s t : SlotFields) → IsClass c → IsSlo
 length-before c s t class is it before =
     grind (
       arith,
-      length_rises c (place_of s) (place_of t) class before (place_of-below t it),
+      length_rises c {i = place_of s} {j = place_of t} class before (place_of-below t it),
       place_of-below t it,
-      get_or-place_of s (slot_of 1 false) is,
-      get_or-place_of t (slot_of 1 false)
+      get_or-place_of {s = s} (slot_of 1 false) is,
+      get_or-place_of {s = t} (slot_of 1 false)
           it,
     )
 
@@ -150,8 +151,8 @@ pub area-is : (c : ClassFields) (s : SlotFields) (protected : Bool) → IsClass 
 unfolding area_of overhead_of
 area-is c s protected class slot = grind (arith, area_some)
 
-place-same : (s t : SlotFields) → IsSlot s → IsSlot t → place_of s ≡ place_of t → s ≡ t
-place-same s t is it same = grind (arith, get_or-place_of)
+place-same : {s t : SlotFields} → IsSlot s → IsSlot t → place_of s ≡ place_of t → s ≡ t
+place-same is it same = grind (arith, get_or-place_of)
 
 largest : (c : ClassFields) (s : SlotFields) → IsClass c → IsSlot s
     → length_of c s ≤ length_of c largest_slot
@@ -174,18 +175,19 @@ area-most c s protected class slot = grind (arith, length-most, side-least)
 
 -- a frame of the largest slot has room for the window, a header and side information, by version
 -- and frequency
-spans : (version : Version) (frequency channels : ℕ) → frequency < 3
+spans : (version : Version) {frequency : ℕ} (channels : ℕ) → frequency < 3
     → window_of version + 4 + side_bytes_of version channels ≤ length_of
     (record { version = version; frequency_index = frequency; channels = channels }) largest_slot
 unfolding length_of rate_of frequency_of
-spans version frequency channels h = grind arith
+spans version channels h = grind arith
 
 -- an unprotected frame of the largest slot has room for as many bytes as main_data_begin can count
 pub window-spanned : (c : ClassFields) → IsClass c
     → window_of c.version ≤ area_of c largest_slot false
 unfolding area_of overhead_of side_size_of
 window-spanned c class =
-    omega (arith, spans c.version c.frequency_index c.channels (omega (arith, class.0)))
+    omega
+    (arith, spans c.version {frequency = c.frequency_index} c.channels (omega (arith, class.0)))
 
 -- ---- the areas as a list
 -- there are 28 areas
@@ -200,7 +202,7 @@ unfolding areas_of
 areas-ascend c class protected i j d before within =
     let area : SlotFields → ℕ = λ s. area_of c s protected in
     let below : j < 28 = omega (arith, length-areas_of c protected) in
-    let rises = length_rises c i j class before below in
+    let rises = length_rises c class before below in
     let at_i : get_or (map area all_slots) i d ≡ area_of c (nth_slot i) protected =
     get_or-map area all_slots i (slot_of 1 false) d (omega (arith, length-all_slots)) in
     let at_j : get_or (map area all_slots) j d ≡ area_of c (nth_slot j) protected =
@@ -210,6 +212,6 @@ areas-ascend c class protected i j d before within =
       at_i,
       at_j,
       rises,
-      (area-is c (nth_slot i) protected class (IsSlot-nth_slot i (omega arith))).0,
-      (area-is c (nth_slot j) protected class (IsSlot-nth_slot j below)).0,
+      (area-is c (nth_slot i) protected class (IsSlot-nth_slot (omega arith))).0,
+      (area-is c (nth_slot j) protected class (IsSlot-nth_slot below)).0,
     )

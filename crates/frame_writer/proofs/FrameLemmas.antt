@@ -65,14 +65,14 @@ pub none-new : (c : ClassFields) → AreAreasLaid [] (record { bytes = []; free 
 none-new c are = grind (arith, none-written)
 
 -- a frame that is given is one more of the frames taken and waiting
-pub more-written : (taken : List ℕ) (c : ClassFields) (kept : List FrameFields)
-    (waiting more : WaitingAreas) (fs : List Frame) (f : Frame) →
+pub more-written : {taken : List ℕ} {c : ClassFields} {kept : List FrameFields}
+    {waiting more : WaitingAreas} {fs : List Frame} (f : Frame) →
     ((given : List ℕ) (ps : List FrameData) → AreAreasLaid given waiting ps
     → AreAreasLaid given more (ps ++ frame_data f ∷ [])) →
     AreFramesWritten taken (record { class = c; kept = kept; waiting = waiting }) fs →
     AreFramesWritten taken (record { class = c; kept = kept ++ f.kept ∷ []; waiting = more })
     (fs ++ f ∷ [])
-more-written taken c kept waiting more fs f step are = record {
+more-written {kept = kept} {more = more} {fs = fs} f step are = record {
   done = are.done;
   given = are.given;
   all = sym (append_assoc are.done kept (f.kept ∷ []))
@@ -85,15 +85,15 @@ more-written taken c kept waiting more fs f step are = record {
 }
 
 -- when the first frame is taken, the bytes of all frames stay the same
-pub first-written : (taken area_bytes : List ℕ) (c : ClassFields) (k : FrameFields)
-    (ks : List FrameFields) (waiting less : WaitingAreas) (fs : List Frame) →
+pub first-written : {taken area_bytes : List ℕ} {c : ClassFields} {k : FrameFields}
+    {ks : List FrameFields} {waiting less : WaitingAreas} {fs : List Frame} →
     length area_bytes ≡ frame_area k →
     ((given : List ℕ) (ps : List FrameData) → AreAreasLaid given waiting ps
     → AreAreasLaid (given ++ area_bytes) less ps) →
     AreFramesWritten taken (record { class = c; kept = k ∷ ks; waiting = waiting }) fs →
     AreFramesWritten (taken ++ (frame_front_bytes k.header k.side ++ area_bytes))
     (record { class = c; kept = ks; waiting = less }) fs
-first-written taken area_bytes c k ks waiting less fs long step are =
+first-written {area_bytes = area_bytes} {k = k} {ks = ks} {fs = fs} long step are =
     let cut : frame_front_bytes k.header k.side ++ area_bytes ≡ framed_bytes (k ∷ []) area_bytes =
     ap (λ (xs : List ℕ). frame_front_bytes k.header k.side ++ xs)
     (sym (append-nil area_bytes) ∙ ap (λ (xs : List ℕ). xs ++ [])
@@ -110,12 +110,12 @@ first-written taken area_bytes c k ks waiting less fs long step are =
     }
 
 -- what was taken stays whatever frames follow, if the first of them begins within what is free
-pub later-frames : (taken : List ℕ) (held : WaitingFrames) (fs more : List Frame)
+pub later-frames : {taken : List ℕ} {held : WaitingFrames} {fs : List Frame} (more : List Frame)
     → AreFramesWritten taken held fs → BeginsWithin held.waiting.free (all_frame_data more)
     → (rest : List ℕ) × (bytes_of_frames (fs ++ more) ≡ taken ++ rest)
-later-frames taken held fs more are within =
+later-frames {held = held} {fs = fs} more are within =
     let found =
-    laid_data-later are.given held.waiting (all_frame_data fs)
+    laid_data-later
     (all_frame_data more) are.laid within in
     let all : fields_of_frames (fs ++ more) ≡ are.done ++ (held.kept ++ fields_of_frames more) =
     map-append (λ (f : Frame). f.kept) fs more
@@ -132,12 +132,12 @@ later-frames taken held fs more are within =
 -- ---- frames in their queue
 
 -- frames of a class and one more of it are of the class
-pub AreFieldsOfClass-more : (c : ClassFields) (ks : List FrameFields) (k : FrameFields)
+pub AreFieldsOfClass-more : {c : ClassFields} (ks : List FrameFields) {k : FrameFields}
     → AreFieldsOfClass c ks → IsHeader k.header → class_of k.header ≡ c → SideFits c k.side
     → AreFieldsOfClass c (ks ++ k ∷ [])
-AreFieldsOfClass-more c [] k are is same fits = (is, same, fits, tt)
-AreFieldsOfClass-more c (j ∷ ks) k are is same fits =
-    (are.0, are.1, are.2, AreFieldsOfClass-more c ks k are.3 is same fits)
+AreFieldsOfClass-more [] are is same fits = (is, same, fits, tt)
+AreFieldsOfClass-more {c} (j ∷ ks) {k} are is same fits =
+    (are.0, are.1, are.2, AreFieldsOfClass-more ks are.3 is same fits)
 
 -- if areas are as long as bytes, they still are with one more area and its bytes
 pub areas_length-pushed : (ks : List FrameFields) (k : FrameFields) (bytes more : List ℕ)
@@ -146,19 +146,20 @@ pub areas_length-pushed : (ks : List FrameFields) (k : FrameFields) (bytes more 
 areas_length-pushed ks k bytes more same long = omega (arith, areas_length-more ks k, same, long)
 
 -- a frame that is added where there is room is the last of the queue
-pub pushed-kept : {R : Type 0} (old new : Buffer FrameFields) (k : FrameFields)
+pub pushed-kept : {R : Type 0} (old : Buffer FrameFields) {new : Buffer FrameFields}
+    (k : FrameFields)
     (r : Result R FrameFields) → old.capacity ≡ 256 → length old.items < 256
     → (IsOk r ↔ (length old.items < old.capacity)) →
     OnOk r (new ≡ buffer (old.items ++ k ∷ []) old.capacity)
     → (new.capacity ≡ 256) × (new.items ≡ old.items ++ k ∷ [])
-pushed-kept old new k (Ok x) many few when is = grind (arith, many)
-pushed-kept old new k (Err e) many few when is = grind (arith, false≢true, many)
+pushed-kept old k (Ok x) many few when is = grind (arith, many)
+pushed-kept old k (Err e) many few when is = grind (arith, false≢true, many)
 
 -- a queue with frames has a first one, and the others after it
-pub first-kept : (ks : List FrameFields) (k : FrameFields) → 0 < length ks → slice_get ks 0 ≡ Some k
+pub first-kept : (ks : List FrameFields) {k : FrameFields} → 0 < length ks → slice_get ks 0 ≡ Some k
     → ks ≡ k ∷ drop 1 ks
-first-kept [] k some is = absurd (omega (arith, some))
-first-kept (j ∷ ks) k some is = ap (λ (i : FrameFields). i ∷ ks) (ap (λ o. unwrap_or o j) is)
+first-kept [] some is = absurd (omega (arith, some))
+first-kept (j ∷ ks) some is = ap (λ (i : FrameFields). i ∷ ks) (ap (λ o. unwrap_or o j) is)
 
 -- ---- the bytes of a frame
 
@@ -193,9 +194,9 @@ unfolding area_of overhead_of side_size_of
 area-least c s true class is = grind (arith, length-least, least_room)
 area-least c s false class is = grind (arith, length-least, least_room)
 
-kept-least : (c : ClassFields) (k : FrameFields) → IsClass c → IsHeader k.header
+kept-least : {c : ClassFields} (k : FrameFields) → IsClass c → IsHeader k.header
     → class_of k.header ≡ c → least_of c.version ≤ frame_area k
-kept-least c k class is same = grind (arith, area-least)
+kept-least k class is same = grind (arith, area-least)
 
 many : (c : ClassFields) (m : ℕ) (ks : List FrameFields) → IsClass c → AreFieldsOfClass c ks
     → m ≡ least_of c.version → m * length ks ≤ areas_length ks
@@ -203,28 +204,28 @@ many c m [] class are is = omega arith
 many c m (k ∷ ks) class are is = grind (arith, mul-suc, kept-least, many c m ks class are.3 is)
 
 -- if less than a window of areas is after the first frame, fewer than 255 frames are
-few_behind : (version : Version) (n bytes : ℕ) → least_of version * n ≤ bytes
+few_behind : (version : Version) (n : ℕ) {bytes : ℕ} → least_of version * n ≤ bytes
     → bytes < window_of version → n + 1 < 256
-few_behind One n bytes all behind = omega (arith, all, behind)
-few_behind Two n bytes all behind = omega (arith, all, behind)
-few_behind TwoFive n bytes all behind = omega (arith, all, behind)
+few_behind One n all behind = omega (arith, all, behind)
+few_behind Two n all behind = omega (arith, all, behind)
+few_behind TwoFive n all behind = omega (arith, all, behind)
 
 window-most : (version : Version) → window_of version ≤ 511
 window-most One = lit≤ tt
 window-most Two = lit≤ tt
 window-most TwoFive = lit≤ tt
 
-least_left : (m n : ℕ) → (n < m) ⊎ (m ≤ n) → min m n ≤ m
-least_left m n (inl less) = grind (arith, min-eq_right)
-least_left m n (inr more) = let is : min m n ≡ m = min-eq_left more in omega (arith, is)
+least_left : {m n : ℕ} → (n < m) ⊎ (m ≤ n) → min m n ≤ m
+least_left (inl less) = grind (arith, min-eq_right)
+least_left {m} {n} (inr more) = let is : min m n ≡ m = min-eq_left more in omega (arith, is)
 
-have_room : (c : ClassFields) (kept : List FrameFields) (waiting : WaitingAreas)
+have_room : {c : ClassFields} (kept : List FrameFields) {waiting : WaitingAreas}
     → AreFieldsOfClass c kept → areas_length kept ≡ length waiting.bytes →
     (IsNextSettled (record { class = c; kept = kept; waiting = waiting }) → ⊥)
     → HasFrameRoom (record { class = c; kept = kept; waiting = waiting })
-have_room c [] waiting are same unsettled = record { few = lit≤ tt; room = omega (arith, same) }
-have_room c (k ∷ ks) waiting are same unsettled =
-    let class : IsClass c = subst IsClass are.1 (IsClass-class_of k.header are.0) in
+have_room [] are same unsettled = record { few = lit≤ tt; room = omega (arith, same) }
+have_room {c} (k ∷ ks) {waiting} are same unsettled =
+    let class : IsClass c = subst IsClass are.1 (IsClass-class_of are.0) in
     let held : WaitingFrames = record { class = c; kept = k ∷ ks; waiting = waiting } in
     let behind : areas_length ks < window_of c.version =
     elim (cases_lt (areas_length ks) (window_of c.version))
@@ -236,8 +237,7 @@ have_room c (k ∷ ks) waiting are same unsettled =
           arith,
           same,
           more,
-          least_left (window_of c.version)
-              waiting.free (cases_lt waiting.free (window_of c.version)),
+          least_left (cases_lt waiting.free (window_of c.version)),
         );
       }))
     ] in
@@ -246,7 +246,7 @@ have_room c (k ∷ ks) waiting are same unsettled =
     record {
       few = omega (
         arith,
-        few_behind c.version (length ks) (areas_length ks)
+        few_behind c.version (length ks)
             (many c (least_of c.version) ks class are.3 refl) behind,
       );
       room = omega (arith, same, first, behind, window-most c.version);
@@ -254,4 +254,4 @@ have_room c (k ∷ ks) waiting are same unsettled =
 
 -- while later main data can reach the area of the first frame that waits, one more has room
 pub few-wait : FewFramesWait
-few-wait held are same unsettled = have_room held.class held.kept held.waiting are same unsettled
+few-wait held are same unsettled = have_room held.kept are same unsettled

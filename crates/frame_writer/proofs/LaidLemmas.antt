@@ -19,8 +19,8 @@ use Rattle.reservoir.proofs.WindowLemmas.{take_two}
 pub length-zeros : (n : ℕ) → length (zeros n) ≡ n
 length-zeros n = length-replicate n 0
 
-zeros_split : (n m : ℕ) → m ≤ n → zeros n ≡ zeros (n - m) ++ zeros m
-zeros_split n m le = ap zeros (omega (arith, le)) ∙ sym (replicate-append-replicate (n - m) m 0)
+zeros_split : {n m : ℕ} → m ≤ n → zeros n ≡ zeros (n - m) ++ zeros m
+zeros_split {n} {m} le = ap zeros (omega (arith, le)) ∙ sym (replicate-append-replicate (n - m) m 0)
 
 -- ---- main data up to the last, and one more frame
 
@@ -77,13 +77,13 @@ stored given items free ps same within =
     (append_assoc given items (zeros free)
     ∙ same
     ∙ laid_up_to 0 0 ps
-    ∙ ap (λ (xs : List ℕ). up_to 0 0 ps ++ xs) (zeros_split all free (omega (arith, within)))
+    ∙ ap (λ (xs : List ℕ). up_to 0 0 ps ++ xs) (zeros_split (omega (arith, within)))
     ∙ sym (append_assoc (up_to 0 0 ps) (zeros (all - free)) (zeros free)))
 
 -- the zeros between two main data
-gap_joined : (front payload : List ℕ) (n m k : ℕ) → n + m ≡ k
+gap_joined : (front payload : List ℕ) (n m : ℕ) {k : ℕ} → n + m ≡ k
     → (front ++ zeros n) ++ (zeros m ++ payload) ≡ front ++ (zeros k ++ payload)
-gap_joined front payload n m k is =
+gap_joined front payload n m is =
     append_assoc front (zeros n) (zeros m ++ payload)
     ∙ ap (λ (xs : List ℕ). front ++ xs) (sym (append_assoc (zeros n) (zeros m) payload)
     ∙ ap (λ (xs : List ℕ). xs ++ payload) (replicate-append-replicate n m 0 ∙ ap zeros is))
@@ -121,13 +121,14 @@ module _ (given items payload : List ℕ) (begin free gap rest area : ℕ) (ps :
       grind (arith, fit-more, more_same, areas_end-more, data_end-more, length-append, length-zeros)
 
 -- where the main data are put into the bytes that wait and a new area of zeros
-pub more-put : (items payload : List ℕ) (begin free gap rest area : ℕ) →
+pub more-put : (items payload : List ℕ) {begin free gap rest : ℕ} (area : ℕ) →
     begin ≤ free → gap ≡ free - begin → length payload ≤ begin + area
     → rest ≡ begin + area - length payload →
     (items ++ (zeros gap ++ payload)) ++ zeros rest
     ≡ overwritten_bytes (length (items ++ zeros free) - begin) payload
     ((items ++ zeros free) ++ zeros area)
-more-put items payload begin free gap rest area reach gaps fits rests =
+more-put items payload
+    {begin} {free} {gap} {rest} area reach gaps fits rests =
     let n = length items in
     let place : length (items ++ zeros free) - begin ≡ n + gap =
     omega (arith, length-append items (zeros free), length-zeros free, reach, gaps) in
@@ -149,15 +150,15 @@ more-put items payload begin free gap rest area reach gaps fits rests =
 
 -- ---- the first bytes taken
 
-first_cases : (n free : ℕ) (items : List ℕ) → n ≤ length items + free
+first_cases : {n : ℕ} (free : ℕ) (items : List ℕ) → n ≤ length items + free
     → (n < length items) ⊎ (length items ≤ n) →
     (take (min n (length items)) items ++ zeros (n - min n (length items))
     ≡ take n (items ++ zeros free))
     × (drop (min n (length items)) items ++ zeros (free - (n - min n (length items)))
     ≡ drop n (items ++ zeros free))
-first_cases n free items within (inl few) =
+first_cases free items within (inl few) =
     grind (arith, min-eq_left, append-nil, take-append-le, drop-append-le)
-first_cases n free items within (inr many) =
+first_cases {n} free items within (inr many) =
     let least : min n (length items) ≡ length items = min-eq_right many in
     let split : n ≡ length items + (n - length items) = omega arith in
     rw (least) (
@@ -172,18 +173,17 @@ first_cases n free items within (inr many) =
 
 -- dropping bytes from what is stored, and the others
 -- from the zeros after it, drops them from both together
-pub first-left : (n free : ℕ) (items : List ℕ) → n ≤ length items + free →
+pub first-left : {n : ℕ} (free : ℕ) (items : List ℕ) → n ≤ length items + free →
     drop (min n (length items)) items ++ zeros (free - (n - min n (length items)))
     ≡ drop n (items ++ zeros free)
-first-left n free items within = (first_cases n free items within (cases_lt n (length items))).1
+first-left {n} free items within = (first_cases free items within (cases_lt n (length items))).1
 
 -- what was forwarded and what waits stay the same together
-pub taken-laid : (given bytes taken left : List ℕ) (n free less : ℕ) (ps : List FrameData)
+pub taken-laid : {given bytes taken left : List ℕ} (n : ℕ) {free less : ℕ} {ps : List FrameData}
     → taken ≡ take n bytes → left ≡ drop n bytes → less ≤ free → less ≤ length left →
     AreAreasLaid given (record { bytes = bytes; free = free }) ps
     → AreAreasLaid (given ++ taken) (record { bytes = left; free = less }) ps
-taken-laid given bytes taken left n free less ps takes leaves fewer some are =
-    grind (arith, append_assoc, take-append-drop)
+taken-laid n takes leaves fewer some are = grind (arith, append_assoc, take-append-drop)
 
 -- ---- frames that follow
 
@@ -201,11 +201,11 @@ laid_data_from-append end area_start (p ∷ ps) qs =
     )
 
 -- zeros are before the main data of the first of these frames
-zeros_first : (end area_start free : ℕ) (qs : List FrameData) → BeginsWithin free qs
+zeros_first : (end area_start : ℕ) {free : ℕ} (qs : List FrameData) → BeginsWithin free qs
     → (begin : ℕ) × (begin ≤ free) ×
     (rest : List ℕ) × (laid_data_from end area_start qs ≡ zeros (area_start - begin - end) ++ rest)
-zeros_first end area_start free [] within = grind (arith, append-nil (zeros (area_start - 0 - end)))
-zeros_first end area_start free (q ∷ qs) within = (
+zeros_first end area_start [] within = grind (arith, append-nil (zeros (area_start - 0 - end)))
+zeros_first end area_start (q ∷ qs) within = (
   q.begin,
   within,
   q.payload ++ laid_data_from (frame_data_end area_start q) (area_start + q.area) qs,
@@ -213,9 +213,9 @@ zeros_first end area_start free (q ∷ qs) within = (
 )
 
 -- a prefix of a list with zeros after it is a prefix of the list with fewer zeros
-front_of_zeros : (given bytes front rest : List ℕ) (n m : ℕ) → given ++ bytes ≡ front ++ zeros n
+front_of_zeros : (given bytes front rest : List ℕ) {n m : ℕ} → given ++ bytes ≡ front ++ zeros n
     → m ≤ n → n - m ≤ length bytes → (more : List ℕ) × (front ++ (zeros m ++ rest) ≡ given ++ more)
-front_of_zeros given bytes front rest n m same few many =
+front_of_zeros given bytes front rest {n} {m} same few many =
     let all : given ++ bytes ≡ (front ++ zeros m) ++ zeros (n - m) =
     same ∙ ap (λ (xs : List ℕ). front ++ xs)
     (ap zeros (omega (arith, few)) ∙ sym (replicate-append-replicate m (n - m) 0))
@@ -242,15 +242,15 @@ front_of_zeros given bytes front rest n m same few many =
     )
 
 -- what was forwarded stays, whatever is laid after it within what is free
-pub laid_data-later : (given : List ℕ) (waiting : WaitingAreas) (ps qs : List FrameData)
-    → AreAreasLaid given waiting ps → BeginsWithin waiting.free qs
+pub laid_data-later : {given : List ℕ} {waiting : WaitingAreas} {ps : List FrameData}
+    (qs : List FrameData) → AreAreasLaid given waiting ps → BeginsWithin waiting.free qs
     → (rest : List ℕ) × (laid_data (ps ++ qs) ≡ given ++ rest)
-laid_data-later given waiting ps qs are within =
+laid_data-later {given} {waiting} {ps} qs are within =
     let end = data_end 0 0 ps in
     let all = areas_end 0 ps in
-    let first = zeros_first end all waiting.free qs within in
+    let first = zeros_first end all qs within in
     let found =
-    front_of_zeros given waiting.bytes (up_to 0 0 ps) first.2 (all - end) (all - first.0 - end)
+    front_of_zeros given waiting.bytes (up_to 0 0 ps) first.2
     (are.same ∙ laid_up_to 0 0 ps) (omega arith) (omega (arith, first.1, are.free, are.room)) in (
       found.0,
       laid_data_from-append 0 0 ps qs ∙ ap (λ (xs : List ℕ). up_to 0 0 ps ++ xs) first.3 ∙ found.1,
@@ -261,20 +261,20 @@ laid_data-later given waiting ps qs are within =
 -- ---- the first bytes of what waits
 
 -- the first bytes of what waits are those that are stored, and zeros
-pub first-parts : (n free stored : ℕ) (items now : List ℕ) → items ++ zeros free ≡ now
-    → n ≤ length now → stored ≡ min n (length items)
+pub first-parts : {n : ℕ} (free : ℕ) {stored : ℕ} (items : List ℕ) {now : List ℕ}
+    → items ++ zeros free ≡ now → n ≤ length now → stored ≡ min n (length items)
     → take stored items ++ zeros (n - stored) ≡ take n now
-first-parts n free stored items now views within stores =
+first-parts free {stored} items views within stores =
     grind (arith, stored, length-append, length-zeros, take-replicate, take_two)
 
 -- the bytes before the free ones are those of the queue
-pub laid_count-queue : (count free stored : ℕ) (items : List ℕ) (w : WaitingAreas)
+pub laid_count-queue : (count : ℕ) {free stored : ℕ} (items : List ℕ) {w : WaitingAreas}
     → waits items free ≡ w → stored ≡ laid_count count w → stored ≡ min count (length items)
-laid_count-queue count free stored items w views is = grind (arith, length-append, length-zeros)
+laid_count-queue count items views is = grind (arith, length-append, length-zeros)
 
 -- what is left after the first bytes of what waits
-pub left-is : (n free stored : ℕ) (items left now : List ℕ) → stored ≡ min n (length items)
-    → left ≡ drop stored items → items ++ zeros free ≡ now → n ≤ length now
-    → left ++ zeros (free - (n - stored)) ≡ drop n now
-left-is n free stored items left now stores leaves views within =
+pub left-is : {n : ℕ} (free : ℕ) {stored : ℕ} (items : List ℕ) {left now : List ℕ}
+    → stored ≡ min n (length items) → left ≡ drop stored items → items ++ zeros free ≡ now
+    → n ≤ length now → left ++ zeros (free - (n - stored)) ≡ drop n now
+left-is free {stored} items stores leaves views within =
     grind (arith, stored, first-left, length-append, length-zeros)

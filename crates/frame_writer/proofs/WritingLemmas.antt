@@ -39,11 +39,11 @@ ok-both (Err e) f p q = tt
 -- ---- one frame forwarded
 
 -- a prefix of what waits and some bytes is a prefix of what waits and more of them
-pub prefix-piece : (name unsent piece before after : List ℕ) (f g : Files) → piece ++ after ≡ before
+pub prefix-piece : {name : List ℕ} (unsent piece : List ℕ) {before : List ℕ} (after : List ℕ)
+    {f g : Files} → piece ++ after ≡ before
     →
     AppendedPrefix name (unsent ++ piece) f g → AppendedPrefix name (unsent ++ before) f g
-prefix-piece name unsent piece before after f g is p =
-    grind (arith, append_assoc, length-append, take-append-le)
+prefix-piece unsent piece after is p = grind (arith, append_assoc, length-append, take-append-le)
 
 -- nothing was forwarded yet
 pub handed-none : (held : WaitingFrames) → ForwardsFrames held held
@@ -74,11 +74,11 @@ module _ (old : WaitingFrames) (c : ClassFields) (k : FrameFields) (ks left : Li
       )
 
   -- the first frame was taken, and a prefix of it was written
-  pub first-part : (name unsent : List ℕ) (f g : Files)
+  pub first-part : {name unsent : List ℕ} {f g : Files}
       → AppendedPrefix name (unsent ++ first_bytes k waiting.bytes) f g → ForwardsPart name
       (writing_of old unsent) (record { class = c; kept = left; waiting = less }) f g
   unfolding first-handed
-  first-part name unsent f g prefix = record { on = first-handed; prefix = prefix }
+  first-part prefix = record { on = first-handed; prefix = prefix }
 
 -- what was there before, and then what is taken
 pub behind-more : {base bytes : List ℕ} {old new : WaitingFrames} {fs : List Frame}
@@ -88,10 +88,10 @@ behind-more {base} {bytes} {old} {new} {fs} h are = grind (arith, append_assoc)
 
 -- what was forwarded, and what waits in the buffer, are the
 -- bytes before and the bytes of the frames that were taken
-passed-same : (name unsent : List ℕ) (mid : WaitingFrames) (new : Writing) (f g : Files)
+passed-same : {name : List ℕ} (unsent : List ℕ) {mid : WaitingFrames} (new : Writing) {f g : Files}
     (p : AppendsWaiting name (unsent ++ held_bytes mid) (waiting_bytes new) f g)
     (h : ForwardsFrames mid new.held) → unsent ++ h.moved ≡ p.passed ++ new.unsent
-passed-same name unsent mid new f g p h = grind (arith, append_cancel_right, append_assoc)
+passed-same unsent new p h = grind (arith, append_cancel_right, append_assoc)
 
 -- once the frame waits after the others, the bytes before the file are the same
 module _ (name : List ℕ) (f : Frame) (old : Writing) (mid : WaitingFrames) where
@@ -104,31 +104,31 @@ module _ (name : List ℕ) (f : Frame) (old : Writing) (mid : WaitingFrames) whe
   behind-frame {base} {bytes} {fs} waits are = grind arith
 
   -- the writer continues
-  pub writes-on : (new : Writing) (before after : Files) → Waits
+  pub writes-on : {new : Writing} {before after : Files} → Waits
       → ForwardsBytes name (writing_of mid old.unsent) new before after
       → ForwardsFrames mid new.held → AcceptsFrame name f old new before after
-  writes-on new before after waits p h =
+  writes-on {new} {before} {after} waits p h =
       grind (
         arith,
-        passed-same name old.unsent mid new before after p h,
+        passed-same old.unsent new p h,
         append_assoc,
         behind-more,
         behind-frame,
       )
 
   -- a write fails
-  pub writes-part : (held : WaitingFrames) (before after : Files) → Waits
+  pub writes-part : {held : WaitingFrames} {before after : Files} → Waits
       → ForwardsPart name (writing_of mid old.unsent) held before after
       → WritesPart name f old held before after
-  writes-part held before after waits part = grind (arith, append_assoc, behind-more, behind-frame)
+  writes-part waits part = grind (arith, append_assoc, behind-more, behind-frame)
 
 -- a part forwarded after frames that were
-pub part-then : (name : List ℕ) (old mid : Writing) (held : WaitingFrames) (f g h : Files)
+pub part-then : {name : List ℕ} {old mid : Writing} {held : WaitingFrames} {f g h : Files}
     → ForwardsBytes name old mid f g → ForwardsFrames old.held mid.held
     → ForwardsPart name mid held g h → ForwardsPart name old held f h
 unfolding handed-then
-part-then name old mid held f g h passed on part =
-    let same = passed-same name old.unsent old.held mid f g passed on in
+part-then {name} {old} {mid} {f = f} {g = g} {h = h} passed on part =
+    let same = passed-same old.unsent mid passed on in
     let moved = part.on.moved in
     let all : AppendsWaiting name (old.unsent ++ on.moved) mid.unsent f g =
     record { passed = passed.passed; split = same; files = passed.files } in
@@ -145,17 +145,17 @@ pub none-left : (held : WaitingFrames) (unsent : List ℕ) → length held.kept 
 none-left held unsent none = grind (arith, nil_from_length, append-nil)
 
 -- some bytes were forwarded, and then others
-pub passed-two : {name mid after : List ℕ} {f g h : Files} (before a b c : List ℕ) → a ++ b ≡ c
-    → AppendsWaiting name (before ++ a) mid f g → AppendsWaiting name (mid ++ b) after g h
-    → AppendsWaiting name (before ++ c) after f h
-passed-two {name} {mid} {after} {f} {g} {h} before a b c is p q =
+pub passed-two : {name mid after : List ℕ} {f g h : Files} (before a b : List ℕ) {c : List ℕ}
+    → a ++ b ≡ c → AppendsWaiting name (before ++ a) mid f g
+    → AppendsWaiting name (mid ++ b) after g h → AppendsWaiting name (before ++ c) after f h
+passed-two {name} {mid} {after} {f} {g} {h} before a b is p q =
     grind (arith, append_assoc, passed_more)
 
 -- a piece that was forwarded, and then a prefix of the next, are a prefix of both
-pub prefix-two : {name mid : List ℕ} {f g h : Files} (before a b c : List ℕ) → a ++ b ≡ c
+pub prefix-two : {name mid : List ℕ} {f g h : Files} (before a b : List ℕ) {c : List ℕ} → a ++ b ≡ c
     → AppendsWaiting name (before ++ a) mid f g → AppendedPrefix name (mid ++ b) g h
     → AppendedPrefix name (before ++ c) f h
-prefix-two {name} {mid} {f} {g} {h} before a b c is p q =
+prefix-two {name} {mid} {f} {g} {h} before a b is p q =
     grind (arith, append_assoc before a b, passed_more_prefix b p q)
 
 -- ---- what waits in the buffer is written too
@@ -171,7 +171,7 @@ module _ {name bytes : List ℕ} {f g h : Files} (new : Writing)
   pub unsent-prefix : AppendedPrefix name new.unsent g h → AppendedPrefix name bytes f h
   unsent-prefix part =
       passed_then_prefix p
-      (prefix-piece name [] new.unsent (waiting_bytes new) (held_bytes new.held) g h refl part)
+      (prefix-piece [] new.unsent (held_bytes new.held) refl part)
 
 module _ {name : List ℕ} {fr : Frame} {old : Writing} {f g h : Files} (new : Writing)
     (on : AcceptsFrame name fr old new f g) where
@@ -193,7 +193,8 @@ module _ {name : List ℕ} {fr : Frame} {old : Writing} {f g h : Files} (new : W
   }
 
 -- in an open writer nothing waits in the buffer, and the first frame can't go yet
-pub is-open : (state : State) (held : WaitingFrames) (unsent : List ℕ)
+pub is-open : {state : State} {held : WaitingFrames} {unsent : List ℕ}
     → IsWriterSettled state held unsent → state ≡ State.Open →
     (unsent ≡ []) × (IsNextSettled held → ⊥)
-is-open state held unsent is opened = subst (λ s. IsWriterSettled s held unsent) opened is
+is-open {held = held} {unsent = unsent} is opened =
+    subst (λ s. IsWriterSettled s held unsent) opened is

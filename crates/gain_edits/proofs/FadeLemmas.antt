@@ -36,10 +36,10 @@ use Rattle.sync_survey.specs.declared.survey_fault.SurveyFault.TheVariants.{Abse
 -- ---- the change
 
 -- a gain that would leave its range refuses the fade
-pub along_refused : (steps : ℕ → Steps) (s : SurveyFields) (refusal : Refusal) (fault : EditFault)
+pub along_refused : (steps : ℕ → Steps) (s : SurveyFields) {refusal : Refusal} {fault : EditFault}
     → range_fault steps s.frames ≡ Some refusal → fault ≡ Refused refusal
     → IsEditRefusal choice_refuses fault × (steps_change steps s ≡ Err fault)
-along_refused steps s refusal fault first is =
+along_refused steps s {refusal} first is =
     let may : choice_refuses refusal ≡ true =
     subst (λ o. IfSome o (λ r. choice_refuses r ≡ true)) first
     (range_may choice_refuses (λ offset granule channel gain. refl) steps s.frames) in (
@@ -49,21 +49,21 @@ along_refused steps s refusal fault first is =
     )
 
 -- a fault of the curve is a fault of the fade
-pub curve_fault : (sheet : List ℕ) (back : Bool) (s : SurveyFields) (fault : EditFault)
+pub curve_fault : (sheet : List ℕ) (back : Bool) (s : SurveyFields) {fault : EditFault}
     → (fault ≡ Memory) ⊎ (IsEditRefusal choice_refuses fault × (sheet_curve s sheet ≡ Err fault))
     → (fault ≡ Memory)
     ⊎ (IsEditRefusal choice_refuses fault × (sheet_change sheet back s ≡ Err fault))
 unfolding sheet_change
-curve_fault sheet back s fault h = grind arith
+curve_fault sheet back s h = grind arith
 
 -- with a curve, the fade is the change along it
-pub sheet_change-curve : (sheet : List ℕ) (back : Bool) (s : SurveyFields) (curve : List CurvePoint)
+pub sheet_change-curve : (sheet : List ℕ) (back : Bool) (s : SurveyFields) {curve : List CurvePoint}
     → sheet_curve s sheet ≡ Ok curve → sheet_change sheet back s ≡ curve_change back s curve
 unfolding sheet_change
-sheet_change-curve sheet back s curve is = ap (λ r. then_made r (curve_change back s)) is
+sheet_change-curve sheet back s is = ap (λ r. then_made r (curve_change back s)) is
 
 -- with a curve, the result of the fade is the result of the change along it
-pub along_answer : (sheet : List ℕ) (back : Bool) (s : SurveyFields) (curve : List CurvePoint)
+pub along_answer : (sheet : List ℕ) (back : Bool) (s : SurveyFields) {curve : List CurvePoint}
     → sheet_curve s sheet ≡ Ok curve → (r : Result Change EditFault)
     → MatchResult r (λ change. steps_change (steps_at_offset (Along curve back) s.frames) s
     ≡ Ok (change_in change s)) (λ fault. IsEditRefusal choice_refuses fault
@@ -71,7 +71,7 @@ pub along_answer : (sheet : List ℕ) (back : Bool) (s : SurveyFields) (curve : 
     → MatchResult r (λ change. sheet_change sheet back s ≡ Ok (change_in change s)) (λ fault.
     (fault ≡ Memory)
     ⊎ (IsEditRefusal choice_refuses fault × (sheet_change sheet back s ≡ Err fault)))
-along_answer sheet back s curve is r made = grind (arith, sheet_change-curve)
+along_answer sheet back s is r made = grind (arith, sheet_change-curve)
 
 -- ---- no fault comes before the sheet is read
 
@@ -147,10 +147,10 @@ module _ (sheet : List ℕ) (back : Bool) (input : List ℕ) where
 
   -- the input was surveyed
   module _ (s : SurveyFields) where
-    makes_by : (f : Contents) (bytes : List ℕ) → f input ≡ Some bytes
+    makes_by : (f : Contents) {bytes : List ℕ} → f input ≡ Some bytes
         → survey_of bytes most_frames ≡ Ok s → (fade_task sheet back input).makes f
         ≡ changed_or_fault bytes s (input_sheet_change (f sheet) back s)
-    makes_by f bytes held is = grind (arith, made-survey)
+    makes_by f held is = grind (arith, made-survey)
 
     refuses_by : (files : Files) (fault : EditFault) → IsFileThere files input
         → ((bytes : List ℕ) → Holds files input bytes → survey_of bytes most_frames ≡ Ok s)
@@ -158,31 +158,31 @@ module _ (sheet : List ℕ) (back : Bool) (input : List ℕ) where
         → TaskRefuses (fade_task sheet back input) files fault
     refuses_by (Untold touched) fault there is refused = tt
     refuses_by (Told f) fault there is refused =
-        let held = there_holds f input there in
-        makes_by f held.0 held.1 (is held.0 held.1) ∙ ap (changed_or_fault held.0 s) refused
+        let held = there_holds f there in
+        makes_by f held.1 (is held.0 held.1) ∙ ap (changed_or_fault held.0 s) refused
 
     -- no fault of the definition comes before the sheet that could not be read
-    sheet_before : (files : Files) (fault : EditFault) → IsFileThere files input
+    sheet_before : (files : Files) {fault : EditFault} → IsFileThere files input
         → ((bytes : List ℕ) → Holds files input bytes → survey_of bytes most_frames ≡ Ok s)
         → fault ≡ Input 1 Read
         → IfTold files (λ f. IfErr ((fade_task sheet back input).makes f) (IsNotBefore fault))
-    sheet_before (Untold touched) fault there is unread = tt
-    sheet_before (Told f) fault there is unread =
-        let held = there_holds f input there in
+    sheet_before (Untold touched) there is unread = tt
+    sheet_before (Told f) there is unread =
+        let held = there_holds f there in
         subst (λ e. IfErr ((fade_task sheet back input).makes f) (IsNotBefore e)) (sym unread)
         (subst (λ r. IfErr r (IsNotBefore (Input 1 Read)))
-        (sym (makes_by f held.0 held.1 (is held.0 held.1))) (changed_all (IsNotBefore
+        (sym (makes_by f held.1 (is held.0 held.1))) (changed_all (IsNotBefore
         (Input 1 Read)) held.0 s (input_sheet_change (f sheet) back s)
         (input_sheet_change-before (f sheet) back s)))
 
-    with_sheet : (files : Files) (r : Result FileChange EditFault) → IsFileThere files sheet
+    with_sheet : (files : Files) {r : Result FileChange EditFault} → IsFileThere files sheet
         → ((bytes : List ℕ) → Holds files sheet bytes → input_sheet_change (Some bytes) back s ≡ r)
         → IfTold files (λ f. input_sheet_change (f sheet) back s ≡ r)
-    with_sheet files r there are = grind arith
+    with_sheet files there are = grind arith
 
-    without_sheet : (files : Files) (fault : EditFault) → IfTold files (λ f. f sheet ≡ None) → fault
+    without_sheet : (files : Files) {fault : EditFault} → IfTold files (λ f. f sheet ≡ None) → fault
         ≡ Input 1 Absent → IfTold files (λ f. input_sheet_change (f sheet) back s ≡ Err fault)
-    without_sheet files fault missing is = grind arith
+    without_sheet files missing is = grind arith
 
     module _ (old new : Seen) (there : IsFileThere old.files input) (surveyed : (bytes : List ℕ)
         → Holds old.files input bytes → survey_of bytes most_frames ≡ Ok s) where
@@ -192,17 +192,17 @@ module _ (sheet : List ℕ) (back : Bool) (input : List ℕ) where
       change_early fault h = each_why (why_of fault) h (record {
         rejected = λ r. record {
           defined = refuses_by old.files fault there surveyed
-              (with_sheet old.files (Err fault) r.there r.bytes);
+              (with_sheet old.files r.there r.bytes);
           stays = r.stays;
         };
         missing = λ m. record {
           defined = refuses_by old.files fault there surveyed
-              (without_sheet old.files fault m.missing m.is);
+              (without_sheet old.files m.missing m.is);
           rose = missed_name (fade_task sheet back input).inputs 1 refl m;
           files = m.files;
         };
         unread = λ u. record {
-          before = sheet_before old.files fault there surveyed u.is;
+          before = sheet_before old.files there surveyed u.is;
           rose = unread_name (fade_task sheet back input).inputs 1 refl u;
           files = u.files;
         };
@@ -214,28 +214,28 @@ module _ (sheet : List ℕ) (back : Bool) (input : List ℕ) where
         unsent = λ w. absurd w;
         no_memory = λ same. record {
           there = there;
-          few = λ bytes holds. (survey_of-parts bytes most_frames s (surveyed bytes holds)).0;
+          few = λ bytes holds. (survey_of-parts bytes most_frames (surveyed bytes holds)).0;
           stays = same;
         };
       })
 
       -- a fault of the change after the survey, which changed nothing, is such a fault
-      pub change_early_behind : (fault : EditFault) (mid : Seen) → mid ≡ old
+      pub change_early_behind : (fault : EditFault) {mid : Seen} → mid ≡ old
           → IsChangeFault sheet back s mid new fault
           → IsEarlyFault (fade_task sheet back input) old new fault
-      change_early_behind fault mid stays h =
+      change_early_behind fault stays h =
           change_early fault (subst (λ (m : Seen). IsChangeFault sheet back s m new fault) stays h)
 
     -- a fade that isn't refused makes the faded file
-    pub fade_makes : (files : Files) (change : FileChange) → IsFileThere files input
+    pub fade_makes : {files : Files} {change : FileChange} → IsFileThere files input
         → ((bytes : List ℕ) → Holds files input bytes → survey_of bytes most_frames ≡ Ok s)
         → ((bytes : List ℕ) → Holds files input bytes → AreBytes bytes) → IsFileThere files sheet
         → ((bytes : List ℕ) → Holds files sheet bytes
         → input_sheet_change (Some bytes) back s ≡ Ok change)
         → IsMaking (fade_task sheet back input) (λ file. file_with_change change file s) files
-    fade_makes files change there is octets sheet_there are = record {
+    fade_makes {files} {change} there is octets sheet_there are = record {
       there = there;
-      makes = at files is octets (with_sheet files (Ok change) sheet_there are);
+      makes = at files is octets (with_sheet files sheet_there are);
     }
       where
         at : (files : Files)
@@ -247,5 +247,5 @@ module _ (sheet : List ℕ) (back : Bool) (input : List ℕ) where
         at (Untold touched) is octets made = tt
         at (Told f) is octets made = λ bytes holds. (
           octets bytes holds,
-          makes_by f bytes holds (is bytes holds) ∙ ap (changed_or_fault bytes s) made,
+          makes_by f holds (is bytes holds) ∙ ap (changed_or_fault bytes s) made,
         )

@@ -13,9 +13,9 @@ use Rattle.fade_plan.specs.{Curves.CurvePoint, Sheets.EnvelopePoint}
 use Rattle.fade_plan.specs.declared.envelope_fault.EnvelopeFault.{EnvelopeFault}
 use Rattle.gain_edits.proofs.ProperLemmas.{changed-stream, changed_all, holds_moved, made_cases}
 use Rattle.gain_edits.{proofs.ProperLemmas.stream_of-survey, specs.Change.change_making}
-use Rattle.gain_edits.specs.Fade.{curve_change, curve_result, fade_change, fade_refuses, fade_task}
-use Rattle.gain_edits.specs.Fade.{faded_stream, input_sheet_change, moved_frames, points_result}
-use Rattle.gain_edits.specs.{Fade.{sheet_change, sheet_curve}, GainRange.range_fault}
+use Rattle.gain_edits.specs.Fade.{curve_result, fade_change, fade_refuses, fade_task, faded_stream}
+use Rattle.gain_edits.specs.Fade.{input_sheet_change, moved_frames, points_result, sheet_change}
+use Rattle.gain_edits.specs.{Fade.sheet_curve, GainRange.range_fault}
 use Rattle.moved_gains.{proofs.CourseLemmas.survey_numbered, specs.Change.FileChange}
 use Rattle.moved_gains.specs.Course.{AreRowsNumbered, course_steps, steps_at_offset}
 use Rattle.moved_gains.specs.{Streams.{moved_stream_frame, moved_stream_of}, TagPlace.IsTagBytes}
@@ -57,14 +57,14 @@ pub record IsFaded (sheet : Option (List ℕ)) (back : Bool) (s : SurveyFields)
   pub made : record { steps = steps_at_offset (Along curve back) s.frames; tag = None } ≡ change
 
 -- a fade that isn't refused has these parts
-pub faded-parts : (sheet : Option (List ℕ)) (back : Bool) (s : SurveyFields) (change : FileChange)
+pub faded-parts : {sheet : Option (List ℕ)} {back : Bool} {s : SurveyFields} {change : FileChange}
     → input_sheet_change sheet back s ≡ Ok change → IsFaded sheet back s change
 unfolding sheet_change
-faded-parts sheet back s change e =
-    let one = then_ok (sheet_in sheet) (λ bytes. sheet_change bytes back s) change e in
-    let two = then_ok (sheet_curve s one.0) (curve_change back s) change one.2 in
+faded-parts {sheet} {back} {s} {change} e =
+    let one = then_ok e in
+    let two = then_ok one.2 in
     let three =
-    refusal_or-ok (range_fault (steps_at_offset (Along two.0 back) s.frames) s.frames) _ change
+    refusal_or-ok
     two.2 in
     record {
       curve = two.0;
@@ -98,32 +98,37 @@ by_curve course file s numbered =
     (main_bytes file s.head s.frames) s.head s.frames 0
     s.frames (λ i row is. ap (course_steps course) (numbered i row is ∙ sym (zero-add i)))
 
-same_survey : (s t : SurveyFields) (r : Result SurveyFields SurveyFault) → r ≡ Ok s → r ≡ Ok t
+same_survey : {s t : SurveyFields} {r : Result SurveyFields SurveyFault} → r ≡ Ok s → r ≡ Ok t
     → s ≡ t
-same_survey s t r e f = cc
+same_survey e f = cc
 
 module _ (sheet : Option (List ℕ)) (back : Bool) where
-  fade_stream : (file : List ℕ) (s : SurveyFields) (new : List ℕ) → AreBytes file
+  fade_stream : (file : List ℕ) {s : SurveyFields} {new : List ℕ} → AreBytes file
       → survey_of file most_frames ≡ Ok s → change_making (fade_change sheet back) file s ≡ Ok new
       → HoldsStream new (faded_stream sheet back file)
-  fade_stream file s new all is e =
+  fade_stream file {s} {new} all is e =
       let c =
-      made_cases (fade_change sheet back) file new s (input_sheet_change sheet back s) refl e in
-      let parts = faded-parts sheet back s c.change c.made in
+      made_cases (fade_change sheet back)
+      {file = file} {new = new} {s = s} {r = input_sheet_change sheet back s} refl e in
+      let parts = faded-parts {sheet = sheet} {back = back} {s = s} {change = c.change} c.made in
       let course = Along parts.curve back in
       let none : IfSome c.change.tag IsTagBytes = grind arith in
-      let moved = changed-stream (fade_change sheet back) file new s c all is none in
-      let full = survey_fields-allowed file most_frames (length file + 1) s (omega arith)
-      (survey_of-parts file most_frames s is).1 in
+      let moved = changed-stream {of = fade_change sheet back} {file = file} {new = new} {s = s} c
+      all is none in
+      let full =
+      survey_fields-allowed file most_frames {other = length file + 1} {s = s} (omega arith)
+      (survey_of-parts file most_frames {s = s} is).1 in
       let same : moved.before.0 ≡ s = grind (arith, same_survey) in
       let steps : c.change.steps ≡ steps_at_offset course s.frames = grind arith in
-      let numbers = survey_numbered file most_frames s (survey_of-parts file most_frames s is).1 in
+      let numbers =
+      survey_numbered file most_frames {s = s} (survey_of-parts file most_frames {s = s} is).1 in
       let stream : moved_stream_of c.change.steps file moved.before.0
       ≡ moved_frames (course_steps course) (stream_of file) =
       grind (arith, by_curve, stream_of-survey) in
       let along : faded_stream sheet back file
       ≡ moved_frames (course_steps course) (stream_of file) = grind (arith, is) in
-      subst (HoldsStream new) (stream ∙ sym along) (holds_moved c.change.steps file new moved)
+      subst (HoldsStream new) (stream ∙ sym along)
+      (holds_moved {steps = c.change.steps} {file = file} {new = new} moved)
 
   -- what a fade makes is proper
   pub fade_making : IsProperMaking (change_making (fade_change sheet back))

@@ -6,8 +6,8 @@ use Rattle.moved_gains.specs.{Edited.row_out_of_range, declared.gains.OutOfRange
 use Rattle.requests.specs.declared.shift.Steps.{Steps}
 use Rattle.sync_survey.specs.Row.{Row}
 
-stuck_none : (at : ℕ) (s : Option OutOfRange) → out_of_range_refusal at s ≡ None → s ≡ None
-stuck_none at s e = grind arith
+stuck_none : (at : ℕ) {s : Option OutOfRange} → out_of_range_refusal at s ≡ None → s ≡ None
+stuck_none at e = grind arith
 
 -- if no gain of all frames leaves its range, none of the first does, and none of the others
 pub frame-none : (steps : ℕ → Steps) (row : Row) (rows : List Row)

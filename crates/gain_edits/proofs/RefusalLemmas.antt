@@ -9,7 +9,7 @@ use Rattle.commands.specs.AfterCall.{HasInputNumbers, IsEditRefusal, IsLateFault
 use Rattle.commands.specs.Refusing.{first_refusal, or_else, refusal_or, then_made}
 use Rattle.commands.specs.SingleOutput.{IsInputFault, most_frames}
 use Rattle.commands.specs.declared.fault.EditFault.{EditFault, TheVariants.Memory}
-use Rattle.commands.specs.declared.fault.Refusal.{Refusal, TheVariants.{GainRange, UndoRange}}
+use Rattle.commands.specs.declared.fault.Refusal.{Refusal, TheVariants.GainRange}
 use Rattle.gain_edits.specs.Change.{change_making, changed_or_fault, IsChangeDecided}
 use Rattle.gain_edits.specs.Changes.{are_noted, changing_of, decided_change, IsDecision}
 use Rattle.gain_edits.specs.Changes.{refuses_of_changes}
@@ -40,29 +40,28 @@ use Rattle.tag_blocks.specs.declared.undo.UndoItem.TheVariants.{Bad}
 
 -- ---- the place of an undo item in its tag
 
-undo_cases : (b : Bool) (start next place : ℕ) (o : Option Undo) (later : UndoItem)
+undo_cases : (b : Bool) {start next place : ℕ} (o : Option Undo) {later : UndoItem}
     → cond b (undo_at start o) later ≡ Bad place → start ≤ next → (later ≡ Bad place → place ≤ next)
     → place ≤ next
-undo_cases b start next place o later e low rest = grind arith
+undo_cases b o e low rest = grind arith
 
 -- an item whose value is malformed begins within the items
-pub bad_place : (start : ℕ) (items : List TagItem) (place : ℕ) → undo_from start items ≡ Bad place
+pub bad_place : (start : ℕ) (items : List TagItem) {place : ℕ} → undo_from start items ≡ Bad place
     → place ≤ start + items_length items
-bad_place start [] place e = absurd cc
-bad_place start (item ∷ items) place e =
-    undo_cases (is_undo item) start (start + items_length (item ∷ items)) place (undo_of item.value)
-    (undo_from (start + item_length item) items) e (omega arith)
+bad_place start [] e = absurd cc
+bad_place start (item ∷ items) {place} e =
+    undo_cases (is_undo item) (undo_of item.value) e (omega arith)
     (λ found. omega (
       arith,
-      bad_place (start + item_length item) items place found,
+      bad_place (start + item_length item) items found,
       sum_by-cons item_length item items,
     ))
 
 -- ---- no refusal
 
 -- if there is no such refusal, its condition is false
-pub not_there : (b : Bool) (fault : Refusal) → cond b (Some fault) None ≡ None → b ≡ false
-not_there b fault e = grind arith
+pub not_there : {b : Bool} (fault : Refusal) → cond b (Some fault) None ≡ None → b ≡ false
+not_there fault e = grind arith
 
 -- ---- which refusals there are
 
@@ -78,9 +77,9 @@ refusal_or-may : {A : Type 0} (may : Refusal → Bool) (o : Option Refusal) (a :
     → IfErr (refusal_or o a) (IsEditRefusal may)
 refusal_or-may may o a is = grind arith
 
-where_may : (may : Refusal → Bool) (b : Bool) (refusal : Refusal) → may refusal ≡ true
+where_may : (may : Refusal → Bool) (b : Bool) {refusal : Refusal} → may refusal ≡ true
     → May may (cond b (Some refusal) None)
-where_may may b refusal is = grind arith
+where_may may b is = grind arith
 
 first_may : {A : Type 0} (may : Refusal → Bool) (refuse : A → Option Refusal)
     → ((a : A) → May may (refuse a)) → (list : List A) → May may (first_refusal refuse list)
@@ -125,11 +124,11 @@ noted_may shift s tag undo =
     (or_may may (channel_fault shift s) _ (channel_may true shift s)
     (or_may may (undo_fault next) _
     (or_may may (number_fault next.left) (number_fault next.right)
-    (where_may may (nat_lt 999 (unsigned_abs next.left)) (UndoRange next.left) refl)
-    (where_may may (nat_lt 999 (unsigned_abs next.right)) (UndoRange next.right) refl))
-    (or_may may (size_fault bytes) _ (where_may may _ _ refl)
+    (where_may may (nat_lt 999 (unsigned_abs next.left)) refl)
+    (where_may may (nat_lt 999 (unsigned_abs next.right)) refl))
+    (or_may may (size_fault bytes) _ (where_may may _ refl)
     (or_may may (output_fault s bytes) (range_fault (constant_steps (steps_of shift)) s.frames)
-    (where_may may _ _ refl)
+    (where_may may _ refl)
     (range_may may (λ o g c n. refl) (constant_steps (steps_of shift)) s.frames)))))
 
 undone_may : (s : SurveyFields) (tag : TagFields) (undo : Undo)
@@ -172,11 +171,11 @@ plain-is changes bytes s plain = grind arith
 
 -- with a note the change is decided with the tag that is read
 pub noted-is : (changes : Changes) (bytes : List ℕ) (s : SurveyFields)
-    (r : Result TagFields FileTagFault) → are_noted changes ≡ true → file_tag bytes s ≡ r
+    {r : Result TagFields FileTagFault} → are_noted changes ≡ true → file_tag bytes s ≡ r
     → changing_of changes bytes s
     ≡ then_made (tag_result r) (λ tag. decided_change changes s (Some tag))
 unfolding gain_change undo_change
-noted-is changes bytes s r noted is = grind arith
+noted-is changes bytes s noted is = grind arith
 
 -- a change that is decided is refused only with its refusals
 pub decided-may : (changes : Changes) (s : SurveyFields) (o : Option TagFields) → are_noted changes
@@ -200,16 +199,15 @@ module _ (changes : Changes) (name : List ℕ) (old new : Seen) (s : SurveyField
     where
       refuses : (fault : FileTagFault) (bytes : List ℕ) → file_tag bytes s ≡ Err fault
           → change_making (changing_of changes) bytes s ≡ Err (tag_edit_fault fault)
-      refuses fault bytes is =
-          ap (changed_or_fault bytes s) (noted-is changes bytes s (Err fault) noted is)
+      refuses fault bytes is = ap (changed_or_fault bytes s) (noted-is changes bytes s noted is)
 
       refused : (fault : FileTagFault) → IsEditRefusal (λ _. true) (tag_edit_fault fault)
           → ((bytes : List ℕ) → Holds old.files name bytes → file_tag bytes s ≡ Err fault)
           → new.counts ≡ old.counts
           → IsInputFault (change_making (changing_of changes)) name old new (tag_edit_fault fault)
       refused fault kind h stays =
-          refused_is_input (change_making (changing_of changes)) name old new s (λ _. true)
-          (tag_edit_fault fault) kind there is (λ bytes holds. refuses fault bytes (h bytes holds))
+          refused_is_input (change_making (changing_of changes)) name old new s
+          (λ _. true) kind there is (λ bytes holds. refuses fault bytes (h bytes holds))
           (ap₂ seen_folder same stays)
 
       at : (fault : FileTagFault) → IsTagCause name old.files s old.counts new.counts fault
@@ -232,13 +230,13 @@ module _ (changes : Changes) (name : List ℕ) (old new : Seen) (s : SurveyField
           (ap₂ seen_folder same h)
 
   -- once the tag was read, the code returns what the definition says, or memory ran out
-  pub answered : (made : Result FileChange EditFault)
+  pub answered : {made : Result FileChange EditFault}
       → IfErr made (IsEditRefusal (refuses_of_changes changes))
       → ((bytes : List ℕ) → Holds old.files name bytes → changing_of changes bytes s ≡ made)
       → new ≡ old → OnlyReads old.counts new.counts → (r : Result Change EditFault)
       → IsChangeDecided s made r → IsDecision changes name old new s r
-  answered made may whole stays reads (Ok change) is-made = grind arith
-  answered made may whole stays reads (Err fault) answer = record {
+  answered may whole stays reads (Ok change) is-made = grind arith
+  answered {made} may whole stays reads (Err fault) answer = record {
     change = tt;
     refused = cause fault answer;
     numbers = kind fault answer;
@@ -255,7 +253,7 @@ module _ (changes : Changes) (name : List ℕ) (old new : Seen) (s : SurveyField
       cause fault (inr refused) =
           refused_is_input (change_making (changing_of changes)) name old new s
           (refuses_of_changes changes)
-          fault (of_err (IsEditRefusal (refuses_of_changes changes)) made fault may refused) there
+          (of_err (IsEditRefusal (refuses_of_changes changes)) may refused) there
           is
           (λ bytes holds. ap (changed_or_fault bytes s) (whole bytes holds ∙ refused)) stays
 

@@ -16,9 +16,9 @@ use Rattle.gain_laws.specs.CurveLaws.{CurvesGoEvenly, IsCurveRising}
 
 -- ---- points that rise
 
-all_later : (x y : CurvePoint) (xs : List CurvePoint) → x.frame < y.frame → IsCurveRising (y ∷ xs)
-    → All (λ z. x.frame < z.frame) (y ∷ xs)
-all_later x y xs less rising k d within =
+all_later : (x : CurvePoint) {y : CurvePoint} (xs : List CurvePoint) → x.frame < y.frame
+    → IsCurveRising (y ∷ xs) → All (λ z. x.frame < z.frame) (y ∷ xs)
+all_later x {y} xs less rising k d within =
     elim (cases_lt 0 k) [
       | inl later ↦ let above : y.frame < (get_or (y ∷ xs) k d).frame = rising 0 k d later within in
           omega (arith, less, above)
@@ -37,24 +37,23 @@ rises : (class : ClassFields) (frames : ℕ) (points : List EnvelopePoint)
 rises class frames [] none = λ i j d less within. absurd (omega (arith, within))
 rises class frames (p ∷ []) none = λ i j d less within. absurd (omega (arith, less, within))
 rises class frames (p ∷ q ∷ more) none =
-    let parts = none_of (nat_lt (point_frame class frames p) (point_frame class frames q))
-    (line_not_rising class frames (q ∷ more)) q.line (sym (next_of class frames p q more) ∙ none) in
+    let parts = none_of q.line (sym (next_of class frames p q more) ∙ none) in
     let later = rises class frames (q ∷ more) parts.1 in
     AllPairs-cons (λ x y. x.frame < y.frame) (curve_point class frames p)
     (map (curve_point class frames) (q ∷ more))
-    (all_later (curve_point class frames p) (curve_point class frames q)
+    (all_later (curve_point class frames p)
     (map (curve_point class frames) more) (ltb-true _ _ parts.0) later) later
 
 curve_rises : (class : ClassFields) (frames : ℕ) (points : List EnvelopePoint)
-    (curve : List CurvePoint) → curve_of class frames points ≡ Ok curve → IsCurveRising curve
+    {curve : List CurvePoint} → curve_of class frames points ≡ Ok curve → IsCurveRising curve
 unfolding curve_of
-curve_rises class frames points curve e = grind (arith, made_of, rises)
+curve_rises class frames points e = grind (arith, made_of, rises)
 
 -- ---- the points up to a frame, and those after it
 
-front_all : (frame : ℕ) (xs ys : List CurvePoint) (d : CurvePoint) → IsCurveRising (xs ++ ys)
+front_all : {frame : ℕ} (xs ys : List CurvePoint) (d : CurvePoint) → IsCurveRising (xs ++ ys)
     → 0 < length xs → (get_or xs (length xs - 1) d).frame ≤ frame → All (λ p. p.frame ≤ frame) xs
-front_all frame xs ys d rising some low k e less =
+front_all xs ys d rising some low k e less =
     let last : length xs - 1 < length xs = omega (arith, some) in
     let end : (get_or xs (length xs - 1) e).frame ≡ (get_or xs (length xs - 1) d).frame =
     ap (λ p. p.frame) (get_or_default xs (length xs - 1) e d last) in
@@ -80,10 +79,10 @@ back_rises xs ys rising i j d less within =
     let high : (get_or (xs ++ ys) (length xs + j) d).frame ≡ (get_or ys j d).frame = grind arith in
     omega (arith, below, low, high)
 
-back_all : (frame : ℕ) (xs ys : List CurvePoint) (y : CurvePoint) → IsCurveRising (xs ++ (y ∷ ys))
+back_all : {frame : ℕ} (xs ys : List CurvePoint) (y : CurvePoint) → IsCurveRising (xs ++ (y ∷ ys))
     → frame < y.frame → All (λ p. frame < p.frame) (y ∷ ys)
-back_all frame xs ys y rising high =
-    all_later (record { frame = frame; steps = y.steps }) y ys high (back_rises xs (y ∷ ys) rising)
+back_all {frame} xs ys y rising high =
+    all_later (record { frame = frame; steps = y.steps }) ys high (back_rises xs (y ∷ ys) rising)
 
 -- ---- steps
 
@@ -93,11 +92,11 @@ up_to frame point = nat_le point.frame frame
 abbrev behind : ℕ → CurvePoint → Bool
 behind frame point = nat_lt frame point.frame
 
-parted : (frame : ℕ) (xs ys : List CurvePoint) → All (λ p. p.frame ≤ frame) xs
+parted : {frame : ℕ} (xs ys : List CurvePoint) → All (λ p. p.frame ≤ frame) xs
     → All (λ p. frame < p.frame) ys → steps_at (xs ++ ys) frame
     ≡ neighbour_steps (find (up_to frame) (reverse xs)) (find (behind frame) ys) frame
 unfolding steps_at
-parted frame xs ys low high =
+parted xs ys low high =
     search (arith, find, reverse-append, find-append, none_passes_back, lt-leb, none_passes, le-ltb)
 
 last_is : (front : List CurvePoint) (p d : CurvePoint)
@@ -107,51 +106,51 @@ last_is front p d = grind (arith, length-append, get_or-append_right)
 some_last : (front : List CurvePoint) (p : CurvePoint) → 0 < length (front ++ (p ∷ []))
 some_last front p = omega (arith, length-append front (p ∷ []))
 
-front_low : (frame : ℕ) (front ys : List CurvePoint) (p : CurvePoint)
+front_low : {frame : ℕ} (front ys : List CurvePoint) (p : CurvePoint)
     → IsCurveRising ((front ++ (p ∷ [])) ++ ys) → p.frame ≤ frame
     → All (λ x. x.frame ≤ frame) (front ++ (p ∷ []))
-front_low frame front ys p rising low =
-    front_all frame (front ++ (p ∷ [])) ys p rising (some_last front p)
+front_low {frame} front ys p rising low =
+    front_all (front ++ (p ∷ [])) ys p rising (some_last front p)
     (subst (λ x. x.frame ≤ frame) (sym (last_is front p p)) low)
 
-find_last : (frame : ℕ) (front : List CurvePoint) (p : CurvePoint)
+find_last : {frame : ℕ} (front : List CurvePoint) {p : CurvePoint}
     → All (λ x. x.frame ≤ frame) (front ++ (p ∷ []))
     → find (up_to frame) (reverse (front ++ (p ∷ []))) ≡ Some p
-find_last frame front p all = grind (arith, last_passes, some_last, le-leb, last_is)
+find_last front all = grind (arith, last_passes, some_last, le-leb, last_is)
 
-find_first : (frame : ℕ) (q : CurvePoint) (back : List CurvePoint) → frame < q.frame
+find_first : {frame : ℕ} {q : CurvePoint} (back : List CurvePoint) → frame < q.frame
     → find (behind frame) (q ∷ back) ≡ Some q
-find_first frame q back high = grind (arith, find, lt-ltb)
+find_first back high = grind (arith, find, lt-ltb)
 
-goes_before : (p : CurvePoint) (more : List CurvePoint) (frame : ℕ) → IsCurveRising (p ∷ more)
+goes_before : {p : CurvePoint} (more : List CurvePoint) {frame : ℕ} → IsCurveRising (p ∷ more)
     → frame < p.frame → steps_at (p ∷ more) frame ≡ p.steps
-goes_before p more frame rising high =
-    parted frame [] (p ∷ more) (λ k d less. absurd (omega (arith, less)))
-    (back_all frame [] more p rising high)
-    ∙ ap (λ q. neighbour_steps None q frame) (find_first frame p more high)
+goes_before {p} more {frame} rising high =
+    parted [] (p ∷ more) (λ k d less. absurd (omega (arith, less)))
+    (back_all [] more p rising high)
+    ∙ ap (λ q. neighbour_steps None q frame) (find_first more high)
 
-goes_between : (front back : List CurvePoint) (p q : CurvePoint) (frame : ℕ)
+goes_between : (front back : List CurvePoint) (p q : CurvePoint) {frame : ℕ}
     → IsCurveRising (front ++ (p ∷ q ∷ back)) → p.frame ≤ frame → frame < q.frame
     → steps_at (front ++ (p ∷ q ∷ back)) frame ≡ steps_between p q frame
-goes_between front back p q frame rising low high =
+goes_between front back p q {frame} rising low high =
     let whole : front ++ (p ∷ q ∷ back) ≡ (front ++ (p ∷ [])) ++ (q ∷ back) =
     sym (append_assoc front (p ∷ []) (q ∷ back)) in
     let same = subst IsCurveRising whole rising in
-    let all = front_low frame front (q ∷ back) p same low in
-    ap (λ ps. steps_at ps frame) whole ∙ parted frame (front ++ (p ∷ [])) (q ∷ back) all
-    (back_all frame (front ++ (p ∷ [])) back q same high)
-    ∙ ap₂ (λ a b. neighbour_steps a b frame) (find_last frame front p all)
-    (find_first frame q back high)
+    let all = front_low front (q ∷ back) p same low in
+    ap (λ ps. steps_at ps frame) whole ∙ parted (front ++ (p ∷ [])) (q ∷ back) all
+    (back_all (front ++ (p ∷ [])) back q same high)
+    ∙ ap₂ (λ a b. neighbour_steps a b frame) (find_last front all)
+    (find_first back high)
 
-goes_behind : (front : List CurvePoint) (p : CurvePoint) (frame : ℕ)
+goes_behind : (front : List CurvePoint) {p : CurvePoint} {frame : ℕ}
     → IsCurveRising (front ++ (p ∷ [])) → p.frame ≤ frame
     → steps_at (front ++ (p ∷ [])) frame ≡ p.steps
-goes_behind front p frame rising low =
+goes_behind front {p} {frame} rising low =
     let whole : front ++ (p ∷ []) ≡ (front ++ (p ∷ [])) ++ [] = grind (arith, append-nil) in
-    let all = front_low frame front [] p (subst IsCurveRising whole rising) low in
+    let all = front_low front [] p (subst IsCurveRising whole rising) low in
     ap (λ ps. steps_at ps frame) whole
-    ∙ parted frame (front ++ (p ∷ [])) [] all (λ k d less. absurd (omega (arith, less)))
-    ∙ ap (λ a. neighbour_steps a None frame) (find_last frame front p all)
+    ∙ parted (front ++ (p ∷ [])) [] all (λ k d less. absurd (omega (arith, less)))
+    ∙ ap (λ a. neighbour_steps a None frame) (find_last front all)
 
 -- from point to point a curve goes evenly
 pub curves-go-evenly : CurvesGoEvenly

@@ -56,10 +56,10 @@ range-refusal_or : {A : Type 0} (o : Option Refusal) (a : A)
 unfolding is_range
 range-refusal_or o a = grind arith
 
-range-or : (o later : Option Refusal) → is_range o ≡ false → is_range (or_else o later) ≡ true
-    → (o ≡ None) × (is_range later ≡ true)
+range-or : {o : Option Refusal} (later : Option Refusal) → is_range o ≡ false
+    → is_range (or_else o later) ≡ true → (o ≡ None) × (is_range later ≡ true)
 unfolding is_range
-range-or o later other is = grind arith
+range-or later other is = grind arith
 
 range-none : (o later : Option Refusal) → is_range o ≡ false → is_range later ≡ false
     → is_range (or_else o later) ≡ false
@@ -115,10 +115,10 @@ made-where (Some refusal) a free =
 
 -- ---- what is made of a file
 
-changed-as : (of : Changing) (file : List ℕ) (s : SurveyFields) → survey_of file most_frames ≡ Ok s
+changed-as : (of : Changing) (file : List ℕ) {s : SurveyFields} → survey_of file most_frames ≡ Ok s
     → change_result of file ≡ changed_or_fault file s (of file s)
 unfolding made_file
-changed-as of file s is = ap (surveyed_result (change_making of) file) is
+changed-as of file is = ap (surveyed_result (change_making of) file) is
 
 range-changed : (file : List ℕ) (s : SurveyFields) (r : Result FileChange EditFault)
     → leaves_range (changed_or_fault file s r) ≡ leaves_range r
@@ -129,14 +129,14 @@ ok-changed : (file : List ℕ) (s : SurveyFields) (r : Result FileChange EditFau
 ok-changed file s r = grind arith
 
 -- a file is made exactly if no gain leaves the range
-made-refusal_or : (of : Changing) (file : List ℕ) (s : SurveyFields) (steps : ℕ → Steps)
-    (change : FileChange) (taken : Bool) → survey_of file most_frames ≡ Ok s
+made-refusal_or : (of : Changing) {file : List ℕ} {s : SurveyFields} (steps : ℕ → Steps)
+    (change : FileChange) {taken : Bool} → survey_of file most_frames ≡ Ok s
     → of file s ≡ refusal_or (range_fault steps s.frames) change
     → is_some_out_of_range steps s.frames ≡ not taken → IsMadeIfTaken taken (change_result of file)
-made-refusal_or of file s steps change taken is made stuck =
+made-refusal_or of {file} {s} steps change {taken} is made stuck =
     let o = range_fault steps s.frames in
     let whole : change_result of file ≡ changed_or_fault file s (refusal_or o change) =
-    changed-as of file s is ∙ ap (changed_or_fault file s) made in
+    changed-as of file is ∙ ap (changed_or_fault file s) made in
     let range : is_range o ≡ not taken = range-some steps s.frames ∙ stuck in
     record {
       refused = grind (arith, range-changed, range-refusal_or);
@@ -221,32 +221,32 @@ tag-plain : (shift : Shift) (s : SurveyFields) (r : Result TagFields FileTagFaul
     → leaves_range (plain_change shift s) ≡ true
 tag-plain shift s r is = grind (arith, undo-plain)
 
-range-gain_result : (shift : Shift) (tags : Bool) (file : List ℕ) (s : SurveyFields)
+range-gain_result : (shift : Shift) (tags : Bool) (file : List ℕ) {s : SurveyFields}
     → survey_of file most_frames ≡ Ok s
     → leaves_range (gain_result shift tags file) ≡ leaves_range (gain_change shift tags file s)
-range-gain_result shift tags file s is =
-    ap leaves_range (changed-as (gain_change shift tags) file s is)
+range-gain_result shift tags file {s} is =
+    ap leaves_range (changed-as (gain_change shift tags) file is)
     ∙ range-changed file s (gain_change shift tags file s)
 
-noted-only : (shift : Shift) (file : List ℕ) (s : SurveyFields) → survey_of file most_frames ≡ Ok s
+noted-only : (shift : Shift) (file : List ℕ) {s : SurveyFields} → survey_of file most_frames ≡ Ok s
     → leaves_range (gain_result shift true file) ≡ true
     → leaves_range (gain_result shift false file) ≡ true
-noted-only shift file s is refused =
-    range-gain_result shift false file s is ∙ ap leaves_range (plain-as shift file s)
+noted-only shift file {s} is refused =
+    range-gain_result shift false file is ∙ ap leaves_range (plain-as shift file s)
     ∙ tag-plain shift s (file_tag file s)
-    (sym (range-gain_result shift true file s is ∙ ap leaves_range (noted-as shift file s))
+    (sym (range-gain_result shift true file is ∙ ap leaves_range (noted-as shift file s))
     ∙ refused)
 
 -- if no gain leaves the range, no change is refused for it, noted or not
-never : (shift : Shift) (tags : Bool) (file : List ℕ) (s : SurveyFields)
+never : (shift : Shift) (tags : Bool) (file : List ℕ) {s : SurveyFields}
     → survey_of file most_frames ≡ Ok s
     → is_some_out_of_range (constant_steps (steps_of shift)) s.frames ≡ false
     → leaves_range (gain_result shift tags file) ≡ false
-never shift tags file s is free = by_tags tags
+never shift tags file {s} is free = by_tags tags
   where
     plain : leaves_range (gain_result shift false file) ≡ false
     plain =
-        range-gain_result shift false file s is ∙ ap leaves_range (plain-as shift file s)
+        range-gain_result shift false file is ∙ ap leaves_range (plain-as shift file s)
         ∙ range-refusal_or (or_else (channel_fault shift s)
         (range_fault (constant_steps (steps_of shift))
         s.frames)) (record { steps = constant_steps (steps_of shift); tag = None })
@@ -258,7 +258,7 @@ never shift tags file s is free = by_tags tags
     by_tags false = plain
     by_tags true =
         false_from_ne_true (leaves_range (gain_result shift true file)) (λ refused. both_ways
-        (leaves_range (gain_result shift false file)) plain (noted-only shift file s is refused))
+        (leaves_range (gain_result shift false file)) plain (noted-only shift file is refused))
 
 -- ---- files in which no gain moves
 
@@ -269,9 +269,9 @@ takes_steps-each rows steps =
     (sym (joined_extremes-append (moving_gains 0 rows) (moving_gains 1 rows)))
     ∙ takes_steps-joined_extremes (extremes_of 0 rows) (extremes_of 1 rows) steps
 
-still-stuck : (rows : List Row) → TakeSteps rows → extremes_of_both rows ≡ None → (shift : Shift)
+still-stuck : {rows : List Row} → TakeSteps rows → extremes_of_both rows ≡ None → (shift : Shift)
     → is_some_out_of_range (constant_steps (steps_of shift)) rows ≡ false
-still-stuck rows law none shift = by_wrap shift.wrap refl
+still-stuck {rows} law none shift = by_wrap shift.wrap refl
   where
     parts : (steps : ℤ) → (takes_steps (extremes_of 0 rows) steps ≡ true)
         × (takes_steps (extremes_of 1 rows) steps ≡ true)
@@ -317,11 +317,11 @@ too-large : (sheet : List ℕ) (make : List ℕ → Result FileChange EditFault)
     → leaves_range (make sheet) ≡ false → leaves_range (then_made (sheet_read sheet) make) ≡ false
 too-large sheet make made = grind arith
 
-fade-as : (sheet : List ℕ) (back : Bool) (s : SurveyFields) (points : List EnvelopePoint)
+fade-as : (sheet : List ℕ) (back : Bool) (s : SurveyFields) {points : List EnvelopePoint}
     → envelope_of sheet ≡ Ok points
     → sheet_change sheet back s ≡ then_made (points_curve s points) (curve_change back s)
 unfolding sheet_change
-fade-as sheet back s points e = grind arith
+fade-as sheet back s e = grind arith
 
 curve-range : (s : SurveyFields) (back : Bool) (points : List EnvelopePoint)
     → ((curve : List CurvePoint) → curve ≡ map (curve_point s.class (length s.frames)) points
@@ -330,12 +330,12 @@ curve-range : (s : SurveyFields) (back : Bool) (points : List EnvelopePoint)
 unfolding curve_of
 curve-range s back points free = grind arith
 
-fade-free : (file : List ℕ) (s : SurveyFields) → survey_of file most_frames ≡ Ok s
-    → TakeSteps s.frames → (sheet : List ℕ) (back : Bool) (points : List EnvelopePoint)
+fade-free : (file : List ℕ) {s : SurveyFields} → survey_of file most_frames ≡ Ok s
+    → TakeSteps s.frames → (sheet : List ℕ) (back : Bool) {points : List EnvelopePoint}
     → envelope_of sheet ≡ Ok points
     → All (λ point. IsTrue (takes_point (extremes_of_both s.frames) back point.steps)) points
     → leaves_range (fade_result sheet back file) ≡ false
-fade-free file s is law sheet back points read all =
+fade-free file {s} is law sheet back {points} read all =
     let gains = extremes_of_both s.frames in
     let free : (curve : List CurvePoint)
     → curve ≡ map (curve_point s.class (length s.frames)) points
@@ -349,36 +349,35 @@ fade-free file s is law sheet back points read all =
     ∙ range-some (steps_at_offset (Along curve back) s.frames) s.frames
     ∙ law.each (λ at. steps_back back (steps_at curve (number_at s.frames at)))
     (λ at. curve-taken gains back curve taken (number_at s.frames at)) in
-    ap leaves_range (changed-as (fade_change (Some sheet) back) file s is)
+    ap leaves_range (changed-as (fade_change (Some sheet) back) file is)
     ∙ range-changed file s (input_sheet_change (Some sheet) back s)
     ∙ too-large sheet (λ bytes. sheet_change bytes back s)
-    (ap leaves_range (fade-as sheet back s points read) ∙ curve-range s back points free)
+    (ap leaves_range (fade-as sheet back s read) ∙ curve-range s back points free)
 
 -- with a single point all frames move by its steps, or by as many the other way
-one-as : (sheet : List ℕ) (back : Bool) (s : SurveyFields) (point : EnvelopePoint) → length sheet
+one-as : (sheet : List ℕ) (back : Bool) (s : SurveyFields) {point : EnvelopePoint} → length sheet
     ≤ longest_sheet → envelope_of sheet ≡ Ok (point ∷ []) → input_sheet_change (Some sheet) back s
     ≡ curve_change back s (curve_point s.class (length s.frames) point ∷ [])
 unfolding line_not_rising curve_of
-one-as sheet back s point few read =
+one-as sheet back s {point} few read =
     ap (λ b. then_made (cond b (Err (Refused (SheetTooLarge (length sheet)))) (Ok sheet))
     (λ bytes. sheet_change bytes back s)) (le-ltb longest_sheet (length sheet) few)
-    ∙ fade-as sheet back s (point ∷ []) read
+    ∙ fade-as sheet back s read
 
-fade-one : (file : List ℕ) (s : SurveyFields) → survey_of file most_frames ≡ Ok s
-    → TakeSteps s.frames → (sheet : List ℕ) (back : Bool) (point : EnvelopePoint)
+fade-one : (file : List ℕ) {s : SurveyFields} → survey_of file most_frames ≡ Ok s
+    → TakeSteps s.frames → (sheet : List ℕ) (back : Bool) {point : EnvelopePoint}
     → length sheet ≤ longest_sheet → envelope_of sheet ≡ Ok (point ∷ []) → IsMadeIfTaken
     (takes_point (extremes_of_both s.frames) back point.steps) (fade_result sheet back file)
-fade-one file s is law sheet back point few read =
+fade-one file {s} is law sheet back {point} few read =
     let gains = extremes_of_both s.frames in
     let curve = curve_point s.class (length s.frames) point ∷ [] in
     let steps = steps_at_offset (Along curve back) s.frames in
     let same : (at : ℕ) → steps at ≡ equal_steps (steps_back back point.steps) =
     grind (arith, steps_of_one) in
     let whole : steps ≡ constant_steps (equal_steps (steps_back back point.steps)) = grind arith in
-    made-refusal_or (fade_change (Some sheet) back) file s steps
-    (record { steps = steps; tag = None })
-    (takes_point gains back point.steps) is
-    (one-as sheet back s point few read)
+    made-refusal_or (fade_change (Some sheet) back) steps
+    (record { steps = steps; tag = None }) is
+    (one-as sheet back s few read)
     (ap (λ f. is_some_out_of_range f s.frames) whole
     ∙ law.both (steps_back back point.steps)
     ∙ ap not (sym (point-taken gains back point.steps)))
@@ -396,32 +395,32 @@ sides-fitting (row ∷ rows) fits =
 -- which steps every well-formed file accepts
 pub exact-steps : StepsAreExact
 exact-steps file s is = record {
-  both = λ steps. made-refusal_or (gain_change (strict_shift Both steps) false) file s
+  both = λ steps. made-refusal_or (gain_change (strict_shift Both steps) false)
       (constant_steps (equal_steps steps))
-      (record { steps = constant_steps (equal_steps steps); tag = None })
-      (takes_steps (extremes_of_both s.frames) steps) is (alone Both steps file s refl)
+      (record { steps = constant_steps (equal_steps steps); tag = None }) is
+      (alone Both steps file s refl)
       (law.both steps);
   mono = law.mono s.class (λ i row there. (placed i row there).class_is);
-  left = λ may steps. made-refusal_or (gain_change (strict_shift Left steps) false) file s
+  left = λ may steps. made-refusal_or (gain_change (strict_shift Left steps) false)
       (constant_steps (separate_steps steps (pos 0)))
-      (record { steps = constant_steps (separate_steps steps (pos 0)); tag = None })
-      (takes_steps (extremes_of 0 s.frames) steps) is (alone Left steps file s may)
+      (record { steps = constant_steps (separate_steps steps (pos 0)); tag = None }) is
+      (alone Left steps file s may)
       (law.left steps);
-  right = λ may steps. made-refusal_or (gain_change (strict_shift Right steps) false) file s
+  right = λ may steps. made-refusal_or (gain_change (strict_shift Right steps) false)
       (constant_steps (separate_steps (pos 0) steps))
-      (record { steps = constant_steps (separate_steps (pos 0) steps); tag = None })
-      (takes_steps (extremes_of 1 s.frames) steps) is (alone Right steps file s may)
+      (record { steps = constant_steps (separate_steps (pos 0) steps); tag = None }) is
+      (alone Right steps file s may)
       (law.right steps);
-  noted = λ shift. noted-only shift file s is;
-  wrap = λ shift tags wraps. never shift tags file s is
+  noted = λ shift. noted-only shift file is;
+  wrap = λ shift tags wraps. never shift tags file is
       (law.wrap (constant_steps (steps_of shift)) (λ at. wraps));
-  still = λ none shift tags. never shift tags file s is (still-stuck s.frames law none shift);
-  fade = fade-free file s is law;
-  fade_of_one = fade-one file s is law;
+  still = λ none shift tags. never shift tags file is (still-stuck law none shift);
+  fade = fade-free file is law;
+  fade_of_one = fade-one file is law;
 }
   where
     placed : AreWellPlaced s.head s.class s.frames
-    placed = survey_fields-placed file most_frames s (survey_of-parts file most_frames s is).1
+    placed = survey_fields-placed file most_frames (survey_of-parts file most_frames is).1
 
     law : TakeSteps s.frames
     law = take_steps s.frames (sides-fitting s.frames (λ i row there. subst (λ (c : ClassFields).

@@ -8,8 +8,8 @@ use Rattle.moved_gains.specs.Change.{FileChange}
 -- a fade changes only gains and check words, and leaves junk out
 pub fade_kept : FadeKeepsAll
 fade_kept sheet back file new s all is e =
-    let c = made_of (fade_change sheet back) file new s is e in
-    let parts = faded-parts sheet back s c.change c.made in
+    let c = made_of {of = fade_change sheet back} {file = file} {new = new} {s = s} is e in
+    let parts = faded-parts {sheet = sheet} {back = back} {s = s} {change = c.change} c.made in
     made_kept (λ tag. ⊥) (fade_change sheet back) file new s c all is
     (λ tag now. none tag (ap (λ (d : FileChange). d.tag) parts.made ∙ now))
   where

@@ -26,19 +26,19 @@ use Rattle.sync_survey.specs.{Faults.{survey_fields, SurveyFields}, Row.Row}
 -- ---- patches in order
 
 -- patches in order from an offset on are in order from any earlier one
-ordered_earlier : (at to : ℕ) (patches : List Patch) → at ≤ to → ArePatchesInOrder to patches
+ordered_earlier : {at to : ℕ} (patches : List Patch) → at ≤ to → ArePatchesInOrder to patches
     → ArePatchesInOrder at patches
-ordered_earlier at to [] low order = tt
-ordered_earlier at to (patch ∷ patches) low order = grind arith
+ordered_earlier [] low order = tt
+ordered_earlier (patch ∷ patches) low order = grind arith
 
-patches_earlier : (file : List ℕ) (at to : ℕ) (patches : List Patch) → at ≤ to
+patches_earlier : (file : List ℕ) {at to : ℕ} (patches : List Patch) → at ≤ to
     → ArePatchesInOrder to patches
     → patched_file file at patches ≡ bytes_between file at to ++ patched_file file to patches
-patches_earlier file at to [] low order =
+patches_earlier file {at} {to} [] low order =
     let sum : to - at + at ≡ to = omega (arith, low) in
     sym (take-append-drop (to - at) (drop at file)) ∙ ap (λ (l : List ℕ). bytes_between file at to
     ++ l) (drop-drop (to - at) at file ∙ ap (λ n. drop n file) (omega (arith, low)))
-patches_earlier file at to (patch ∷ patches) low order =
+patches_earlier file {at} {to} (patch ∷ patches) low order =
     let rest = patch.now ++ patched_file file patch.to patches in
     let sum : patch.from - at ≡ (to - at) + (patch.from - to) = omega (arith, low, order.0) in
     let there : at + (to - at) ≡ to = omega (arith, low) in
@@ -49,9 +49,9 @@ patches_earlier file at to (patch ∷ patches) low order =
     (drop-drop (to - at) at file ∙ ap (λ n. drop n file) there))
     ∙ append_assoc (bytes_between file at to) (bytes_between file to patch.from) rest
 
-begins_later : (at to : ℕ) (patches : List Patch) → at < to → ArePatchesInOrder to patches
+begins_later : {at to : ℕ} (patches : List Patch) → at < to → ArePatchesInOrder to patches
     → BeginsAfter at patches
-begins_later at to patches low order = grind arith
+begins_later patches low order = grind arith
 
 module _ (T : List ℕ → Type 0) (steps : ℕ → Steps) (file : List ℕ) (s : SurveyFields) where
   -- ---- the patches of frames
@@ -72,16 +72,16 @@ module _ (T : List ℕ → Type 0) (steps : ℕ → Steps) (file : List ℕ) (s 
   abbrev AllMove : List Row → Type 0
   AllMove rows = Each Moves rows
 
-  moves : (i : ℕ) (row : Row) → slice_get s.frames i ≡ Some row → IsFrameOf file row
+  moves : (i : ℕ) {row : Row} → slice_get s.frames i ≡ Some row → IsFrameOf file row
       → MovesFrame file s (row_patch row)
-  moves i row there here = grind (arith, row_differs)
+  moves i there here = grind (arith, row_differs)
 
   all_move : (n : ℕ) (rows : List Row)
       → ((i : ℕ) (row : Row) → slice_get rows i ≡ Some row → slice_get s.frames (n + i) ≡ Some row)
       → AreFramesOf file rows → AllMove rows
   all_move n [] there here = tt
   all_move n (row ∷ rows) there here = (
-    moves (n + 0) row (there 0 row refl) here.0,
+    moves (n + 0) (there 0 row refl) here.0,
     all_move (n + 1) rows
         (λ i r is. ap (slice_get s.frames) (omega arith) ∙ there (suc i) r is) here.1,
   )
@@ -93,15 +93,15 @@ module _ (T : List ℕ → Type 0) (steps : ℕ → Steps) (file : List ℕ) (s 
   rows_allowed (row ∷ rows) patches all later = grind (arith, rows_allowed rows patches all.1 later)
 
   -- frames up to an offset, and patches from it on
-  rows_begin : (at : ℕ) (rows : List Row) (patches : List Patch) (to : ℕ) → EndBy at rows to
-      → ArePatchesInOrder to patches → (x : ℕ) → x < at
+  rows_begin : {at : ℕ} (rows : List Row) (patches : List Patch) (to : ℕ) → EndBy at rows to
+      → ArePatchesInOrder to patches → {x : ℕ} → x < at
       → BeginsAfter x (row_patches rows ++ patches)
-  rows_begin at [] patches to ends order x low = grind (arith, begins_later)
-  rows_begin at (row ∷ rows) patches to ends order x low = omega (arith, low, ends.0)
+  rows_begin [] patches to ends order low = grind (arith, begins_later)
+  rows_begin (row ∷ rows) patches to ends order low = omega (arith, low, ends.0)
 
   rows_ordered : (at : ℕ) (rows : List Row) (patches : List Patch) (to : ℕ) → EndBy at rows to
       → ArePatchesInOrder to patches → ArePatchesInOrder at (row_patches rows ++ patches)
-  rows_ordered at [] patches to ends order = ordered_earlier at to patches ends order
+  rows_ordered at [] patches to ends order = ordered_earlier patches ends order
   rows_ordered at (row ∷ rows) patches to ends order =
       grind (arith, rows_begin, rows_ordered (row_end row) rows patches to ends.2 order)
 
@@ -131,9 +131,9 @@ module _ (T : List ℕ → Type 0) (steps : ℕ → Steps) (file : List ℕ) (s 
     pub written : patched_file file at all
         ≡ bytes_between file at s.junk ++ patched_file file s.first patches
 
-  after_junk : (at : ℕ) (patches : List Patch) → at ≤ s.junk → s.junk ≤ s.first
+  after_junk : {at : ℕ} {patches : List Patch} → at ≤ s.junk → s.junk ≤ s.first
       → ArePatchesInOrder s.first patches → ArePatchesAllowed T file s patches → Joined at patches
-  after_junk at patches low up order allowed = by_junk (s.first - s.junk) refl
+  after_junk {at} {patches} low up order allowed = by_junk (s.first - s.junk) refl
     where
       by_junk : (n : ℕ) → s.first - s.junk ≡ n → Joined at patches
       by_junk zero is =
@@ -141,14 +141,14 @@ module _ (T : List ℕ → Type 0) (steps : ℕ → Steps) (file : List ℕ) (s 
           let order = subst (λ n. ArePatchesInOrder n patches) same order in
           record {
             all = patches;
-            in_order = ordered_earlier at s.junk patches low order;
+            in_order = ordered_earlier patches low order;
             allowed = allowed;
-            begins = λ x less. begins_later x s.junk patches less order;
+            begins = λ x less. begins_later patches less order;
             written = grind (arith, patches_earlier);
           }
       by_junk (suc n) is = record {
         all = junk_patch ∷ patches;
-        in_order = (low, up, begins_later s.junk s.first patches (omega (arith, is)) order, order);
+        in_order = (low, up, begins_later patches (omega (arith, is)) order, order);
         allowed = (inl (record { from = refl; to = refl; none = refl }), allowed);
         begins = λ x less. less;
         written = refl;
@@ -159,11 +159,11 @@ module _ (T : List ℕ → Type 0) (steps : ℕ → Steps) (file : List ℕ) (s 
 module _ (file : List ℕ) (allowed : ℕ) (s : SurveyFields) (all : AreBytes file)
     (is : survey_fields file allowed ≡ Ok s) (steps : ℕ → Steps) where
   known : StandsSomewhere steps file s
-  known = stands_somewhere steps file allowed s is
+  known = stands_somewhere steps allowed is
 
   each_moves : (T : List ℕ → Type 0) → AllMove T steps file s s.frames
   each_moves T = all_move T steps file s 0 s.frames (λ i row there.
-      ap (slice_get s.frames) (omega arith) ∙ there) (frames_there file allowed s all is)
+      ap (slice_get s.frames) (omega arith) ∙ there) (frames_there file allowed all is)
 
   none : s.junk - 0 ≡ s.junk
   none = omega arith
@@ -176,13 +176,13 @@ module _ (file : List ℕ) (allowed : ℕ) (s : SurveyFields) (all : AreBytes fi
       let order = rows_ordered T steps file s s.first s.frames [] s.length known.ends tt in
       let may : ArePatchesAllowed T file s patches =
       rows_allowed T steps file s s.frames [] (each_moves T) tt in
-      let joined = after_junk T steps file s 0 patches (omega arith) known.junk order may in
+      let joined = after_junk T steps file s (omega arith) known.junk order may in
       record {
         patches = joined.all;
         in_order = joined.in_order;
         allowed = joined.allowed;
         written =
-            sym (written-edited_file steps file allowed s is)
+            sym (written-edited_file steps file allowed is)
             ∙ ap₂ (λ n (l : List ℕ). take n file ++ l) (sym none)
             (sym (patches-moved T steps file s s.first s.frames))
             ∙ sym joined.written;
@@ -218,7 +218,7 @@ module _ (file : List ℕ) (allowed : ℕ) (s : SurveyFields) (all : AreBytes fi
         let may : ArePatchesAllowed MayBe file s rows =
         rows_allowed MayBe steps file s s.frames [] (each_moves MayBe) tt in
         let joined =
-        after_junk MayBe steps file s (a + size) rows front.before known.junk order may in
+        after_junk MayBe steps file s front.before known.junk order may in
         let zero_less : a - 0 ≡ a = omega arith in
         record {
           patches = tag_patch ∷ joined.all;
@@ -250,7 +250,7 @@ module _ (file : List ℕ) (allowed : ℕ) (s : SurveyFields) (all : AreBytes fi
         let order : ArePatchesInOrder s.first (before ++ (tag_patch ∷ behind)) =
         rows_ordered MayBe steps
         file s s.first among.before (tag_patch ∷ behind) a among.front tag_order in
-        let joined = after_junk MayBe steps file s 0 (before ++ (tag_patch ∷ behind))
+        let joined = after_junk MayBe steps file s
         (omega arith) known.junk order all_allowed in
         record {
           patches = joined.all;
@@ -275,7 +275,7 @@ module _ (file : List ℕ) (allowed : ℕ) (s : SurveyFields) (all : AreBytes fi
         tag_begins (row ∷ behind) ends (inr some) = omega (arith, ends.0, some)
 
     keeps_tag : KeepsAll MayBe file s with_new
-    keeps_tag = by_place (stands_apart steps file allowed s is)
+    keeps_tag = by_place (stands_apart steps file allowed is)
       where
         by_place : IsInFront s ⊎ IsApart s → KeepsAll MayBe file s with_new
         by_place (inl front) = keeps_front front
@@ -301,9 +301,9 @@ allowed_weaker T U weaker file s (patch ∷ patches) may =
     grind (arith, allowed_weaker T U weaker file s patches may.1)
 
 -- patches are allowed too where more may be the tag
-pub keeps_weaker : (T U : List ℕ → Type 0) → ((tag : List ℕ) → T tag → U tag) → (file : List ℕ)
-    (s : SurveyFields) (new : List ℕ) → KeepsAll T file s new → KeepsAll U file s new
-keeps_weaker T U weaker file s new keeps = record {
+pub keeps_weaker : (T U : List ℕ → Type 0) → ((tag : List ℕ) → T tag → U tag) → {file : List ℕ}
+    {s : SurveyFields} {new : List ℕ} → KeepsAll T file s new → KeepsAll U file s new
+keeps_weaker T U weaker {file} {s} keeps = record {
   patches = keeps.patches;
   in_order = keeps.in_order;
   allowed = allowed_weaker T U weaker file s keeps.patches keeps.allowed;

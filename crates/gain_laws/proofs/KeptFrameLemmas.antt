@@ -51,20 +51,20 @@ fixed_fields-same (w ∷ ws) xs fields old new e same =
     )
 
 -- a field that may change, and those after it
-changing_same : (changes : Bool) (width : ℕ) (xs ys : List ℕ) (fields : List Field)
+changing_same : {changes : Bool} {width : ℕ} {xs ys : List ℕ} (fields : List Field)
     (old new : List ℕ) → length xs ≡ width → length ys ≡ width → (changes ≡ false → ys ≡ xs)
     → DiffersInFields fields old new
     → DiffersInFields (record { width = width; changes = changes } ∷ fields) (xs ++ old) (ys ++ new)
-changing_same changes width xs ys fields old new m n same later = grind (arith, take_at, drop_at)
+changing_same fields old new m n same later = grind (arith, take_at, drop_at)
 
 -- ---- granules
 
 -- a granule with another gain, which is its own if it is silent
-other_gain : (version : Version) (g : Granule) (gain : ℕ) (fields : List Field) (old new : List ℕ)
+other_gain : (version : Version) (g : Granule) {gain : ℕ} (fields : List Field) (old new : List ℕ)
     → (is_silent_granule g ≡ true → gain ≡ g.global_gain) → DiffersInFields fields old new
     → DiffersInFields (granule_fields version g ++ fields) (granule_bits version g ++ old)
     (granule_bits version (record g { global_gain = gain }) ++ new)
-other_gain version g gain fields old new silent later =
+other_gain version g {gain} fields old new silent later =
     let before = group_bits (12 ∷ 9 ∷ []) (g.part2_3_length ∷ g.big_values ∷ []) in
     let widths : List ℕ = compress_width version ∷ 1 ∷ 22 ∷ preflag_width version ∷ 1 ∷ 1 ∷ [] in
     let numbers : List ℕ = g.scalefac_compress ∷ flag_of g.window_switching ∷ g.detail
@@ -73,7 +73,7 @@ other_gain version g gain fields old new silent later =
     let rest : DiffersInFields (fixed_fields widths ++ fields) (behind ++ old) (behind ++ new) =
     fixed_fields-same widths behind fields old new (length-group_bits widths numbers refl) later in
     let field : Field = record { width = 8; changes = not (is_silent_granule g) } in
-    let own = changing_same (not (is_silent_granule g)) 8 (bits_of 8 g.global_gain) (bits_of 8 gain)
+    let own = changing_same
     (fixed_fields widths ++ fields) (behind ++ old) (behind ++ new) (length-bits_of 8 g.global_gain)
     (length-bits_of 8 gain)
     (λ stays. ap (bits_of 8) (silent (not-false (is_silent_granule g) stays))) rest in
@@ -100,8 +100,8 @@ moved_granule-same version steps g fields old new later = by_silent (is_silent_g
         ++ fields) (granule_bits version g ++ old) (granule_bits version (cond b g (record g {
           global_gain = moved_gain steps g.global_gain;
         })) ++ new)
-    by_silent true is = other_gain version g g.global_gain fields old new (λ silent. refl) later
-    by_silent false is = other_gain version g (moved_gain steps g.global_gain) fields old new
+    by_silent true is = other_gain version g fields old new (λ silent. refl) later
+    by_silent false is = other_gain version g fields old new
         (λ silent. absurd (false≢true (sym is ∙ silent))) later
 
 -- each of these granules is one of the others, moved by some steps
@@ -142,12 +142,12 @@ granules_moved steps =
 -- ---- the side information
 
 -- the fields of the side information, and the bits after them, which are the same
-side_same : (steps : Steps) (c : ClassFields) → IsClass c → (s : Side) → IsShaped s
+side_same : (steps : Steps) (c : ClassFields) → IsClass c → {s : Side} → IsShaped s
     → (area : List ℕ) → DiffersInFields (fixed_fields (front_widths c)
     ++ flat_map (granule_fields c.version) (granules_in c s))
     (side_bits c s ++ area) (side_bits c (moved_side steps s) ++ area)
 unfolding side_bits moved_side
-side_same steps c class s shaped area =
+side_same steps c class {s} shaped area =
     let t = moved_side steps s in
     let front = group_bits (front_widths c) (s.main_data_begin ∷ s.private_bits ∷ s.scfsi) in
     let long : length front ≡ sum (front_widths c) = grind (arith, length-group_bits) in
@@ -180,7 +180,7 @@ word_same : (protected : Bool) (xs ys : List ℕ) (fields : List Field) (old new
 word_same true xs ys fields old new m n later =
     let x : length (bits xs) ≡ 16 = omega (arith, length-bits xs, m refl) in
     let y : length (bits ys) ≡ 16 = omega (arith, length-bits ys, n) in
-    changing_same true 16 (bits xs) (bits ys) fields old new x y
+    changing_same fields old new x y
     (λ stays. absurd (false≢true (sym stays))) later
 word_same false xs ys fields old new m n later = grind (arith, bits-nil)
 
@@ -195,11 +195,11 @@ behind_word : (protected : Bool) (frame : List ℕ)
 behind_word protected frame = grind arith
 
 -- a frame, part by part
-parts : (h : HeaderFields) (frame : List ℕ) → IsClass (class_of h) → AreBytes frame
+parts : (h : HeaderFields) {frame : List ℕ} → IsClass (class_of h) → AreBytes frame
     → HasRoom h frame → frame ≡ take 4 frame ++ (own_word h.protected frame ++ (bytes (side_bits
     (class_of h) (side_in h frame)) ++ drop (overhead_of (class_of h) h.protected) frame))
 unfolding side_part
-parts h frame class all room =
+parts h {frame} class all room =
     let c = class_of h in
     let place = side_place h.protected in
     let size = side_size_of c in
@@ -218,9 +218,9 @@ bits-four : (a b c d : List ℕ)
     → bits (a ++ (b ++ (c ++ d))) ≡ bits a ++ (bits b ++ (bits c ++ bits d))
 bits-four a b c d = grind (arith, bits-append)
 
-side-spelled : (c : ClassFields) (s : Side) → IsClass c → IsShaped s
+side-spelled : (c : ClassFields) {s : Side} → IsClass c → IsShaped s
     → bits (bytes (side_bits c s)) ≡ side_bits c s
-side-spelled c s class shaped = bits-bytes (side_size_of c) (side_bits c s) (AreBits-side_bits c s)
+side-spelled c {s} class shaped = bits-bytes (side_size_of c) (AreBits-side_bits c s)
     (length-side_bits c class s shaped)
 
 frame_same : (steps : Steps) (h : HeaderFields) (frame : List ℕ) → IsClass (class_of h)
@@ -245,40 +245,39 @@ frame_same steps h frame class all room =
     (bits (crc_part h t) ++ (side_bits c t ++ bits area)) header
     (word_same h.protected (take 2 (drop 4 frame)) word fields (side_bits c s ++ bits area)
     (side_bits c t ++ bits area) own (length-word (check_word_of h t))
-    (side_same steps c class s shaped (bits area))) in
+    (side_same steps c class shaped (bits area))) in
     let old_is : bits frame
     ≡ bits front ++ (bits (own_word h.protected frame) ++ (side_bits c s ++ bits area)) =
-    ap bits (parts h frame class all room)
+    ap bits (parts h class all room)
     ∙ bits-four front (own_word h.protected frame) (bytes (side_bits c s)) area
     ∙ ap (λ l. bits front ++ (bits (own_word h.protected frame) ++ (l ++ bits area)))
-    (side-spelled c s class shaped) in
+    (side-spelled c class shaped) in
     let new_is : bits (moved_frame steps h frame)
     ≡ bits front ++ (bits (crc_part h t) ++ (side_bits c t ++ bits area)) =
     bits-four front (crc_part h t) (bytes (side_bits c t)) area
     ∙ ap (λ l. bits front ++ (bits (crc_part h t) ++ (l ++ bits area)))
-    (side-spelled c t class (IsShaped-moved steps s shaped)) in
+    (side-spelled c class (IsShaped-moved steps shaped)) in
     subst (λ l. DiffersInFields (frame_fields h s) l (bits (moved_frame steps h frame)))
     (sym old_is)
     (subst (λ l. DiffersInFields (frame_fields h s) (bits front
     ++ (bits (own_word h.protected frame) ++ (side_bits c s ++ bits area))) l) (sym new_is) same)
 
-frame_differs : (steps : Steps) (h : HeaderFields) (frame : List ℕ) → IsWhole h frame
+frame_differs : (steps : Steps) {h : HeaderFields} {frame : List ℕ} → IsWhole h frame
     → IsRight h frame → DiffersInGains h frame (moved_frame steps h frame)
-frame_differs steps h frame whole right =
+frame_differs steps {h} {frame} whole right =
     grind (
       arith,
-      whole_class h frame whole,
-      whole_room h frame whole,
-      moved_whole false steps h
-          frame whole,
+      whole_class whole,
+      whole_room whole,
+      moved_whole false steps whole,
       frame_same,
       frame_with_side-own,
     )
 
 -- a frame of a file may become the frame with moved gains; a lost frame stays
-pub row_differs : (steps : Steps) (file : List ℕ) (row : Row) → IsFrameOf file row
+pub row_differs : (steps : Steps) {file : List ℕ} {row : Row} → IsFrameOf file row
     → MayBecome row (frame_of file row) (moved_row_bytes steps file row)
-row_differs steps file row here = by_lost row.lost
+row_differs steps {file} {row} here = by_lost row.lost
   where
     h : HeaderFields
     h = row.header

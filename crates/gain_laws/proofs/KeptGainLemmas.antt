@@ -20,28 +20,28 @@ pub made_kept : (T : List ℕ → Type 0) (of : Changing) (file new : List ℕ) 
     → ((tag : List ℕ) → c.change.tag ≡ Some tag → T tag) → KeepsAll T file s new
 made_kept T of file new s c all is tags =
     subst (KeepsAll T file s) c.bytes
-    (keeps_weaker (λ tag. c.change.tag ≡ Some tag) T tags file s _
-    (changes_kept c.change file most_frames s all (survey_of-parts file most_frames s is).1))
+    (keeps_weaker (λ tag. c.change.tag ≡ Some tag) T tags
+    (changes_kept c.change file most_frames s all (survey_of-parts file most_frames is).1))
 
 one_is : (o : Option (List ℕ)) → IfSome o IsTagBytes → (tag : List ℕ) → o ≡ Some tag
     → IsTagBytes tag
 one_is o are tag is = subst (λ (p : Option (List ℕ)). IfSome p IsTagBytes) is are
 
-noted : (shift : Shift) (file : List ℕ) (s : SurveyFields) (change : FileChange)
+noted : (shift : Shift) (file : List ℕ) (s : SurveyFields) {change : FileChange}
     → gain_change shift true file s ≡ Ok change → tagged_change shift file s ≡ Ok change
 unfolding gain_change
-noted shift file s change made = made
+noted shift file s made = made
 
 -- `gain` changes only gains, check words and the tag, and leaves junk out
 pub gain_kept : GainKeepsAll
 gain_kept shift true file new s all is e =
-    let c = made_of (gain_change shift true) file new s is e in
-    let tags = noted-tag shift file s c.change all is (noted shift file s c.change c.made) in
+    let c = made_of is e in
+    let tags = noted-tag shift file all is (noted shift file s c.made) in
     made_kept (λ tag. (true ≡ true) × IsTagBytes tag) (gain_change shift true) file new s c all is
     (λ tag now. (refl, one_is c.change.tag tags tag now))
 gain_kept shift false file new s all is e =
-    let c = made_of (gain_change shift false) file new s is e in
-    let parts = plain-parts shift file s c.change c.made in
+    let c = made_of is e in
+    let parts = plain-parts shift file s c.made in
     made_kept (λ tag. (false ≡ true) × IsTagBytes tag) (gain_change shift false) file new s c all is
     (λ tag now. absurd (none tag (ap (λ (d : FileChange). d.tag) parts.2 ∙ now)))
   where
@@ -51,6 +51,6 @@ gain_kept shift false file new s all is e =
 -- `undo` changes only gains, check words and the tag, and leaves junk out
 pub undo_kept : UndoKeepsAll
 undo_kept file new s all is e =
-    let c = made_of undo_change file new s is e in
+    let c = made_of {of = undo_change} {file = file} {new = new} {s = s} is e in
     made_kept IsTagBytes undo_change file new s c all is
-    (one_is c.change.tag (undone-tag file s c.change all is c.made))
+    (one_is c.change.tag (undone-tag file {s = s} {change = c.change} all is c.made))

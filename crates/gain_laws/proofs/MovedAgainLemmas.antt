@@ -24,15 +24,15 @@ pub record AreTogether (one two all : Steps) : Type 0 where
   pub left : all.left ≡ one.left +ℤ two.left
   pub right : all.right ≡ one.right +ℤ two.right
 
-sum_side : (one two all : Steps) → AreTogether one two all → (s : Side)
+sum_side : {one two all : Steps} → AreTogether one two all → (s : Side)
     → moved_side (sum_of one two) s ≡ moved_side all s
 unfolding moved_side
-sum_side one two all sum s = grind arith
+sum_side sum s = grind arith
 
 -- side information moved twice is moved once by both steps together
-pub side_again : (one two all : Steps) → AreTogether one two all → (s : Side) → IsShaped s
+pub side_again : {one two all : Steps} → AreTogether one two all → {s : Side} → IsShaped s
     → moved_side two (moved_side one s) ≡ moved_side all s
-side_again one two all sum s shaped = side_twice one two s shaped ∙ sum_side one two all sum s
+side_again {one} {two} {all} sum {s} shaped = side_twice one two shaped ∙ sum_side sum s
 
 -- the row of such a frame, with moved gains at its new offset
 abbrev pub stood : (ℕ → ℕ) → (ℕ → Steps) → Row → Row
@@ -51,16 +51,16 @@ abbrev pub AllTogether : (ℕ → Steps) → (ℕ → Steps) → (ℕ → Steps)
 AllTogether one two all to rows = Each (IsTogether one two all to) rows
 
 -- if the steps are the same for every frame, their sum is too
-pub even_together : (one two all : Steps) → AreTogether one two all → (to : ℕ → ℕ) (rows : List Row)
+pub even_together : {one two all : Steps} → AreTogether one two all → (to : ℕ → ℕ) (rows : List Row)
     → AllTogether (λ at. one) (λ at. two) (λ at. all) to rows
-even_together one two all sum to [] = tt
-even_together one two all sum to (row ∷ rows) = (sum, even_together one two all sum to rows)
+even_together sum to [] = tt
+even_together {one} {two} {all} sum to (row ∷ rows) = (sum, even_together sum to rows)
 
-bytes_again : (steps : ℕ → Steps) (one two all : Steps) (file : List ℕ) (row : Row)
+bytes_again : (steps : ℕ → Steps) {one two all : Steps} {file : List ℕ} {row : Row}
     → steps row.offset ≡ one → AreTogether one two all → (to : ℕ → ℕ) → IsFrameOf file row
     → moved_bytes two (stood to steps row) (moved_row_bytes one file row)
     ≡ moved_row_bytes all file row
-bytes_again steps one two all file row is sum to here =
+bytes_again steps {one} {two} {all} {file} {row} is sum to here =
     ap (λ (x : Steps). moved_bytes two (record row {
       offset = to row.offset;
       side = moved_side_unless_lost row.lost x row.side;
@@ -79,24 +79,23 @@ bytes_again steps one two all file row is sum to here =
         ≡ cond lost frame (frame_with_side h (moved_side all row.side) frame)
     by_lost true = refl
     by_lost false =
-        let shaped = row_shaped file row here in
+        let shaped = row_shaped here in
         ap (λ (s : Side). frame_with_side h s (frame_with_side h (moved_side one row.side) frame))
-        (side_again one two all sum row.side shaped)
-        ∙ frame_with_side-again h (moved_side all row.side) (moved_side one row.side) frame
-        (whole_class
-        h frame here.whole) (IsShaped-moved one row.side shaped) (whole_room h frame here.whole).0
+        (side_again sum shaped)
+        ∙ frame_with_side-again h (moved_side all row.side) frame
+        (whole_class here.whole) (IsShaped-moved one shaped) (whole_room here.whole).0
 
 -- each offset from the first on and before the end is moved in this way
 abbrev pub AreMovedBy : (ℕ → ℕ) → ℕ → ℕ → ℕ → Type 0
 AreMovedBy to at end there = (x : ℕ) → at ≤ x → x < end → to x ≡ x - at + there
 
 -- the frames are there in order
-pub ends_again : (steps : ℕ → Steps) (to : ℕ → ℕ) (at end there : ℕ) (rows : List Row)
+pub ends_again : (steps : ℕ → Steps) {to : ℕ → ℕ} (at : ℕ) {end : ℕ} (there : ℕ) (rows : List Row)
     → EndBy at rows end → AreMovedBy to at end there
     → EndBy there (map (stood to steps) rows) (end - at + there)
-ends_again steps to at end there [] ends place = omega arith
-ends_again steps to at end there (row ∷ rows) ends place =
-    let up = end_rises (row_end row) rows end ends.2 in
+ends_again steps at there [] ends place = omega arith
+ends_again steps {to} at {end} there (row ∷ rows) ends place =
+    let up = end_rises (row_end row) rows ends.2 in
     let here = place row.offset ends.0 (omega (arith, ends.1, up)) in
     let next = to row.offset + row_length row in
     let sum : end - row_end row + next ≡ end - at + there =
@@ -104,22 +103,22 @@ ends_again steps to at end there (row ∷ rows) ends place =
       omega (arith, here),
       omega (arith, ends.1),
       subst (EndBy next (map (stood to steps) rows)) sum
-          (ends_again steps to (row_end row) end next rows ends.2 (λ x low high. place x
+          (ends_again steps (row_end row) next rows ends.2 (λ x low high. place x
           (omega (arith, low, ends.0, ends.1)) high ∙ omega (arith, here, low, ends.0, ends.1))),
     )
 
 module _ (one two all : ℕ → Steps) (file new : List ℕ) (to : ℕ → ℕ) where
   -- the bytes up to the end, moved again
-  pub moved_again : (at end there : ℕ) (rows : List Row) (tail : List ℕ)
+  pub moved_again : (at : ℕ) {end : ℕ} (there : ℕ) (rows : List Row) (tail : List ℕ)
       → AllTogether one two all to rows → AreFramesOf file rows → EndBy at rows end
       → end ≤ length file → AreMovedBy to at end there
       → drop there new ≡ moved_to one file at end rows ++ tail
       → moved_to two new there (end - at + there) (map (stood to one) rows)
       ≡ moved_to all file at end rows
-  moved_again at end there [] tail sum frames ends within place is =
+  moved_again at there [] tail sum frames ends within place is =
       grind (arith, take_at, between_long)
-  moved_again at end there (row ∷ rows) tail sum frames ends within place is =
-      let up = end_rises (row_end row) rows end ends.2 in
+  moved_again at {end} there (row ∷ rows) tail sum frames ends within place is =
+      let up = end_rises (row_end row) rows ends.2 in
       let here = place row.offset ends.0 (omega (arith, ends.1, up)) in
       let gap = bytes_between file at row.offset in
       let own = moved_row_bytes (one row.offset) file row in
@@ -129,8 +128,8 @@ module _ (one two all : ℕ → Steps) (file new : List ℕ) (to : ℕ → ℕ) 
       let stands : drop there new ≡ gap ++ (own ++ (rest ++ tail)) =
       is ∙ append_three gap own rest tail in
       let gap_long : length gap ≡ row.offset - at =
-      between_long file at row.offset ends.0 (omega (arith, ends.1, up, within)) in
-      let own_long : length own ≡ size = row_sized (one row.offset) file row frames.0 in
+      between_long file ends.0 (omega (arith, ends.1, up, within)) in
+      let own_long : length own ≡ size = row_sized (one row.offset) frames.0 in
       let near : to row.offset - there ≡ row.offset - at = omega (arith, here) in
       let far : there + (row.offset - at) ≡ to row.offset = omega (arith, here) in
       let first : bytes_between new there (to row.offset) ≡ gap =
@@ -143,8 +142,8 @@ module _ (one two all : ℕ → Steps) (file new : List ℕ) (to : ℕ → ℕ) 
       let own_again : moved_row_bytes (two (to row.offset)) new (stood to one row)
       ≡ moved_row_bytes (all row.offset) file row =
       ap (moved_bytes (two (to row.offset)) (stood to one row))
-      (ap (take size) own_there ∙ take_at own (rest ++ tail) size own_long) ∙ bytes_again one
-      (one row.offset) (two (to row.offset)) (all row.offset) file row refl sum.0 to frames.0 in
+      (ap (take size) own_there ∙ take_at own (rest ++ tail) size own_long)
+      ∙ bytes_again one refl sum.0 to frames.0 in
       let rest_there : drop next new ≡ rest ++ tail = sym (drop-drop size (to row.offset) new)
       ∙ ap (drop size) own_there ∙ drop_at own (rest ++ tail) size own_long in
       let total : end - row_end row + next ≡ end - at + there =
@@ -152,7 +151,7 @@ module _ (one two all : ℕ → Steps) (file new : List ℕ) (to : ℕ → ℕ) 
       let rest_again : moved_to two new next (end - at + there) (map (stood to one) rows)
       ≡ moved_to all file (row_end row) end rows =
       ap (λ k. moved_to two new next k (map (stood to one) rows)) (sym total)
-      ∙ moved_again (row_end row) end next rows tail sum.1 frames.1 ends.2 within
+      ∙ moved_again (row_end row) next rows tail sum.1 frames.1 ends.2 within
       (λ x low high. place x (omega (arith, low, ends.0, ends.1)) high
       ∙ omega (arith, here, low, ends.0, ends.1)) rest_there in
       ap₂ (λ (a b : List ℕ). a ++ b) first (ap₂ (λ (a b : List ℕ). a ++ b) own_again rest_again)

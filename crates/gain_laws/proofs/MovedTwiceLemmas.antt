@@ -27,25 +27,25 @@ gain_twice : (a b : ℤ) (gain : ℕ) → moved_gain b (moved_gain a gain) ≡ m
 gain_twice a b gain = rem_sum (pos gain +ℤ a) b ∙ ap rem (+ℤ_assoc (pos gain) a b)
 
 -- a gain is its own remainder modulo 256
-pub gain_as_is : (n : ℕ) → n < 256 → rem (pos n) ≡ n
-gain_as_is n small = omega arith
+pub gain_as_is : {n : ℕ} → n < 256 → rem (pos n) ≡ n
+gain_as_is small = omega arith
 
-gain_none : (gain : ℕ) → gain < 256 → moved_gain (pos 0) gain ≡ gain
-gain_none gain small = ap rem (+ℤ_idr (pos gain)) ∙ gain_as_is gain small
+gain_none : {gain : ℕ} → gain < 256 → moved_gain (pos 0) gain ≡ gain
+gain_none {gain} small = ap rem (+ℤ_idr (pos gain)) ∙ gain_as_is small
 
 -- after a sum within the range, the next leaves it exactly if the sum of both moves does
 gain_next : (a b : ℤ) (gain : ℕ) → is_out_of_range (pos gain +ℤ a) ≡ false
     → is_out_of_range (pos (moved_gain a gain) +ℤ b) ≡ is_out_of_range (pos gain +ℤ (a +ℤ b))
 gain_next a b gain inside =
-    let sum = within (pos gain +ℤ a) inside in
+    let sum = within {sum = pos gain +ℤ a} inside in
     let to : pos (moved_gain a gain) ≡ pos gain +ℤ a = grind (arith, pos, gain_as_is) in
     ap (λ z. is_out_of_range (z +ℤ b)) to ∙ ap is_out_of_range (+ℤ_assoc (pos gain) a b)
 
 -- ---- one granule
 
-moved_granule-silent : (steps : ℤ) (g : Granule) → is_silent_granule g ≡ true
+moved_granule-silent : (steps : ℤ) {g : Granule} → is_silent_granule g ≡ true
     → moved_granule steps g ≡ g
-moved_granule-silent steps g silent = grind arith
+moved_granule-silent steps silent = grind arith
 
 -- a granule that isn't silent gets the moved gain, and keeps all other fields
 pub moved_granule-loud : (steps : ℤ) (g : Granule) → is_silent_granule g ≡ false
@@ -63,8 +63,8 @@ granule_twice a b g = by_silence (is_silent_granule g) refl
     by_silence : (silent : Bool) → is_silent_granule g ≡ silent
         → moved_granule b (moved_granule a g) ≡ moved_granule (a +ℤ b) g
     by_silence true silent =
-        ap (moved_granule b) (moved_granule-silent a g silent) ∙ moved_granule-silent b g silent
-        ∙ sym (moved_granule-silent (a +ℤ b) g silent)
+        ap (moved_granule b) (moved_granule-silent a silent) ∙ moved_granule-silent b silent
+        ∙ sym (moved_granule-silent (a +ℤ b) silent)
     by_silence false loud =
         let h : Granule = record g { global_gain = moved_gain a g.global_gain } in
         ap (moved_granule b) (moved_granule-loud a g loud)
@@ -72,25 +72,25 @@ granule_twice a b g = by_silence (is_silent_granule g) refl
         ∙ ap (λ n. record g { global_gain = n }) (gain_twice a b g.global_gain)
         ∙ sym (moved_granule-loud (a +ℤ b) g loud)
 
-granule_none : (g : Granule) → g.global_gain < 256 → moved_granule (pos 0) g ≡ g
-granule_none g small = by_silence (is_silent_granule g) refl
+granule_none : {g : Granule} → g.global_gain < 256 → moved_granule (pos 0) g ≡ g
+granule_none {g} small = by_silence (is_silent_granule g) refl
   where
     by_silence : (silent : Bool) → is_silent_granule g ≡ silent → moved_granule (pos 0) g ≡ g
-    by_silence true silent = moved_granule-silent (pos 0) g silent
+    by_silence true silent = moved_granule-silent (pos 0) silent
     by_silence false loud = moved_granule-loud (pos 0) g loud
-        ∙ ap (λ n. record g { global_gain = n }) (gain_none g.global_gain small)
+        ∙ ap (λ n. record g { global_gain = n }) (gain_none small)
 
 -- after a change that keeps it in the range, a gain leaves the
 -- range by another change exactly if it does by both together
-pub granule_next : (a b all : ℤ) → all ≡ a +ℤ b → (g : Granule) → is_stuck a g ≡ false
+pub granule_next : (a b : ℤ) {all : ℤ} → all ≡ a +ℤ b → (g : Granule) → is_stuck a g ≡ false
     → is_stuck b (moved_granule a g) ≡ is_stuck all g
-granule_next a b all sum g first =
+granule_next a b sum g first =
     by_silence (is_silent_granule g) refl ∙ ap (λ z. is_stuck z g) (sym sum)
   where
     by_silence : (silent : Bool) → is_silent_granule g ≡ silent
         → is_stuck b (moved_granule a g) ≡ is_stuck (a +ℤ b) g
     by_silence true silent =
-        ap (is_stuck b) (moved_granule-silent a g silent)
+        ap (is_stuck b) (moved_granule-silent a silent)
         ∙ ap (λ s. not s && is_out_of_range (pos g.global_gain +ℤ b)) silent
         ∙ sym (ap (λ s. not s && is_out_of_range (pos g.global_gain +ℤ (a +ℤ b))) silent)
     by_silence false loud =
@@ -115,9 +115,9 @@ unfolding moved_side
 twice-with one two m p a b g h k l = grind (arith, granule_twice, side_with)
 
 -- moved by one change and then by another is moved by their sum
-pub side_twice : (one two : Steps) (s : Side) → IsShaped s
+pub side_twice : (one two : Steps) {s : Side} → IsShaped s
     → moved_side two (moved_side one s) ≡ moved_side (sum_of one two) s
-side_twice one two s shaped = each_shaped (λ t. moved_side two (moved_side one t)
+side_twice one two {s} shaped = each_shaped (λ t. moved_side two (moved_side one t)
     ≡ moved_side (sum_of one two) t) (twice-with one two) s shaped
 
 -- the gains are within their bits
@@ -133,8 +133,8 @@ pub gain_fits : (c : ClassFields) (has : Bool) (g : Granule)
 gain_fits c has g fits = grind arith
 
 -- all gains of side information that fits are below 256
-pub gains_fit : (c : ClassFields) (s : Side) → SideFits c s → GainsFit s
-gains_fit c s fits = grind (arith, gain_fits)
+pub gains_fit : {c : ClassFields} {s : Side} → SideFits c s → GainsFit s
+gains_fit fits = grind (arith, gain_fits)
 
 -- no step at all
 abbrev pub IsNoStep : Steps → Type 0
@@ -149,21 +149,21 @@ unfolding moved_side
 none-with steps none m p a b g h k l fits = grind (arith, granule_none, side_with)
 
 -- moved by no step, side information stays
-pub side_none : (steps : Steps) → IsNoStep steps → (s : Side) → IsShaped s → GainsFit s
+pub side_none : (steps : Steps) → IsNoStep steps → {s : Side} → IsShaped s → GainsFit s
     → moved_side steps s ≡ s
-side_none steps none s shaped = each_shaped (NoneGoal steps) (none-with steps none) s shaped
+side_none steps none {s} shaped = each_shaped (NoneGoal steps) (none-with steps none) s shaped
 
-free_of : (b : Bool) (stuck : OutOfRange) → cond b (Some stuck) None ≡ None → b ≡ false
-free_of b stuck e = grind arith
+free_of : {b : Bool} (stuck : OutOfRange) → cond b (Some stuck) None ≡ None → b ≡ false
+free_of stuck e = grind arith
 
-none_of : (b : Bool) (stuck : OutOfRange) → b ≡ false → cond b (Some stuck) None ≡ None
-none_of b stuck e = ap (λ a. cond a (Some stuck) None) e
+none_of : {b : Bool} (stuck : OutOfRange) → b ≡ false → cond b (Some stuck) None ≡ None
+none_of stuck e = ap (λ a. cond a (Some stuck) None) e
 
-none_each : (a b : Option OutOfRange) → option_or a b ≡ None → (a ≡ None) × (b ≡ None)
-none_each a b e = grind arith
+none_each : {a b : Option OutOfRange} → option_or a b ≡ None → (a ≡ None) × (b ≡ None)
+none_each e = grind arith
 
-none_both : (a b : Option OutOfRange) → a ≡ None → b ≡ None → option_or a b ≡ None
-none_both a b p q = ap₂ option_or p q
+none_both : {a b : Option OutOfRange} → a ≡ None → b ≡ None → option_or a b ≡ None
+none_both p q = ap₂ option_or p q
 
 -- the first of the four gains that would leave the range
 abbrev first_out_of : Steps → Side → Option OutOfRange
@@ -188,17 +188,15 @@ module _ (steps : Steps) (m p a b : ℕ) (g h k l : Granule) where
       let s = side_with m p a b g h k l in
       let last =
       option_or (gain_out_of_range steps.left s 1 0) (gain_out_of_range steps.right s 1 1) in
-      let all = none_each (gain_out_of_range steps.left s 0 0)
-      (option_or (gain_out_of_range steps.right s 0 1) last)
+      let all = none_each
       (sym (ap (λ w. cond w None (first_out_of steps s)) strict) ∙ free) in
-      let behind = none_each (gain_out_of_range steps.right s 0 1) last all.1 in
-      let two = none_each (gain_out_of_range steps.left s 1 0)
-      (gain_out_of_range steps.right s 1 1) behind.1 in
+      let behind = none_each all.1 in
+      let two = none_each behind.1 in
       record {
-        first = free_of _ _ all.0;
-        second = free_of _ _ behind.0;
-        third = free_of _ _ two.0;
-        fourth = free_of _ _ two.1;
+        first = free_of _ all.0;
+        second = free_of _ behind.0;
+        third = free_of _ two.0;
+        fourth = free_of _ two.1;
       }
 
   -- if each of the four gains can move, none would leave the range
@@ -224,14 +222,15 @@ ThenGoal one two all s =
     side_out_of_range one s ≡ None → side_out_of_range all s ≡ None
     → side_out_of_range two (moved_side one s) ≡ None
 
-then-with : (one two all : Steps) → one.wrap ≡ false → two.wrap ≡ false → all.wrap ≡ false
+then-with : (one two : Steps) {all : Steps} → one.wrap ≡ false → two.wrap ≡ false → all.wrap ≡ false
     → all.left ≡ one.left +ℤ two.left → all.right ≡ one.right +ℤ two.right
     → (m p a b : ℕ) (g h k l : Granule) → ThenGoal one two all (side_with m p a b g h k l)
-then-with one two all strict_one strict_two strict_all left right m p a b g h k l first whole =
+then-with one two
+    {all} strict_one strict_two strict_all left right m p a b g h k l first whole =
     let f = free-parts one m p a b g h k l strict_one first in
     let w = free-parts all m p a b g h k l strict_all whole in
-    let on_left = granule_next one.left two.left all.left left in
-    let on_right = granule_next one.right two.right all.right right in
+    let on_left = granule_next one.left two.left left in
+    let on_right = granule_next one.right two.right right in
     ap (side_out_of_range two) (moved_granule-with one m p a b g h k l)
     ∙ free-whole two m p a b (moved_granule one.left g) (moved_granule one.right h)
     (moved_granule one.left k)
@@ -246,14 +245,15 @@ then-with one two all strict_one strict_two strict_all left right m p a b g h k 
 
 -- if no gain leaves the range by one change nor by both together, none
 -- leaves it by the other change after the first; with wrap none ever does
-pub side_then : (one two all : Steps) (s : Side) → IsShaped s → two.wrap ≡ one.wrap || all.wrap
+pub side_then : (one two all : Steps) {s : Side} → IsShaped s → two.wrap ≡ one.wrap || all.wrap
     → all.left ≡ one.left +ℤ two.left → all.right ≡ one.right +ℤ two.right → side_out_of_range one s
     ≡ None → side_out_of_range all s ≡ None → side_out_of_range two (moved_side one s) ≡ None
-side_then one two all s shaped wraps left right first whole = by_wrap one.wrap all.wrap refl refl
+side_then one two all {s} shaped wraps left right first whole =
+    by_wrap one.wrap all.wrap refl refl
   where
     by_wrap : (v w : Bool) → one.wrap ≡ v → all.wrap ≡ w
         → side_out_of_range two (moved_side one s) ≡ None
     by_wrap false false e d =
-        each_shaped (ThenGoal one two all) (then-with one two all e
+        each_shaped (ThenGoal one two all) (then-with one two e
         (wraps ∙ ap₂ (λ (x y : Bool). x || y) e d) d left right) s shaped first whole
     by_wrap _ _ e d = wrapped-free two (moved_side one s) (wraps ∙ ap₂ (λ (x y : Bool). x || y) e d)

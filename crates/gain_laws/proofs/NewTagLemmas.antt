@@ -49,7 +49,7 @@ module _ (file : List ℕ) (allowed : ℕ) (start : Start) (read : IsRead file a
 
   place : (tag_offset (retagged_fields (length block) s) ≡ tag_offset s)
       × (tag_length (retagged_fields (length block) s) ≡ length block)
-  place = place-some (retagged_fields (length block) s) piece new_tag
+  place = place-some (retagged_fields (length block) s) new_tag
 
   again : (other : List ℕ)
       → file_with_tag other (retagged_fields (length block) s) new ≡ file_with_tag other s file
@@ -66,7 +66,7 @@ module _ (file : List ℕ) (allowed : ℕ) (start : Start) (read : IsRead file a
   pub has-new : HasNewTag file block s
   has-new = record {
     again = again;
-    tag = file_tag-some new (retagged_fields (length block) s) piece new_tag
+    tag = file_tag-some new (retagged_fields (length block) s) new_tag
         ∙ ap (tag_of_block (tag_offset s)) (new-own block file s within);
     place = place.0;
     size = place.1;
@@ -77,15 +77,16 @@ pub tagged-again : (file block : List ℕ) (allowed : ℕ) (s : SurveyFields)
     → survey_fields file allowed ≡ Ok s → s.junk ≡ s.first → block_front block
     ≡ Some (record { kind = Ape; length = length block }) → HasNewTag file block s
 tagged-again file block allowed s e clean is =
-    let parts = survey_fields-parts file allowed s e in
+    let parts = survey_fields-parts e in
     subst (HasNewTag file block) parts.2
-    (has-new file allowed parts.0 parts.1 (no_junk-start s file parts.0 parts.2 clean) block is)
+    (has-new file allowed parts.0 parts.1 (no_junk-start file parts.0 parts.2 clean) block is)
 
 -- ---- bytes
 
-bytes_from : (file bytes : List ℕ) (allowed : ℕ) (start : Start) → IsRead file allowed start
-    → start.front_end ≡ start.first.offset → AreTaggedBytes file bytes (told_from file start)
-bytes_from file bytes allowed start read no_junk =
+bytes_from : {file : List ℕ} (bytes : List ℕ) {allowed : ℕ} {start : Start}
+    → IsRead file allowed start → start.front_end ≡ start.first.offset
+    → AreTaggedBytes file bytes (told_from file start)
+bytes_from {file} bytes {allowed} {start} read no_junk =
     let s = told_from file start in
     let within = room file allowed start read no_junk [] (inl refl) in
     record { long = new-length bytes file s within; all = new-bytes bytes file s within }
@@ -95,6 +96,6 @@ bytes_from file bytes allowed start read no_junk =
 pub tagged-bytes : (file bytes : List ℕ) (allowed : ℕ) (s : SurveyFields)
     → survey_fields file allowed ≡ Ok s → s.junk ≡ s.first → AreTaggedBytes file bytes s
 tagged-bytes file bytes allowed s e clean =
-    let parts = survey_fields-parts file allowed s e in
+    let parts = survey_fields-parts e in
     subst (AreTaggedBytes file bytes) parts.2
-    (bytes_from file bytes allowed parts.0 parts.1 (no_junk-start s file parts.0 parts.2 clean))
+    (bytes_from bytes parts.1 (no_junk-start file parts.0 parts.2 clean))

@@ -27,21 +27,22 @@ BothGoal one two all s =
     side_out_of_range one s ≡ None → side_out_of_range two (moved_side one s) ≡ None
     → side_out_of_range all s ≡ None
 
-both-with : (one two all : Steps) → one.wrap ≡ false → two.wrap ≡ false → all.wrap ≡ false
+both-with : {one two all : Steps} → one.wrap ≡ false → two.wrap ≡ false → all.wrap ≡ false
     → AreTogether one two all → (m p a b : ℕ) (g h k l : Granule)
     → BothGoal one two all (side_with m p a b g h k l)
-both-with one two all strict_one strict_two strict_all sum m p a b g h k l first second =
+both-with strict_one strict_two strict_all sum m p a b g h k l first second =
     grind (arith, free-parts, moved_granule-with, granule_next, free-whole)
 
 -- if no gain is stuck by the one change and then by the other, none is by both together
-pub side_both : (one two all : Steps) (s : Side) → IsShaped s → all.wrap ≡ one.wrap || two.wrap
+pub side_both : {one two all : Steps} {s : Side} → IsShaped s → all.wrap ≡ one.wrap || two.wrap
     → AreTogether one two all → side_out_of_range one s ≡ None
     → side_out_of_range two (moved_side one s) ≡ None → side_out_of_range all s ≡ None
-side_both one two all s shaped wraps sum first second = by_wrap one.wrap two.wrap refl refl
+side_both {one} {two} {all} {s} shaped wraps sum first second =
+    by_wrap one.wrap two.wrap refl refl
   where
     by_wrap : (v w : Bool) → one.wrap ≡ v → two.wrap ≡ w → side_out_of_range all s ≡ None
     by_wrap false false e d =
-        each_shaped (BothGoal one two all) (both-with one two all e d
+        each_shaped (BothGoal one two all) (both-with e d
         (wraps ∙ ap₂ (λ (x y : Bool). x || y) e d) sum) s shaped first second
     by_wrap false true e d = wrapped-free all s (wraps ∙ ap₂ (λ (x y : Bool). x || y) e d)
     by_wrap true w e d = wrapped-free all s (wraps ∙ ap₂ (λ (x y : Bool). x || y) e d)
@@ -51,33 +52,33 @@ side_both one two all s shaped wraps sum first second = by_wrap one.wrap two.wra
 abbrev pub still : Steps
 still = record { left = pos 0; right = pos 0; wrap = false }
 
-still_granule : (z : ℤ) → z ≡ pos 0 → (g : Granule) → g.global_gain < 256 → is_stuck z g ≡ false
-still_granule z none g small = grind (arith, pos, le-ltb, is_stuck)
+still_granule : {z : ℤ} → z ≡ pos 0 → (g : Granule) → g.global_gain < 256 → is_stuck z g ≡ false
+still_granule none g small = grind (arith, pos, le-ltb, is_stuck)
 
 abbrev StillGoal : Steps → Side → Type 0
 StillGoal steps s = GainsFit s → side_out_of_range steps s ≡ None
 
-still-with : (steps : Steps) → IsNoStep steps → steps.wrap ≡ false
+still-with : {steps : Steps} → IsNoStep steps → steps.wrap ≡ false
     → (m p a b : ℕ) (g h k l : Granule) → StillGoal steps (side_with m p a b g h k l)
-still-with steps none strict m p a b g h k l fits = grind (arith, free-whole, still_granule)
+still-with none strict m p a b g h k l fits = grind (arith, free-whole, still_granule)
 
 -- by 0 steps no gain is stuck
-pub side_still : (steps : Steps) → IsNoStep steps → steps.wrap ≡ false → (s : Side) → IsShaped s
+pub side_still : {steps : Steps} → IsNoStep steps → steps.wrap ≡ false → {s : Side} → IsShaped s
     → GainsFit s → side_out_of_range steps s ≡ None
-side_still steps none strict s shaped =
-    each_shaped (StillGoal steps) (still-with steps none strict) s shaped
+side_still {steps} none strict {s} shaped =
+    each_shaped (StillGoal steps) (still-with none strict) s shaped
 
 -- the gains of a frame fit
-pub row_fits : (file : List ℕ) (row : Row) → IsFrameOf file row → GainsFit row.side
-row_fits file row here = grind (arith, gains_fit, fits-side_in, frame_of, whole_class)
+pub row_fits : {file : List ℕ} {row : Row} → IsFrameOf file row → GainsFit row.side
+row_fits here = grind (arith, gains_fit, fits-side_in, frame_of, whole_class)
 
 -- ---- all frames
 
 -- what follows for a frame none of whose gains leaves the range also follows for a lost one, whose
 -- gains are never looked at
-unless_both : (lost : Bool) (a b c : Option OutOfRange) → (a ≡ None → b ≡ None → c ≡ None)
+unless_both : (lost : Bool) {a b c : Option OutOfRange} → (a ≡ None → b ≡ None → c ≡ None)
     → cond lost None a ≡ None → cond lost None b ≡ None → cond lost None c ≡ None
-unless_both lost a b c three first second = grind arith
+unless_both lost three first second = grind arith
 
 moved_or_lost : (lost : Bool) (two one : Steps) (s : Side)
     → cond lost None (side_out_of_range two (moved_side_unless_lost lost one s))
@@ -86,23 +87,21 @@ moved_or_lost lost two one s = grind arith
 
 -- if no gain leaves its range by the first change, and then none by the second, none does by both
 -- together
-pub range_both : (one two all : Steps) → all.wrap ≡ one.wrap || two.wrap → AreTogether one two all
+pub range_both : {one two all : Steps} → all.wrap ≡ one.wrap || two.wrap → AreTogether one two all
     → (file : List ℕ) (to : ℕ → ℕ) (rows : List Row) → AreFramesOf file rows
     → range_fault (constant_steps one) rows ≡ None
     → range_fault (constant_steps two) (map (stood to (constant_steps one)) rows)
     ≡ None → range_fault (constant_steps all) rows ≡ None
-range_both one two all wraps sum file to [] frames first second = grind (arith, first-nil)
-range_both one two all wraps sum file to (row ∷ rows) frames first second =
+range_both wraps sum file to [] frames first second = grind (arith, first-nil)
+range_both {one} {two} {all} wraps sum file to (row ∷ rows) frames first second =
     let f = frame-none (constant_steps one) row rows first in
     let t =
     frame-none (constant_steps two) (stood to (constant_steps one) row)
     (map (stood to (constant_steps one)) rows) second in
     none-frame (constant_steps all) row rows
-    (unless_both row.lost (side_out_of_range one row.side)
-    (side_out_of_range two (moved_side one row.side)) (side_out_of_range
-    all row.side) (side_both one two all row.side (row_shaped file row frames.0) wraps sum)
+    (unless_both row.lost (side_both (row_shaped frames.0) wraps sum)
     f.0 (sym (moved_or_lost row.lost two one row.side) ∙ t.0))
-    (range_both one two all wraps sum file to rows frames.1 f.1 t.1)
+    (range_both wraps sum file to rows frames.1 f.1 t.1)
 
 -- these steps and then those are no step at all for a frame, and both changes wrap or neither does
 pub record AreOpposite (one two : Steps) : Type 0 where
@@ -116,11 +115,11 @@ AllOpposite one two to (row ∷ rows) =
     AreOpposite (one row.offset) (two (to row.offset)) × AllOpposite one two to rows
 
 -- opposite steps for all frames are opposite for each
-pub constant_steps-opposite : (one two : Steps) → AreOpposite one two
+pub constant_steps-opposite : {one two : Steps} → AreOpposite one two
     → (to : ℕ → ℕ) (rows : List Row) → AllOpposite (constant_steps one) (constant_steps two) to rows
-constant_steps-opposite one two opposite to [] = tt
-constant_steps-opposite one two opposite to (row ∷ rows) =
-    (opposite, constant_steps-opposite one two opposite to rows)
+constant_steps-opposite opposite to [] = tt
+constant_steps-opposite {one} {two} opposite to (row ∷ rows) =
+    (opposite, constant_steps-opposite opposite to rows)
 
 -- if both together are no step, no gain that the first moved leaves its range by the second
 pub range_back : (one two : ℕ → Steps) (file : List ℕ) (to : ℕ → ℕ) (rows : List Row)
@@ -132,13 +131,12 @@ range_back one two file to (row ∷ rows) opposite frames free =
     let a = one row.offset in
     let b = two (to row.offset) in
     let f = frame-none one row rows free in
-    let shaped = row_shaped file row frames.0 in
+    let shaped = row_shaped frames.0 in
     none-frame two (stood to one row) (map (stood to one) rows)
     (moved_or_lost row.lost b a row.side
-    ∙ unless_both row.lost (side_out_of_range a row.side) (side_out_of_range a row.side)
-    (side_out_of_range b (moved_side a row.side))
-    (λ first again. side_then a b still row.side shaped (opposite.0.wraps ∙ or_none a.wrap)
+    ∙ unless_both row.lost
+    (λ first again. side_then a b still shaped (opposite.0.wraps ∙ or_none a.wrap)
     (sym opposite.0.left) (sym opposite.0.right) first
-    (side_still still (refl, refl) refl row.side shaped (row_fits file row frames.0)))
+    (side_still (refl, refl) refl shaped (row_fits frames.0)))
     f.0 f.0)
     (range_back one two file to rows opposite.1 frames.1 f.1)

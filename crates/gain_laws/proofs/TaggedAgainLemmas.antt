@@ -58,7 +58,7 @@ module _ (one : ℕ → Steps) (file : List ℕ) (allowed : ℕ) (s : SurveyFiel
   to x = retagged_offset size m (x - gap)
 
   moved_of : survey_fields (edited_file one file s) allowed ≡ Ok m
-  moved_of = survey_fields-edited_file one file allowed s are is
+  moved_of = survey_fields-edited_file one file allowed are is
 
   clean : m.junk ≡ m.first
   unfolding edited_survey
@@ -73,7 +73,7 @@ module _ (one : ℕ → Steps) (file : List ℕ) (allowed : ℕ) (s : SurveyFiel
   has_block = tagged-again (edited_file one file s) block allowed m moved_of clean front
 
   some : 10 ≤ size
-  some = block_front-least block _ front
+  some = block_front-least block front
 
   rows_twice : (rows : List Row)
       → map (retagged_row size m) (map (edited_row one gap) rows) ≡ map (stood to one) rows
@@ -106,16 +106,16 @@ module _ (one : ℕ → Steps) (file : List ℕ) (allowed : ℕ) (s : SurveyFiel
   old_size = length_moved one s
 
   here : StandsSomewhere one file s
-  here = stands_somewhere one file allowed s is
+  here = stands_somewhere one allowed is
 
   frames : AreFramesOf file s.frames
-  frames = frames_there file allowed s are is
+  frames = frames_there file allowed are is
 
   new_size : tag_length new_survey ≡ size
   new_size = has_block.size
 
   whole : length new ≡ new_survey.length
-  whole = (stands_somewhere one new allowed new_survey new_is).size
+  whole = (stands_somewhere one allowed new_is).size
 
   -- its tag is after the same bytes, and before the same
   module _ (before behind : List ℕ) (parted : IsParted one file s before behind) where
@@ -179,9 +179,9 @@ module _ (one : ℕ → Steps) (file : List ℕ) (allowed : ℕ) (s : SurveyFiel
       low = omega (arith, place, first_same, at.low, here.junk);
       past = omega (arith, place, junk_same, at.low, here.junk);
       front = subst (EndBy new_survey.first (map (stood to one) at.before)) to_place
-          (ends_again one to s.first a new_survey.first at.before at.front by_before);
+          (ends_again one s.first new_survey.first at.before at.front by_before);
       rest = subst (EndBy next (map (stood to one) at.behind)) (to_end ∙ whole)
-          (ends_again one to (a + old) (length file) next at.behind rest_file by_behind);
+          (ends_again one (a + old) next at.behind rest_file by_behind);
       up = omega (arith, to_end, whole);
     }
 
@@ -190,7 +190,7 @@ module _ (one : ℕ → Steps) (file : List ℕ) (allowed : ℕ) (s : SurveyFiel
     n = new_survey
 
     there : StandsSomewhere two new n
-    there = stands_somewhere two new allowed n new_is
+    there = stands_somewhere two allowed new_is
 
     -- the tag is before the frames
     front_again : IsInFront s → (bytes : List ℕ)
@@ -241,7 +241,7 @@ module _ (one : ℕ → Steps) (file : List ℕ) (allowed : ℕ) (s : SurveyFiel
         let rows_same : moved_to two new n.first (length new) n.frames
         ≡ moved_to all file s.first (length file) s.frames =
         ap₂ (λ k (l : List Row). moved_to two new n.first k l) (sym end) new_frames
-        ∙ moved_again one two all file new to s.first (length file) n.first s.frames [] sum frames
+        ∙ moved_again one two all file new to s.first n.first s.frames [] sum frames
         (subst (EndBy s.first s.frames) (sym here.size) here.ends) (omega arith) by rows_stand in
         (parted_front two new allowed n new_is at_new).tagged bytes
         ∙ ap₂ (λ (j k : List ℕ). j ++ (bytes ++ k)) before_same
@@ -295,7 +295,7 @@ module _ (one : ℕ → Steps) (file : List ℕ) (allowed : ℕ) (s : SurveyFiel
           ≡ moved_to all file s.first a at.before
       before_again =
           ap (λ k. moved_to two new n.first k (map (stood to one) at.before)) (sym (to_place at))
-          ∙ moved_again one two all file new to s.first a n.first at.before (block ++ behind)
+          ∙ moved_again one two all file new to s.first n.first at.before (block ++ behind)
           (each_before (IsTogether one two all to) at.before at.behind sum_both)
           (each_before (IsFrameOf file) at.before at.behind both) at.front (omega (arith, up))
           (by_before at) before_stands
@@ -307,7 +307,7 @@ module _ (one : ℕ → Steps) (file : List ℕ) (allowed : ℕ) (s : SurveyFiel
           ≡ moved_to all file (a + old) (length file) at.behind
       behind_again =
           ap (λ k. moved_to two new after k (map (stood to one) at.behind)) (sym (to_end at))
-          ∙ moved_again one two all file new to (a + old) (length file) after at.behind []
+          ∙ moved_again one two all file new to (a + old) after at.behind []
           (each_behind (IsTogether one two all to) at.before at.behind sum_both)
           (each_behind (IsFrameOf file) at.before at.behind both) (rest_file at) (omega arith)
           (by_behind at) behind_stands

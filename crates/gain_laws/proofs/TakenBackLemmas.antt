@@ -68,14 +68,14 @@ opposite_together one two to (row ∷ rows) opposite = (
 -- ---- the change
 
 -- a sheet whose curve is known, and along which no gain leaves the range, isn't refused
-fade-ok : (sheet : Option (List ℕ)) (back : Bool) (s : SurveyFields) (curve : List CurvePoint)
+fade-ok : (sheet : Option (List ℕ)) (back : Bool) (s : SurveyFields) {curve : List CurvePoint}
     → then_made (sheet_in sheet) (sheet_curve s) ≡ Ok curve
     → range_fault (steps_at_offset (Along curve back) s.frames) s.frames ≡ None
     → input_sheet_change sheet back s
     ≡ Ok (record { steps = steps_at_offset (Along curve back) s.frames; tag = None })
 unfolding sheet_change
-fade-ok sheet back s curve is free =
-    let read = then_ok (sheet_in sheet) (sheet_curve s) curve is in
+fade-ok sheet back s {curve} is free =
+    let read = then_ok is in
     ap (λ (r : Result (List ℕ) EditFault). then_made r (λ bytes. sheet_change bytes back s)) read.1
     ∙ ap (λ (r : Result (List CurvePoint) EditFault). then_made r (curve_change back s)) read.2
     ∙ ap (λ (o : Option Refusal). refusal_or o
@@ -102,7 +102,7 @@ module _ (curve : List CurvePoint) (back : Bool) (file : List ℕ) (s : SurveyFi
   nearer x = x - junk_length s
 
   is : survey_fields file most_frames ≡ Ok s
-  is = (survey_of-parts file most_frames s short).1
+  is = (survey_of-parts file most_frames short).1
 
   moved_frames : m.frames ≡ map (stood nearer one) s.frames
   unfolding edited_survey
@@ -113,22 +113,22 @@ module _ (curve : List CurvePoint) (back : Bool) (file : List ℕ) (s : SurveyFi
   moved_class = refl
 
   -- each frame has the same number in the faded file
-  moved_number : (i : ℕ) (row : Row) → slice_get s.frames i ≡ Some row
+  moved_number : {i : ℕ} {row : Row} → slice_get s.frames i ≡ Some row
       → number_at m.frames (nearer row.offset) ≡ i
-  moved_number i row there =
-      survey_numbered moved most_frames m
-      (survey_fields-edited_file one file most_frames s are is) i
+  moved_number {i} {row} there =
+      survey_numbered moved most_frames
+      (survey_fields-edited_file one file most_frames are is) i
       (stood nearer one row)
       (ap (λ (l : List Row). slice_get l i) moved_frames
       ∙ slice_get-map (stood nearer one) s.frames i ∙ ap (option_map (stood nearer one)) there)
 
-  opposite_there : (i : ℕ) (row : Row) → slice_get s.frames i ≡ Some row
+  opposite_there : (i : ℕ) {row : Row} → slice_get s.frames i ≡ Some row
       → AreOpposite (one row.offset) (two (nearer row.offset))
-  opposite_there i row there =
+  opposite_there i {row} there =
       let here : number_at s.frames row.offset ≡ i =
-      survey_numbered file most_frames s is i row there in
+      survey_numbered file most_frames is i row there in
       subst (λ (n : ℕ). AreOpposite (one row.offset) (course_steps (Along curve (not back)) n))
-      (here ∙ sym (moved_number i row there))
+      (here ∙ sym (moved_number there))
       (equal_steps-opposite back (steps_at curve (number_at s.frames row.offset)))
 
   opposites : AllOpposite one two nearer s.frames
@@ -152,19 +152,19 @@ module _ (curve : List CurvePoint) (back : Bool) (file : List ℕ) (s : SurveyFi
       let range : range_fault two m.frames ≡ None =
       ap (range_fault two) moved_frames ∙ range_back one two file nearer s.frames opposites
       (frames one two file s sum are short) free in
-      file_with_change-ok (fade_change sheet (not back)) moved m
-      (record { steps = two; tag = None })
+      file_with_change-ok (fade_change sheet (not back))
       (new_survey one two file s sum are short)
-      (fade-ok sheet (not back) m curve
+      (fade-ok sheet (not back) m
       (ap (then_made (sheet_in sheet)) (λ i bytes. same_curve bytes i) ∙ by) range)
       ∙ ap Ok (plain-file_with_change two moved m ∙ bytes_again one two file s sum are short)
 
 -- a fade and the fade the other way with the same sheet give back all bytes except the junk
 pub back_again : FadeGivesBack
 back_again sheet back file new s are short e =
-    let is = (survey_of-parts file most_frames s short).1 in
-    let made = made_of (fade_change sheet back) file new s short e in
-    let parts = faded-parts sheet back s made.change made.made in
+    let is = (survey_of-parts file most_frames {s = s} short).1 in
+    let made = made_of {of = fade_change sheet back} {file = file} {new = new} {s = s} short e in
+    let parts =
+    faded-parts {sheet = sheet} {back = back} {s = s} {change = made.change} made.made in
     let steps : ℕ → Steps = steps_at_offset (Along parts.curve back) s.frames in
     let there : edited_file steps file s ≡ new = sym (plain-file_with_change steps file s)
     ∙ ap (λ (c : FileChange). file_with_change c file s) parts.made ∙ made.bytes in
@@ -174,13 +174,13 @@ back_again sheet back file new s are short e =
     let kept : file_with_change (record { steps = constant_steps still; tag = None }) file s
     ≡ file_without_junk s file =
     plain-file_with_change (constant_steps still) file s
-    ∙ edited_file-still still (refl, refl) file most_frames s are is in
+    ∙ edited_file-still still (refl, refl) file most_frames {s = s} are is in
     record {
       made = again;
       same = λ clean. again ∙ ap Ok
           (ap (λ n. take s.junk file ++ drop n file) (sym clean) ∙ take-append-drop s.junk file);
       stream = subst (λ (l : List ℕ). HoldsStream l (stream_of file)) kept
-          (still_holds still (refl, refl) None tt file most_frames s are is);
+          (still_holds still (refl, refl) None tt file most_frames {s = s} are is);
     }
 
 -- ---- the command
@@ -193,21 +193,21 @@ record IsMadeApart (apart : Bool) (output : List ℕ) (r : Result (List ℕ) Edi
   pub makes : r ≡ Ok bytes
   pub is : record { outputs = record { name = output; bytes = bytes } ∷ []; text = [] } ≡ made
 
-made_apart : (first second : Bool) (output : List ℕ) (r : Result (List ℕ) EditFault) (made : Made)
+made_apart : (first second : Bool) {output : List ℕ} (r : Result (List ℕ) EditFault) {made : Made}
     → command_result output (clash_or (cond (first || false) (Some 0)
     (cond (second || false) (Some 1) None)) r) ≡ Ok made → IsMadeApart second output r made
-made_apart true second output r made e = absurd cc
-made_apart false true output r made e = absurd cc
-made_apart false false output (Err fault) made e = absurd cc
-made_apart false false output (Ok bytes) made e =
-    record { other = refl; bytes = bytes; makes = refl; is = made-same _ made e }
+made_apart true second r e = absurd cc
+made_apart false true r e = absurd cc
+made_apart false false (Err fault) e = absurd cc
+made_apart false false (Ok bytes) {made} e =
+    record { other = refl; bytes = bytes; makes = refl; is = made-same e }
 
 module _ (sheet input output : List ℕ) (back : Bool) (files : Contents) where
-  done_apart : (made : Made) → (fade_command sheet back input output).makes files ≡ Ok made
+  done_apart : {made : Made} → (fade_command sheet back input output).makes files ≡ Ok made
       → IsMadeApart (bytes_eq sheet output) output ((fade_task sheet back input).makes files) made
   unfolding task_result
-  done_apart made e = made_apart (bytes_eq input output) (bytes_eq sheet output) output
-      ((fade_task sheet back input).makes files) made e
+  done_apart {made} e = made_apart (bytes_eq input output) (bytes_eq sheet output)
+      ((fade_task sheet back input).makes files) e
 
   makes_apart : output ≢ input → output ≢ sheet → (fade_command sheet back input output).makes files
       ≡ command_result output ((fade_task sheet back input).makes files)
@@ -215,16 +215,16 @@ module _ (sheet input output : List ℕ) (back : Bool) (files : Contents) where
   makes_apart first second =
       ap₂ (λ (a b : Bool). command_result output (clash_or (cond (a || false) (Some 0)
       (cond (b || false) (Some 1) None)) ((fade_task sheet back input).makes files)))
-      (bytes_eq_other input output first) (bytes_eq_other sheet output second)
+      (bytes_eq_other first) (bytes_eq_other second)
 
 -- the two commands give back all bytes except the junk
 pub command_back : FadeIsTakenBack
 command_back sheet input output last back files file made held are e first second =
-    let done = done_apart sheet input output back files made e in
+    let done = done_apart sheet input output back files e in
     let of_file : change_result (fade_change (files sheet) back) file ≡ Ok done.bytes =
     sym (ap (input_result (change_making (fade_change (files sheet) back))) held) ∙ done.makes in
     let parts =
-    made_parts (change_making (fade_change (files sheet) back)) file done.bytes of_file in
+    made_parts (change_making (fade_change (files sheet) back)) of_file in
     let again = back_again (files sheet) back file done.bytes parts.0 are parts.1 of_file in
     let new = with_file files output done.bytes in
     let new_is : new ≡ written_files made.outputs files =
@@ -237,7 +237,7 @@ command_back sheet input output last back files file made held are e first secon
     ∙ makes_apart sheet output last (not back) new first second
     ∙ ap₂ (λ (o p : Option (List ℕ)). command_result last
     (input_result (change_making (fade_change o (not back)))
-    p)) (with_file_other files output done.bytes sheet apart)
+    p)) (with_file_other files done.bytes apart)
     (with_file_here files output done.bytes) in
     record {
       survey = parts.0;

@@ -44,9 +44,9 @@ AreSmall [] = Unit {0}
 AreSmall (gain ∷ gains) = (gain < 256) × AreSmall gains
 
 -- one gain takes steps exactly if it doesn't leave the range by them
-pub takes_steps-one : (gain : ℕ) (steps : ℤ) → gain < 256
+pub takes_steps-one : {gain : ℕ} (steps : ℤ) → gain < 256
     → takes_steps (Some (record { least = gain; greatest = gain })) steps ≡ inside steps gain
-takes_steps-one gain steps small = grind arith
+takes_steps-one steps small = grind arith
 
 -- ---- many gains
 
@@ -72,7 +72,7 @@ takes_steps-all (gain ∷ gains) steps small =
     ap (λ g. takes_steps g steps) (sym (joined_extremes-append (gain ∷ []) gains))
     ∙ takes_steps-joined_extremes (extremes (gain ∷ [])) (extremes gains) steps
     ∙ ap₂ (λ (a b : Bool). a && b) (ap (λ g. takes_steps g steps) (extremes-one gain)
-    ∙ takes_steps-one gain steps small.0) (takes_steps-all gains steps small.1)
+    ∙ takes_steps-one steps small.0) (takes_steps-all gains steps small.1)
 
 and_assoc : (a b c : Bool) → (a && (b && c)) ≡ ((a && b) && c)
 and_assoc a b c = grind arith
@@ -210,9 +210,9 @@ small_moving channel (row ∷ rows) fits = small-append (row_gains channel row)
 
 -- ---- one channel
 
-lacks : (has : Bool) (version : Version) (g : Granule) → has ≡ false
+lacks : {has : Bool} (version : Version) {g : Granule} → has ≡ false
     → MatchBool has (GranuleFits version g) (g ≡ no_granule) → g ≡ no_granule
-lacks has version g none fits = grind arith
+lacks version none fits = grind arith
 
 no_second : (c : ClassFields) (granule : ℕ) → c.channels ≡ 1 → has_granule c granule 1 ≡ false
 no_second c granule one = by_granule (ltb granule (granules_of c.version))
@@ -223,17 +223,17 @@ no_second c granule one = by_granule (ltb granule (granules_of c.version))
     by_granule : (b : Bool) → (b && ltb 1 c.channels) ≡ false
     by_granule b = grind arith
 
-mono_at : (class : ClassFields) (row : Row) → class_of row.header ≡ class → class.channels ≡ 1
+mono_at : {class : ClassFields} (row : Row) → class_of row.header ≡ class → class.channels ≡ 1
     → SideFits (class_of row.header) row.side → row_gains 1 row ≡ []
-mono_at class row same one fits = grind (arith, lacks, no_second)
+mono_at row same one fits = grind (arith, lacks, no_second)
 
-mono_moving : (class : ClassFields) (rows : List Row) → AreFramesOfClass class rows
+mono_moving : {class : ClassFields} (rows : List Row) → AreFramesOfClass class rows
     → class.channels ≡ 1 → AreSidesFitting rows → moving_gains 1 rows ≡ []
-mono_moving class [] same one fits = moving-nil 1
-mono_moving class (row ∷ rows) same one fits =
+mono_moving [] same one fits = moving-nil 1
+mono_moving {class} (row ∷ rows) same one fits =
     moving-cons 1 row rows
-    ∙ ap₂ (λ (a b : List ℕ). a ++ b) (mono_at class row (same 0 row refl) one fits.0)
-    (mono_moving class rows (λ i r is. same (suc i) r is) one fits.1)
+    ∙ ap₂ (λ (a b : List ℕ). a ++ b) (mono_at row (same 0 row refl) one fits.0)
+    (mono_moving rows (λ i r is. same (suc i) r is) one fits.1)
 
 -- ---- the law
 
@@ -259,7 +259,7 @@ take_steps rows fits = record {
       (all_inside (steps at) (moving_gains 1 rows)) (sym (on_both (steps at)) ∙ takes_all at));
   wrap = λ steps wraps. wrap_stuck steps rows wraps;
   mono = λ class same one. ap (λ gains. extremes (moving_gains 0 rows ++ gains))
-      (mono_moving class rows same one fits) ∙ ap extremes (append-nil (moving_gains 0 rows));
+      (mono_moving rows same one fits) ∙ ap extremes (append-nil (moving_gains 0 rows));
 }
   where
     left_small : AreSmall (moving_gains 0 rows)

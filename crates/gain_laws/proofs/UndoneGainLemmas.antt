@@ -6,17 +6,16 @@ use Rattle.std.proofs.Math.IntN.{+ℤ_assoc, +ℤ_comm, -ℤ-+ℤ_cancel}
 use Rattle.std.{proofs.lemmas.Bool.{le-ltb, ltb-false, ne_eqb}, specs.Prelude.{unsigned_abs, ◌-ℤ◌}}
 use Rattle.bit_fields.specs.Bits.{AreBytes}
 use Rattle.commands.proofs.RefusingLemmas.{none_first, refusal_or-ok, then_ok}
-use Rattle.commands.specs.{Refusing.{or_else, refusal_or, then_made}, SingleOutput.most_frames}
+use Rattle.commands.specs.{Refusing.{refusal_or, then_made}, SingleOutput.most_frames}
 use Rattle.commands.specs.declared.fault.{EditFault.EditFault, Refusal.Refusal}
 use Rattle.gain_edits.proofs.ProperLemmas.{file_tag-is, file_with_change-ok, made_of, same_tag}
 use Rattle.gain_edits.proofs.{ProperLemmas.unless_empty-are, RefusalLemmas.not_there}
-use Rattle.gain_edits.specs.{Change.change_result, Channels.channel_fault}
-use Rattle.gain_edits.specs.{Gain.{gain_change, noted_change}, GainRange.range_fault}
+use Rattle.gain_edits.specs.{Change.change_result, Gain.{gain_change, noted_change}}
+use Rattle.gain_edits.specs.GainRange.{range_fault}
 use Rattle.gain_edits.specs.Undo.{undo_change, undone_change, undone_tag_change}
 use Rattle.gain_edits.specs.UndoItem.{bytes_unless_empty, found_undo, next_undo, no_undo}
-use Rattle.gain_edits.specs.UndoItem.{noted_undo, number_fault, output_fault, output_length}
-use Rattle.gain_edits.specs.UndoItem.{size_fault, tag_result, tag_with_undo, tag_without_undo}
-use Rattle.gain_edits.specs.UndoItem.{undo_fault, undo_steps}
+use Rattle.gain_edits.specs.UndoItem.{noted_undo, number_fault, output_length, tag_result}
+use Rattle.gain_edits.specs.UndoItem.{tag_with_undo, tag_without_undo, undo_fault, undo_steps}
 use Rattle.gain_laws.proofs.MovedAgainLemmas.{AreTogether, even_together, stood}
 use Rattle.gain_laws.proofs.MovedTwiceLemmas.{sum_of}
 use Rattle.gain_laws.proofs.OppositeStepLemmas.{edited_file-still, own_again, still_holds}
@@ -64,24 +63,23 @@ sum_first step = +ℤ_comm step (pos 0 -ℤ step) ∙ -ℤ-+ℤ_cancel (pos 0) s
 
 -- ---- the undo item
 
-missing_cases : (b : Bool) (place : ℕ) (o : Option Undo) (later : UndoItem) (item : TagItem)
-    (items left : List TagItem) → cond b (undo_at place o) later ≡ Missing
+missing_cases : (b : Bool) (place : ℕ) (o : Option Undo) {later : UndoItem} (item : TagItem)
+    {items left : List TagItem} → cond b (undo_at place o) later ≡ Missing
     → (later ≡ Missing → left ≡ items) → cond b items (item ∷ left) ≡ item ∷ items
-missing_cases b place o later item items left e rest = grind arith
+missing_cases b place o item e rest = grind arith
 
 -- items without an undo item stay the same when it is removed
 without_none : (place : ℕ) (items : List TagItem) → undo_from place items ≡ Missing
     → without_undo items ≡ items
 without_none place [] e = refl
 without_none place (item ∷ items) e =
-    missing_cases (is_undo item) place (undo_of item.value)
-    (undo_from (place + item_length item) items) item items (without_undo items) e
+    missing_cases (is_undo item) place (undo_of item.value) item e
     (λ none. without_none (place + item_length item) items none)
 
 -- a tag without an undo item stays the same when it is removed
-pub tag_without_undo-none : (tag : TagFields) → undo_from 32 tag.items ≡ Missing
+pub tag_without_undo-none : {tag : TagFields} → undo_from 32 tag.items ≡ Missing
     → tag_without_undo tag ≡ tag
-tag_without_undo-none tag e = grind (arith, without_none)
+tag_without_undo-none e = grind (arith, without_none)
 
 -- an undo that was put in doesn't change what is left when it is removed
 pub tag_without_undo-with : (undo : Undo) (tag : TagFields)
@@ -89,24 +87,24 @@ pub tag_without_undo-with : (undo : Undo) (tag : TagFields)
 tag_without_undo-with undo tag = grind (arith, without_undo-with_undo, undo)
 
 -- an undo that was put in is found
-pub found_with : (undo : Undo) (tag : TagFields) → UndoFitsText undo
+pub found_with : {undo : Undo} (tag : TagFields) → UndoFitsText undo
     → undo_from 32 (tag_with_undo undo tag).items ≡ Found undo
-found_with undo tag fits = undo_from-with_undo undo tag.items 32 (undo_of-undo_text undo fits)
+found_with {undo} tag fits = undo_from-with_undo tag.items 32 (undo_of-undo_text fits)
 
 -- ---- the tag of a block
 
 -- a tag is read from the block of its bytes
-pub block_read : (at : ℕ) (tag : TagFields) → IsTag tag → length (tag_bytes tag) ≤ longest_tag
+pub block_read : (at : ℕ) {tag : TagFields} → IsTag tag → length (tag_bytes tag) ≤ longest_tag
     → tag_of_block at (tag_bytes tag) ≡ Ok tag
-block_read at tag are small = grind (arith, le-ltb, small, tag_of-tag_bytes, are)
+block_read at are small = grind (arith, le-ltb, small, tag_of-tag_bytes, are)
 
 -- ---- changes that were accepted
 
 small_number : (number : ℤ) → number_fault number ≡ None → unsigned_abs number ≤ 999
 small_number number e = grind (arith, ltb-false, not_there)
 
-fits_text : (undo : Undo) → undo_fault undo ≡ None → UndoFitsText undo
-fits_text undo e = let both = none_first (number_fault undo.left) (number_fault undo.right) e in
+fits_text : {undo : Undo} → undo_fault undo ≡ None → UndoFitsText undo
+fits_text {undo} e = let both = none_first e in
     record { left = small_number undo.left both.0; right = small_number undo.right both.1 }
 
 -- the undo fits, the tag and the file aren't too long, and no gain leaves its range
@@ -121,28 +119,24 @@ pub record AreNoted (shift : Shift) (s : SurveyFields) (tag : TagFields) (undo :
     tag = Some (tag_bytes (tag_with_undo (next_undo shift undo) tag));
   } ≡ change
 
-noted_parts : (shift : Shift) (s : SurveyFields) (tag : TagFields) (undo : Undo)
-    (change : FileChange) → noted_change shift s tag undo ≡ Ok change
+noted_parts : {shift : Shift} {s : SurveyFields} {tag : TagFields} {undo : Undo}
+    {change : FileChange} → noted_change shift s tag undo ≡ Ok change
     → AreNoted shift s tag undo change
-noted_parts shift s tag undo change e =
+noted_parts {shift} {s} {tag} {undo} {change} e =
     let next = next_undo shift undo in
     let bytes = tag_bytes (tag_with_undo next tag) in
-    let all = refusal_or-ok _ _ change e in
+    let all = refusal_or-ok e in
     let apart =
-    none_first (channel_fault shift s) (or_else (undo_fault next) (or_else (size_fault bytes)
-    (or_else (output_fault s bytes) (range_fault (constant_steps (steps_of shift)) s.frames))))
+    none_first
     all.0 in
-    let number = none_first (undo_fault next) (or_else (size_fault bytes)
-    (or_else (output_fault s bytes) (range_fault (constant_steps (steps_of shift)) s.frames)))
+    let number = none_first
     apart.1 in
-    let size = none_first (size_fault bytes)
-    (or_else (output_fault s bytes) (range_fault (constant_steps (steps_of shift)) s.frames))
+    let size = none_first
     number.1 in
     let output =
-    none_first (output_fault s bytes)
-    (range_fault (constant_steps (steps_of shift)) s.frames) size.1 in
+    none_first size.1 in
     record {
-      fits = fits_text next number.0;
+      fits = fits_text number.0;
       small = grind (arith, ltb-false, not_there);
       few = grind (arith, ltb-false, not_there);
       free = output.1;
@@ -150,12 +144,12 @@ noted_parts shift s tag undo change e =
     }
 
 -- a noted change of a file whose tag is read and has this undo has these properties
-pub gain_noted : (shift : Shift) (file : List ℕ) (s : SurveyFields) (tag : TagFields) (undo : Undo)
-    (change : FileChange) → tag_result (file_tag file s) ≡ Ok tag
+pub gain_noted : {shift : Shift} (file : List ℕ) {s : SurveyFields} {tag : TagFields} {undo : Undo}
+    {change : FileChange} → tag_result (file_tag file s) ≡ Ok tag
     → noted_undo (tag_offset s) (undo_from 32 tag.items) ≡ Ok undo
     → gain_change shift true file s ≡ Ok change → AreNoted shift s tag undo change
 unfolding gain_change
-gain_noted shift file s tag undo change read item e = grind (arith, noted_parts, undo, item)
+gain_noted file {undo = undo} read item e = grind (arith, noted_parts, undo, item)
 
 -- ---- what is known of the changed file
 
@@ -186,7 +180,7 @@ file_with_change-with : (steps : Steps) (bytes file : List ℕ) (s : SurveyField
 unfolding file_with_change
 file_with_change-with steps bytes file s = refl
 
-undo_made : (file : List ℕ) (s : SurveyFields) (tag : TagFields) (undo : Undo)
+undo_made : (file : List ℕ) (s : SurveyFields) {tag : TagFields} {undo : Undo}
     → tag_result (file_tag file s) ≡ Ok tag
     → found_undo (tag_offset s) (undo_from 32 tag.items) ≡ Ok undo
     → range_fault (constant_steps (undo_steps undo)) s.frames ≡ None → undo_change file s ≡ Ok
@@ -195,7 +189,7 @@ undo_made : (file : List ℕ) (s : SurveyFields) (tag : TagFields) (undo : Undo)
       tag = Some (bytes_unless_empty (tag_without_undo tag));
     })
 unfolding undo_change
-undo_made file s tag undo read item free =
+undo_made file s {tag} {undo} read item free =
     ap (λ (r : Result TagFields EditFault). then_made r (undone_tag_change s)) read
     ∙ ap (λ (r : Result Undo EditFault). then_made r (undone_change s tag)) item
     ∙ ap (λ (o : Option Refusal). refusal_or o (record {
@@ -206,7 +200,7 @@ undo_made file s tag undo read item free =
 module _ (file : List ℕ) (s : SurveyFields) (tag : TagFields) (are : AreBytes file)
     (is : survey_fields file most_frames ≡ Ok s) where
   frames : AreFramesOf file s.frames
-  frames = frames_there file most_frames s are is
+  frames = frames_there file most_frames are is
 
   -- ---- its length
 
@@ -217,7 +211,7 @@ module _ (file : List ℕ) (s : SurveyFields) (tag : TagFields) (are : AreBytes 
   new_length steps block front =
       survey_fields-length (file_with_tag block (edited_survey (constant_steps steps) s)
       (edited_file (constant_steps steps) file s))
-      most_frames (new_survey (constant_steps steps) file most_frames s are is block front)
+      most_frames
       (new_is (constant_steps steps) file most_frames s are is block front)
       ∙ new_long (constant_steps steps) file most_frames s are is block front
       ∙ ap (λ k. s.length - junk_length s - k + length block)
@@ -228,16 +222,16 @@ module _ (file : List ℕ) (s : SurveyFields) (tag : TagFields) (are : AreBytes 
   module _ (short : survey_of file most_frames ≡ Ok s) (own : IsTag tag)
       (read : file_tag file s ≡ Ok tag) (none : undo_from 32 tag.items ≡ Missing) where
     -- a file after one noted change is such a file
-    pub first_gain : (shift : Shift) (last : List ℕ)
+    pub first_gain : (shift : Shift) {last : List ℕ}
         → change_result (gain_change shift true) file ≡ Ok last → IsGained file s tag last
-    first_gain shift last e =
-        let made = made_of (gain_change shift true) file last s short e in
-        let noted = gain_noted shift file s tag no_undo made.change (ap tag_result read)
+    first_gain shift {last} e =
+        let made = made_of short e in
+        let noted = gain_noted file (ap tag_result read)
         (ap (noted_undo (tag_offset s)) none) made.made in
         let next = next_undo shift no_undo in
         let steps = steps_of shift in
         let new_tag = tag_with_undo next tag in
-        let new_own = IsTag-with_undo next tag own in
+        let new_own = IsTag-with_undo next own in
         let there : last
         ≡ file_with_tag (tag_bytes new_tag) (edited_survey (constant_steps steps) s)
         (edited_file (constant_steps steps) file s) = grind (arith, file_with_change-with, steps) in
@@ -247,7 +241,7 @@ module _ (file : List ℕ) (s : SurveyFields) (tag : TagFields) (are : AreBytes 
           undo = next;
           are = new_own;
           small = noted.small;
-          item = found_with next tag noted.fits;
+          item = found_with tag noted.fits;
           others = tag_without_undo-with next tag;
           is = there;
           left = sum_first steps.left;
@@ -257,7 +251,7 @@ module _ (file : List ℕ) (s : SurveyFields) (tag : TagFields) (are : AreBytes 
           few = omega (
             arith,
             ap length there,
-            new_length steps (tag_bytes new_tag) (block_front-tag_bytes new_tag new_own),
+            new_length steps (tag_bytes new_tag) (block_front-tag_bytes new_own),
             noted.few,
           );
         }
@@ -269,7 +263,7 @@ module _ (file : List ℕ) (s : SurveyFields) (tag : TagFields) (are : AreBytes 
     block = tag_bytes g.noted
 
     front : block_front block ≡ Some (record { kind = Ape; length = length block })
-    front = block_front-tag_bytes g.noted g.are
+    front = block_front-tag_bytes g.are
 
     abbrev here : List ℕ
     here = new (constant_steps g.steps) file most_frames s are is block front
@@ -290,19 +284,19 @@ module _ (file : List ℕ) (s : SurveyFields) (tag : TagFields) (are : AreBytes 
     here_frames = new_frames (constant_steps g.steps) file most_frames s are is block front
 
     -- after one more noted change it is still such a file
-    pub further_gain : (shift : Shift) (more : List ℕ)
+    pub further_gain : (shift : Shift) {more : List ℕ}
         → change_result (gain_change shift true) last ≡ Ok more → IsGained file s tag more
-    further_gain shift more e =
-        let made = made_of (gain_change shift true) here more n here_survey
+    further_gain shift {more} e =
+        let made = made_of here_survey
         (ap (change_result (gain_change shift true)) (sym g.is) ∙ e) in
-        let noted = gain_noted shift here n g.noted g.undo made.change here_read
+        let noted = gain_noted here here_read
         (ap (noted_undo (tag_offset n)) g.item) made.made in
         let next = next_undo shift g.undo in
         let step = steps_of shift in
         let steps = sum_of g.steps step in
         let together : AreTogether g.steps step steps = record { left = refl; right = refl } in
         let new_tag = tag_with_undo next g.noted in
-        let new_own = IsTag-with_undo next g.noted g.are in
+        let new_own = IsTag-with_undo next g.are in
         let there : more
         ≡ file_with_tag (tag_bytes new_tag) (edited_survey (constant_steps steps) s)
         (edited_file (constant_steps steps) file s) =
@@ -311,7 +305,7 @@ module _ (file : List ℕ) (s : SurveyFields) (tag : TagFields) (are : AreBytes 
         ∙ file_with_change-with step (tag_bytes new_tag) here n
         ∙ changed_again (constant_steps g.steps) file most_frames s are is block front
         (constant_steps step)
-        (constant_steps steps) (even_together g.steps step steps together by s.frames)
+        (constant_steps steps) (even_together together by s.frames)
         (tag_bytes new_tag) in
         record {
           steps = steps;
@@ -319,19 +313,19 @@ module _ (file : List ℕ) (s : SurveyFields) (tag : TagFields) (are : AreBytes 
           undo = next;
           are = new_own;
           small = noted.small;
-          item = found_with next g.noted noted.fits;
+          item = found_with g.noted noted.fits;
           others = tag_without_undo-with next g.noted ∙ g.others;
           is = there;
           left = sum_again g.steps.left step.left g.undo.left ∙ g.left;
           right = sum_again g.steps.right step.right g.undo.right ∙ g.right;
           wraps = ap (λ (b : Bool). b || shift.wrap) g.wraps;
-          free = range_both g.steps step steps refl together file by s.frames frames
+          free = range_both refl together file by s.frames frames
               g.free (sym (ap (range_fault (constant_steps step)) here_frames) ∙ noted.free);
           few =
               omega (
                 arith,
                 ap length there,
-                new_length steps (tag_bytes new_tag) (block_front-tag_bytes new_tag new_own),
+                new_length steps (tag_bytes new_tag) (block_front-tag_bytes new_own),
                 noted.few,
                 new_long (constant_steps g.steps) file most_frames s are is block front,
                 length_moved (constant_steps g.steps) s,
@@ -350,20 +344,19 @@ module _ (file : List ℕ) (s : SurveyFields) (tag : TagFields) (are : AreBytes 
         let free : range_fault (constant_steps back) n.frames ≡ None =
         ap (range_fault (constant_steps back)) here_frames
         ∙ range_back (constant_steps g.steps)
-        (constant_steps back) file by s.frames (constant_steps-opposite g.steps back
+        (constant_steps back) file by s.frames (constant_steps-opposite
         (record { wraps = g.wraps; left = g.left; right = g.right }) by s.frames) frames g.free in
         let made =
-        undo_made here n g.noted g.undo here_read (ap (found_undo (tag_offset n)) g.item) free in
+        undo_made here n here_read (ap (found_undo (tag_offset n)) g.item) free in
         let together : AreTogether g.steps back still =
         record { left = sym g.left; right = sym g.right } in
         ap (change_result undo_change) g.is
-        ∙ file_with_change-ok undo_change here n
-        (record { steps = constant_steps back; tag = Some bytes }) here_survey made
+        ∙ file_with_change-ok undo_change here_survey made
         ∙ ap Ok
         (file_with_change-with back bytes here n
         ∙ changed_again (constant_steps g.steps) file most_frames s are is block front
         (constant_steps back)
-        (constant_steps still) (even_together g.steps back still together by s.frames) bytes
+        (constant_steps still) (even_together together by s.frames) bytes
         ∙ ap (λ (t : TagFields). file_with_tag (bytes_unless_empty t)
         (edited_survey (constant_steps still) s)
         (edited_file (constant_steps still) file s)) g.others)
@@ -371,13 +364,14 @@ module _ (file : List ℕ) (s : SurveyFields) (tag : TagFields) (are : AreBytes 
   -- ---- several gains
 
   -- after more noted changes it is still such a file
-  pub gained_then : (shifts : List Shift) (last more : List ℕ) → IsGained file s tag last
+  pub gained_then : (shifts : List Shift) {last more : List ℕ} → IsGained file s tag last
       → gains_result shifts last ≡ Ok more → IsGained file s tag more
-  gained_then [] last more g e = let same : last ≡ more = cc in subst (IsGained file s tag) same g
-  gained_then (shift ∷ shifts) last more g e =
+  gained_then [] {last} {more} g e = let same : last ≡ more = cc in
+      subst (IsGained file s tag) same g
+  gained_then (shift ∷ shifts) {last} {more} g e =
       let parts =
-      then_ok (change_result (gain_change shift true) last) (gains_result shifts) more e in
-      gained_then shifts parts.0 more (further_gain last g shift parts.0 parts.1) parts.2
+      then_ok e in
+      gained_then shifts (further_gain last g shift parts.1) parts.2
 
   -- ---- what undo gives
 
@@ -385,7 +379,7 @@ module _ (file : List ℕ) (s : SurveyFields) (tag : TagFields) (are : AreBytes 
   bytes = bytes_unless_empty tag
 
   edited_file-is : edited_file (constant_steps still) file s ≡ file_without_junk s file
-  edited_file-is = edited_file-still still (refl, refl) file most_frames s are is
+  edited_file-is = edited_file-still still (refl, refl) file most_frames are is
 
   undone-tidied_file : file_with_tag bytes (edited_survey (constant_steps still) s)
       (edited_file (constant_steps still) file s)
@@ -413,11 +407,11 @@ module _ (file : List ℕ) (s : SurveyFields) (tag : TagFields) (are : AreBytes 
       let made : file_with_change (record { steps = constant_steps still; tag = Some bytes }) file s
       ≡ tidied_file tag s file = file_with_change-with still bytes file s ∙ undone-tidied_file in
       subst (λ (l : List ℕ). HoldsStream l (stream_of file)) made (still_holds still (refl, refl)
-      (Some bytes) (unless_empty-are tag own) file most_frames s are is)
+      (Some bytes) (unless_empty-are own) file most_frames are is)
 
   given_back : IsTag tag → file_tag file s ≡ Ok tag → undo_from 32 tag.items ≡ Missing
-      → (last : List ℕ) → IsGained file s tag last → IsGivenBack file last s tag
-  given_back own read none last g =
+      → {last : List ℕ} → IsGained file s tag last → IsGivenBack file last s tag
+  given_back own read none g =
       grind (
         arith,
         undone,
@@ -432,10 +426,10 @@ module _ (file : List ℕ) (s : SurveyFields) (tag : TagFields) (are : AreBytes 
 -- one undo takes back one or more changes
 pub gains_undone : UndoGivesBack
 gains_undone shift shifts file last s tag are short read none e =
-    let is = (survey_of-parts file most_frames s short).1 in
-    let own = file_tag-is file most_frames s tag are is read in
+    let is = (survey_of-parts file most_frames short).1 in
+    let own = file_tag-is file most_frames are is read in
     let parts =
-    then_ok (change_result (gain_change shift true) file) (gains_result shifts) last e in
-    let g = gained_then file s tag are is shifts parts.0 last
-    (first_gain file s tag are is short own read none shift parts.0 parts.1) parts.2 in
-    given_back file s tag are is own read none last g
+    then_ok e in
+    let g = gained_then file s tag are is shifts
+    (first_gain file s tag are is short own read none shift parts.1) parts.2 in
+    given_back file s tag are is own read none g

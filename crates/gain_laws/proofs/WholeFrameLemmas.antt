@@ -3,7 +3,7 @@
 use Rattle.std.proofs.Common.{ap, Bool, cond, drop, false, length, List, Ok, refl, subst, suc, sym}
 use Rattle.std.proofs.Common.{take, true, ℕ, [], ◌-◌, ◌∙◌, ◌∷◌, ◌≡◌}
 use Rattle.bit_fields.specs.Bits.{AreBytes}
-use Rattle.frame_header.specs.{Fields.HeaderFields, Tables.class_of}
+use Rattle.frame_header.specs.Fields.{HeaderFields}
 use Rattle.gain_laws.proofs.MovedTwiceLemmas.{gains_fit, IsNoStep, side_none}
 use Rattle.moved_gains.proofs.EditedRunLemmas.{frames-moved, gap_of, lost_from, new_file}
 use Rattle.moved_gains.proofs.ImageLemmas.{AreImages, AreRight, own-right, own-side}
@@ -35,14 +35,14 @@ abbrev pub AreFramesOf : List ℕ → List Row → Type 0
 AreFramesOf file rows = Each (IsFrameOf file) rows
 
 -- its side information has lists as long as the arrays
-pub row_shaped : (file : List ℕ) (row : Row) → IsFrameOf file row → IsShaped row.side
-row_shaped file row here =
+pub row_shaped : {file : List ℕ} {row : Row} → IsFrameOf file row → IsShaped row.side
+row_shaped {file} {row} here =
     subst IsShaped (sym here.side) (shaped-side_in row.header (frame_of file row))
 
 -- a frame keeps its length when its gains move
-pub row_sized : (steps : Steps) (file : List ℕ) (row : Row) → IsFrameOf file row
+pub row_sized : (steps : Steps) {file : List ℕ} {row : Row} → IsFrameOf file row
     → length (moved_row_bytes steps file row) ≡ row_length row
-row_sized steps file row here = by_lost row.lost
+row_sized steps {file} {row} here = by_lost row.lost
   where
     by_lost : (lost : Bool) → length (cond lost (frame_of file row)
         (frame_with_side row.header (moved_side steps row.side) (frame_of file row)))
@@ -52,7 +52,7 @@ row_sized steps file row here = by_lost row.lost
         ap
         (λ (s : Side). length (frame_with_side row.header (moved_side steps s) (frame_of file row)))
         here.side
-        ∙ (moved_whole false steps row.header (frame_of file row) here.whole).whole.size
+        ∙ (moved_whole false steps here.whole).whole.size
 
 each_there : (to : ℕ → ℕ) (steps : ℕ → Steps) (lost : ℕ → Bool) (file new : List ℕ)
     (ps : List PlacedFrame) → AreBytes file → AreImages to steps lost file new ps
@@ -69,10 +69,10 @@ each_there to steps lost file new (p ∷ ps) all are right = (
 )
 
 -- all frames of a surveyed file are whole, with their side information and right check words
-pub frames_there : (file : List ℕ) (allowed : ℕ) (s : SurveyFields) → AreBytes file
+pub frames_there : (file : List ℕ) (allowed : ℕ) {s : SurveyFields} → AreBytes file
     → survey_fields file allowed ≡ Ok s → AreFramesOf file s.frames
-frames_there file allowed s all e =
-    let parts = survey_fields-parts file allowed s e in
+frames_there file allowed {s} all e =
+    let parts = survey_fields-parts e in
     subst (λ (t : SurveyFields). AreFramesOf file t.frames) parts.2 (from parts.0 parts.1)
   where
     from : (start : Start) → IsRead file allowed start
@@ -86,12 +86,12 @@ frames_there file allowed s all e =
         (rows_of file (frames_from file start)) read.frames i r is).word))
 
 -- moved by no step, a frame with the right check word stays
-pub frame_none : (steps : Steps) → IsNoStep steps → (h : HeaderFields) (frame : List ℕ)
+pub frame_none : (steps : Steps) → IsNoStep steps → {h : HeaderFields} {frame : List ℕ}
     → IsWhole h frame → IsRight h frame → moved_frame steps h frame ≡ frame
-frame_none steps none h frame whole right =
+frame_none steps none {h} {frame} whole right =
     let s = side_in h frame in
-    let class = whole_class h frame whole in
-    let room = (whole_room h frame whole).0 in
-    ap (λ t. frame_with_side h t frame) (side_none steps none s (shaped-side_in h frame)
-    (gains_fit (class_of h) s (fits-side_in h frame class)))
-    ∙ frame_with_side-own h frame class whole.all room right
+    let class = whole_class whole in
+    let room = (whole_room whole).0 in
+    ap (λ t. frame_with_side h t frame) (side_none steps none (shaped-side_in h frame)
+    (gains_fit (fits-side_in h frame class)))
+    ∙ frame_with_side-own h class whole.all room right

@@ -24,13 +24,13 @@ record IsFar (down up : ℕ) (z : ℤ) : Type 0 where
   down_to : below z ≤ down
   up_to : above z ≤ up
 
-far : (down up : ℕ) (z : ℤ) → is_step_within down up z ≡ true → IsFar down up z
+far : {down up : ℕ} {z : ℤ} → is_step_within down up z ≡ true → IsFar down up z
 unfolding above below
-far down up z is = grind arith
+far is = grind arith
 
-near : (down up : ℕ) (z : ℤ) → IsFar down up z → is_step_within down up z ≡ true
+near : {down up : ℕ} {z : ℤ} → IsFar down up z → is_step_within down up z ≡ true
 unfolding above below
-near down up z is = grind arith
+near is = grind arith
 
 -- the opposite number is as far up as the number is down
 pub within-opposite : (down up : ℕ) (z : ℤ)
@@ -38,8 +38,8 @@ pub within-opposite : (down up : ℕ) (z : ℤ)
 unfolding above below
 within-opposite down up z =
     both_ways (is_step_within down up (neg_ℤ z)) (is_step_within up down z)
-    (λ is. near up down z (back z (far down up (neg_ℤ z) is)))
-    (λ is. near down up (neg_ℤ z) (there z (far up down z is)))
+    (λ is. near (back z (far is)))
+    (λ is. near (there z (far is)))
   where
     back : (z : ℤ) → IsFar down up (neg_ℤ z) → IsFar up down z
     back (pos zero) is = record { down_to = is.up_to; up_to = is.down_to }
@@ -75,13 +75,13 @@ below_product : (a : ℤ) (n : ℕ) → below (a *ℤ pos n) ≤ below a * n
 unfolding below
 below_product a n = grind arith
 
-above_quotient : (z : ℤ) (d most : ℕ) → above z ≤ d * most → above (int_div z (pos d)) ≤ most
+above_quotient : (z : ℤ) (d : ℕ) {most : ℕ} → above z ≤ d * most → above (int_div z (pos d)) ≤ most
 unfolding above
-above_quotient z d most few = grind (arith, div-le_of_le-mul, above_negated)
+above_quotient z d few = grind (arith, div-le_of_le-mul, above_negated)
 
-below_quotient : (z : ℤ) (d most : ℕ) → below z ≤ d * most → below (int_div z (pos d)) ≤ most
+below_quotient : (z : ℤ) (d : ℕ) {most : ℕ} → below z ≤ d * most → below (int_div z (pos d)) ≤ most
 unfolding below
-below_quotient z d most few = grind (arith, below_negated, div-le_of_le-mul)
+below_quotient z d few = grind (arith, below_negated, div-le_of_le-mul)
 
 -- ---- between two points
 
@@ -89,20 +89,20 @@ weights : (most left passed : ℕ) → most * left + most * passed ≡ (passed +
 weights most left passed = grind (arith, mul_comm, add-mul)
 
 -- a sum of steps weighted by the frames on both sides is at most `up` for each frame
-weighted_above : (up : ℕ) (a b : ℤ) (left passed : ℕ) → above a ≤ up → above b ≤ up
+weighted_above : {up : ℕ} (a b : ℤ) (left passed : ℕ) → above a ≤ up → above b ≤ up
     → above ((a *ℤ pos left) +ℤ (b *ℤ pos passed)) ≤ (passed + left) * up
-weighted_above up a b left passed few other =
+weighted_above a b left passed few other =
     grind (arith, weights, above_sum, above_product, mul-le-mul_right)
 
-weighted_below : (down : ℕ) (a b : ℤ) (left passed : ℕ) → below a ≤ down → below b ≤ down
+weighted_below : {down : ℕ} (a b : ℤ) (left passed : ℕ) → below a ≤ down → below b ≤ down
     → below ((a *ℤ pos left) +ℤ (b *ℤ pos passed)) ≤ (passed + left) * down
-weighted_below down a b left passed few other =
+weighted_below a b left passed few other =
     grind (arith, weights, below_sum, below_product, mul-le-mul_right)
 
-between : (down up : ℕ) (p q : CurvePoint) (frame : ℕ) → IsFar down up p.steps
+between : {down up : ℕ} {p q : CurvePoint} {frame : ℕ} → IsFar down up p.steps
     → IsFar down up q.steps → p.frame ≤ frame → frame < q.frame
     → IsFar down up (steps_between p q frame)
-between down up p q frame first second from to =
+between {p = p} {q = q} {frame = frame} first second from to =
     let left = q.frame - frame in
     let passed = frame - p.frame in
     let whole : passed + left ≡ q.frame - p.frame = omega (arith, from, to) in
@@ -114,15 +114,15 @@ between down up p q frame first second from to =
 
 -- ---- of a whole curve
 
-found : {X : Type 0} (P : X → Type 0) (test : X → Bool) (xs : List X) (x : X) → All P xs
+found : {X : Type 0} (P : X → Type 0) (test : X → Bool) (xs : List X) {x : X} → All P xs
     → find test xs ≡ Some x → (test x ≡ true) × P x
-found P test [] x all is = absurd cc
-found P test (y ∷ ys) x all is =
+found P test [] all is = absurd cc
+found P test (y ∷ ys) {x} all is =
     elim (test y) as (λ b. test y ≡ b → cond b (Some y) (find test ys) ≡ Some x
     → (test x ≡ true) × P x) [
       | true ↦ λ passes e. let same : y ≡ x = cc in
           (subst (λ z. test z ≡ true) same passes, subst P same (all 0 y (omega arith)))
-      | false ↦ λ fails e. found P test ys x (λ k d less. all (suc k) d (omega (arith, less))) e
+      | false ↦ λ fails e. found P test ys (λ k d less. all (suc k) d (omega (arith, less))) e
     ] refl is
 
 all_back : {X : Type 0} (P : X → Type 0) (xs : List X) → All P xs → All P (reverse xs)
@@ -143,23 +143,23 @@ steps_within down up points all frame =
     last : (p : CurvePoint) → last_point_up_to points frame ≡ Some p
         → (nat_le p.frame frame ≡ true) × (is_step_within down up p.steps ≡ true)
     last p is = found (λ p. is_step_within down up p.steps ≡ true) (λ p. nat_le p.frame frame)
-        (reverse points) p (all_back (λ p. is_step_within down up p.steps ≡ true) points all) is
+        (reverse points) (all_back (λ p. is_step_within down up p.steps ≡ true) points all) is
 
     first : (q : CurvePoint) → first_point_after points frame ≡ Some q
         → (nat_lt frame q.frame ≡ true) × (is_step_within down up q.steps ≡ true)
     first q is =
         found (λ p. is_step_within down up p.steps ≡ true)
-        (λ p. nat_lt frame p.frame) points q all is
+        (λ p. nat_lt frame p.frame) points all is
 
     by_points : (o r : Option CurvePoint) → last_point_up_to points frame ≡ o
         → first_point_after points frame ≡ r
         → is_step_within down up (neighbour_steps o r frame) ≡ true
-    by_points None None e d = near down up (pos 0) (none_far down up)
+    by_points None None e d = near (none_far down up)
     by_points None (Some q) e d = (first q d).1
     by_points (Some p) None e d = (last p e).1
     by_points (Some p) (Some q) e d =
-        near down up (steps_between p q frame)
-        (between down up p q frame (far down up p.steps (last p e).1) (far down up q.steps
+        near
+        (between (far (last p e).1) (far
         (first q d).1) (leb-true p.frame frame (last p e).0) (ltb-true frame q.frame (first q d).0))
 
 -- a curve of one point has its steps at every frame

@@ -23,36 +23,36 @@ use Rattle.info_header.specs.declared.fields.Info.{Info}
 
 -- ---- the loop over the slots
 
-first_next : (c : ClassFields) (slots : List SlotFields) (i : ℕ) (slot : SlotFields)
+first_next : (c : ClassFields) (slots : List SlotFields) {i : ℕ} {slot : SlotFields}
     → i < length slots → slot ≡ get_or slots i slot →
     first_with_room c (drop i slots)
     ≡ cond (nat_le 156 (area_of c slot false)) slot (first_with_room c (drop (i + 1) slots))
 unfolding first_with_room
-first_next c slots i slot within is =
+first_next c slots {i} {slot} within is =
     ap (first_with_room c) (drop_more slots i slot within) ∙ ap
     (λ s. cond (nat_le 156 (area_of c s false)) s (first_with_room c (drop (i + 1) slots))) (sym is)
 
 -- the first slot whose area has 156 bytes is this one, if it has them
-pub first-here : (c : ClassFields) (slots : List SlotFields) (i : ℕ) (slot : SlotFields)
+pub first-here : (c : ClassFields) (slots : List SlotFields) {i : ℕ} {slot : SlotFields}
     → i < length slots → slot ≡ get_or slots i slot → 156 ≤ area_of c slot false →
     first_with_room c (drop i slots) ≡ slot
-first-here c slots i slot within is room =
-    first_next c slots i slot within is ∙ ap (λ b. cond b slot
+first-here c slots {i} {slot} within is room =
+    first_next c slots within is ∙ ap (λ b. cond b slot
     (first_with_room c (drop (i + 1) slots))) (le-leb 156 (area_of c slot false) room)
 
 -- if it hasn't, it is the first of the slots after it
-pub first-later : (c : ClassFields) (slots : List SlotFields) (i : ℕ) (slot : SlotFields)
+pub first-later : (c : ClassFields) (slots : List SlotFields) {i : ℕ} {slot : SlotFields}
     → i < length slots → slot ≡ get_or slots i slot → area_of c slot false < 156 →
     first_with_room c (drop i slots) ≡ first_with_room c (drop (i + 1) slots)
-first-later c slots i slot within is small =
-    first_next c slots i slot within is ∙ ap (λ b. cond b slot
+first-later c slots {i} {slot} within is small =
+    first_next c slots within is ∙ ap (λ b. cond b slot
     (first_with_room c (drop (i + 1) slots))) (lt-leb 156 (area_of c slot false) small)
 
 -- past the last slot it is the largest slot
-pub first-none : (c : ClassFields) (slots : List SlotFields) (i : ℕ) → length slots ≤ i
+pub first-none : (c : ClassFields) (slots : List SlotFields) {i : ℕ} → length slots ≤ i
     → first_with_room c (drop i slots) ≡ largest_slot
 unfolding first_with_room
-first-none c slots i end = ap (first_with_room c) (drop_all i slots end)
+first-none c slots {i} end = ap (first_with_room c) (drop_all i slots end)
 
 -- ---- it has room
 
@@ -85,13 +85,13 @@ record IsBy (c : ClassFields) (slots : List SlotFields) (k : ℕ) (d : SlotField
   early : at ≤ k
   is : first_with_room c slots ≡ get_or slots at d
 
-by_if : (c : ClassFields) (slot : SlotFields) (slots : List SlotFields) (k : ℕ) (d : SlotFields)
+by_if : {c : ClassFields} {slot : SlotFields} {slots : List SlotFields} {k : ℕ} {d : SlotFields}
     (b : Bool) → nat_le 156 (area_of c slot false) ≡ b → (b ≡ false → IsBy c slots k d)
     → IsBy c (slot ∷ slots) (suc k) d
 unfolding first_with_room
-by_if c slot slots k d true is behind =
+by_if {c} {slot} {slots} true is behind =
     record { at = 0; early = omega arith; is = ap (λ b. cond b slot (first_with_room c slots)) is }
-by_if c slot slots k d false is behind =
+by_if {c} {slot} {slots} false is behind =
     let later = behind refl in
     record {
       at = suc later.at;
@@ -100,26 +100,26 @@ by_if c slot slots k d false is behind =
           ap (λ b. cond b slot (first_with_room c slots)) is ∙ later.is;
     }
 
-first_by : (c : ClassFields) (slots : List SlotFields) (k : ℕ) (d : SlotFields) → k < length slots
+first_by : {c : ClassFields} (slots : List SlotFields) (k : ℕ) {d : SlotFields} → k < length slots
     → 156 ≤ area_of c (get_or slots k d) false → IsBy c slots k d
 unfolding first_with_room
-first_by c [] k d within room = absurd (omega (arith, within))
-first_by c (slot ∷ slots) zero d within room =
+first_by [] k within room = absurd (omega (arith, within))
+first_by {c} (slot ∷ slots) zero within room =
     record {
       at = 0;
       early = omega arith;
       is =
           ap (λ b. cond b slot (first_with_room c slots)) (le-leb 156 (area_of c slot false) room);
     }
-first_by c (slot ∷ slots) (suc k) d within room =
-    by_if c slot slots k d (nat_le 156 (area_of c slot false)) refl
-    (λ _. first_by c slots k d (omega arith) room)
+first_by {c} (slot ∷ slots) (suc k) {d} within room =
+    by_if (nat_le 156 (area_of c slot false)) refl
+    (λ _. first_by slots k (omega arith) room)
 
 -- the areas of the slots, by their places
-area_at : (c : ClassFields) (k : ℕ) (d : SlotFields) → k < 28
+area_at : (c : ClassFields) {k : ℕ} (d : SlotFields) → k < 28
     → get_or (areas_of c false) k 0 ≡ area_of c (get_or all_slots k d) false
 unfolding areas_of
-area_at c k d within =
+area_at c {k} d within =
     get_or-map (λ s. area_of c s false) all_slots k d 0 (omega (arith, length-all_slots))
 
 -- no slot with room has a smaller area
@@ -129,7 +129,7 @@ unfolding info_slot_of
 info_slot-least c class other slot room =
     let has = Contains-all_slots other slot in
     let below : has.0 < 28 = omega (arith, has.1, length-all_slots) in
-    let first = first_by c all_slots has.0 other
+    let first = first_by {c = c} all_slots has.0 {d = other}
     has.1 (subst (λ s. 156 ≤ area_of c s false) (sym has.2) room) in
     let here : area_of c (info_slot_of c) false
     ≡ area_of c (get_or all_slots first.at other) false = ap (λ s. area_of c s false) first.is in
@@ -145,8 +145,8 @@ info_slot-least c class other slot room =
             here,
             there,
             ascend,
-            area_at c first.at other (omega (arith, below, before)),
-            area_at c has.0 other below,
+            area_at c {k = first.at} other (omega (arith, below, before)),
+            area_at c {k = has.0} other below,
           )
       | inr same ↦
           let equal : first.at ≡ has.0 = omega (arith, first.early, same) in
@@ -156,37 +156,36 @@ info_slot-least c class other slot room =
 -- ---- the frame
 
 -- header, zeros, fields and zeros, joined in this order, are the Info frame
-pub frame-is : (first : HeaderFields) (info : Info) (new cleared header : List ℕ) (side rest : ℕ)
+pub frame-is : (first : HeaderFields) (info : Info) {new cleared header : List ℕ} {side rest : ℕ}
     → cleared ≡ [] → header ≡ bytes (header_bits (info_header_of first)) →
     side ≡ side_size_of (class_of first)
     → rest ≡ area_of (class_of first) (info_slot_of (class_of first)) false - 156 →
     new ≡ cleared ++ (header ++ (replicate side 0 ++ (info_bytes info ++ replicate rest 0)))
     → new ≡ info_frame first info
 unfolding info_frame
-frame-is first info new cleared header side rest none is sides left pieces =
-    pieces ∙ rw (none, is, sides, left) refl
+frame-is first info none is sides left pieces = pieces ∙ rw (none, is, sides, left) refl
 
 -- the zeros after the fields fill the rest of the area
-pub zeros-left : (c : ClassFields) (slot : SlotFields) (length side : ℕ) → length ≡ length_of c slot
+pub zeros-left : (c : ClassFields) (slot : SlotFields) {length side : ℕ} → length ≡ length_of c slot
     → side ≡ side_size_of c → length - (4 + side + 156) ≡ area_of c slot false - 156
 unfolding area_of overhead_of
-zeros-left c slot length side is sides = omega (arith, is, sides)
+zeros-left c slot is sides = omega (arith, is, sides)
 
 -- the bytes of a header are the bytes that its bits spell
-pub header_bytes-is : (h : HeaderFields) (result : List ℕ) → header_at result ≡ Ok h
+pub header_bytes-is : {h : HeaderFields} {result : List ℕ} → header_at result ≡ Ok h
     → ((four : List ℕ) → AreBytes four → length four ≡ 4 → header_at four ≡ Ok h → result ≡ four) →
     result ≡ bytes (header_bits h)
-header_bytes-is h result back same =
+header_bytes-is {h} {result} back same =
     let all = AreBits-header_bits h in
     let long = length-header_bits h in
     same (bytes (header_bits h)) (AreBytes-bytes (header_bits h) all)
     (length-bytes 4 (header_bits h) long)
-    (header_at-bytes (bytes (header_bits h)) h (IsHeader-header_at result h back)
-    (bits-bytes 4 (header_bits h) all long))
+    (header_at-bytes (bytes (header_bits h)) (IsHeader-header_at result back)
+    (bits-bytes 4 all long))
 
 -- a frame whose area has room for the fields is long enough for them
-pub fields-fit : (c : ClassFields) (slot : SlotFields) (length side : ℕ)
+pub fields-fit : (c : ClassFields) (slot : SlotFields) {length side : ℕ}
     → 156 ≤ area_of c slot false → length ≡ length_of c slot → side ≡ side_size_of c
     → 4 + side + 156 ≤ length
 unfolding area_of overhead_of
-fields-fit c slot length side room is sides = omega (arith, room, is, sides)
+fields-fit c slot room is sides = omega (arith, room, is, sides)

@@ -8,24 +8,24 @@ use Rattle.info_header.specs.Info.{field_place, field_size, is_flagged, padded_b
 
 -- ---- places
 
-field_next : (flags field next : ℕ) → next ≡ suc field → field_place flags next
+field_next : (flags : ℕ) {field next : ℕ} → next ≡ suc field → field_place flags next
     ≡ field_place flags field + cond (is_flagged flags field) (field_size field) 0
 unfolding field_place
-field_next flags field next is = ap (field_place flags) is
+field_next flags is = ap (field_place flags) is
 
 -- the place after a field that is present
-pub place-set : (flags field at : ℕ) → at ≡ field_place flags field → is_flagged flags field ≡ true
-    → at + field_size field ≡ field_place flags (field + 1)
-place-set flags field at is set =
-    ap (λ k. k + field_size field) is ∙ sym (field_next flags field (field + 1) (omega arith)
+pub place-set : (flags field : ℕ) {at : ℕ} → at ≡ field_place flags field
+    → is_flagged flags field ≡ true → at + field_size field ≡ field_place flags (field + 1)
+place-set flags field is set =
+    ap (λ k. k + field_size field) is ∙ sym (field_next flags (omega arith)
     ∙ ap (λ b. field_place flags field + cond b (field_size field) 0) set)
 
 -- ---- the extension
 
-padded_bytes-cases : (n : ℕ) (bytes : List ℕ) → (length bytes < n) ⊎ (n ≤ length bytes)
+padded_bytes-cases : {n : ℕ} (bytes : List ℕ) → (length bytes < n) ⊎ (n ≤ length bytes)
     → take (min (length bytes) n) bytes ++ drop (min (length bytes) n) (replicate n 0)
     ≡ padded_bytes n bytes
-padded_bytes-cases n bytes (inl few) =
+padded_bytes-cases {n} bytes (inl few) =
     let least : min (length bytes) n ≡ length bytes = min-eq_left (omega arith) in
     let split : n ≡ length bytes + (n - length bytes) = omega arith in
     rw (least, take-length bytes)
@@ -33,7 +33,7 @@ padded_bytes-cases n bytes (inl few) =
     (drop-replicate (length bytes) n 0 ∙ sym (take-replicate (n - length bytes) n 0 (omega arith)))
     ∙ sym (ap (λ k. take k (bytes ++ replicate n 0)) split
     ∙ take-append-add bytes (replicate n 0) (n - length bytes)))
-padded_bytes-cases n bytes (inr many) =
+padded_bytes-cases {n} bytes (inr many) =
     let least : min (length bytes) n ≡ n = min-eq_right many in
     let nothing : n - n ≡ 0 = omega arith in
     let none : drop {A = ℕ} n (replicate n 0) ≡ [] =
@@ -44,12 +44,12 @@ padded_bytes-cases n bytes (inr many) =
 pub padded_bytes-parts : (n : ℕ) (bytes : List ℕ)
     → take (min (length bytes) n) bytes ++ drop (min (length bytes) n) (replicate n 0)
     ≡ padded_bytes n bytes
-padded_bytes-parts n bytes = padded_bytes-cases n bytes (cases_lt (length bytes) n)
+padded_bytes-parts n bytes = padded_bytes-cases bytes (cases_lt (length bytes) n)
 
 -- ---- bytes added in order
 
 -- adding bytes and then others adds both, joined
-pub piece-before : (old mid new piece rest : List ℕ) → mid ≡ old ++ piece → new ≡ mid ++ rest
-    → new ≡ old ++ (piece ++ rest)
-piece-before old mid new piece rest first then =
+pub piece-before : (old : List ℕ) {mid new : List ℕ} (piece rest : List ℕ) → mid ≡ old ++ piece
+    → new ≡ mid ++ rest → new ≡ old ++ (piece ++ rest)
+piece-before old piece rest first then =
     then ∙ ap (λ (xs : List ℕ). xs ++ rest) first ∙ append_assoc old piece rest

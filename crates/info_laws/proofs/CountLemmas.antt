@@ -36,17 +36,17 @@ gains-many : (channels : ℕ) (left right both : Option Gains)
     → length (gain_lines channels left right both) ≡ cond (channels == 1) 1 3
 gains-many channels left right both = grind arith
 
-lines-many : (one : Bool) {lines : List (List ℕ)} (a b c d e f : List ℕ) (gains : List (List ℕ))
+lines-many : (one : Bool) {lines : List (List ℕ)} {a b c d e f : List ℕ} {gains : List (List ℕ)}
     → lines ≡ a ∷ b ∷ c ∷ d ∷ e ∷ f ∷ gains → length gains ≡ cond one 1 3
     → length lines ≡ cond one 7 9
-lines-many one a b c d e f gains is few = grind arith
+lines-many one is few = grind arith
 
 -- its lines are the six about the file and those about gains
-pub says-no-other : (file : List ℕ) (s : SurveyFields)
+pub says-no-other : {file : List ℕ} {s : SurveyFields}
     → is_as_said (fields_of_head file s.head) (length s.frames) (stream_length s) ≡ true
     → SaysNoOther file s
 unfolding info_lines
-says-no-other file s said =
+says-no-other {file} {s} said =
     let head = fields_of_head file s.head in
     let rows = s.frames in
     let count = length rows in
@@ -62,7 +62,7 @@ says-no-other file s said =
     ∷ head_line head ∷ (cond b [] (but_line count (stream_length s) ∷ [])
     ++ (played_line head s.class count ∷ gains))) said in
     record {
-      many = lines-many (s.class.channels == 1) _ _ _ _ _ _ gains lines
+      many = lines-many (s.class.channels == 1) lines
           (gains-many s.class.channels (extremes_of 0 rows) (extremes_of 1 rows)
           (extremes_of_both rows));
       plays = record {
@@ -103,12 +103,12 @@ few-bytes c (f ∷ fs) entries =
       arith,
       sum_by-cons (λ (g : Frame). length_of c (slot_in g)) f fs,
       ap (λ d. length_of d h.slot) entries.0.class,
-      length-most (class_of h) h.slot (IsClass-class_of h entries.0.header) entries.0.header.slot,
+      length-most (class_of h) h.slot (IsClass-class_of entries.0.header) entries.0.header.slot,
       few-bytes c fs entries.1,
     )
 
-agree-by : (o : Option ℕ) (n m : ℕ) → o ≡ Some n → m ≡ n → agrees o m ≡ true
-agree-by o n m is same = ap (λ x. agrees x m) is ∙ eq-eqb n m (sym same)
+agree-by : {o : Option ℕ} {n m : ℕ} → o ≡ Some n → m ≡ n → agrees o m ≡ true
+agree-by {n = n} {m = m} is same = ap (λ x. agrees x m) is ∙ eq-eqb n m (sym same)
 
 module _ (file : List ℕ) (is : IsCountedFile file) where
   abbrev laid : List ℕ
@@ -122,13 +122,13 @@ module _ (file : List ℕ) (is : IsCountedFile file) where
 
   module _ (s : SurveyFields) (e : survey_of laid most_frames ≡ Ok s) where
     survey-is : survey_fields laid most_frames ≡ Ok s
-    survey-is = (survey_of-parts laid most_frames s e).1
+    survey-is = (survey_of-parts laid most_frames e).1
 
     told : laid_fields is.front is.first is.info is.frames is.back ≡ s
     told =
         let most : ℕ = length laid + length is.frames + 1 in
         let both : Ok s ≡ Ok (laid_fields is.front is.first is.info is.frames is.back) =
-        sym (survey_fields-allowed laid most_frames most s (omega arith) survey-is)
+        sym (survey_fields-allowed laid most_frames (omega arith) survey-is)
         ∙ laid-survey is.class is.front is.first is.info is.frames is.back most
         is.laid (omega arith) in
         cc
@@ -150,14 +150,14 @@ module _ (file : List ℕ) (is : IsCountedFile file) where
         (row-lengths is.class (frames_offset is.front is.first is.info) is.frames is.laid.entries)
 
     few : length is.frames ≤ most_frames
-    few = omega (arith, many, frames-few laid most_frames s survey-is)
+    few = omega (arith, many, frames-few laid survey-is)
 
     head-known : IsHeader (info_header_of is.first)
     unfolding laid_fields
     head-known =
         let head-as : s.head ≡ Some (head_at (length (concat is.front)) is.first) =
         ap (λ (t : SurveyFields). t.head) (sym told) in
-        (subst (HasWholeHead laid) head-as (survey-had laid most_frames s e).head).header
+        (subst (HasWholeHead laid) head-as (survey-had most_frames e).head).header
 
     few-all : all_bytes is.class slot_in is.frames < 256 ^ 4
     few-all =
@@ -167,25 +167,25 @@ module _ (file : List ℕ) (is : IsCountedFile file) where
           few-bytes is.class is.frames is.laid.entries,
           ap info_length is.laid.class,
           length-most (class_of is.first) (info_slot_of (class_of is.first))
-              (IsClass-class_of is.first is.laid.header) head-known.slot,
+              (IsClass-class_of is.laid.header) head-known.slot,
         )
 
     said : is_as_said (fields_of_head laid s.head) (length s.frames) (stream_length s) ≡ true
     said =
         ap (λ h. is_as_said h (length s.frames) (stream_length s)) head-is
         ∙ and_from (agrees read.frames (length s.frames)) (agrees read.bytes (stream_length s))
-        (agree-by read.frames (length is.frames) (length s.frames)
+        (agree-by
         (laid-count is.first is.info is.laid.header whole
-        is.front is.frames is.back (length is.frames) is.frames_are
+        is.front is.frames is.back is.frames_are
         (omega (arith, few)))
         many)
-        (agree-by read.bytes (all_bytes is.class slot_in is.frames) (stream_length s)
-        (laid-bytes is.first is.info is.laid.header whole is.front is.frames is.back
-        (all_bytes is.class slot_in is.frames) is.bytes_are few-all)
+        (agree-by
+        (laid-bytes is.first is.info is.laid.header whole
+        is.front is.frames is.back is.bytes_are few-all)
         long)
 
   laid-agrees : NeverSaysOther laid
-  laid-agrees s e = says-no-other laid s (said s e)
+  laid-agrees s e = says-no-other (said s e)
 
 -- the text of a file of frames behind an Info frame that gives their numbers says nothing else
 pub counted-agree : CountedTextsAgree

@@ -19,12 +19,12 @@ unfolding payload_bytes
 silent-bytes r is = omega (arith, eqb-true (payload_bits r.side) 0 is)
 
 -- the main data after a frame end further on by its own at least, and within its area
-one-by : (at ended : ℕ) (r : Row) (silent lost : Bool) → (silent ≡ true → payload_bytes r.side ≡ 0)
+one-by : {at ended : ℕ} {r : Row} {silent lost : Bool} → (silent ≡ true → payload_bytes r.side ≡ 0)
     → (lost ≡ false → Stands at ended r) → ended ≤ at
     → (ended + cond lost 0 (payload_bytes r.side)
     ≤ cond (silent || lost) ended (end_of_data at r))
     × (cond (silent || lost) ended (end_of_data at r) ≤ at + own_area r.header)
-one-by at ended r silent lost none well before = grind arith
+one-by none well before = grind arith
 
 module _ (head : Option Head) (class : ClassFields) (rows : List Row)
     (placed : AreWellPlaced head class rows) where
@@ -34,21 +34,21 @@ module _ (head : Option Head) (class : ClassFields) (rows : List Row)
   abbrev ended : ℕ → ℕ
   ended i = data_end_before head rows i
 
-  stands : (i : ℕ) (r : Row) → slice_get rows i ≡ Some r → r.lost ≡ false
+  stands : (i : ℕ) {r : Row} → slice_get rows i ≡ Some r → r.lost ≡ false
       → Stands (at i) (ended i) r
-  stands i r found kept = stands_by (at i) (ended i) r
-      (data-none_well (at i) (ended i) r (placed i r found).sound
+  stands i {r} found kept = stands_by
+      (data-none_well (placed i r found).sound
       (sym (placed i r found).mark ∙ kept))
 
-  next-place : (i : ℕ) (r : Row) → slice_get rows i ≡ Some r → at (suc i) ≡ at i + own_area r.header
-  next-place i r found =
+  next-place : (i : ℕ) {r : Row} → slice_get rows i ≡ Some r → at (suc i) ≡ at i + own_area r.header
+  next-place i {r} found =
       omega
-      (arith, place-apart head rows i, place-apart head rows (suc i), area-more rows i r found)
+      (arith, place-apart head rows i, place-apart head rows (suc i), area-more rows i found)
 
-  next-end : (i : ℕ) (r : Row) → slice_get rows i ≡ Some r → ended i ≤ at i
+  next-end : (i : ℕ) {r : Row} → slice_get rows i ≡ Some r → ended i ≤ at i
       → (ended i + row_main_data r ≤ ended (suc i)) × (ended (suc i) ≤ at (suc i))
   unfolding data_end_before
-  next-end i r found before = grind (arith, one-by, silent-bytes, stands, next-place)
+  next-end i found before = grind (arith, one-by, silent-bytes, stands, next-place)
 
   -- from a frame on
   rest-fits : (n : ℕ) (xs : List Row)
@@ -58,7 +58,7 @@ module _ (head : Option Head) (class : ClassFields) (rows : List Row)
   rest-fits n (x ∷ xs) there before =
       let here : slice_get rows n ≡ Some x =
       ap (slice_get rows) (omega arith) ∙ there zero x refl in
-      let next = next-end n x here before in
+      let next = next-end n here before in
       let rest =
       rest-fits (suc n) xs (λ i r found. ap (slice_get rows) (omega arith) ∙ there (suc i) r found)
       next.1 in
@@ -66,7 +66,7 @@ module _ (head : Option Head) (class : ClassFields) (rows : List Row)
         arith,
         next.0,
         rest,
-        next-place n x here,
+        next-place n here,
         sum_by-cons row_main_data x xs,
         sum_by-cons (λ (r : Row). own_area r.header) x xs,
       )
@@ -86,4 +86,4 @@ module _ (head : Option Head) (class : ClassFields) (rows : List Row)
 
 -- the main data are at most as long as the areas
 pub data-fit : MainDataFit
-data-fit file allowed s e = all-fit s.head s.class s.frames (survey_fields-placed file allowed s e)
+data-fit file allowed s e = all-fit s.head s.class s.frames (survey_fields-placed file allowed e)

@@ -92,9 +92,9 @@ module _ (file : List ℕ) (s : SurveyFields) (channels : Channels) (gains : Opt
     (taken : (steps : ℤ) → channel_fault (strict_shift channels steps) s ≡ None
     → IsMadeIfTaken (takes_steps gains steps)
     (gain_result (strict_shift channels steps) false file)) where
-  says : (name between line : List ℕ) → line ≡ name ++ (between ++ range_ending (range_of gains))
-      → SaysSteps file s name channels line
-  says name between line text = record {
+  says : {name : List ℕ} (between : List ℕ) {line : List ℕ} → line
+      ≡ name ++ (between ++ range_ending (range_of gains)) → SaysSteps file s name channels line
+  says between text = record {
     range = range_of gains;
     between = between;
     text = text;
@@ -137,7 +137,7 @@ lines-are head s = lines-by _ _ _ _ _ _ _ _
 
 module _ (file : List ℕ) (s : SurveyFields) (is : survey_of file most_frames ≡ Ok s) where
   placed : AreWellPlaced s.head s.class s.frames
-  placed = survey_fields-placed file most_frames s (survey_of-parts file most_frames s is).1
+  placed = survey_fields-placed file most_frames (survey_of-parts file most_frames is).1
 
   law : TakeSteps s.frames
   law = take_steps s.frames (sides-fitting s.frames (λ i row there. subst (λ (c : ClassFields).
@@ -148,16 +148,16 @@ module _ (file : List ℕ) (s : SurveyFields) (is : survey_of file most_frames �
 
   known : IsClass s.class
   known =
-      let first = first-there s.frames 0 (some-frames file most_frames s is) in
+      let first = first-there s.frames 0 (some-frames file most_frames is) in
       let row = placed 0 first.0 first.1 in
-      subst IsClass row.class_is (IsClass-class_of first.0.header row.known)
+      subst IsClass row.class_is (IsClass-class_of row.known)
 
   left-says : SaysSteps file s (codes "left: ") Left
       (codes "left: " ++ gains_text (extremes_of 0 s.frames))
   left-says =
       let gains = extremes_of 0 s.frames in
       says file s Left gains (channel-none 0 s.frames) law.left (λ steps may. exact.left may steps)
-      (codes "left: ") (said_of gains) (codes "left: " ++ gains_text gains)
+      (said_of gains)
       (ap (λ (l : List ℕ). codes "left: " ++ l) (gains-text gains))
 
   right-says : SaysSteps file s (codes "right: ") Right
@@ -165,16 +165,14 @@ module _ (file : List ℕ) (s : SurveyFields) (is : survey_of file most_frames �
   right-says =
       let gains = extremes_of 1 s.frames in
       says file s Right gains
-      (channel-none 1 s.frames) law.right (λ steps may. exact.right may steps)
-      (codes "right: ") (said_of gains) (codes "right: " ++ gains_text gains)
+      (channel-none 1 s.frames) law.right (λ steps may. exact.right may steps) (said_of gains)
       (ap (λ (l : List ℕ). codes "right: " ++ l) (gains-text gains))
 
   both-says : SaysSteps file s (codes "both: ") Both
       (codes "both: " ++ both_text (extremes_of_both s.frames))
   both-says =
       let gains = extremes_of_both s.frames in
-      says file s Both gains (both-none s.frames) law.both (λ steps may. exact.both steps)
-      (codes "both: ") [] (codes "both: " ++ both_text gains)
+      says file s Both gains (both-none s.frames) law.both (λ steps may. exact.both steps) []
       (ap (λ (l : List ℕ). codes "both: " ++ l) (both-text gains))
 
   mono-says : s.class.channels ≡ 1 → SaysSteps file s (codes "mono: ") Both
@@ -186,8 +184,7 @@ module _ (file : List ℕ) (s : SurveyFields) (is : survey_of file most_frames �
       (λ steps. law.both steps ∙ ap (λ g. not (takes_steps g steps)) same)
       (λ steps may. subst
       (λ g. IsMadeIfTaken (takes_steps g steps) (gain_result (strict_shift Both steps) false file))
-      same (exact.both steps))
-      (codes "mono: ") (said_of gains) (codes "mono: " ++ gains_text gains)
+      same (exact.both steps)) (said_of gains)
       (ap (λ (l : List ℕ). codes "mono: " ++ l) (gains-text gains))
 
   abbrev last_by : Bool → List (List ℕ)

@@ -60,8 +60,8 @@ own_kinds form = Fixed form.command ∷ last_kind form.kinds ∷ form.kinds
 abbrev all_have_text : Form → Bool
 all_have_text form = list_all has_text (own_kinds form)
 
-form_needs : (form : Form) → Contains forms form → All NeedsText (own_kinds form)
-form_needs form member =
+form_needs : {form : Form} → Contains forms form → All NeedsText (own_kinds form)
+form_needs {form} member =
     let passes : all_have_text form ≡ true =
     All-contains (λ form. all_have_text form ≡ true) forms form
     (AllPass-from_list_all all_have_text forms refl) member in
@@ -71,7 +71,7 @@ form_needs form member =
 shape_needs : (shape : Shape) (count : ℕ) → Contains forms shape.form
     → All NeedsText (kinds_for shape count)
 shape_needs shape count member =
-    let own = form_needs shape.form member in
+    let own = form_needs member in
     let more : ℕ =
     further_words shape.form.more
     (count - length (front_kinds_of shape) - length shape.form.kinds) in
@@ -108,9 +108,9 @@ plain_empty_is_bad words member =
     → IsErr (shape_reading o words (longest_fit (shapes forms) words))) [
       | Some shape ↦ λ is.
           let first =
-          found (λ shape. have_kinds (shape_kinds words shape) words) (shapes forms) shape is in
+          found (λ shape. have_kinds (shape_kinds words shape) words) (shapes forms) is in
           absurd (none_empty (shape_kinds words shape) words (shape_needs shape (length words)
-          (listed_form forms shape first.0)) first.1 member)
+          (listed_form forms first.0)) first.1 member)
       | None ↦ λ none. refl
     ] refl
 

@@ -42,12 +42,12 @@ module _ {K W : Type 0} (kind_of : K → Kind) (word_of : W → List ℕ) (kinds
     (before : so_far ++ values_of (drop i (map kind_of kinds)) (drop i (map word_of words))
     ≡ values_of (map kind_of kinds) (map word_of words)) where
   -- the word at i says what its kind reads from it
-  pub goes_on : (c : K) (d : W) (word : List ℕ) (o : Option Said) → i < length kinds
+  pub goes_on : (c : K) (d : W) {word : List ℕ} {o : Option Said} → i < length kinds
       → i < length words → word ≡ word_of (get_or words i d)
       → word_value (kind_of (get_or kinds i c)) word ≡ o
       → so_far ++ said_first o (values_of (drop (i + 1) (map kind_of kinds))
       (drop (i + 1) (map word_of words))) ≡ values_of (map kind_of kinds) (map word_of words)
-  goes_on c d word o in_kinds in_words word-is is =
+  goes_on c d {o = o} in_kinds in_words word-is is =
       let says : word_value (get_or (map kind_of kinds) i (kind_of c))
       (get_or (map word_of words) i [])
       ≡ o = grind (arith, get_or-map) in

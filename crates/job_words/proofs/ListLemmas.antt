@@ -15,9 +15,9 @@ use Rattle.job_words.specs.Forms.{pairs_of}
 -- ---- searches
 
 -- what a search finds
-pub found : {X : Type 0} (p : X → Bool) (xs : List X) (x : X) → find p xs ≡ Some x
+pub found : {X : Type 0} (p : X → Bool) (xs : List X) {x : X} → find p xs ≡ Some x
     → Contains xs x × (p x ≡ true)
-found p xs x e =
+found p xs e =
     grind (
       arith,
       find_at,
@@ -29,33 +29,33 @@ found p xs x e =
     )
 
 -- a member doesn't pass where the search finds nothing
-pub none_is : {X : Type 0} (p : X → Bool) (xs : List X) (x : X) → find p xs ≡ None → Contains xs x
+pub none_is : {X : Type 0} (p : X → Bool) (xs : List X) {x : X} → find p xs ≡ None → Contains xs x
     → p x ≡ false
-none_is p xs x none member = grind (arith, common_steps, gets, find_at, fails_before_first)
+none_is p xs none member = grind (arith, common_steps, gets, find_at, fails_before_first)
 
 -- the search finds the one member that may pass, if it does
-pub only_one : {X : Type 0} (p : X → Bool) (xs : List X) (best : X) → Contains xs best
+pub only_one : {X : Type 0} (p : X → Bool) (xs : List X) {best : X} → Contains xs best
     → All (λ x. p x ≡ true → x ≡ best) xs → find p xs ≡ cond (p best) (Some best) None
-only_one p xs best member only =
+only_one p xs {best} member only =
     elim (find p xs) as (λ o. find p xs ≡ o → o ≡ cond (p best) (Some best) None) [
-      | None ↦ λ none. rw (none_is p xs best none member) refl
+      | None ↦ λ none. rw (none_is p xs none member) refl
       | Some x ↦ grind (arith, found, All-contains)
     ] refl
 
 -- ---- members
 
 -- what is made of a member is among what is made of all
-pub contains_map : {X Y : Type 0} (f : X → Y) (xs : List X) (x : X) → Contains xs x
+pub contains_map : {X Y : Type 0} (f : X → Y) (xs : List X) {x : X} → Contains xs x
     → Contains (map f xs) (f x)
-contains_map f xs x member = grind (arith, length-map, get_or-map)
+contains_map f xs member = grind (arith, length-map, get_or-map)
 
 -- what is made of a member, as one of a list, is among all that is made
-pub contains_flat_map : {X Y : Type 0} (f : X → List Y) (xs : List X) (x : X) (y : Y)
+pub contains_flat_map : {X Y : Type 0} (f : X → List Y) (xs : List X) {x : X} {y : Y}
     → Contains xs x → Contains (f x) y → Contains (flat_map f xs) y
-contains_flat_map f [] x y member inner = absurd (omega (arith, member.1))
-contains_flat_map f (z ∷ zs) x y (zero, within, at) inner = grind (arith, Contains-append_left)
-contains_flat_map f (z ∷ zs) x y (suc k, within, at) inner = Contains-append_right (f z)
-    (flat_map f zs) y (contains_flat_map f zs x y (k, omega (arith, within), at) inner)
+contains_flat_map f [] member inner = absurd (omega (arith, member.1))
+contains_flat_map f (z ∷ zs) (zero, within, at) inner = grind (arith, Contains-append_left)
+contains_flat_map f (z ∷ zs) {x} {y} (suc k, within, at) inner = Contains-append_right (f z)
+    (flat_map f zs) y (contains_flat_map f zs (k, omega (arith, within), at) inner)
 
 -- what holds of everything made of each member holds of everything made
 pub all_flat_map : {X Y : Type 0} (P : Y → Type 0) (f : X → List Y) (xs : List X)
@@ -85,9 +85,9 @@ module _ {X : Type 0} (f : X → ℕ) where
       ]
 
   -- if no other member's number is greater, a member's number is the greatest
-  pub greatest_is : (xs : List X) (x : X) → Contains xs x → All (λ y. f y ≤ f x) xs
+  pub greatest_is : (xs : List X) {x : X} → Contains xs x → All (λ y. f y ≤ f x) xs
       → fold max 0 (map f xs) ≡ f x
-  greatest_is xs x member all = grind (arith, All-contains, bounds, reached)
+  greatest_is xs member all = grind (arith, All-contains, bounds, reached)
 
 -- the greatest number of two joined lists is the greater of their greatest numbers
 pub greatest_append : (a : ℕ) (xs ys : List ℕ)

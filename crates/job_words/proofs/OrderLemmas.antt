@@ -45,9 +45,9 @@ after_same Only (kind ∷ front) best kinds (word ∷ words) h =
     grind (arith, after_same Only front best kinds words h)
 
 -- kinds that are equal to kinds that are no better are no better
-pub of_equal : (Only : Type 0) (best best' kinds kinds' : List Kind) (words : List (List ℕ)) → best'
+pub of_equal : (Only : Type 0) {best best' kinds kinds' : List Kind} (words : List (List ℕ)) → best'
     ≡ best → kinds' ≡ kinds → IsNoBetter Only best kinds words → IsNoBetter Only best' kinds' words
-of_equal Only best best' kinds kinds' words same_best same h = rw (same_best, same) h
+of_equal Only words same_best same h = rw (same_best, same) h
 
 -- ---- the first words of flags
 
@@ -107,10 +107,10 @@ given_is_order (suc n) flags (word ∷ words) =
           leading_flags_up_to n (without_flag flag flags)
           (drop (length (flag_words flag)) (word ∷ words)) in
           Contains-append_right ([] ∷ []) (flat_map (orders_with n flags) flags) (flag ∷ best)
-          (contains_flat_map (orders_with n flags) flags flag (flag ∷ best)
-          (found (begins_flag word) flags flag is).0
+          (contains_flat_map (orders_with n flags) flags
+          (found (begins_flag word) flags is).0
           (contains_map (λ (rest : List Flag). flag ∷ rest)
-          (orders_up_to n (without_flag flag flags)) best
+          (orders_up_to n (without_flag flag flags))
           (given_is_order n (without_flag flag flags)
           (drop (length (flag_words flag)) (word ∷ words)))))
     ] refl
@@ -139,15 +139,15 @@ module _ (behind : ℕ → List Kind) where
   itself : (words : List (List ℕ)) (given : List Flag) → IsNoBetterOrder words given given
   itself words given = (omega arith, λ all. refl)
 
-  other_flag : (best : List Flag) (flag : Flag) (rest : List Flag) (word : List ℕ)
+  other_flag : (best : List Flag) {flag : Flag} (rest : List Flag) (word : List ℕ)
       (words : List (List ℕ)) → begins_flag word flag ≡ false
       → IsNoBetterOrder (word ∷ words) best (flag ∷ rest)
-  other_flag best flag rest word words other = grind (arith, nowhere, kinds_by-cons, not_begun)
+  other_flag best rest word words other = grind (arith, nowhere, kinds_by-cons, not_begun)
 
-  same_first : (words : List (List ℕ)) (flag : Flag) (best rest : List Flag)
+  same_first : (words : List (List ℕ)) {flag : Flag} {best rest : List Flag}
       → IsNoBetterOrder (drop (length (flag_words flag)) words) best rest
       → IsNoBetterOrder words (flag ∷ best) (flag ∷ rest)
-  same_first words flag best rest h = grind (arith, length-map, of_equal, kinds_by-cons, after_same)
+  same_first words h = grind (arith, length-map, of_equal, kinds_by-cons, after_same)
 
   -- no other order is better than the one in which the flags are given
   pub no_better : (n : ℕ) (flags : List Flag) (words : List (List ℕ)) → All IsClear flags
@@ -164,7 +164,7 @@ module _ (behind : ℕ → List Kind) where
       (drop (length (flag_words flag)) (word ∷ words)))) []) [
         | None ↦ λ none. itself (word ∷ words) []
         | Some flag ↦ λ found_is.
-            let first = found (begins_flag word) flags flag found_is in
+            let first = found (begins_flag word) flags found_is in
             nowhere _ _ (kinds_by [] (word ∷ words)) (word ∷ words) (All-contains IsClear flags flag
             clear first.0 word first.1 (length (word ∷ words) - 0) words)
       ] refl
@@ -173,10 +173,10 @@ module _ (behind : ℕ → List Kind) where
       → IsNoBetterOrder (word ∷ words)
       (flag_first o (λ flag. leading_flags_up_to n (without_flag flag flags)
       (drop (length (flag_words flag)) (word ∷ words)))) (other ∷ rest)) [
-        | None ↦ λ none. other_flag [] other rest word words
-            (none_is (begins_flag word) flags other none is.0)
+        | None ↦ λ none. other_flag [] rest word words
+            (none_is (begins_flag word) flags none is.0)
         | Some flag ↦ λ found_is.
-            let first = found (begins_flag word) flags flag found_is in
+            let first = found (begins_flag word) flags found_is in
             let best = λ (flag : Flag). leading_flags_up_to n (without_flag flag flags)
             (drop (length (flag_words flag)) (word ∷ words)) in
             elim (begins_flag word other) as (λ b. begins_flag word other ≡ b
@@ -187,10 +187,10 @@ module _ (behind : ℕ → List Kind) where
                   let same : flag ≡ other = same_flag flag other (rw (← word-is) begins) in
                   subst (λ (z : Flag). IsNoBetterOrder (word ∷ words) (z ∷ best z) (other ∷ rest))
                   (sym same)
-                  (same_first (word ∷ words) other (best other) rest
+                  (same_first (word ∷ words)
                   (no_better n (without_flag other
                   flags) (drop (length (flag_words other)) (word ∷ words)) (All-filter
                   (λ z. not (begins_flag (first_word other) z)) IsClear flags clear) rest is.1))
-              | false ↦ λ differs. other_flag (flag ∷ best flag) other rest word words differs
+              | false ↦ λ differs. other_flag (flag ∷ best flag) rest word words differs
             ] refl
       ] refl

@@ -36,8 +36,8 @@ module _ (words : List (List ℕ)) where
   begins : (shape : Shape) → IsShapePrefix (fitting_count words shape) shape words
   begins shape = grind (arith, common_prefix_len-le, common_prefix_len-take, whole, length-take)
 
-  begins-le : (shape : Shape) (n : ℕ) → IsShapePrefix n shape words → n ≤ fitting_count words shape
-  begins-le shape n b = grind (arith, whole, common_prefix_len-take, length-take)
+  begins-le : {shape : Shape} {n : ℕ} → IsShapePrefix n shape words → n ≤ fitting_count words shape
+  begins-le b = grind (arith, whole, common_prefix_len-take, length-take)
 
   -- what holds of a reading of the words of a form
   abbrev IsPlainAnswer : Result Request ℕ → Type 0
@@ -52,9 +52,9 @@ module _ (words : List (List ℕ)) where
       → IsPlainAnswer (shape_reading o words (longest_fit (shapes forms) words))) [
         | Some shape ↦ λ is.
             let first =
-            found (λ shape. have_kinds (shape_kinds words shape) words) (shapes forms) shape is in (
+            found (λ shape. have_kinds (shape_kinds words shape) words) (shapes forms) is in (
               record { shape = shape; listed = first.0; kinds = first.1; read = refl },
-              shape_is_sound shape words (listed_form forms shape first.0) first.1,
+              shape_is_sound shape words (listed_form forms first.0) first.1,
             )
         | None ↦ λ none.
             let near = nearest in
@@ -63,14 +63,14 @@ module _ (words : List (List ℕ)) where
             record {
               none = λ shape listed all. both_ways (have_kinds (shape_kinds words shape) words)
                   (none_is (λ shape. have_kinds (shape_kinds words shape) words)
-                  (shapes forms) shape none listed) all;
+                  (shapes forms) none listed) all;
               counted = omega arith;
               nearest = near.0;
               listed = near.1;
               before = rw before (begins near.0);
               longest = λ n shape listed b. omega (
                 arith,
-                begins-le shape n b,
+                begins-le b,
                 All-contains (λ shape. fitting_count words shape ≤ longest_fit (shapes forms) words)
                     (shapes forms) shape (bounds (fitting_count words) 0 (shapes forms)).1 listed,
               );
@@ -83,10 +83,10 @@ module _ (words : List (List ℕ)) where
   IsAnswer (Ok asked) = IsReadingOf (form_words words) asked × IsSoundRequest asked
   IsAnswer (Err place) = IsBadWord (form_words words) (place - count_before words)
 
-  moved : (count : ℕ) (r : Result Request ℕ) → count ≡ count_before words
+  moved : {count : ℕ} (r : Result Request ℕ) → count ≡ count_before words
       → IsPlainAnswer (form_words words) r → IsAnswer (later_by count r)
-  moved count (Ok asked) same is = is
-  moved count (Err place) same is =
+  moved (Ok asked) same is = is
+  moved {count} (Err place) same is =
       let back : (place + count) - count_before words ≡ place = omega (arith, same) in
       rw back is
 
@@ -94,15 +94,15 @@ module _ (words : List (List ℕ)) where
   pub job_is : IsAnswer (job_of words)
   unfolding job_of
   job_is =
-      moved (count_before words) (plain_job_of (form_words words)) refl
+      moved (plain_job_of (form_words words)) refl
       (plain_job_is (form_words words))
 
   -- the reading of the words of the form is, later by so many places, that of all words
-  pub read_later : (given : List (List ℕ)) (count : ℕ) → count ≡ count_before words
+  pub read_later : {given : List (List ℕ)} {count : ℕ} → count ≡ count_before words
       → given ≡ drop count words
       → later_by count (plain_job_of given) ≡ job_of words
   unfolding job_of
-  read_later given count same behind = rw (behind, same) refl
+  read_later same behind = rw (behind, same) refl
 
   -- it holds of what the code returns
   pub code_is : (r : Result Job ℕ) → IsAnswer (request_result r)

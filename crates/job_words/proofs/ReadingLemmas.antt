@@ -55,11 +55,11 @@ abbrev IsNoBetterShape : Form → List (List ℕ) → Shape → Type 0
 IsNoBetterShape form words shape = IsNoBetter (shape ≡ best_of form words)
     (shape_kinds words (best_of form words)) (shape_kinds words shape) words
 
-no_better_with : (form : Form) → has_clear_flags form ≡ true
-    → (words : List (List ℕ)) (given : List Flag) → IsOrder (length form.flags) form.flags given
+no_better_with : {form : Form} → has_clear_flags form ≡ true
+    → (words : List (List ℕ)) {given : List Flag} → IsOrder (length form.flags) form.flags given
     → IsNoBetterShape form words (shape_with form given)
-no_better_with form clear [] given is = grind (arith, nowhere)
-no_better_with form clear (word ∷ words) given is =
+no_better_with clear [] is = grind (arith, nowhere)
+no_better_with {form} clear (word ∷ words) {given} is =
     grind (
       arith,
       no_better (form_kinds form) (length form.flags) form.flags words (clear_flags form
@@ -73,24 +73,24 @@ no_better_with form clear (word ∷ words) given is =
     )
 
 -- the words are read by the best shape
-table_reading-of : (form : Form) → has_clear_flags form ≡ true → (words : List (List ℕ)) (b : Bool)
+table_reading-of : (form : Form) → has_clear_flags form ≡ true → (words : List (List ℕ)) {b : Bool}
     → have_kinds (shape_kinds words (best_of form words)) words ≡ b
     → table_reading (shapes_of form) words
     ≡ shape_reading (cond b (Some (best_of form words)) None) words
     (fitting_count words (best_of form words))
-table_reading-of form clear words b is =
+table_reading-of form clear words {b} is =
     let best = best_of form words in
     let n = length form.flags in
     let none_better : All (IsNoBetterShape form words) (shapes_of form) =
     All-map (IsNoBetterShape form words) (shape_with form) (orders form.flags)
-    (λ k d lt. no_better_with form clear words (get_or (orders form.flags) k d)
+    (λ k d lt. no_better_with clear words
     (orders_are n form.flags k d lt)) in
     let listed : Contains (shapes_of form) best = contains_map (shape_with form) (orders form.flags)
-    (leading_flags form.flags (drop 1 words)) (given_is_order n form.flags (drop 1 words)) in
+    (given_is_order n form.flags (drop 1 words)) in
     let shape-is : shape_in (shapes_of form) words
     ≡ cond (have_kinds (shape_kinds words best) words) (Some best) None = grind (arith, only_one) in
     let far-is : longest_fit (shapes_of form) words ≡ fitting_count words best =
-    greatest_is (fitting_count words) (shapes_of form) best listed
+    greatest_is (fitting_count words) (shapes_of form) listed
     (λ k d lt. (none_better k d lt).0) in
     ap (λ o. shape_reading o words (longest_fit (shapes_of form) words)) (shape-is
     ∙ ap (λ b. cond b (Some best) None) is)
@@ -128,16 +128,16 @@ module _ (form : Form) (readable : IsReadable form) (words : List (List ℕ)) (g
       )
 
   -- words and kinds that all have values are accepted
-  pub accepts : (asked : Request) → length words ≤ length values → length kinds ≤ length values
+  pub accepts : {asked : Request} → length words ≤ length values → length kinds ≤ length values
       → asked ≡ form_request form.asks given (drop front values) (drop front words)
       → Ok asked ≡ table_reading (shapes_of form) words
-  accepts asked all_words all_kinds is =
+  accepts {asked} all_words all_kinds is =
       let short = common_prefix_len-le fits_kind kinds words in
       let all : have_kinds kinds words ≡ true = grind (arith, whole, count-is) in
       let front-are : front
       ≡ length (front_kinds form.command (leading_flags form.flags (drop 1 words))) = grind arith in
       let asked-is : asked ≡ shape_request (best_of form words) words = grind (arith, kinds-are) in
-      ap Ok asked-is ∙ sym (table_reading-of form readable.clear words true
+      ap Ok asked-is ∙ sym (table_reading-of form readable.clear words
       (subst (λ kinds. have_kinds kinds words ≡ true) kinds-are all))
 
   -- otherwise the first word without a value is the bad one
@@ -148,7 +148,7 @@ module _ (form : Form) (readable : IsReadable form) (words : List (List ℕ)) (g
       grind (arith, false_from_ne_true, whole, count-is) in
       let longest : length values + 1 ≡ 1 + fitting_count words (best_of form words) =
       omega (arith, count-is, ap (λ kinds. common_prefix_len fits_kind kinds words) kinds-are) in
-      ap Err longest ∙ sym (table_reading-of form readable.clear words false
+      ap Err longest ∙ sym (table_reading-of form readable.clear words
       (subst (λ kinds. have_kinds kinds words ≡ false) kinds-are not_all))
 
 -- ---- the forms in order
@@ -167,10 +167,10 @@ table_reading-append xs ys words = grind (arith, find-append, map-append, greate
 module _ (table : List Form) (words : List (List ℕ)) (i : ℕ) (d : Form) (place : ℕ)
     (lt : i < length table) (before : table_reading (shapes (take i table)) words ≡ Err place) where
   -- one more form is tried after those before it
-  pub table_reading-more : (here : Result Request ℕ)
+  pub table_reading-more : {here : Result Request ℕ}
       → here ≡ table_reading (shapes_of (get_or table i d)) words
       → table_reading (shapes (take (i + 1) table)) words ≡ first_of (Err place) here
-  table_reading-more here is =
+  table_reading-more is =
       let more : shapes (take (i + 1) table)
       ≡ shapes (take i table) ++ shapes_of (get_or table i d) =
       rw (take_more table i d lt, flat_map-append shapes_of (take i table) (get_or table i d ∷ []))
@@ -180,22 +180,22 @@ module _ (table : List Form) (words : List (List ℕ)) (i : ℕ) (d : Form) (pla
       (shapes_of (get_or table i d)) words ∙ rw (before, ← is) refl
 
   -- words that this form takes are accepted
-  pub accepted : (asked : Request) → Ok asked ≡ table_reading (shapes_of (get_or table i d)) words
+  pub accepted : {asked : Request} → Ok asked ≡ table_reading (shapes_of (get_or table i d)) words
       → Ok asked ≡ table_reading (shapes table) words
-  accepted asked here =
+  accepted {asked} here =
       let split : shapes table ≡ shapes (take (i + 1) table) ++ shapes (drop (i + 1) table) =
       ap shapes (sym (take-append-drop (i + 1) table))
       ∙ flat_map-append shapes_of (take (i + 1) table) (drop (i + 1) table) in
       sym (ap (λ table. table_reading table words) split
       ∙ table_reading-append (shapes (take (i + 1) table))
-      (shapes (drop (i + 1) table)) words ∙ rw (table_reading-more (Ok asked) here) refl)
+      (shapes (drop (i + 1) table)) words ∙ rw (table_reading-more here) refl)
 
 -- ---- the table
 
 -- each shape is one of a form of the table
-pub listed_form : (table : List Form) (shape : Shape) → Contains (shapes table) shape
+pub listed_form : (table : List Form) {shape : Shape} → Contains (shapes table) shape
     → Contains table shape.form
-listed_form table shape member =
+listed_form table {shape} member =
     let P : Shape → Type 0 = λ shape. Contains table shape.form in
     All-contains P (shapes table) shape (all_flat_map P shapes_of table
     (λ form member. All-map P (shape_with form) (orders form.flags) (λ k d lt. member))) member
@@ -206,8 +206,8 @@ is_readable form = leb (length form.flags) 4 && leb (length form.kinds) 5
     && leb (length form.kinds + most_further form.more) (most_values form.asks)
     && has_clear_flags form
 
-readable_by : (form : Form) → is_readable form ≡ true → IsReadable form
-readable_by form all = grind (arith, and_parts, leb-true)
+readable_by : {form : Form} → is_readable form ≡ true → IsReadable form
+readable_by all = grind (arith, and_parts, leb-true)
 
 -- each form can be read
 pub forms_are_readable : All IsReadable forms

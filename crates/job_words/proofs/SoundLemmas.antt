@@ -41,11 +41,11 @@ anything None = tt
 anything (Some a) = tt
 
 -- what holds of each number up to the greatest
-number_within : (least most greatest : ℕ) (digits : List ℕ) (P : ℕ → Type 0)
+number_within : (least most : ℕ) {greatest : ℕ} (digits : List ℕ) (P : ℕ → Type 0)
     → ((number : ℕ) → number ≤ greatest → P number)
     → IfSome (number_in least most greatest digits) P
 unfolding number_in
-number_within least most greatest digits P each = grind (arith, cond_both, leb-true, and_parts)
+number_within least most digits P each = grind (arith, cond_both, leb-true, and_parts)
 
 sized : (digits : List ℕ) → IfSome (size_in digits) IsStepCount
 sized digits = grind (arith, mapped, pos, number_within, ints)
@@ -107,7 +107,7 @@ word_value-right Exact word = grind (arith, mapped, exact_in_range)
 word_value-right Seed word = grind (arith, mapped, number_within)
 word_value-right Count word =
     mapped CountSaid (IsRight Count) (count_in word) (count_in_range (number_in 1 5 20000 word)
-    (number_within 1 5 20000 word (λ count. count ≤ 20000) (λ count le. le)))
+    (number_within 1 5 word (λ count. count ≤ 20000) (λ count le. le)))
 word_value-right (Fixed text) word = anything (word_value (Fixed text) word)
 word_value-right Channel word = anything (word_value Channel word)
 word_value-right Rate word = anything (word_value Rate word)

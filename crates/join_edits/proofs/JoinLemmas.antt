@@ -39,10 +39,10 @@ module _ (class : ClassFields) (output : List ℕ) (f : Contents) where
   sources-parts first allowed [] whole alike are = tt
   sources-parts first allowed (i ∷ inputs) whole alike are =
       let bytes = unwrap_or (f i.name) [] in
-      let held = there_holds f i.name are.0.0.there in (
+      let held = there_holds f are.0.0.there in (
         record {
           has = are.0.0.exact bytes
-              (source-holds (Told f) i.name held.0 i.name i.survey held.1 are.0.0);
+              (source-holds i.name held.0 held.1 are.0.0);
           class = are.0.1;
           some = omega (arith, whole.2, alike.0);
           within = omega arith;
@@ -66,7 +66,7 @@ module _ (class : ClassFields) (output : List ℕ) (f : Contents) where
 -- ---- the file
 
 own_slots : AreSlots own_choice
-own_slots h slot is has = rw (← (only_one h.slot slot has)) is.slot
+own_slots h slot is has = rw (← (only_one has)) is.slot
 
 module _ (output : List ℕ) (f : Contents) (i : InputFields) (later : List InputFields)
     (can : CanInputsBeJoined (i ∷ later))
@@ -79,7 +79,7 @@ module _ (output : List ℕ) (f : Contents) (i : InputFields) (later : List Inpu
   s = i.survey
 
   alike : AreInputsOfClass s.class (i ∷ later)
-  alike = alike-first i later can
+  alike = alike-first can
 
   abbrev file : List ℕ
   file = unwrap_or (f i.name) []
@@ -125,11 +125,11 @@ module _ (output : List ℕ) (f : Contents) (i : InputFields) (later : List Inpu
       (joined_frames s.class parts)) [] (blocks-kept file s has).0 row.known row.class_is sizes tt)
 
   -- the blocks, the Info frame and all frames are the file
-  joined-told : (placed : List Placed) (info : List ℕ) → placed ≡ least_plan_of (i ∷ later)
+  joined-told : {placed : List Placed} {info : List ℕ} → placed ≡ least_plan_of (i ∷ later)
       → IsJoinedInfo (i ∷ later) placed info → (concat (front_blocks file s) ++ info)
       ++ bytes_of_frames (relaid_frames (flat_map part_frames parts) placed) ≡ joined_file parts
   unfolding laid_file
-  joined-told placed info plan is =
+  joined-told {placed} {info} plan is =
       let same : placed ≡ joined_plan s.class parts = plan ∙ sym told-plan in
       let frames = joined_frames s.class parts in
       let front = concat (front_blocks file s) in
@@ -144,29 +144,28 @@ module _ (output : List ℕ) (f : Contents) (i : InputFields) (later : List Inpu
 -- ---- what is written
 
 -- the joined file can be written with the parts that the code prepared
-pub ready-written : (output : List ℕ) (files : Files) (inputs : List InputFields) (work : JoinWork)
+pub ready-written : {output : List ℕ} {files : Files} {inputs : List InputFields} {work : JoinWork}
     → clash_from (output ∷ []) 0 (input_names inputs) ≡ None
     → AreJoinInputs None most_frames files inputs → IsJoinReady inputs work
     → CanJoinBeWritten output files inputs work
-ready-written output files inputs work apart are ready =
+ready-written {files = files} {inputs = inputs} apart are ready =
     let within = within-whole None most_frames files inputs are in
     let same = rows-whole None most_frames files inputs are in
     grind (arith, sources-inputs, within, same)
 
 -- the bytes that are written are the joined file
-whole-is : (output : List ℕ) (files : Files) (inputs : List InputFields) (work : JoinWork)
+whole-is : (output : List ℕ) (files : Files) (inputs : List InputFields) {work : JoinWork}
     → 1 ≤ length inputs → clash_from (output ∷ []) 0 (input_names inputs) ≡ None
     → AreJoinInputs None most_frames files inputs → IsJoinReady inputs work
     → (file : List ℕ) → Holds files (first_input (input_names inputs)) file
     → join_bytes files inputs work file ≡ joined_file (parts_of files inputs)
-whole-is output files [] work some apart are ready file holds = grind arith
-whole-is output (Untold touched) (i ∷ later) work some apart are ready file holds = absurd holds
-whole-is output (Told f) (i ∷ later) work some apart are ready file holds =
-    let alike = alike-first i later ready.joined in
+whole-is output files [] some apart are ready file holds = grind arith
+whole-is output (Untold touched) (i ∷ later) some apart are ready file holds = absurd holds
+whole-is output (Told f) (i ∷ later) {work} some apart are ready file holds =
+    let alike = alike-first ready.joined in
     let sources = sources-inputs i.survey.class output 0 None most_frames (Told f) (i ∷ later)
     apart alike are in
-    let told = joined-told output f i later ready.joined are sources (entries work.plan)
-    work.info.items ready.plan.plan ready.info in
+    let told = joined-told output f i later ready.joined are sources ready.plan.plan ready.info in
     let frames = relaid_frames (flat_map part_frames (map (part_in f) (i ∷ later)))
     (entries work.plan) in
     rw (← (ap (λ (o : Option (List ℕ)). unwrap_or o []) holds)) told
@@ -174,22 +173,22 @@ whole-is output (Told f) (i ∷ later) work some apart are ready file holds =
 -- ---- the command, once all inputs have their surveys
 
 -- the bytes that are written are what is made of the inputs
-pub written-making : (output : List ℕ) (files : Files) (inputs : List InputFields)
-    (work : JoinWork) → 1 ≤ length inputs → clash_from (output ∷ []) 0 (input_names inputs) ≡ None
+pub written-making : (output : List ℕ) {files : Files} {inputs : List InputFields}
+    {work : JoinWork} → 1 ≤ length inputs → clash_from (output ∷ []) 0 (input_names inputs) ≡ None
     → AreJoinInputs None most_frames files inputs → IsJoinReady inputs work
     → IsMaking (join_task (input_names inputs)) (join_bytes files inputs work) files
-written-making output files inputs work some apart are ready =
-    inputs-making joined_file joined_stream (join_bytes files inputs work) files inputs some are
-    (whole-is output files inputs work some apart are ready)
+written-making output {files} {inputs} {work} some apart are ready =
+    inputs-making joined_file joined_stream files inputs some are
+    (whole-is output files inputs some apart are ready)
 
 -- the joined file of inputs that were read holds their stream
-pub joined-hold : (output : List ℕ) (files : Files) (inputs : List InputFields)
+pub joined-hold : (output : List ℕ) (files : Files) {inputs : List InputFields}
     → clash_from (output ∷ []) 0 (input_names inputs) ≡ None → CanInputsBeJoined inputs
     → AreJoinInputs None most_frames files inputs → IfTold files
     (λ f. (bytes : List ℕ) → f (first_input (input_names inputs)) ≡ Some bytes
     → AreSoundFiles f (input_names inputs)
     × HoldsStream (joined_file (parts_of files inputs)) ((join_task (input_names inputs)).stream f))
-joined-hold output files inputs apart can are =
+joined-hold output files {inputs} apart can are =
     inputs-hold joined_file joined_stream files inputs are (at files inputs apart can are)
   where
     at : (fs : Files) (is : List InputFields) → clash_from (output ∷ []) 0 (input_names is) ≡ None
@@ -200,4 +199,4 @@ joined-hold output files inputs apart can are =
     at (Told f) (i ∷ later) apart can are =
         joined-holds output f i later can are
         (sources-inputs i.survey.class output 0 None most_frames
-        (Told f) (i ∷ later) apart (alike-first i later can) are)
+        (Told f) (i ∷ later) apart (alike-first can) are)

@@ -48,10 +48,10 @@ parts-few f k xs can =
 
 -- ---- the plan
 
-alike-parts : (class : ClassFields) (inputs : List InputFields) → AreInputsOfClass class inputs
+alike-parts : {class : ClassFields} (inputs : List InputFields) → AreInputsOfClass class inputs
     → All (IsPartOf class) (survey_rows inputs)
-alike-parts class [] are = All-nil (IsPartOf class)
-alike-parts class (i ∷ inputs) are =
+alike-parts {class} [] are = All-nil (IsPartOf class)
+alike-parts {class} (i ∷ inputs) are =
     All-cons (IsPartOf class) i.survey.frames (survey_rows inputs)
     (record {
       survey = i.survey;
@@ -63,7 +63,7 @@ alike-parts class (i ∷ inputs) are =
       within = omega arith;
       are = sym (range-whole i.survey.frames);
     })
-    (alike-parts class inputs are.3)
+    (alike-parts inputs are.3)
 
 module _ (inputs : List InputFields) (can : CanInputsBeJoined inputs) where
   abbrev parts : List (List Need)
@@ -76,17 +76,16 @@ module _ (inputs : List InputFields) (can : CanInputsBeJoined inputs) where
   asked = plan_input (survey_rows inputs)
 
   some : 1 ≤ length (survey_rows inputs)
-  some =
-      omega (arith, length-map inputs (λ (i : InputFields). i.survey.frames), can-some inputs can)
+  some = omega (arith, length-map inputs (λ (i : InputFields). i.survey.frames), can-some can)
 
   -- the parts can be planned
   pub all-fit : IsFitPlanInput can.class asked
-  all-fit = parts-fit can.class (survey_rows inputs) some (alike-parts can.class inputs can.alike)
+  all-fit = parts-fit can.class (survey_rows inputs) some (alike-parts inputs can.alike)
 
   one-plan : (placed : List Placed)
       → IsPlan window own_choice parts placed ↔ (placed ≡ least_plan window own_choice parts)
   one-plan placed =
-      rw can.first (parts-plan can.class own_choice
+      rw can.first (parts-plan
       (survey_rows inputs) placed all-fit all-fit.kept)
 
   -- the plan is the first of all lists with a layout
@@ -94,11 +93,11 @@ module _ (inputs : List InputFields) (can : CanInputsBeJoined inputs) where
   the-plan = (one-plan _).1 refl
 
   -- what the planner returns is the plan
-  pub plan-is : (placed : List Placed)
+  pub plan-is : {placed : List Placed}
       → IsPlan (window_in asked.needs) own_choice (needs_in_parts asked.needs asked.places) placed
       → IsPlanOf inputs placed
   unfolding least_plan_of
-  plan-is placed is = grind (arith, asked-plans, all-fit, one-plan placed, plans-fit)
+  plan-is {placed} is = grind (arith, asked-plans, all-fit, one-plan placed, plans-fit)
 
   -- the parts have no more frames than are allowed
   pub needs-few : length asked.needs ≤ most_frames

@@ -35,21 +35,21 @@ class_after first [] = first
 class_after first (i ∷ inputs) = class_after (Some (unwrap_or first i.survey.class)) inputs
 
 -- an input that may follow those before it is one more
-pub inputs-more : (first : Option ClassFields) (allowed : ℕ) (files : Files)
-    (inputs : List InputFields) (i : InputFields) → AreJoinInputs first allowed files inputs
+pub inputs-more : (first : Option ClassFields) (allowed : ℕ) {files : Files}
+    (inputs : List InputFields) {i : InputFields} → AreJoinInputs first allowed files inputs
     → IsSurveyed (allowed - frames_together inputs) files i.name i.survey
     → HasClassOfFirst (class_after first inputs) i.survey.class → i.from ≡ 0
     → AreJoinInputs first allowed files (inputs ++ i ∷ [])
 unfolding frames_together
-inputs-more first allowed files [] i are is follows whole = grind arith
-inputs-more first allowed files (n ∷ inputs) i are is follows whole =
+inputs-more first allowed [] are is follows whole = grind arith
+inputs-more first allowed {files} (n ∷ inputs) {i} are is follows whole =
     let left : allowed - (length n.survey.frames + frames_together inputs)
     ≡ (allowed - length n.survey.frames) - frames_together inputs = omega arith in (
       are.0,
       are.1,
       are.2,
       inputs-more (Some (unwrap_or first n.survey.class))
-          (allowed - length n.survey.frames) files inputs i are.3 (rw left at is) follows whole,
+          (allowed - length n.survey.frames) inputs are.3 (rw left at is) follows whole,
     )
 
 after-some : (class : ClassFields) (inputs : List InputFields)
@@ -62,9 +62,9 @@ pub after-none : (inputs : List InputFields) → class_after None inputs ≡ cla
 after-none inputs = grind (arith, after-some)
 
 -- the items up to a place and the one there are the items up to the next place
-pub take-next : {X : Type 0} (xs : List X) (i : ℕ) (x : X) (rest : List X) → drop i xs ≡ x ∷ rest
+pub take-next : {X : Type 0} (xs : List X) (i : ℕ) {x : X} {rest : List X} → drop i xs ≡ x ∷ rest
     → take (i + 1) xs ≡ take i xs ++ x ∷ []
-take-next xs i x rest is = take-add i 1 xs ∙ ap (λ l. take i xs ++ take 1 l) is
+take-next xs i is = take-add i 1 xs ∙ ap (λ l. take i xs ++ take 1 l) is
 
 -- one more input adds its frames
 pub frames-more : (inputs : List InputFields) (i : InputFields)
@@ -98,13 +98,13 @@ named-long inputs is =
     sym (length-map inputs (λ (i : InputFields). i.name)) ∙ ap (λ (l : List (List ℕ)). length l) is
 
 -- inputs that can be joined are at least one
-pub can-some : (inputs : List InputFields) → CanInputsBeJoined inputs → 0 < length inputs
-can-some inputs can = grind arith
+pub can-some : {inputs : List InputFields} → CanInputsBeJoined inputs → 0 < length inputs
+can-some can = grind arith
 
 -- all inputs are of the first one's class
-pub alike-first : (i : InputFields) (inputs : List InputFields) → CanInputsBeJoined (i ∷ inputs)
+pub alike-first : {i : InputFields} {inputs : List InputFields} → CanInputsBeJoined (i ∷ inputs)
     → AreInputsOfClass i.survey.class (i ∷ inputs)
-alike-first i inputs can = grind arith
+alike-first can = grind arith
 
 -- ---- inputs whose contents are known
 
@@ -113,10 +113,10 @@ pub follows-may : (first : Option ClassFields) (class : ClassFields) → HasClas
     → may_join first class ≡ true
 follows-may first class follows = grind (arith, same-class)
 
-part-ok : (place : ℕ) (first : Option ClassFields) (allowed : ℕ) (f : Contents) (i : InputFields)
+part-ok : (place : ℕ) (first : Option ClassFields) {allowed : ℕ} {f : Contents} {i : InputFields}
     → IsSurveyed allowed (Told f) i.name i.survey → HasClassOfFirst first i.survey.class
     → i.from ≡ 0 → join_part place first allowed (f i.name) ≡ Ok (part_in f i)
-part-ok place first allowed f i is follows whole = grind (arith, there_holds, follows-may)
+part-ok place first is follows whole = grind (arith, there_holds, follows-may)
 
 -- the parts of inputs that were surveyed are all there
 pub parts-all : (place : ℕ) (first : Option ClassFields) (allowed : ℕ) (f : Contents)
@@ -126,7 +126,7 @@ unfolding join_parts_from
 parts-all place first allowed f [] are = refl
 parts-all place first allowed f (i ∷ inputs) are =
     rw (
-      part-ok place first allowed f i are.0 are.1 are.2,
+      part-ok place first are.0 are.1 are.2,
       parts-all (place + 1) (Some (unwrap_or first i.survey.class))
           (allowed - length i.survey.frames) f inputs are.3,
     ) refl
@@ -147,7 +147,7 @@ module _ (Q : Result (List FilePart) EditFault → Type 0)
       let next : place + length (i ∷ before) ≡ place + 1 + length before = omega arith in
       let left : allowed - (length i.survey.frames + frames_together before)
       ≡ (allowed - length i.survey.frames) - frames_together before = omega arith in
-      rw (part-ok place first allowed f i are.0 are.1 are.2)
+      rw (part-ok place first are.0 are.1 are.2)
       (more _ _ (parts-behind (place + 1) (Some (unwrap_or first i.survey.class))
       (allowed - length i.survey.frames) before are.3 (rw (next, left) at q)))
 
@@ -164,9 +164,9 @@ module _ (P : EditFault → Type 0) where
   -- refusals of the inputs from one on
   module _ (from : ℕ) (faults : (at : ℕ) (fault : SurveyFault) → from ≤ at → P (Input at fault))
       (differ : (at : ℕ) → from ≤ at → P (Refused (Differ at))) where
-    part-all : (at : ℕ) (first : Option ClassFields) (allowed : ℕ) (o : Option (List ℕ)) → from ≤ at
+    part-all : {at : ℕ} (first : Option ClassFields) (allowed : ℕ) (o : Option (List ℕ)) → from ≤ at
         → IfErr (join_part at first allowed o) P
-    part-all at first allowed o behind = grind arith
+    part-all first allowed o behind = grind arith
 
     from-all : (at : ℕ) (first : Option ClassFields) (allowed : ℕ) (f : Contents)
         (names : List (List ℕ)) → from ≤ at → IfErr (join_parts_from at first allowed f names) P
@@ -174,7 +174,7 @@ module _ (P : EditFault → Type 0) where
     from-all at first allowed f [] behind = tt
     from-all at first allowed f (name ∷ names) behind =
         then_all P (join_part at first allowed (f name)) _
-        (part-all at first allowed (f name) behind)
+        (part-all first allowed (f name) behind)
         (λ p. then_all P (join_parts_from (at + 1) _ _ f names) (λ parts. Ok (p ∷ parts))
         (from-all (at + 1) _ _ f names (omega (arith, behind))) (λ parts. tt))
 
@@ -195,18 +195,19 @@ join-late file (name ∷ rest) f bytes held few =
     (then_all IsLateFault _ (λ parts. Ok (file parts))
     (then_all IsLateFault (surveyed_part 0 None bytes (survey_fields bytes most_frames)) _
     (by-all IsLateFault 0 None bytes (survey_fields bytes most_frames)
-    (λ fault is. of_bytes_behind fault (survey_fields-of_bytes bytes most_frames fault is)) refl)
+    (λ fault is. of_bytes_behind fault
+    (survey_fields-of_bytes bytes most_frames {fault = fault} is)) refl)
     (λ p. then_all IsLateFault (join_parts_from (0 + 1) _ _ f rest) (λ parts. Ok (p ∷ parts))
     (from-all IsLateFault
     1 later-late (λ at behind. refl) (0 + 1) _ _ f rest (omega arith)) (λ parts. tt)))
     (λ parts. tt))
 
 -- the first input is there with a length that it may have
-pub found-input : (allowed : ℕ) (before : List InputFields) (after : List (List ℕ)) (old new : Seen)
+pub found-input : (allowed : ℕ) (before : List InputFields) (after : List (List ℕ)) {old new : Seen}
     → AreJoinInputs None allowed old.files before → 1 ≤ length before → new ≡ old
     → NeedsMemory (first_input (input_names before ++ after)) old new
-found-input allowed [] after old new are some stays = absurd (omega (arith, some))
-found-input allowed (i ∷ before) after old new are some stays = grind (arith, survey_of-parts)
+found-input allowed [] after are some stays = absurd (omega (arith, some))
+found-input allowed (i ∷ before) after are some stays = grind (arith, survey_of-parts)
 
 -- ---- a fault of an input after those before it
 
@@ -259,7 +260,7 @@ module _ (file : List FilePart → List ℕ) (stream : List FilePart → List St
             → NeedsMemory (first_input (input_names bs ++ name ∷ after)) old new
         first [] are = n
         first (b ∷ bs) are =
-            found-input most_frames (b ∷ bs) (name ∷ after) old new are (omega arith) n.stays
+            found-input most_frames (b ∷ bs) (name ∷ after) are (omega arith) n.stays
 
     early-here : IsPartFault (length before) (class_after None before)
         (most_frames - frames_together before) name
@@ -279,15 +280,15 @@ module _ (file : List FilePart → List ℕ) (stream : List FilePart → List St
     })
 
 -- a fault of the next input is one met before the output is created
-pub part-early : (names : List (List ℕ)) (before : List InputFields) (name : List ℕ)
-    (after : List (List ℕ)) (place allowed : ℕ) (first : Option ClassFields) (old mid new : Seen)
+pub part-early : {names : List (List ℕ)} (before : List InputFields) (name : List ℕ)
+    (after : List (List ℕ)) {place : ℕ} (allowed : ℕ) {first : Option ClassFields} {old mid : Seen}
+    (new : Seen)
     (fault : EditFault) → input_names before ++ name ∷ after ≡ names → length before ≡ place
     → first ≡ class_of_first before → allowed + frames_together before ≡ most_frames → mid ≡ old
     → AreJoinInputs None most_frames old.files before
     → IsPartFault place first allowed name mid new fault
     → IsEarlyInputFault names old new fault
-part-early names before name after place allowed first old mid new fault is long class many stays
-    are h =
+part-early before name after allowed {old = old} new fault is long class many stays are h =
     λ file stream.
     let left : allowed ≡ most_frames - frames_together before = omega (arith, many) in
     rw (← is) (early-here file stream before name after old new fault are

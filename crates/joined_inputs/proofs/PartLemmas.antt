@@ -12,7 +12,7 @@ use Rattle.sync_survey.specs.declared.survey_fault.SurveyFault.{SurveyFault}
 may-follows : (first : Option ClassFields) (class : ClassFields) → may_join first class ≡ true
     → HasClassOfFirst first class
 may-follows None class may = tt
-may-follows (Some first) class may = same_class-is class first may
+may-follows (Some first) class may = same_class-is may
 
 -- the input's file, its survey, and its frames, which are of the class of those before it
 pub record IsPart (first : Option ClassFields) (allowed : ℕ) (o : Option (List ℕ))
@@ -25,10 +25,11 @@ pub record IsPart (first : Option ClassFields) (allowed : ℕ) (o : Option (List
   pub whole : whole_part file survey ≡ part
 
 -- a part that isn't refused is such a part
-pub part-is : (place : ℕ) (first : Option ClassFields) (allowed : ℕ) (o : Option (List ℕ))
-    (part : FilePart) → join_part place first allowed o ≡ Ok part → IsPart first allowed o part
-part-is place first allowed None part e = absurd cc
-part-is place first allowed (Some file) part e = at (survey_of file allowed) refl e
+pub part-is : (place : ℕ) {first : Option ClassFields} {allowed : ℕ} (o : Option (List ℕ))
+    {part : FilePart} → join_part place first allowed o ≡ Ok part → IsPart first allowed o part
+part-is place None e = absurd cc
+part-is place {first} {allowed} (Some file) {part} e =
+    at (survey_of file allowed) refl e
   where
     made : (s : SurveyFields) → survey_of file allowed ≡ Ok s → (b : Bool)
         → may_join first s.class ≡ b

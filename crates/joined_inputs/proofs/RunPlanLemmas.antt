@@ -14,10 +14,10 @@ use Rattle.slot_plan.specs.declared.needs.Placed.{Placed}
 
 -- ---- one part
 
-class-at-first : (class : ClassFields) (n : Need) (needs : List Need)
+class-at-first : {class : ClassFields} (n : Need) (needs : List Need)
     → AreNeedsOfClass class (n ∷ needs) → class_of n.header ≡ class
 unfolding AreNeedsOfClass
-class-at-first class n needs same = same.0
+class-at-first n needs same = same.0
 
 window-is : (class : ClassFields) (needs : List Need) → 0 < length needs
     → AreNeedsOfClass class needs → window_in needs ≡ window_of class.version
@@ -59,16 +59,16 @@ module _ (class : ClassFields) (needs : List Need) (known : IsClass class)
   in-order = grind (arith, parts-one, All-cons, needs-choose, All-nil)
 
   -- what the planner returns is the plan
-  pub plan-is : (placed : List Placed) → IsPlanAnswer own_choice needs (0 ∷ []) placed
+  pub plan-is : {placed : List Placed} → IsPlanAnswer own_choice needs (0 ∷ []) placed
       → placed ≡ plan_of_run_needs window needs
-  plan-is placed is = grind (arith, in-order, window-is, parts-one)
+  plan-is is = grind (arith, in-order, window-is, parts-one)
 
   -- what the planner returns can be written frame by frame
-  pub plan-fits : (placed : List Placed) → IsPlanAnswer own_choice needs (0 ∷ []) placed
+  pub plan-fits : {placed : List Placed} → IsPlanAnswer own_choice needs (0 ∷ []) placed
       → FitsFromReach window 0 needs placed
-  plan-fits placed is =
+  plan-fits {placed} is =
       subst (λ (l : List Need). FitsFromReach window 0 l placed) (append-nil needs)
-      (parts-fit window own_choice (needs ∷ []) placed
+      (parts-fit
       (subst (λ w. IsPlan w own_choice (needs ∷ []) placed) (window-is class needs some same)
       (subst (λ (parts : List (List Need)). IsPlan (window_in needs) own_choice parts placed)
       parts-one is.plan)))
@@ -78,7 +78,7 @@ module _ (class : ClassFields) (needs : List Need) (known : IsClass class)
   run-planned =
       let OfClass : List Need → Type 0 = λ part. AreNeedsOfClass class part in
       let InOrder : List Need → Type 0 = λ part. All (ChoosesInOrder own_choice) part in
-      (least-plan-is class own_choice (needs ∷ []) (plan_of_run_needs window needs)
+      (least-plan-is class (plan_of_run_needs window needs)
       (All-cons OfClass needs [] same (All-nil OfClass))
       (All-cons InOrder needs [] (needs-choose class needs known same) (All-nil InOrder))
       feasible).1 refl

@@ -29,12 +29,12 @@ pub sources-inputs : (class : ClassFields) (output : List ℕ) (place : ℕ)
 sources-inputs class output place first allowed files [] none alike are = tt
 sources-inputs class output place first allowed files (i ∷ inputs) none alike are =
     let later = clash_from (output ∷ []) (place + 1) (input_names inputs) in
-    let other = no_clash _ place later none in (
+    let other = no_clash place none in (
       (
         record {
-          apart = other_name i.name output [] other.0;
+          apart = other_name [] other.0;
           there = are.0.there;
-          exact = λ file holds. survey-had file allowed i.survey (are.0.exact file holds);
+          exact = λ file holds. survey-had allowed (are.0.exact file holds);
           laid = are.0.laid;
         },
         alike.2,
@@ -55,10 +55,10 @@ pub first-class : {inputs later : List InputFields} {i : InputFields} {class : C
 first-class is first = let first = rw is at first in cc
 
 -- a source stays a source if only the output changes
-source-beside : (output : List ℕ) (old new : Files) (name : List ℕ) (s : SurveyFields)
+source-beside : {output : List ℕ} (old new : Files) {name : List ℕ} {s : SurveyFields}
     → LeavesAllBut (output ∷ []) old new → IsSource output old name s
     → IsSource output new name s × (told_contents new name ≡ told_contents old name)
-source-beside output (Told f) (Told g) name s only source =
+source-beside {output} (Told f) (Told g) {name} only source =
     let same =
     only name (All-cons (λ n. name ≢ n) output [] source.apart (All-nil (λ n. name ≢ n))) in (
       record {
@@ -69,8 +69,8 @@ source-beside output (Told f) (Told g) name s only source =
       },
       same,
     )
-source-beside output (Untold before) (Untold after) name s only source = grind arith
-source-beside output _ _ name s only source = absurd only
+source-beside (Untold before) (Untold after) only source = grind arith
+source-beside _ _ only source = absurd only
 
 module _ (class : ClassFields) (output : List ℕ) (old new : Files) where
   -- all sources stay sources if only the output changes
@@ -78,7 +78,7 @@ module _ (class : ClassFields) (output : List ℕ) (old new : Files) where
       → AreRangeSources class output old ranges → AreRangeSources class output new ranges
   ranges-beside [] only are = tt
   ranges-beside (r ∷ ranges) only are = (
-    ((source-beside output old new r.name r.survey only are.0.0).0, are.0.1),
+    ((source-beside old new only are.0.0).0, are.0.1),
     ranges-beside ranges only are.1,
   )
 
@@ -89,25 +89,25 @@ module _ (class : ClassFields) (output : List ℕ) (old new : Files) where
   told-beside (r ∷ ranges) only are = grind (arith, source-beside, told-beside ranges only are.1)
 
 -- where the contents of the files are known, a source holds its bytes
-pub source-holds : {output : List ℕ} (files : Files) (key told name : List ℕ) (s : SurveyFields)
-    → Holds files key told → IsSource output files name s
+pub source-holds : {output : List ℕ} {files : Files} (key told : List ℕ) {name : List ℕ}
+    {s : SurveyFields} → Holds files key told → IsSource output files name s
     → Holds files name (unwrap_or (told_contents files name) [])
-source-holds files key told name s holds source = grind arith
+source-holds key told holds source = grind arith
 
 -- ---- what is made of the inputs, once all have their surveys
 
 -- what a task makes of the inputs, if these bytes are written where the first input's content is
 -- known
 pub inputs-making : (file : List FilePart → List ℕ) (stream : List FilePart → List StreamFrame)
-    (made : List ℕ → List ℕ) (files : Files) (inputs : List InputFields) → 1 ≤ length inputs
+    {made : List ℕ → List ℕ} (files : Files) (inputs : List InputFields) → 1 ≤ length inputs
     → AreJoinInputs None most_frames files inputs
     → ((bytes : List ℕ) → Holds files (first_input (input_names inputs)) bytes
     → made bytes ≡ file (parts_of files inputs))
     → IsMaking (parts_task file stream (input_names inputs)) made files
-inputs-making file stream made files [] some are is = absurd (omega (arith, some))
-inputs-making file stream made (Untold touched) (i ∷ inputs) some are is =
+inputs-making file stream files [] some are is = absurd (omega (arith, some))
+inputs-making file stream (Untold touched) (i ∷ inputs) some are is =
     record { there = are.0.there; makes = tt }
-inputs-making file stream made (Told f) (i ∷ inputs) some are is = record {
+inputs-making file stream (Told f) (i ∷ inputs) some are is = record {
   there = are.0.there;
   makes = λ bytes held. (
     are.0.octets bytes held,
@@ -121,8 +121,8 @@ pub sound : (first : Option ClassFields) (allowed : ℕ) (f : Contents) (inputs 
     → AreJoinInputs first allowed (Told f) inputs → AreSoundFiles f (input_names inputs)
 sound first allowed f [] are = tt
 sound first allowed f (i ∷ inputs) are =
-    let held = there_holds f i.name are.0.there in (
-      (held.0, held.1, survey_of-sound held.0 allowed i.survey (are.0.exact held.0 held.1)),
+    let held = there_holds f are.0.there in (
+      (held.0, held.1, survey_of-sound held.0 allowed (are.0.exact held.0 held.1)),
       sound (Some (unwrap_or first i.survey.class))
           (allowed - length i.survey.frames) f inputs are.3,
     )
@@ -143,7 +143,7 @@ inputs-hold file stream (Told f) inputs are holds = λ bytes held. (
 
 -- the numbers of a fault are numbers that the command may return
 pub join-numbers : (file : List FilePart → List ℕ) (stream : List FilePart → List StreamFrame)
-    (output : List ℕ) (names : List (List ℕ)) (count : ℕ) (fault : EditFault) → count ≡ length names
+    (output : List ℕ) (names : List (List ℕ)) {count : ℕ} (fault : EditFault) → count ≡ length names
     → HasJoinNumbers count fault
     → HasNumbers (one_command (parts_task file stream names) output) fault
-join-numbers file stream output names count fault all is = grind arith
+join-numbers file stream output names fault all is = grind arith

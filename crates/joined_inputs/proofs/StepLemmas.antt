@@ -31,17 +31,17 @@ use Rattle.sync_survey.specs.Faults.{survey_view, SurveyFields}
 
 -- what a list maps to, from item i on, is what that item maps to, and then what those after it map
 -- to
-pub map-next : {X Y : Type 0} (f : X → Y) (xs : List X) (i : ℕ) (x : X) → i < length xs
+pub map-next : {X Y : Type 0} (f : X → Y) (xs : List X) {i : ℕ} {x : X} → i < length xs
     → x ≡ get_or xs i x → drop i (map f xs) ≡ f x ∷ drop (i + 1) (map f xs)
-map-next f xs i x within is = grind (arith, drop-map, item-next, within)
+map-next f xs within is = grind (arith, drop-map, item-next, within)
 
 -- an input is ready to be read beside the output
-pub source-ready : (relay : Relay) (files : Files) (fed : Fed)
+pub source-ready : {relay : Relay} {files : Files} {fed : Fed}
     → IsSource relay.pass.output.now files relay.pass.input.now (survey_view relay.survey.now)
     → IsFileThere files relay.pass.output.now
     → relay.pass.length ≡ (survey_view relay.survey.now).length
     → IsFedFrom fed files relay.pass.input.now → IsRelayReady relay files fed
-source-ready relay files fed source target long fed_from = grind (arith, target)
+source-ready source target long fed_from = grind (arith, target)
 
 -- ---- the frames of ranges
 
@@ -78,10 +78,10 @@ unfolding needs_of_parts
 sources-needs class output files key file [] holds are = tt
 sources-needs class output files key file (i ∷ ranges) holds are =
     let bytes = unwrap_or (told_contents files i.name) [] in
-    let has = are.0.0.exact bytes (source-holds files key file i.name i.survey holds are.0.0) in
+    let has = are.0.0.exact bytes (source-holds key file holds are.0.0) in
     needs-append (needs_from i.survey i.from i.to)
     (needs_of_parts (range_rows ranges)) (part_frames (range_in (told_contents files) i))
-    (told_ranges files ranges) (needs-range bytes i.survey i.from i.to has)
+    (told_ranges files ranges) (needs-range i.from i.to has)
     (sources-needs class output files key file ranges holds are.1)
 
 -- a range's frames come before the frames of the ranges after it
@@ -97,7 +97,7 @@ told-none : (files : Files) (placed : List Placed)
 told-none files placed = grind (arith, relaid_frames-none)
 
 -- the plan fits the range, and then the ranges after it
-fits-range : (class : ClassFields) (reach : ℕ) (i : RangeFields) (ranges : List RangeFields)
+fits-range : {class : ClassFields} (reach : ℕ) (i : RangeFields) (ranges : List RangeFields)
     (placed : List Placed) → i.survey.class ≡ class → i.to ≤ length i.survey.frames
     → FitsFromReach (window_of class.version) reach (needs_of_parts (range_rows (i ∷ ranges)))
     placed → FitsFromReach (window_of i.survey.class.version) reach
@@ -106,8 +106,7 @@ fits-range : (class : ClassFields) (reach : ℕ) (i : RangeFields) (ranges : Lis
     × FitsFromReach (window_of class.version) (reach_behind reach i placed)
     (needs_of_parts (range_rows ranges)) (drop (places_of i placed) placed)
 unfolding needs_of_parts
-fits-range class reach i ranges placed same within fits =
-    grind (arith, needs-many, fits-append, fits)
+fits-range reach i ranges placed same within fits = grind (arith, needs-many, fits-append, fits)
 
 -- ---- range by range
 
@@ -142,7 +141,7 @@ laid-none key {output} w {files} sources within target new fits = record {
   unsettled = new.unsettled;
   lays = record {
     made = λ file. [];
-    lays = lays_none key output (λ file. []) w files target (λ file holds. refl);
+    lays = lays_none key output {made = λ file. []} w {files = files} target (λ file holds. refl);
     left = λ file holds. refl;
   };
 }
@@ -197,8 +196,7 @@ module _ {class : ClassFields} {key output : List ℕ} {whole : List ℕ → Lis
       (own_places (i.to - i.from) left)
       × FitsFromReach (window_of class.version) (reach_behind (reach_of now.held) i left)
       (needs_of_parts (range_rows later)) (drop count left)
-  both-fit =
-      fits-range class (reach_of now.held) i later left here.sources.0.1 next-within here.fits
+  both-fit = fits-range (reach_of now.held) i later left here.sources.0.1 next-within here.fits
 
   abbrev bytes : List ℕ
   bytes = unwrap_or (told_contents first i.name) []
@@ -219,24 +217,24 @@ module _ {class : ClassFields} {key output : List ℕ} {whole : List ℕ → Lis
     told file holds = grind (arith, input_held, input_holds, source-holds)
 
     -- when it was laid in its places, one more range was laid
-    pub next-laid : (new : Writing) (more : List Placed) → drop count left ≡ more
+    pub next-laid : {new : Writing} {more : List Placed} → drop count left ≡ more
         → LaysFrames i.name output (frames_behind i left) now new files after
         → new.held.class ≡ s.class
         → reach_of new.held ≡ reach_behind (reach_of now.held) i left
         → (IsNextSettled new.held → ⊥)
         → IsLaidTo class key output whole begun new first after later more
-    next-laid new more is lays same reach unsettled =
+    next-laid {new} is lays same reach unsettled =
         rw (← is) (record {
           sources = here.sources.1;
           within = here.within.2;
-          target = still_there files after output lays.passed output lays.files laid.target;
+          target = still_there files output lays.passed output lays.files laid.target;
           class_is = same ∙ here.sources.0.1;
           fits = rw reach both-fit.1;
           unsettled = unsettled;
           lays = record {
             made = λ file. here.lays.made file ++ own file;
             lays = lays_then key output here.lays.made own begun now first files apart
-                here.lays.lays new after (record {
+                here.lays.lays (record {
                   frames = lays.frames;
                   is = λ file holds. lays.is bytes (told file holds);
                   passed = lays.passed;
@@ -260,15 +258,16 @@ module _ {class : ClassFields} {key output : List ℕ} {whole : List ℕ → Lis
         let last = last_reach window reach needs places in
         let frames = told_ranges first later in (
           last,
-          part_more key output (λ file. here.lays.made file ++ own file) rest whole reach last begun
-              first after
+          part_more {input = key} {output = output} {made = λ file. here.lays.made file
+              ++ own file} rest {whole = whole} {reach = reach} {last = last} {old = begun}
+              {before = first} {after = after}
               (λ file holds more begins.
               begins-left window reach needs frames places more
               (sources-needs class output first key file later holds here.sources.1)
               both-fit.1 begins)
               split
               (part_then key output here.lays.made own begun now first files apart here.lays.lays
-              reach after (record {
+              {reach = reach} {after = after} (record {
                 settled = part.settled;
                 prefix = part.prefix;
                 done = part.done;
@@ -286,25 +285,25 @@ pub named-first : {ranges later : List RangeFields} {i : RangeFields} → ranges
 named-first is = rw is (omega arith)
 
 -- the input at a place has the name at that place
-pub cause-at : (names : List (List ℕ)) (place : ℕ) (name output : List ℕ)
-    (later : List (List ℕ)) (size : ℕ) (files : Files) (before after : Counts) (fault : PassFault)
+pub cause-at : (names : List (List ℕ)) (place : ℕ) {name : List ℕ} (output : List ℕ)
+    {later : List (List ℕ)} (size : ℕ) (files : Files) (before after : Counts) (fault : PassFault)
     → drop place names ≡ name ∷ later → HasPassCause (route name output size) files before after
     fault
     → HasPassCause (route (slice_index_or names place []) output size) files before after fault
-cause-at names place name output later size files before after fault is cause =
+cause-at names place {name} output size files before after fault is cause =
     let here : place ≡ place + 0 = omega arith in
     let named : slice_index_or names place [] ≡ name = grind (arith, here, get_or-drop) in
     rw named cause
 
 -- the input of a range is named by the range's place
-pub cause-named : (ranges : List RangeFields) (place : ℕ) (r : RangeFields) (output : List ℕ)
-    (later : List RangeFields) (size : ℕ) (files : Files) (before after : Counts)
+pub cause-named : (ranges : List RangeFields) (place : ℕ) {r : RangeFields} (output : List ℕ)
+    {later : List RangeFields} (size : ℕ) (files : Files) (before after : Counts)
     (fault : PassFault) → drop place ranges ≡ r ∷ later
     → HasPassCause (route r.name output size) files before after fault
     → HasPassCause (route (slice_index_or (range_names ranges) place []) output size) files before
     after fault
-cause-named ranges place r output later size files before after fault is cause =
+cause-named ranges place {r} output {later} size files before after fault is cause =
     let from : drop place (range_names ranges) ≡ r.name ∷ range_names later =
     grind (arith, drop-map, is) in
-    cause-at (range_names ranges) place r.name output (range_names later) size files before after
+    cause-at (range_names ranges) place output size files before after
     fault from cause

@@ -21,15 +21,15 @@ kept-twice f (Ok made) = again f made (first_there f 0 (made_names made)) refl
 
 -- ---- what it leaves
 
-not-here : (here : Bool) (place : ℕ) (later : Option ℕ) → cond here (Some place) later ≡ None
+not-here : (here : Bool) (place : ℕ) {later : Option ℕ} → cond here (Some place) later ≡ None
     → (here ≡ false) × (later ≡ None)
-not-here true place later e = absurd cc
-not-here false place later e = (refl, e)
+not-here true place e = absurd cc
+not-here false place e = (refl, e)
 
 -- a name that is there, and the bytes that it has
 module _ (f : Contents) (name bytes : List ℕ) (held : f name ≡ Some bytes) where
-  other : (output : List ℕ) → is_some (f output) ≡ false → name ≢ output
-  other output missing same =
+  other : {output : List ℕ} → is_some (f output) ≡ false → name ≢ output
+  other {output} missing same =
       let here : is_some (f output) ≡ true = ap (λ n. is_some (f n)) (sym same) ∙ ap is_some held in
       absurd cc
 
@@ -39,9 +39,9 @@ module _ (f : Contents) (name bytes : List ℕ) (held : f name ≡ Some bytes) w
       → written_files outputs now name ≡ Some bytes
   written-leaves [] place now here none = here
   written-leaves (output ∷ outputs) place now here none =
-      let parts = not-here (is_some (f output.name)) place _ none in
+      let parts = not-here (is_some (f output.name)) place none in
       written-leaves outputs (place + 1) (with_file now output.name output.bytes)
-      (with_file_other now output.name output.bytes name (other output.name parts.0) ∙ here) parts.1
+      (with_file_other now output.bytes (other parts.0) ∙ here) parts.1
 
 -- the law of every command
 pub leave_all : KeptCommandsLeaveAll
@@ -53,5 +53,5 @@ leave_all command = record {
   twice = λ files. kept-twice files (command.makes files);
   leaves =
       λ files made is name bytes held. written-leaves files name bytes held made.outputs 0 files
-      held (kept_done-free command files made is);
+      held (kept_done-free command files is);
 }

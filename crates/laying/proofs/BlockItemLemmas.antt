@@ -8,15 +8,15 @@ use Rattle.sync_survey.specs.{Runs.{blocks_of, frames_of}, declared.items.Item.I
 use Rattle.sync_survey.specs.declared.{items.Item.TheVariants.Block, runs.Region.Region}
 use Rattle.tag_blocks.specs.Blocks.{block_front}
 
-block_item : (bytes : List ℕ) (is : IsBlock bytes) → IsItem (Block is.0) bytes
-block_item bytes is =
+block_item : {bytes : List ℕ} (is : IsBlock bytes) → IsItem (Block is.0) bytes
+block_item {bytes} is =
     let block = is.0 in
     let whole : take block.length bytes ≡ bytes = ap (λ n. take n bytes) is.2 ∙ take-length bytes in
     let stands : (rest : List ℕ) → block_front (bytes ++ rest) ≡ Some block =
     grind (arith, block_front-bytes) in
     record {
       size = sym is.2;
-      known = λ rest. sym (stands-only (bytes ++ rest) (Block block) (stands rest));
+      known = λ rest. sym (stands-only (bytes ++ rest) (stands rest));
     }
 
 -- the items of blocks
@@ -29,7 +29,7 @@ pub blocks-items : (part : Region) (blocks : List (List ℕ)) (are : AreBlocks b
     → AreItems part (block_items blocks are) (concat blocks)
 blocks-items part [] are = refl
 blocks-items part (b ∷ blocks) are =
-    (b, concat blocks, refl, block_item b are.0, refl, blocks-items part blocks are.1)
+    (b, concat blocks, refl, block_item are.0, refl, blocks-items part blocks are.1)
 
 -- no frame is among the items of blocks
 pub blocks-no_frame : (at : ℕ) (blocks : List (List ℕ)) (are : AreBlocks blocks)

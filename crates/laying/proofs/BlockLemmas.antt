@@ -15,12 +15,12 @@ use Rattle.sync_survey.specs.declared.runs.Region.TheVariants.{Front, Stream}
 use Rattle.tag_blocks.specs.{Blocks.block_front, declared.block.Block.Block as TagBlock}
 
 -- a whole block that these bytes begin with
-whole_block : (bytes : List ℕ) (b : TagBlock) → block_front bytes ≡ Some b → b.length ≤ length bytes
+whole_block : (bytes : List ℕ) {b : TagBlock} → block_front bytes ≡ Some b → b.length ≤ length bytes
     → IsBlock (take b.length bytes)
-whole_block bytes b is within = (
+whole_block bytes {b} is within = (
   b,
   ap block_front (sym (append-nil (take b.length bytes)))
-      ∙ block_front-bytes bytes [] b is within,
+      ∙ block_front-bytes bytes [] is within,
   sym (length-take-le b.length bytes within),
 )
 
@@ -29,7 +29,7 @@ pub block_more : (file : List ℕ) (at : ℕ) (item : Item) (blocks : List Piece
     ≡ item → at + size_of item ≤ length file → AreBlocks (map (block_bytes file) blocks)
     → AreBlocks (map (block_bytes file) (cons_option (block_of_item at item) blocks))
 block_more file at (Block b) blocks is within are = (
-  whole_block (drop at file) b (stands-at file at (Block b) is)
+  whole_block (drop at file) (stands-at file at (Block b) is)
       (omega (arith, within, length-drop at file)),
   are,
 )

@@ -28,9 +28,9 @@ block-at [] i none within = absurd (omega (arith, within))
 block-at (p ∷ ps) zero none within = refl
 block-at (p ∷ ps) (suc i) none within = grind (arith, block-at ps i none (omega (arith, within)))
 
-none-by : (b : Bool) (file : List ℕ) (p : Piece) → b ≡ false
+none-by : {b : Bool} (file : List ℕ) (p : Piece) → b ≡ false
     → concat (map (block_bytes file) (cond b (p ∷ []) [])) ≡ []
-none-by b file p is = grind arith
+none-by file p is = grind arith
 
 not-chosen : (in_front : Bool) (s : SurveyFields) (p : Piece)
     → beq (goes_in_front s p) in_front ≡ false → is_chosen_block in_front s p ≡ false
@@ -42,16 +42,16 @@ pub chosen-none : (in_front : Bool) (s : SurveyFields) (p : Piece) (file : List 
 chosen-none in_front s p file other = grind (arith, none-by, not-chosen)
 
 -- consecutive blocks end no earlier than they begin
-pub block-behind : (from to : ℕ) (ps : List Piece) → BlocksAreLaid from ps to → from ≤ to
-block-behind from to [] laid = laid
-block-behind from to (p ∷ ps) laid =
-    omega (arith, laid.0, block-behind (p.offset + p.block.length) to ps laid.1)
+pub block-behind : (from : ℕ) {to : ℕ} (ps : List Piece) → BlocksAreLaid from ps to → from ≤ to
+block-behind from [] laid = laid
+block-behind from {to} (p ∷ ps) laid =
+    omega (arith, laid.0, block-behind (p.offset + p.block.length) ps laid.1)
 
 -- each of consecutive blocks ends no later than the last
-pub block-within : (from to : ℕ) (ps : List Piece) (i : ℕ) (p : Piece) (more : List Piece)
+pub block-within : (from : ℕ) {to : ℕ} (ps : List Piece) (i : ℕ) {p : Piece} {more : List Piece}
     → drop i ps ≡ p ∷ more → BlocksAreLaid from ps to → p.offset + p.block.length ≤ to
-block-within from to [] zero p more is laid = absurd cc
-block-within from to [] (suc i) p more is laid = absurd cc
-block-within from to (q ∷ ps) zero p more is laid = grind (arith, block-behind)
-block-within from to (q ∷ ps) (suc i) p more is laid =
-    block-within (q.offset + q.block.length) to ps i p more is laid.1
+block-within from [] zero is laid = absurd cc
+block-within from [] (suc i) is laid = absurd cc
+block-within from (q ∷ ps) zero is laid = grind (arith, block-behind)
+block-within from {to} (q ∷ ps) (suc i) {p} {more} is laid =
+    block-within (q.offset + q.block.length) ps i is laid.1

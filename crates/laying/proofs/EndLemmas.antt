@@ -14,16 +14,16 @@ use Rattle.outside.specs.{Pass.{WritesMadeBytes, WritesPrefix}, declared.pass.Pa
 use Rattle.outside.specs.declared.pass.PassFault.{PassFault}
 
 -- with a new queue, no frame was passed after what waits
-pub new-behind : {class : ClassFields} (held : WaitingFrames) (waiting : List ℕ)
+pub new-behind : {class : ClassFields} {held : WaitingFrames} (waiting : List ℕ)
     → IsNewQueue class held → IsWriterOf waiting [] (writing_of held waiting) []
-new-behind held waiting new = grind (arith, append-nil)
+new-behind waiting new = grind (arith, append-nil)
 
 -- what was appended and what waits are what waited before and the bytes of the frames
-lays-passed : (input output : List ℕ) (made : List ℕ → List Frame) (base : List ℕ)
-    (old new : Writing) (before now : Files) → IsWriterOf base [] old []
+lays-passed : {input output : List ℕ} {made : List ℕ → List Frame} {base : List ℕ}
+    {old new : Writing} {before now : Files} → IsWriterOf base [] old []
     → (lays : LaysFrames input output made old new before now) →
     AppendsWaiting output (base ++ bytes_of_frames lays.frames) (waiting_bytes new) before now
-lays-passed input output made base old new before now none lays =
+lays-passed {base = base} none lays =
     grind (arith, lays.writer base [] [] none, lays.passed, laid-steps, append_assoc, lays.files)
 
 module _ (pass : Pass) (made : List ℕ → List Frame) (base : List ℕ) (old : Writing) (before : Files)
@@ -31,31 +31,31 @@ module _ (pass : Pass) (made : List ℕ → List Frame) (base : List ℕ) (old :
   module _ (new : Writing) (now : Files)
       (lays : LaysFrames pass.input.now pass.output.now made old new before now) where
     -- all frames were laid, and what waited of them was passed on
-    pub lays-written : (after : List ℕ) (end : Files)
+    pub lays-written : {after : List ℕ} {end : Files}
         → AppendsWaiting pass.output.now (waiting_bytes new) after now end
         → WritesMadeBytes pass (λ file. bytes_of_frames (made file)) base after before end
-    lays-written after end passed = record {
+    lays-written passed = record {
       piece = bytes_of_frames lays.frames;
       is = λ file holds. ap bytes_of_frames (lays.is file holds);
-      passed = passed_then (lays-passed pass.input.now pass.output.now made base old new before now
+      passed = passed_then (lays-passed
           none lays) passed;
     }
 
     -- if the end failed, a prefix of the frames was passed on
-    pub lays-prefix : (end : Files) {fault : PassFault}
+    pub lays-prefix : {end : Files} {fault : PassFault}
         → AppendedPrefix pass.output.now (waiting_bytes new) now end
         → WritesPrefix pass (λ file. bytes_of_frames (made file)) base before end fault
-    lays-prefix end part =
-        prefix_piece pass (λ file. bytes_of_frames (made file))
+    lays-prefix part =
+        prefix_piece pass
         (λ file holds. ap bytes_of_frames (lays.is file holds))
         (passed_then_prefix
-        (lays-passed pass.input.now pass.output.now made base old new before now none lays) part)
+        (lays-passed none lays) part)
 
   -- if a part of the frames was laid, a prefix of their bytes was passed on
-  pub part-prefix : (reach : ℕ) (after : Files) {fault : PassFault}
+  pub part-prefix : {reach : ℕ} {after : Files} {fault : PassFault}
       → LaysPart pass.input.now pass.output.now made reach old before after fault
       → WritesPrefix pass (λ file. bytes_of_frames (made file)) base before after fault
-  part-prefix reach after part =
+  part-prefix part =
       let bytes = take part.prefix.count part.settled in
       let long : length bytes ≡ part.prefix.count = grind (arith, length-take-le) in
       let are = part.writer base [] [] none in
@@ -63,7 +63,7 @@ module _ (pass : Pass) (made : List ℕ → List Frame) (base : List ℕ) (old :
       → (more : List ℕ) × (base ++ bytes_of_frames (made file) ≡ part.settled ++ more) =
       λ file holds.
       let found = part.is file holds [] tt in
-      let later = later-frames are.taken part.held part.done found.0 are.written found.2 in (
+      let later = later-frames found.0 are.written found.2 in (
         later.0,
         ap (λ (xs : List ℕ). base ++ xs)
             (ap bytes_of_frames (sym (append-nil (made file)) ∙ sym found.1) ∙ later.1)

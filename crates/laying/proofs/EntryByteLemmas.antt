@@ -19,8 +19,8 @@ use Rattle.sync_survey.proofs.ItemBytesLemmas.{frame-least, frame_item, IsItem}
 use Rattle.sync_survey.specs.{Items.header_front, declared.items.Item.TheVariants.Frame}
 
 -- side information with pairs has lists as long as the arrays
-pub shaped : (s : Side) → HasPairs s → IsShaped s
-shaped s pairs = grind arith
+pub shaped : {s : Side} → HasPairs s → IsShaped s
+shaped pairs = grind arith
 
 -- ---- a header
 
@@ -29,25 +29,25 @@ pub length-header : (h : HeaderFields) → length (bytes (header_bits h)) ≡ 4
 length-header h = length-bytes 4 (header_bits h) (length-header_bits h)
 
 -- a header is read from its bytes, whatever follows
-pub header_front-is : (h : HeaderFields) (rest : List ℕ) → IsHeader h
+pub header_front-is : {h : HeaderFields} (rest : List ℕ) → IsHeader h
     → header_front (bytes (header_bits h) ++ rest) ≡ Ok h
 unfolding header_front
-header_front-is h rest is =
+header_front-is {h} rest is =
     let four = bytes (header_bits h) in
     let long : leb 4 (length (four ++ rest)) ≡ true =
     le-leb _ _ (omega (arith, length-header h, length-append four rest)) in
     ap (λ b. cond b (header_at (take 4 (four ++ rest))) (Err No)) long
     ∙ ap header_at (take_at four rest 4 (length-header h))
-    ∙ header_at-bytes four h is
-    (bits-bytes 4 (header_bits h) (AreBits-header_bits h) (length-header_bits h))
+    ∙ header_at-bytes four is
+    (bits-bytes 4 (AreBits-header_bits h) (length-header_bits h))
 
 -- ---- what is before the area
 
 -- the front of a frame has as many bytes as its overhead
-pub length-front : (h : HeaderFields) (s : Side) → IsHeader h → IsShaped s
+pub length-front : {h : HeaderFields} {s : Side} → IsHeader h → IsShaped s
     → length (frame_front_bytes h s) ≡ overhead_of (class_of h) h.protected
 unfolding frame_front_bytes
-length-front h s is pairs =
+length-front {h} {s} is pairs =
     let c = class_of h in
     let side = bytes (side_bits c s) in
     omega (
@@ -57,7 +57,7 @@ length-front h s is pairs =
       length-append (crc_part h s) side,
       length-crc_part h s h.protected,
       length-bytes (side_size_of c) (side_bits c s)
-          (length-side_bits c (IsClass-class_of h is) s pairs),
+          (length-side_bits c (IsClass-class_of is) s pairs),
       overhead-is c h.protected,
     )
 
@@ -66,10 +66,10 @@ front-four : (h : HeaderFields) (s : Side) (rest : List ℕ)
 unfolding frame_front_bytes
 front-four h s rest = search (arith, append_assoc, take_at, length-header)
 
-front_header : (h : HeaderFields) (s : Side) (rest : List ℕ) → IsHeader h
+front_header : {h : HeaderFields} (s : Side) (rest : List ℕ) → IsHeader h
     → header_front (frame_front_bytes h s ++ rest) ≡ Ok h
 unfolding frame_front_bytes
-front_header h s rest is = grind (arith, append_assoc, header_front-is)
+front_header s rest is = grind (arith, append_assoc, header_front-is)
 
 module _ (h : HeaderFields) (s : Side) (rest : List ℕ) (is : IsHeader h) (pairs : IsShaped s) where
   -- putting the side information into the frame again changes nothing
@@ -78,7 +78,7 @@ module _ (h : HeaderFields) (s : Side) (rest : List ℕ) (is : IsHeader h) (pair
   put_again = grind (arith, front-four, drop_at, length-front, append_assoc)
 
   room : HasRoom h (frame_front_bytes h s ++ rest)
-  room = omega (arith, length-front h s is pairs, length-append (frame_front_bytes h s) rest)
+  room = omega (arith, length-front is pairs, length-append (frame_front_bytes h s) rest)
 
   -- the side information is read back
   pub front-side : SideFits (class_of h) s → side_in h (frame_front_bytes h s ++ rest) ≡ s

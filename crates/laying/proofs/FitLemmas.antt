@@ -46,22 +46,22 @@ asked-bytes b item need is = grind arith
 -- ---- from one frame to the next
 
 fits-on : (window : ℕ) (items : List PlanItem) (needs : List Need) (placed : List Placed)
-    (end low before : ℕ) (starts : List ℕ) → Asks items needs → AreItemSlots items placed
+    {end low before : ℕ} (starts : List ℕ) → Asks items needs → AreItemSlots items placed
     → IsDataLayout window end before
     (frames_with_areas (map open_frame items) (item_areas items placed)) starts → low ≤ end
     → low ≤ before → map (λ (p : Placed). p.begin) placed
     ≡ begins_of window low before (frames_with_areas (map open_frame items)
     (item_areas items placed)) → FitsFromReach window (min window (before - low)) needs placed
 unfolding AreItemSlots IsDataLayout begins_of frames_with_areas item_areas FitsFromReach
-fits-on window [] [] [] end low before starts asks for_items layout early within begins = tt
-fits-on window [] (need ∷ needs) placed end low before starts asks for_items layout early within
-    begins = absurd asks
-fits-on window (item ∷ items) [] placed end low before starts asks for_items layout early within
-    begins = absurd asks
+fits-on window [] [] [] starts asks for_items layout early within begins = tt
+fits-on window [] (need ∷ needs) placed starts asks for_items layout early within begins =
+    absurd asks
+fits-on window (item ∷ items) [] placed starts asks for_items layout early within begins =
+    absurd asks
 fits-on window (item ∷ items) (need ∷ needs)
-    (p ∷ placed) end low before [] asks for_items layout early within begins = absurd layout
-fits-on window (item ∷ items) (need ∷ needs) (p ∷ placed) end low before
-    (start ∷ starts) asks for_items layout early within begins =
+    (p ∷ placed) [] asks for_items layout early within begins = absurd layout
+fits-on window (item ∷ items) (need ∷ needs) (p ∷ placed)
+    {low = low} {before = before} (start ∷ starts) asks for_items layout early within begins =
     let at = max low (before - window) in
     let is : IsAsked p.lead_in item need =
     subst (λ b. IsAsked b item need) (sym for_items.0) asks.0 in
@@ -79,11 +79,11 @@ fits-on window (item ∷ items) (need ∷ needs) (p ∷ placed) end low before
       omega (arith, begin, low_most, reach),
       omega (arith, begin, area, bytes, first, layout.2, layout.3),
       subst (λ n. FitsFromReach window n (rest_behind p.lead_in need needs) placed) behind
-          (fits-on window items (rest_behind p.lead_in need needs) placed (start + item.bytes)
-          (at + item.bytes) (before + item_area item p.slot) starts follow for_items.2 layout.4
+          (fits-on window items
+          (rest_behind p.lead_in need needs) placed starts follow for_items.2 layout.4
           (omega (arith, first)) (omega (arith, first, layout.3)) (ap (drop 1) begins)),
     )
-fits-on window _ _ _ end low before starts asks for_items layout early within begins = grind arith
+fits-on window _ _ _ starts asks for_items layout early within begins = grind arith
 
 -- items that ask for these frames, laid as early as possible, can be written frame by frame
 pub items-fit : (window : ℕ) (items : List PlanItem) (needs : List Need) (placed : List Placed)
@@ -95,7 +95,7 @@ pub items-fit : (window : ℕ) (items : List PlanItem) (needs : List Need) (plac
 unfolding HasLayout
 items-fit window items needs placed asks for_items feasible begins =
     let none : min window (0 - 0) ≡ 0 = omega arith in
-    subst (λ n. FitsFromReach window n needs placed) none (fits-on window items needs placed 0 0 0
+    subst (λ n. FitsFromReach window n needs placed) none (fits-on window items needs placed
     feasible.0 asks for_items feasible.1 (omega arith) (omega arith) begins)
 
 -- each frame asks for itself
@@ -130,10 +130,10 @@ asks-whole window choices (part ∷ parts) (lead_in ∷ lead_ins) leads =
     grind (arith, asks-part, flat_map, asks-whole window choices parts lead_ins leads.1)
 
 -- a plan of parts can be written frame by frame
-pub parts-fit : (window : ℕ) (choices : HeaderFields → List SlotFields) (parts : List (List Need))
-    (placed : List Placed) → IsPlan window choices parts placed
+pub parts-fit : {window : ℕ} {choices : HeaderFields → List SlotFields} {parts : List (List Need)}
+    {placed : List Placed} → IsPlan window choices parts placed
     → FitsFromReach window 0 (flat_map (λ (part : List Need). part) parts) placed
-parts-fit window choices parts placed plan = grind (arith, items-fit, flat_map, asks-whole)
+parts-fit plan = grind (arith, items-fit, flat_map, asks-whole)
 
 -- the needs of all parts, concatenated, are the needs of their frames
 pub needs-flat : (parts : List (List Row))
@@ -145,7 +145,7 @@ needs-flat (rows ∷ parts) = ap (λ (l : List Need). map need_of rows ++ l) (ne
 -- a plan for any choice of slots can be written frame by frame
 pub plans-fit : PlansFit
 plans-fit window choices parts placed plan = subst (λ needs. FitsFromReach window 0 needs placed)
-    (needs-flat parts) (parts-fit window choices (map (map need_of) parts) placed plan)
+    (needs-flat parts) (parts-fit plan)
 
 -- ---- the slots of a plan are some of the 28
 
@@ -188,7 +188,7 @@ module _ (window : ℕ) (choices : HeaderFields → List SlotFields) (slots : Ar
   open-part part None rest are lead others = open-items part rest are others
   open-part [] (Some slot) rest are lead others = absurd lead
   open-part (need ∷ part) (Some slot) rest are lead others =
-      grind (arith, only_one, slot_among slot lead.2, open-items (need ∷ part) rest are others)
+      grind (arith, only_one, slot_among lead.2, open-items (need ∷ part) rest are others)
 
   open-whole : (parts : List (List Need)) (lead_ins : List (Option SlotFields)) → AllHeaders parts
       → AreLeadIns window choices parts lead_ins → AreOpen (all_items choices parts lead_ins)
@@ -199,13 +199,13 @@ module _ (window : ℕ) (choices : HeaderFields → List SlotFields) (slots : Ar
       (all_items choices parts lead_ins) are.0 leads.0 (open-whole parts lead_ins are.1 leads.1)
 
   -- a plan of parts fits, and has slots of the standard
-  pub parts-fitting : (parts : List (List Need)) (placed : List Placed) → AllHeaders parts
+  pub parts-fitting : {parts : List (List Need)} {placed : List Placed} → AllHeaders parts
       → IsPlan window choices parts placed
       → IsFittingPlan window (flat_map (λ (part : List Need). part) parts) placed
-  parts-fitting parts placed are plan = search (arith, parts-fit, open-in_slots, open-whole)
+  parts-fitting are plan = search (arith, parts-fit, open-in_slots, open-whole)
 
 -- ---- as requested
 
 -- a plan made for parts concatenated as the planner takes them is a plan of the parts
 pub asked-plans : PlansAreOfParts
-asked-plans c choices parts placed fit plan = grind (arith, parts_are [] 0 parts refl)
+asked-plans c choices parts placed fit plan = grind (arith, parts_are [] parts refl)

@@ -12,7 +12,7 @@ use Rattle.laying.proofs.HoldLemmas.{parts-entries, parts-headers, parts-needs, 
 use Rattle.laying.proofs.{HoldLemmas.parts-stream, LaidFileLemmas.{laid-frames-stay, laid-stream}}
 use Rattle.laying.proofs.PlannedFrameLemmas.{AreLaidFrom, AreNeedsOf, laid_more, next-entries}
 use Rattle.laying.proofs.PlannedFrameLemmas.{next-map, none_laid, one, one-entry, one-stream}
-use Rattle.laying.proofs.PlannedFrameLemmas.{one_in_stream, relaid_frames-cons, stream-cons}
+use Rattle.laying.proofs.PlannedFrameLemmas.{relaid_frames-cons, stream-cons}
 use Rattle.laying.specs.Fits.{AreInSlots, FitsFromReach, IsFittingPlan, placed_area, placed_bytes}
 use Rattle.laying.specs.{Fits.reach_behind, InfoLaws.SlotsArePlanned}
 use Rattle.laying.specs.LaidFiles.{AreBlocks, AreStreamEntries, HasInfoSizes, IsLaidFile, laid_file}
@@ -26,43 +26,41 @@ use Rattle.sync_survey.specs.{Faults.HoldsStream, MainData.StreamFrame}
 
 -- ---- one frame
 
-piece-by : (b : Bool) (p : Placed) (need : Need) (f : Frame) → need.header ≡ f.kept.header
+piece-by : (b : Bool) (p : Placed) {need : Need} (f : Frame) → need.header ≡ f.kept.header
     → need.bytes ≡ length f.payload → (length (one b p f).payload ≡ placed_bytes b need)
     × ((one b p f).kept.side.main_data_begin ≡ p.begin) × (frame_area (one b p f).kept
     ≡ area_of (class_of need.header) p.slot (cond b false need.header.protected))
-piece-by b p need f header bytes = grind arith
+piece-by b p f header bytes = grind arith
 
-next-needs : (b : Bool) (need : Need) (needs : List Need) (f : Frame) (fs : List Frame)
+next-needs : (b : Bool) {need : Need} (needs : List Need) (f : Frame) (fs : List Frame)
     → AreNeedsOf (need ∷ needs) (f ∷ fs)
     → AreNeedsOf (rest_behind b need needs) (rest_behind b f fs)
-next-needs b need needs f fs are = grind arith
+next-needs b needs f fs are = grind arith
 
 -- ---- all of them
 
 -- from a place on after which `reach` free bytes are within reach
-laid-fitting : (c : ClassFields) (needs : List Need) (fs : List Frame) (placed : List Placed)
-    (reach end before : ℕ) → AreStreamEntries c fs → AreNeedsOf needs fs → AreInSlots placed
+laid-fitting : {c : ClassFields} (needs : List Need) (fs : List Frame) (placed : List Placed)
+    {reach end before : ℕ} → AreStreamEntries c fs → AreNeedsOf needs fs → AreInSlots placed
     → FitsFromReach (window_of c.version) reach needs placed → reach ≤ window_of c.version
     → end + reach
     ≤ before → AreLaidFrom c end before (relaid_frames fs placed)
     (stream_with_lead_ins placed (map stream_entry fs))
 unfolding FitsFromReach
-laid-fitting c [] [] placed reach end before are needs_are slots fits near room =
+laid-fitting {c} [] [] placed {end = end} {before = before} are needs_are slots fits near room =
     none_laid c end before placed
-laid-fitting c (need ∷ needs) (f ∷ fs) [] reach end before are needs_are slots fits near room =
-    absurd fits
-laid-fitting c (need ∷ needs) (f ∷ fs)
-    (p ∷ placed) reach end before are needs_are slots fits near room =
+laid-fitting (need ∷ needs) (f ∷ fs) [] are needs_are slots fits near room = absurd fits
+laid-fitting {c} (need ∷ needs) (f ∷ fs) (p ∷ placed)
+    {end = end} {before = before} are needs_are slots fits near room =
     let window = window_of c.version in
     let g = one p.lead_in p f in
     let bytes = placed_bytes p.lead_in need in
     let area = placed_area p need in
-    let piece = piece-by p.lead_in p need f needs_are.0 needs_are.1 in
+    let piece = piece-by p.lead_in p f needs_are.0 needs_are.1 in
     let begins : g.kept.side.main_data_begin ≡ p.begin = piece.1 in
     let behind =
-    laid-fitting c (rest_behind p.lead_in need needs) (rest_behind p.lead_in f fs) placed
-    (reach_behind window p need) (before - g.kept.side.main_data_begin + bytes) (before + area)
-    (next-entries c p.lead_in f fs are.0 are.1) (next-needs p.lead_in need needs f fs needs_are)
+    laid-fitting (rest_behind p.lead_in need needs) (rest_behind p.lead_in f fs) placed
+    (next-entries p.lead_in fs are.0 are.1) (next-needs p.lead_in needs f fs needs_are)
     slots.1 fits.2 (omega arith) (omega (arith, begins, fits.0, fits.1, room)) in
     let there : AreLaidFrom c (before - g.kept.side.main_data_begin + bytes) (before + area)
     (relaid_frames (rest_behind p.lead_in f fs) placed)
@@ -77,13 +75,11 @@ laid-fitting c (need ∷ needs) (f ∷ fs)
     (subst (λ (l : List StreamFrame). AreLaidFrom c end before
     (g ∷ relaid_frames (rest_behind p.lead_in f fs) placed) l)
     (sym (stream-cons p placed (stream_entry f) (map stream_entry fs)))
-    (laid_more c end before bytes area g (relaid_frames (rest_behind p.lead_in f fs) placed)
-    (one_in_stream p.lead_in (stream_entry f))
-    (stream_with_lead_ins placed (rest_behind p.lead_in (stream_entry f) (map stream_entry fs)))
+    (laid_more
     (one-entry c p f slots.0 (omega (arith, fits.0, near)) are.0 p.lead_in)
     (one-stream p.lead_in p f) piece.0 piece.2 (omega (arith, begins, fits.0, room))
     (omega (arith, begins, fits.0, fits.1, room)) there))
-laid-fitting c _ _ placed reach end before are needs_are slots fits near room = absurd needs_are
+laid-fitting _ _ placed are needs_are slots fits near room = absurd needs_are
 
 one-slot : (b : Bool) (p : Placed) (f : Frame) → slot_in (one b p f) ≡ p.slot
 one-slot b p f = grind arith
@@ -99,7 +95,7 @@ slots-by window reach (need ∷ needs) (f ∷ fs) (p ∷ placed) are fits =
     ap (map slot_in) (relaid_frames-cons p placed f fs)
     ∙ ap₂ (λ (s : SlotFields) (l : List SlotFields). s ∷ l) (one-slot p.lead_in p f)
     (slots-by window (reach_behind window p need) (rest_behind p.lead_in need needs)
-    (rest_behind p.lead_in f fs) placed (next-needs p.lead_in need needs f fs are) fits.2)
+    (rest_behind p.lead_in f fs) placed (next-needs p.lead_in needs f fs are) fits.2)
 slots-by window reach _ _ _ are fits = absurd fits
 
 some-by : (window reach : ℕ) (needs : List Need) (fs : List Frame) (placed : List Placed)
@@ -136,17 +132,17 @@ module _ (c : ClassFields) (part : FilePart) (placed : List Placed) (is : IsPart
   pub fitting-laid : AreLaidFrom c 0 0 (relaid_frames (part_frames part) placed)
       (stream_with_lead_ins placed (map stream_entry (part_frames part)))
   fitting-laid =
-      laid-fitting c (part_needs part) (part_frames part) placed 0 0 0 (part-entries c part is)
-      (part-needs c part is) fitting.slots fitting.fits (omega arith) (omega arith)
+      laid-fitting (part_needs part) (part_frames part) placed (part-entries is)
+      (part-needs is) fitting.slots fitting.fits (omega arith) (omega arith)
 
   fitting_as : AreFramesOfStream c
       (relaid_frames (part_frames part) placed) (stream_with_lead_ins placed (part_stream part))
   fitting_as = record {
     some = some-by (window_of c.version) 0 (part_needs part) (part_frames part) placed
-        (part-needs c part is) fitting.fits (part-some c part is);
+        (part-needs is) fitting.fits (part-some is);
     entries = fitting-laid.entries;
     fit = fitting-laid.fit;
-    stream_is = fitting-laid.stream_is ∙ ap (stream_with_lead_ins placed) (part-stream c part is);
+    stream_is = fitting-laid.stream_is ∙ ap (stream_with_lead_ins placed) (part-stream is);
   }
 
   -- no frame of a file of them is lost, whether or not its head is set apart
@@ -170,7 +166,7 @@ module _ (c : ClassFields) (parts : List FilePart) (placed : List Placed)
   pub parts-laid : AreFramesOfStream c (relaid_frames (flat_map part_frames parts) placed)
       (stream_with_lead_ins placed (flat_map part_stream parts))
   parts-laid =
-      let laid = laid-fitting c needs (flat_map part_frames parts) placed 0 0 0
+      let laid = laid-fitting needs (flat_map part_frames parts) placed
       (parts-entries c parts are) (parts-needs c parts are) fitting.slots fitting.fits
       (omega arith) (omega arith) in
       record {
@@ -190,7 +186,7 @@ module _ (c : ClassFields) (parts : List FilePart) (placed : List Placed)
 pub entries-hold : EntriesHold
 entries-hold c choices parts placed some are slots plan =
     parts-laid c parts placed some are
-    (parts-fitting (window_of c.version) choices slots (map part_needs parts) placed
+    (parts-fitting (window_of c.version) choices slots
     (parts-headers c parts are) plan)
 
 -- the file of them holds their stream

@@ -70,15 +70,15 @@ needs-all c file s are = needs-each c file s 0 s.frames are
 -- ---- a part
 
 -- the frames of a part are frames that can be laid
-pub part-entries : (c : ClassFields) (p : FilePart) → IsPart c p
+pub part-entries : {c : ClassFields} {p : FilePart} → IsPart c p
     → AreStreamEntries c (part_frames p)
-part-entries c p is = grind (arith, frames-of, entries-take, entries-drop)
+part-entries is = grind (arith, frames-of, entries-take, entries-drop)
 
 -- the needs of a range of frames are the needs of their rows
-pub needs-range : (file : List ℕ) (s : SurveyFields) (from to : ℕ) → CanBeRelaid file s → AreNeedsOf
+pub needs-range : {file : List ℕ} {s : SurveyFields} (from to : ℕ) → CanBeRelaid file s → AreNeedsOf
     (map need_of (slice_range s.frames from to)) (slice_range (all_frames file s) from to)
-needs-range file s from to has =
-    let are = frames-of file s has in
+needs-range {file} {s} from to has =
+    let are = frames-of has in
     subst (λ (l : List Need). AreNeedsOf l (slice_range (all_frames file s) from to))
     (sym (range-map need_of from to s.frames))
     (needs-take (to - from) (drop from (map need_of s.frames)) (drop from (all_frames file s))
@@ -86,14 +86,14 @@ needs-range file s from to has =
     (needs-all s.class file s are.entries)))
 
 -- a plan is given the headers and the lengths of the main data of a part's frames
-pub part-needs : (c : ClassFields) (p : FilePart) → IsPart c p
+pub part-needs : {c : ClassFields} {p : FilePart} → IsPart c p
     → AreNeedsOf (part_needs p) (part_frames p)
-part-needs c p is = needs-range p.file p.survey p.from p.to is.has
+part-needs {p = p} is = needs-range p.from p.to is.has
 
 -- the stream of a part's frames is the stream of the part
-pub part-stream : (c : ClassFields) (p : FilePart) → IsPart c p
+pub part-stream : {c : ClassFields} {p : FilePart} → IsPart c p
     → map stream_entry (part_frames p) ≡ part_stream p
-part-stream c p is = grind (arith, frames-of, range-map, slice_range)
+part-stream is = grind (arith, frames-of, range-map, slice_range)
 
 -- ---- all parts
 
@@ -107,7 +107,7 @@ pub parts-entries : (c : ClassFields) (parts : List FilePart) → AreParts c par
     → AreStreamEntries c (flat_map part_frames parts)
 parts-entries c [] are = tt
 parts-entries c (p ∷ parts) are = entries-append c (part_frames p) (flat_map part_frames parts)
-    (part-entries c p are.0) (parts-entries c parts are.1)
+    (part-entries are.0) (parts-entries c parts are.1)
 
 needs-append : (needs more : List Need) (fs gs : List Frame) → AreNeedsOf needs fs
     → AreNeedsOf more gs → AreNeedsOf (needs ++ more) (fs ++ gs)
@@ -142,7 +142,7 @@ pub parts-stream : (c : ClassFields) (parts : List FilePart) → AreParts c part
 parts-stream c [] are = refl
 parts-stream c (p ∷ parts) are =
     map-append stream_entry (part_frames p) (flat_map part_frames parts)
-    ∙ ap₂ (λ (x y : List StreamFrame). x ++ y) (part-stream c p are.0) (parts-stream c parts are.1)
+    ∙ ap₂ (λ (x y : List StreamFrame). x ++ y) (part-stream are.0) (parts-stream c parts are.1)
 
 -- a survey has as many frames as rows
 pub all-length : (file : List ℕ) (s : SurveyFields) → length (all_frames file s) ≡ length s.frames
@@ -150,15 +150,15 @@ unfolding all_frames
 all-length file s = grind (arith, length-map, length-enumerate_from)
 
 -- a part has at least one frame
-pub part-some : (c : ClassFields) (p : FilePart) → IsPart c p → 0 < length (part_frames p)
-part-some c p is = grind (arith, all-length, length-drop, length-take)
+pub part-some : {c : ClassFields} {p : FilePart} → IsPart c p → 0 < length (part_frames p)
+part-some is = grind (arith, all-length, length-drop, length-take)
 
 -- parts have at least one frame, if there is a part
 pub parts-some : (c : ClassFields) (parts : List FilePart) → 1 ≤ length parts → AreParts c parts
     → 0 < length (flat_map part_frames parts)
 parts-some c [] some are = absurd (omega (arith, some))
 parts-some c (p ∷ parts) some are =
-    omega (arith, part-some c p are.0, length-append (part_frames p) (flat_map part_frames parts))
+    omega (arith, part-some are.0, length-append (part_frames p) (flat_map part_frames parts))
 
 -- ---- blocks
 

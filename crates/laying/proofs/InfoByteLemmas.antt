@@ -36,9 +36,9 @@ length-number : (n : ℕ) → length (bytes_high_first 4 n) ≡ 4
 length-number n = refl
 
 -- the fields of an Info frame have 156 bytes
-pub length-info : (info : Info) → HasInfoSizes info → length (info_bytes info) ≡ 156
+pub length-info : {info : Info} → HasInfoSizes info → length (info_bytes info) ≡ 156
 unfolding info_bytes
-length-info info sizes = grind (arith, length-text, length-table, length-append, length-number)
+length-info sizes = grind (arith, length-text, length-table, length-append, length-number)
 
 -- ---- its slot
 
@@ -57,7 +57,7 @@ slot_in c d (slot ∷ slots) each = slot_if _ slot (first_with_room c slots) (ea
 info_slot-is : (c : ClassFields) → IsSlot (info_slot_of c)
 unfolding info_slot_of
 info_slot-is c = slot_in c (slot_of 1 false) all_slots
-    (λ i within. IsSlot-nth_slot i (omega (arith, within, length-all_slots)))
+    (λ i within. IsSlot-nth_slot (omega (arith, within, length-all_slots)))
 
 -- ---- its text
 
@@ -95,7 +95,7 @@ module _ (first : HeaderFields) (info : Info) (header : IsHeader first)
   info_header = grind (arith, info_slot-is)
 
   class : IsClass c
-  class = IsClass-class_of first header
+  class = IsClass-class_of header
 
   frame-parts : info_frame first info ≡ four ++ (side ++ fields)
   unfolding info_frame
@@ -126,9 +126,9 @@ module _ (first : HeaderFields) (info : Info) (header : IsHeader first)
   -- it is an item
   pub info_item : IsItem (FrameItem h) (info_frame first info)
   info_item =
-      frame_item h (info_frame first info) (ap header_front frame-parts
-      ∙ header_front-is h (side ++ fields) info_header) length-info_frame
-      (omega (arith, length-info_frame, frame-least h info_header))
+      frame_item (ap header_front frame-parts
+      ∙ header_front-is (side ++ fields) info_header) length-info_frame
+      (omega (arith, length-info_frame, frame-least info_header))
 
   behind_side : drop (4 + side_size_of c) (info_frame first info) ≡ fields
   behind_side =

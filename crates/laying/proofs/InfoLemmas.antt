@@ -55,11 +55,11 @@ module _ {X : Type 0} (c : ClassFields) (slot_of : X → SlotFields) (placed : L
       (all_bytes c slot_of placed) ≡ table_entry c frames i
   entry-is i = grind (arith, same-length, same-bytes, same-all)
 
-  table-is : (table : List ℕ) → length table ≡ 100
+  table-is : {table : List ℕ} → length table ≡ 100
       → ((i : ℕ) → i < 100 → slice_index table i ≡ seek_table_entry (info_length c
       + frames_length c slot_of (take (i * length placed / 100) placed))
       (all_bytes c slot_of placed)) → table ≡ map (table_entry c frames) (range_with_len 0 100)
-  table-is table many entries =
+  table-is {table} many entries =
       same_number_lists table (map (table_entry c frames) (range_with_len 0 100))
       (many ∙ sym (length-map-range_with_len (table_entry c frames) 0 100))
       (λ k within.
@@ -68,7 +68,7 @@ module _ {X : Type 0} (c : ClassFields) (slot_of : X → SlotFields) (placed : L
       ∙ sym (get_or-map-range_with_len (table_entry c frames) 0 100 k k 0 below (omega arith)))
 
   -- the fields over the places are those over the frames in them
-  pub fields-are : (info : Info) (quality : Option ℕ) (extension : List ℕ)
+  pub fields-are : {info : Info} (quality : Option ℕ) (extension : List ℕ)
       → IsInfoOver c slot_of placed info
       → ((table : List ℕ) → info.table ≡ Some table → length table ≡ 100) → record {
         vbr = info.vbr;
@@ -78,11 +78,11 @@ module _ {X : Type 0} (c : ClassFields) (slot_of : X → SlotFields) (placed : L
         quality = quality;
         extension = extension;
       } ≡ info_for c frames quality extension
-  fields-are info quality extension is sized =
+  fields-are quality extension is sized =
       grind (
         arith,
         same-rate c slot_in slot_of frames placed slots,
         same-length c slot_in slot_of frames placed slots,
         same-all c slot_in slot_of frames placed slots,
-        table-is is.table (sized is.table is.has_table) is.entries,
+        table-is (sized is.table is.has_table) is.entries,
       )

@@ -30,15 +30,16 @@ extension-none file None is = sym none-extension
 extension-none file (Some head) is = absurd cc
 
 -- the fields of a file with a head are those that are read from its text
-pub info-some : (file : List ℕ) (head : Option Head) (info : Info)
+pub info-some : (file : List ℕ) (head : Option Head) {info : Info}
     → Some info ≡ fields_of_head file head → info ≡ head_info file head
-info-some file None info is = absurd cc
-info-some file (Some head) info is = cc
+info-some file None is = absurd cc
+info-some file (Some head) is = cc
 
 -- the fields of a head are read from its frame
-pub fields-some : (file frame : List ℕ) (all : Option Head) (head : Head) → all ≡ Some head
+pub fields-some : (file : List ℕ) {frame : List ℕ} {all : Option Head} {head : Head}
+    → all ≡ Some head
     → frame ≡ take (length_of (class_of head.header) head.header.slot) (drop head.offset file)
     → Some (info_in (drop head.text_at frame)) ≡ fields_of_head file all
 unfolding head_info
-fields-some file frame all head some is =
+fields-some file {head = head} some is =
     ap (λ l. Some (info_in (drop head.text_at l))) is ∙ ap (fields_of_head file) (sym some)

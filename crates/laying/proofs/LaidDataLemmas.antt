@@ -9,16 +9,16 @@ use Rattle.frame_writer.specs.Laid.{frame_data_start, FrameData, laid_data_from,
 -- ---- the main data of all frames
 
 -- they reach from the end of the main data before them to the end of the areas
-pub length-laid : (end area_start : ℕ) (ps : List FrameData) → end ≤ area_start
+pub length-laid : (end : ℕ) {area_start : ℕ} (ps : List FrameData) → end ≤ area_start
     → CanDataBeLaidFrom end area_start ps
     → end + length (laid_data_from end area_start ps) ≡ areas_end area_start ps
-length-laid end area_start [] within fits = omega (arith, within, length-zeros (area_start - end))
-length-laid end area_start (p ∷ ps) within fits =
+length-laid end {area_start} [] within fits = omega (arith, within, length-zeros (area_start - end))
+length-laid end {area_start} (p ∷ ps) within fits =
     grind (
       arith,
       length-zeros,
       length-append,
-      length-laid (frame_data_end area_start p) (area_start + p.area) ps fits.1 fits.2,
+      length-laid (frame_data_end area_start p) ps fits.1 fits.2,
     )
 
 -- ---- the main data of one frame
@@ -32,22 +32,22 @@ pub record IsWellLaid (end area_start : ℕ) (ps : List FrameData) (i : ℕ)
       ≤ areas_end area_start (take i ps) + p.area
 
 -- in a layout each frame's main data are well laid among those of the others
-pub well-laid : (end area_start : ℕ) (ps : List FrameData) (i : ℕ) (p : FrameData)
+pub well-laid : (end : ℕ) {area_start : ℕ} (ps : List FrameData) (i : ℕ) {p : FrameData}
     → CanDataBeLaidFrom end area_start ps → slice_get ps i ≡ Some p
     → IsWellLaid end area_start ps i p
-well-laid end area_start [] i p fits is = absurd cc
-well-laid end area_start (q ∷ ps) zero p fits is = grind arith
-well-laid end area_start (q ∷ ps) (suc i) p fits is =
-    grind (arith, well-laid (frame_data_end area_start q) (area_start + q.area) ps i p fits.2 is)
+well-laid end [] i fits is = absurd cc
+well-laid end (q ∷ ps) zero fits is = grind arith
+well-laid end {area_start} (q ∷ ps) (suc i) {p} fits is =
+    grind (arith, well-laid (frame_data_end area_start q) ps i fits.2 is)
 
 -- the main data laid up to frame i end where its own do
-pub data_end-next : (end area_start : ℕ) (ps : List FrameData) (i : ℕ) (p : FrameData)
+pub data_end-next : (end area_start : ℕ) (ps : List FrameData) (i : ℕ) {p : FrameData}
     → slice_get ps i ≡ Some p → data_end end area_start (take (suc i) ps)
     ≡ frame_data_end (areas_end area_start (take i ps)) p
-data_end-next end area_start [] i p is = absurd cc
-data_end-next end area_start (q ∷ ps) zero p is = grind arith
-data_end-next end area_start (q ∷ ps) (suc i) p is =
-    data_end-next (frame_data_end area_start q) (area_start + q.area) ps i p is
+data_end-next end area_start [] i is = absurd cc
+data_end-next end area_start (q ∷ ps) zero is = grind arith
+data_end-next end area_start (q ∷ ps) (suc i) {p} is =
+    data_end-next (frame_data_end area_start q) (area_start + q.area) ps i is
 
 -- nothing comes after the last frame
 pub take-last : (ps : List FrameData) (i : ℕ) → slice_get ps i ≡ None → take (suc i) ps ≡ take i ps
@@ -78,7 +78,7 @@ laid-there end area_start (q ∷ ps) (suc i) p fits is =
     let later = area_start + q.area in
     let more = laid_data_from now later ps in
     let place = frame_data_start (areas_end later (take i ps)) p in
-    let behind = well-laid now later ps i p fits.2 is in
+    let behind = well-laid now ps i fits.2 is in
     let found = laid-there now later ps i p fits.2 is in
     let split : place - end ≡ (gap + length q.payload) + (place - now) =
     omega (arith, fits.0, behind.later, behind.begins) in

@@ -74,7 +74,7 @@ frames_by main head rows n at [] has there = refl
 frames_by main head rows n at (f ∷ fs) has there =
     let none : n + 0 ≡ n = omega arith in
     let later = rows_from (at + frame_length f) fs in
-    let here = onward-first rows n (row_at at f) later there in
+    let here = onward-first rows n later there in
     let area_data : payload_at main (start_of_data (place head rows n) (row_at at f)) f.kept.side
     ≡ take (payload_bits f.kept.side) (bits f.payload) = grind arith in
     let own : stream_frame main head rows n (row_at at f) ≡ stream_entry f =
@@ -82,7 +82,7 @@ frames_by main head rows n at (f ∷ fs) has there =
     ap₂ (λ (x : StreamFrame) (xs : List StreamFrame). x ∷ xs) own
     (frames_by main head rows (n + 1) (at + frame_length f) fs
     (λ i g is. subst (λ m. HasPayload main head rows m g) (omega arith) (has (suc i) g is))
-    (onward-rest rows n (n + 1) (row_at at f) later refl there))
+    (onward-rest rows n later refl there))
 
 -- frames whose main data are where their side information says are the given frames
 pub entries_by : (main : List ℕ) (head : Option Head) (at : ℕ) (fs : List Frame)
@@ -129,8 +129,8 @@ module _ (c : ClassFields) (front : List (List ℕ)) (first : HeaderFields) (inf
       ∙ sound-no_all_faults file head c allowed rows
       (laid-sound file c head at frames area_data is.entries stand is.laid allowed few)
 
-  read : (allowed : ℕ) → length frames ≤ allowed → IsRead file allowed begin
-  read allowed few = grind (arith, start-is, no_faults, no-end_fault)
+  read : {allowed : ℕ} → length frames ≤ allowed → IsRead file allowed begin
+  read few = grind (arith, start-is, no_faults, no-end_fault)
 
   marked-are : (told_from file begin).frames ≡ rows
   marked-are = grind (arith, head-is, rows-are, marked_rows-none, stand)
@@ -140,9 +140,9 @@ module _ (c : ClassFields) (front : List (List ℕ)) (first : HeaderFields) (inf
   told = grind (arith, head-is, blocks-are, marked-are)
 
   -- its survey finds what was put into it
-  pub survey-is : (allowed : ℕ) → length frames ≤ allowed
+  pub survey-is : {allowed : ℕ} → length frames ≤ allowed
       → survey_fields file allowed ≡ Ok (laid_fields front first info frames back)
-  survey-is allowed few = survey_fields-told file allowed begin (read allowed few) ∙ ap Ok told
+  survey-is {allowed} few = survey_fields-told (read few) ∙ ap Ok told
 
   -- ---- its stream
 
@@ -176,7 +176,7 @@ module _ (c : ClassFields) (front : List (List ℕ)) (first : HeaderFields) (inf
   -- it holds the stream of its frames
   pub holds : HoldsStream file (map stream_entry frames)
   holds = subst (HoldsStream file) stream-is (survey_fields-stream file (length frames)
-      (laid_fields front first info frames back) (survey-is (length frames) (omega arith)))
+      (laid_fields front first info frames back) (survey-is (omega arith)))
 
   -- ---- none of its frames is lost
 
@@ -186,15 +186,17 @@ module _ (c : ClassFields) (front : List (List ℕ)) (first : HeaderFields) (inf
     kept = λ i r found. (row-get c file at frames area_data i r is.entries stand found).2.kept;
     apart =
         ap (λ (rs : List Row). record (laid_fields front first info frames back) { frames = rs })
-        (near-same head rows (laid-near file c at frames area_data is.entries stand is.laid));
+        (near-same head
+        {rows = rows} (laid-near file c at frames area_data is.entries stand is.laid));
   }
 
   -- every survey of it is equal
-  none_by : (allowed : ℕ) (s : SurveyFields) → survey_fields file allowed ≡ Ok s → HasNoneLost s
-  none_by allowed s e =
+  none_by : (allowed : ℕ) {s : SurveyFields} → survey_fields file allowed ≡ Ok s → HasNoneLost s
+  none_by allowed {s} e =
       let one : Ok s ≡ Ok (laid_fields front first info frames back) =
-      sym (survey_fields-allowed file allowed (length file + length frames + 1) s (omega arith) e)
-      ∙ survey-is (length file + length frames + 1) (omega arith) in
+      sym (survey_fields-allowed file allowed
+      {other = length file + length frames + 1} {s = s} (omega arith) e)
+      ∙ survey-is {allowed = length file + length frames + 1} (omega arith) in
       let same : laid_fields front first info frames back ≡ s = cc in
       subst HasNoneLost same none_lost
 

@@ -28,9 +28,9 @@ abbrev pub frame_items : List Frame → List Item
 frame_items fs = map (λ f. FrameItem f.kept.header) fs
 
 -- the side information of a frame fits the class of its header
-pub own_fits : (c : ClassFields) (f : Frame) → IsStreamEntry c f
+pub own_fits : {c : ClassFields} {f : Frame} → IsStreamEntry c f
     → SideFits (class_of f.kept.header) f.kept.side
-own_fits c f entry = subst (λ d. SideFits d f.kept.side) (sym entry.class) entry.fits
+own_fits {f = f} entry = subst (λ d. SideFits d f.kept.side) (sym entry.class) entry.fits
 
 -- frames with bytes in their areas are their items
 pub framed_bytes-items : (c : ClassFields) (fs : List Frame) (bytes : List ℕ)
@@ -45,7 +45,7 @@ framed_bytes-items c (f ∷ fs) bytes entries many =
       front ++ take n bytes,
       more,
       sym (append_assoc front (take n bytes) more),
-      entry_item k.header k.side (take n bytes) entries.0.header (shaped k.side entries.0.pairs)
+      entry_item k.header k.side (take n bytes) entries.0.header (shaped entries.0.pairs)
           (length-take-le n bytes (omega (arith, many))),
       refl,
       framed_bytes-items c fs (drop n bytes) entries.1 (omega (arith, many, length-drop n bytes)),
@@ -77,7 +77,7 @@ blocks-behind c at (f ∷ fs) bytes blocks are entries many =
     let front = frame_front_bytes k.header k.side in
     let more = framed_bytes (fields_of_frames fs) (drop n bytes) in
     let long = length-entry k.header k.side (take n bytes) entries.0.header
-    (shaped k.side entries.0.pairs) (length-take-le n bytes (omega (arith, many))) in
+    (shaped entries.0.pairs) (length-take-le n bytes (omega (arith, many))) in
     let place : at + frame_length f + length more ≡ at + length (front ++ (take n bytes ++ more)) =
     omega (
       arith,
@@ -120,7 +120,7 @@ framed_bytes-stand c file at (f ∷ fs) bytes behind entries many is =
     let rest = more ++ behind in
     let stands : drop at file ≡ front ++ (area ++ rest) =
     grind (arith, append_assoc) in
-    let long = length-entry k.header k.side area entries.0.header (shaped k.side entries.0.pairs)
+    let long = length-entry k.header k.side area entries.0.header (shaped entries.0.pairs)
     (length-take-le n bytes (omega (arith, many))) in
     let next : drop (at + frame_length f) file ≡ rest =
     sym (drop-drop (frame_length f) at file)
@@ -148,18 +148,18 @@ rows-there c file at (f ∷ fs) bytes entries stand =
     (rows-there c file (at + frame_length f) fs (drop n bytes) entries.1 stand.3)
 
 -- their areas, concatenated, are the bytes that were laid
-pub areas-there : (c : ClassFields) (file : List ℕ) (at : ℕ) (fs : List Frame) (bytes : List ℕ)
+pub areas-there : (c : ClassFields) (file : List ℕ) (at : ℕ) (fs : List Frame) {bytes : List ℕ}
     → AreStreamEntries c fs → StandFrom file at fs bytes
     → flat_map (λ (r : Row). area_bytes file r.offset r.header) (rows_from at fs) ≡ bytes
-areas-there c file at [] bytes entries stand = sym stand
-areas-there c file at (f ∷ fs) bytes entries stand =
+areas-there c file at [] entries stand = sym stand
+areas-there c file at (f ∷ fs) {bytes} entries stand =
     let k = f.kept in
     let n = frame_area k in
     let over = overhead_of (class_of k.header) k.header.protected in
     let area : area_bytes file at k.header ≡ take n bytes =
     grind (arith, drop_at, length-front, shaped, take_at, length-take-le) in
     ap₂ (λ (xs ys : List ℕ). xs ++ ys) area
-    (areas-there c file (at + frame_length f) fs (drop n bytes) entries.1 stand.3)
+    (areas-there c file (at + frame_length f) fs entries.1 stand.3)
     ∙ take-append-drop n bytes
 
 -- ---- one of them
@@ -172,9 +172,9 @@ pub record IsRowOf (file : List ℕ) (c : ClassFields) (f : Frame) (r : Row) : T
   pub entry : IsStreamEntry c f
   pub word : has_wrong_crc (stored_crc (drop r.offset file)) r ≡ false
 
-word_by : (b : Bool) (said right : ℕ) → (b ≡ true → said ≡ right)
+word_by : {b : Bool} {said right : ℕ} → (b ≡ true → said ≡ right)
     → (b && not (said == right)) ≡ false
-word_by b said right is = grind arith
+word_by is = grind arith
 
 -- each of their rows is the row of a frame there
 pub row-get : (c : ClassFields) (file : List ℕ) (at : ℕ) (fs : List Frame) (bytes : List ℕ) (i : ℕ)

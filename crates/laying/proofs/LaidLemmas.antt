@@ -27,12 +27,12 @@ first-there (row ∷ rows) zero within = (row, refl)
 first-there (row ∷ rows) (suc i) within = first-there rows i (omega arith)
 
 -- what is written is the file of the frames in the slots of the plan
-pub written-is : (s : SurveyFields) (selected : Selected) (file : List ℕ)
+pub written-is : {s : SurveyFields} {selected : Selected} {file : List ℕ}
     → IsWritableSelection s selected → CanBeRelaid file s
     → selected_front s selected file ++ concat (back_blocks file s)
     ≡ file_laid (selected_part selected) file s
 unfolding laid_file
-written-is s selected file writable is =
+written-is {s} {selected} {file} writable is =
     let found =
     first-there s.frames selected.from (omega (arith, writable.some, writable.within)) in
     let frames = bytes_of_frames (frames_laid (selected_part selected) file s) in
@@ -60,7 +60,7 @@ module _ (laid : LaidPart) (file : List ℕ) (s : SurveyFields) (is : CanBeRelai
   module _ (first : Row) (found : slice_get s.frames laid.from ≡ Some first) where
     rows_are : slice_range s.frames laid.from laid.to
         ≡ first ∷ slice_range s.frames (laid.from + 1) laid.to
-    rows_are = range-next s.frames laid.from laid.to first found some
+    rows_are = range-next s.frames found some
 
     -- the header of the first frame is one of the standard
     pub first-header : IsHeader first.header

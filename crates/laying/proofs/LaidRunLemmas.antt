@@ -33,23 +33,23 @@ unfolding front_end_of
 front_end-is file = refl
 
 -- a whole frame after the blocks of the front is the first of the stream
-pub start_by : (file : List ℕ) (at : ℕ) (h : HeaderFields) → at ≡ front_end_of file
+pub start_by : (file : List ℕ) {at : ℕ} {h : HeaderFields} → at ≡ front_end_of file
     → item_at file at ≡ FrameItem h → at + size_of (FrameItem h) ≤ length file
     → start_of file ≡ Ok (record { front_end = at; first = record { offset = at; header = h } })
-start_by file at h front is within = grind (arith, start_is file at (FrameItem h) front is)
+start_by file {at} {h} front is within = grind (arith, start_is file at (FrameItem h) front is)
 
 -- no frame is an item of the front
-pub not_in_front : (file : List ℕ) (at : ℕ) (h : HeaderFields) → item_at file at ≡ FrameItem h
+pub not_in_front : (file : List ℕ) (at : ℕ) {h : HeaderFields} → item_at file at ≡ FrameItem h
     → whole_item_at Front file at ≡ None
 unfolding whole_item_at
-not_in_front file at h is = ap (item_if_whole Front file at) is
+not_in_front file at is = ap (item_if_whole Front file at) is
 
 abbrev head_with : PlacedFrame → ℕ → Head
 head_with p at = record { offset = p.offset; header = p.header; text_at = at }
 
-head_by : (p : PlacedFrame) (at : ℕ) (o : Option ℕ) → o ≡ Some at
+head_by : (p : PlacedFrame) {at : ℕ} {o : Option ℕ} → o ≡ Some at
     → option_map (λ n. head_with p n) o ≡ Some (head_with p at)
-head_by p at o is = ap (option_map (λ n. head_with p n)) is
+head_by p is = ap (option_map (λ n. head_with p n)) is
 
 -- with at least one frame there is no fault at the end of the file
 pub some_frames : (file : List ℕ) (at : ℕ) (fs : List Frame) → 0 < length fs
@@ -130,7 +130,7 @@ module _ (c : ClassFields) (front : List (List ℕ)) (first : HeaderFields) (inf
 
   -- the stream starts with the Info frame
   pub start-is : start_of file ≡ Ok start
-  start-is = start_by file from h (sym (ap (λ (r : ItemRun). r.stop) front_run) ∙ front_end-is file)
+  start-is = start_by file (sym (ap (λ (r : ItemRun). r.stop) front_run) ∙ front_end-is file)
       first_item (omega (arith, long_file))
 
   later_are : AreItems Stream later_items after
@@ -148,7 +148,7 @@ module _ (c : ClassFields) (front : List (List ℕ)) (first : HeaderFields) (inf
       ≡ record { items = placed from (FrameItem h ∷ later_items); stop = stop }
   unfolding stop
   stream =
-      items-item_run Stream file from (FrameItem h ∷ later_items) (own ++ after) []
+      items-item_run Stream file (FrameItem h ∷ later_items) (own ++ after) []
       (own, after, refl, info_item first info is.header is.sizes, refl, later_are)
       (omega (arith, long_file))
       (stands ∙ sym (append-nil (own ++ after)))
@@ -169,7 +169,7 @@ module _ (c : ClassFields) (front : List (List ℕ)) (first : HeaderFields) (inf
       ≡ head_area (Some (head_at from first))
   head_area-is =
       ap length
-      (area-frame file start.first (overhead-within h (info_header first info is.header is.sizes))
+      (area-frame file start.first (overhead-within (info_header first info is.header is.sizes))
       ∙ ap (drop (overhead_of (class_of h) h.protected)) own_bytes)
       ∙ length-info_area first info is.header is.sizes
 
@@ -189,10 +189,10 @@ module _ (c : ClassFields) (front : List (List ℕ)) (first : HeaderFields) (inf
   ended : fault_at stop (item_at file stop) ≡ None
   ended = ap (fault_at stop) (sym (stands-only_at file stop End (drop_all stop file stop-past)))
 
-  ended_at : (r : ItemRun)
+  ended_at : {r : ItemRun}
       → r ≡ record { items = placed from (FrameItem h ∷ later_items); stop = stop }
       → fault_at r.stop (item_at file r.stop) ≡ None
-  ended_at r same = ap (λ (q : ItemRun). fault_at q.stop (item_at file q.stop)) same ∙ ended
+  ended_at same = ap (λ (q : ItemRun). fault_at q.stop (item_at file q.stop)) same ∙ ended
 
   -- nothing is at fault at the end
   pub no-end_fault : end_fault file (frames_from file start)

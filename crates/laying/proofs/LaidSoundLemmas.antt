@@ -21,8 +21,8 @@ use Rattle.sync_survey.specs.declared.places.Head.{Head}
 
 -- ---- one frame
 
-either_most : (b : Bool) (m n most : ℕ) → m ≤ most → n ≤ most → cond b m n ≤ most
-either_most b m n most first second = grind arith
+either_most : (b : Bool) {m n most : ℕ} → m ≤ most → n ≤ most → cond b m n ≤ most
+either_most b first second = grind arith
 
 -- the place of the own area is after the areas of the head and of the
 -- frames before it; main data were laid from the end of the head's area on
@@ -49,26 +49,26 @@ module _ (file : List ℕ) (c : ClassFields) (head : ℕ) (end area_start : ℕ)
   pub has_data : (ended : ℕ) → lacks_data (head + area_start) ended r ≡ false
   has_data ended = and_right (ended == 0) (points_too_far (head + area_start) r) reaches
 
-  well : (ended : ℕ) → ended ≤ head + end → StandWell (head + area_start) ended r
-  well ended before = grind (arith, reaches, le-ltb, start-there, end-there)
+  well : {ended : ℕ} → ended ≤ head + end → StandWell (head + area_start) ended r
+  well before = grind (arith, reaches, le-ltb, start-there, end-there)
 
   -- after it the main data end no later than those that
   -- were laid; a silent frame doesn't change where they end
-  pub behind-most : (ended : ℕ) → ended ≤ head + end
+  pub behind-most : {ended : ℕ} → ended ≤ head + end
       → data_end_after (head + area_start) ended (Some r)
       ≤ head + frame_data_end area_start (frame_data f)
-  behind-most ended before = grind (arith, either_most, end-there)
+  behind-most before = grind (arith, either_most, end-there)
 
   -- it isn't at fault
-  pub sound-there : (allowed ended count : ℕ) → ended ≤ head + end → count < allowed
+  pub sound-there : {allowed ended count : ℕ} → ended ≤ head + end → count < allowed
       → IsSound (stored_crc (drop r.offset file)) c allowed (head + area_start) ended count r
-  sound-there allowed ended count before few = grind (arith, same-class, well, ne_eqb)
+  sound-there before few = grind (arith, same-class, well, ne_eqb)
 
 -- ---- all of them
 
-piece_get : (fs : List Frame) (i : ℕ) (f : Frame) → slice_get fs i ≡ Some f
+piece_get : (fs : List Frame) (i : ℕ) {f : Frame} → slice_get fs i ≡ Some f
     → slice_get (all_frame_data fs) i ≡ Some (frame_data f)
-piece_get fs i f is = grind (arith, slice_get-map, option_map)
+piece_get fs i is = grind (arith, slice_get-map, option_map)
 
 piece_none : (at : ℕ) (fs : List Frame) (i : ℕ) → slice_get (rows_from at fs) i ≡ None
     → slice_get (all_frame_data fs) i ≡ None
@@ -96,16 +96,16 @@ module _ (file : List ℕ) (c : ClassFields) (head : Option Head) (at : ℕ) (fs
     row : IsRowOf file c frame r
     laid : IsWellLaid 0 0 (all_frame_data fs) i (frame_data frame)
 
-  is_at : (i : ℕ) (r : Row) → slice_get rows i ≡ Some r → IsAt i r
-  is_at i r is =
+  is_at : {i : ℕ} {r : Row} → slice_get rows i ≡ Some r → IsAt i r
+  is_at {i} {r} is =
       let found = row-get c file at fs area_data i r entries stand is in
-      let piece = piece_get fs i found.0 found.1 in
+      let piece = piece_get fs i found.1 in
       record {
         frame = found.0;
         found = piece;
         own = found.1;
         row = found.2;
-        laid = grind (arith, well-laid 0 0 (all_frame_data fs) i (frame_data found.0) fits piece);
+        laid = grind (arith, well-laid 0 (all_frame_data fs) i fits piece);
       }
 
   -- the place of a frame is after the head's area and the areas of the frames before it
@@ -118,14 +118,14 @@ module _ (file : List ℕ) (c : ClassFields) (head : Option Head) (at : ℕ) (fs
       ≤ head_area head + end (suc i)
   behind_by i None is before = grind (arith, take-last, piece_none)
   behind_by i (Some r) is before =
-      let here = is_at i r is in
+      let here = is_at is in
       let most = behind-most file c (head_area head) (end i) (area_start i) here.frame r
-      here.row here.laid.begins here.laid.ends (data_end_before head rows i) before in
+      here.row here.laid.begins here.laid.ends before in
       omega (
         arith,
         most,
         ap (λ n. data_end_after n (data_end_before head rows i) (Some r)) (place-there i),
-        data_end-next 0 0 (all_frame_data fs) i (frame_data here.frame) here.found,
+        data_end-next 0 0 (all_frame_data fs) i here.found,
       )
 
   -- before frame i the main data end no later than those that were laid
@@ -137,17 +137,17 @@ module _ (file : List ℕ) (c : ClassFields) (head : Option Head) (at : ℕ) (fs
   -- all frames are sound
   pub laid-sound : (allowed : ℕ) → length fs ≤ allowed → AreSound file head c allowed rows
   laid-sound allowed few i r is =
-      let here = is_at i r is in
+      let here = is_at is in
       let within : i < allowed =
       omega (arith, few, slice_get_within rows i r is, rows-length at fs) in
       subst (λ n. IsSound (stored_crc (drop r.offset file)) c allowed n
       (data_end_before head rows i) i r)
       (sym (place-there i))
       (sound-there file c (head_area head) (end i) (area_start i) here.frame r here.row
-      here.laid.begins here.laid.ends allowed (data_end_before head rows i) i (ended-most i) within)
+      here.laid.begins here.laid.ends (ended-most i) within)
 
-  none_lost : (i : ℕ) (r : Row) → slice_get rows i ≡ Some r → is_lost head rows i r ≡ r.lost
-  none_lost i r is = grind (arith, is_at i r is, place-there i, has_data)
+  none_lost : (i : ℕ) {r : Row} → slice_get rows i ≡ Some r → is_lost head rows i r ≡ r.lost
+  none_lost i {r} is = grind (arith, is_at is, place-there i, has_data)
 
   marks : (n : ℕ) (more : List Row)
       → ((i : ℕ) (r : Row) → slice_get more i ≡ Some r → is_lost head rows (n + i) r ≡ r.lost)
@@ -169,7 +169,7 @@ module _ (file : List ℕ) (c : ClassFields) (head : Option Head) (at : ℕ) (fs
   pub starts-there : (i : ℕ) (r : Row) → slice_get rows i ≡ Some r
       → (f : Frame) × (slice_get fs i ≡ Some f) × (start_of_data (place head rows i) r
       ≡ head_area head + frame_data_start (area_start i) (frame_data f))
-  starts-there i r is = grind (arith, is_at i r is, place-there i, start-there)
+  starts-there i r is = grind (arith, is_at is, place-there i, start-there)
 
 -- the main data of each frame begin within the areas of the frames before it, without the head's
 pub laid-near : (file : List ℕ) (c : ClassFields) (at : ℕ) (fs : List Frame) (area_data : List ℕ)
@@ -178,6 +178,6 @@ pub laid-near : (file : List ℕ) (c : ClassFields) (at : ℕ) (fs : List Frame)
 laid-near file c at fs area_data entries stand fits i r is =
     grind (
       arith,
-      is_at file c None at fs area_data entries stand fits i r is,
+      is_at file c None at fs area_data entries stand fits is,
       place-there file c None at fs area_data entries stand fits i,
     )

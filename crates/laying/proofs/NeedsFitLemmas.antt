@@ -41,33 +41,32 @@ pub silent_bytes : (r : Row) → is_silent r ≡ true → payload_bytes r.side �
 unfolding payload_bytes
 silent_bytes r silent = omega (arith, eqb-true (payload_bits r.side) 0 silent)
 
-step_by : (window place ended free : ℕ) (r : Row) (silent lost : Bool) → is_silent r ≡ silent
+step_by : {window place ended free : ℕ} (r : Row) {silent lost : Bool} → is_silent r ≡ silent
     → lacks_data place ended r ≡ lost → (lost ≡ false → StandWell place ended r)
     → r.side.main_data_begin ≤ window → ended ≤ place → shown window place ended ≤ free
     → Goes window place (cond (silent || lost) ended (end_of_data place r)) (own_area r.header)
     (cond lost 0 (payload_bytes r.side)) free
-step_by window h ended free r silent lost h7 h8 well near ends some =
-    grind (arith, silent_bytes, ltb-false)
+step_by r h7 h8 well near ends some = grind (arith, silent_bytes, ltb-false)
 
 -- ---- all frames
 
-area_more : (f : Row → ℕ) (rows : List Row) (n : ℕ) (r : Row) → slice_get rows n ≡ Some r
+area_more : (f : Row → ℕ) (rows : List Row) (n : ℕ) {r : Row} → slice_get rows n ≡ Some r
     → sum_by f (take (suc n) rows) ≡ sum_by f (take n rows) + f r
-area_more f [] n r is = absurd cc
-area_more f (q ∷ rows) zero r is = let same : q ≡ r = cc in omega (arith, ap f same)
-area_more f (q ∷ rows) (suc n) r is = grind (arith, sum_by, sum_by-cons, area_more f rows n r is)
+area_more f [] n is = absurd cc
+area_more f (q ∷ rows) zero {r} is = let same : q ≡ r = cc in omega (arith, ap f same)
+area_more f (q ∷ rows) (suc n) {r} is = grind (arith, sum_by, sum_by-cons, area_more f rows n is)
 
-place_more : (head : Option Head) (rows : List Row) (n : ℕ) (r : Row) → slice_get rows n ≡ Some r
+place_more : (head : Option Head) (rows : List Row) (n : ℕ) {r : Row} → slice_get rows n ≡ Some r
     → place head rows (suc n) ≡ place head rows n + own_area r.header
 unfolding place
-place_more head rows n r is = omega (arith, area_more (λ (q : Row). own_area q.header) rows n r is)
+place_more head rows n {r} is = omega (arith, area_more (λ (q : Row). own_area q.header) rows n is)
 
 -- the end of the main data before the next frame is the end after this frame
-pub end_more : (head : Option Head) (rows : List Row) (n : ℕ) (r : Row) → slice_get rows n ≡ Some r
+pub end_more : (head : Option Head) (rows : List Row) (n : ℕ) {r : Row} → slice_get rows n ≡ Some r
     → data_end_before head rows (suc n)
     ≡ data_end_after (place head rows n) (data_end_before head rows n) (Some r)
 unfolding data_end_before
-end_more head rows n r is = ap (data_end_after (place head rows n) (data_end_before head rows n)) is
+end_more head rows n is = ap (data_end_after (place head rows n) (data_end_before head rows n)) is
 
 -- the headers of these rows are valid headers of the standard
 abbrev pub AreKnown : List Row → Type 0
@@ -89,53 +88,52 @@ module _ (head : Option Head) (class : ClassFields) (rows : List Row)
   unfolding AreNeedsOfClass
   classes_from n [] stand = tt
   classes_from n (r ∷ xs) stand = (
-    (placed n r (onward-first rows n r xs stand)).class_is,
-    classes_from (suc n) xs (onward-rest rows n (suc n) r xs (omega arith) stand),
+    (placed n r (onward-first rows n xs stand)).class_is,
+    classes_from (suc n) xs (onward-rest rows n xs (omega arith) stand),
   )
 
   known_from : (n : ℕ) (xs : List Row) → AreOnward rows n xs → AreKnown xs
   known_from n [] stand = tt
   known_from n (r ∷ xs) stand = (
-    (placed n r (onward-first rows n r xs stand)).known,
-    known_from (suc n) xs (onward-rest rows n (suc n) r xs (omega arith) stand),
+    (placed n r (onward-first rows n xs stand)).known,
+    known_from (suc n) xs (onward-rest rows n xs (omega arith) stand),
   )
 
   abbrev of_class : ℕ
   of_class = window_of class.version
 
-  fit_from : (n : ℕ) (xs : List Row) (free : ℕ) → AreOnward rows n xs → data_end_before head rows n
+  fit_from : (n : ℕ) (xs : List Row) {free : ℕ} → AreOnward rows n xs → data_end_before head rows n
       ≤ place head rows n → shown of_class (place head rows n) (data_end_before head rows n) ≤ free
       → AllFit of_class free (map own_frame (map need_of xs))
   unfolding AllFit
-  fit_from n [] free stand ends some = tt
-  fit_from n (r ∷ xs) free stand ends some =
-      let here = onward-first rows n r xs stand in
+  fit_from n [] stand ends some = tt
+  fit_from n (r ∷ xs) {free} stand ends some =
+      let here = onward-first rows n xs stand in
       let is = placed n r here in
-      let step = step_by of_class (place head rows n) (data_end_before head rows n) free r
-      (is_silent r) r.lost refl (sym is.mark)
-      (λ none. data-none_well (place head rows n) (data_end_before head rows n) r
-      is.sound (sym is.mark ∙ none)) (begin-near class r.side is.fits) ends some in
-      let at = place_more head rows n r here in
-      let ended = end_more head rows n r here ∙ ap (λ b. cond (is_silent r || b)
+      let step = step_by r refl (sym is.mark)
+      (λ none. data-none_well
+      is.sound (sym is.mark ∙ none)) (begin-near is.fits) ends some in
+      let at = place_more head rows n here in
+      let ended = end_more head rows n here ∙ ap (λ b. cond (is_silent r || b)
       (data_end_before head rows n) (end_of_data (place head rows n) r)) (sym is.mark) in (
         step.0,
-        fit_from (suc n) xs (free_bytes_behind of_class free (need_of r).bytes (own_area r.header))
-            (onward-rest rows n (suc n) r xs (omega arith) stand) (omega (arith, at, ended, step.1))
+        fit_from (suc n) xs
+            (onward-rest rows n xs (omega arith) stand) (omega (arith, at, ended, step.1))
             (omega (arith, at, ended, step.2)),
       )
 
   fit_all : AllFit of_class of_class (map own_frame (map need_of rows))
   unfolding data_end_before
-  fit_all = fit_from 0 rows of_class (onward-all rows) (omega arith) (omega arith)
+  fit_all = fit_from 0 rows (onward-all rows) (omega arith) (omega arith)
 
 -- the frames of a stream without a head fit after no free
 -- bytes: none of them has main data before the first
-pub rows-alone : (class : ClassFields) (rows : List Row) → AreWellPlaced None class rows
+pub rows-alone : {class : ClassFields} {rows : List Row} → AreWellPlaced None class rows
     → FitsBehind (window_of class.version) 0 (map need_of rows)
 unfolding data_end_before place
-rows-alone class rows placed =
-    within-fit (window_of class.version) 0 (map own_frame (map need_of rows)) (omega arith)
-    (fit_from None class rows placed 0 rows 0 (onward-all rows) (omega arith)
+rows-alone {class} {rows} placed =
+    within-fit (map own_frame (map need_of rows)) (omega arith)
+    (fit_from None class rows placed 0 rows (onward-all rows) (omega arith)
     (omega arith))
 
 -- ---- a part of them
@@ -155,7 +153,10 @@ feasible-fit : (window : ℕ) (frames : List FrameLengths) → AllFit window win
     → HasLayout window window frames
 unfolding HasLayout
 feasible-fit window frames fit =
-    grind (arith, layout-fit window 0 window window frames (omega arith) (omega arith) fit)
+    grind (
+      arith,
+      layout-fit window 0 {before = window} {free = window} frames (omega arith) (omega arith) fit,
+    )
 
 -- the needs of a part are of the class, and have a layout after a whole window
 abbrev pub Fits : SurveyFields → ℕ → ℕ → Type 0

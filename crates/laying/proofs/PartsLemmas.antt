@@ -8,7 +8,7 @@ use Rattle.std.proofs.lemmas.List.{Elements.All-cons, Kept.AllPairs-cons}
 use Rattle.frame_header.proofs.HeaderLemmas.{IsClass-class_of}
 use Rattle.frame_header.proofs.SlotLemmas.{areas-ascend, Contains-all_slots}
 use Rattle.frame_header.specs.Fields.{ClassFields, HeaderFields, IsHeader, SlotFields}
-use Rattle.frame_header.specs.{Slots.all_slots, Tables.{class_of, window_of}}
+use Rattle.frame_header.specs.Tables.{class_of, window_of}
 use Rattle.laying.proofs.NeedsFitLemmas.{AreKnown, part-fits, part-known}
 use Rattle.laying.specs.Needs.{need_of, needs_of_parts, part_places, plan_input}
 use Rattle.laying.specs.NeedsFit.{any_choice, IsFitPlanInput, IsPartOf, IsPlacedSurvey, own_choice}
@@ -30,16 +30,16 @@ record Fits (class : ClassFields) (rows : List Row) : Type 0 where
   feasible : HasLayout (window_of class.version) (window_of class.version)
       (map own_frame (map need_of rows))
 
-part_some : (rows : List Row) (from to : ℕ) → from < to → to ≤ length rows
+part_some : (rows : List Row) {from to : ℕ} → from < to → to ≤ length rows
     → 0 < length (slice_range rows from to)
-part_some rows from to some within = grind (arith, length-take-le, length-drop, some)
+part_some rows some within = grind (arith, length-take-le, length-drop, some)
 
-fits : (class : ClassFields) (rows : List Row) → IsPartOf class rows → Fits class rows
-fits class rows part =
+fits : {class : ClassFields} {rows : List Row} → IsPartOf class rows → Fits class rows
+fits part =
     grind (
       arith,
       part-fits part.survey part.from part.to part.placed,
-      part_some part.survey.frames part.from part.to part.some part.within,
+      part_some part.survey.frames part.some part.within,
       part-known part.survey part.from part.to part.placed,
     )
 
@@ -48,12 +48,12 @@ abbrev AllFits : ClassFields → List (List Row) → Type 0
 AllFits class [] = Unit {0}
 AllFits class (rows ∷ parts) = Fits class rows × AllFits class parts
 
-all_fits : (class : ClassFields) (parts : List (List Row)) → All (IsPartOf class) parts
+all_fits : {class : ClassFields} (parts : List (List Row)) → All (IsPartOf class) parts
     → AllFits class parts
-all_fits class [] all = tt
-all_fits class (rows ∷ parts) all = (
-  fits class rows (all 0 rows (omega arith)),
-  all_fits class parts (λ k d lt. all (suc k) d (omega (arith, lt))),
+all_fits [] all = tt
+all_fits {class} (rows ∷ parts) all = (
+  fits (all 0 rows (omega arith)),
+  all_fits parts (λ k d lt. all (suc k) d (omega (arith, lt))),
 )
 
 -- ---- the needs
@@ -114,19 +114,20 @@ places_ascend class at (rows ∷ parts) all =
 -- ---- the parts of the needs
 
 -- a stretch between two others is found at its place
-middle : (before part behind : List Need) (from to : ℕ) → from ≡ length before
-    → to ≡ length before + length part → slice_range (before ++ (part ++ behind)) from to ≡ part
-middle before part behind from to is ends =
+middle : (before : List Need) {part : List Need} (behind : List Need) {from to : ℕ}
+    → from ≡ length before → to ≡ length before + length part
+    → slice_range (before ++ (part ++ behind)) from to ≡ part
+middle before {part} behind is ends =
     grind (arith, drop-append_seam before (part ++ behind), take-append_seam part behind)
 
 -- cutting the needs at the places of the parts gives the needs of each part
-pub parts_are : (before : List Need) (at : ℕ) (parts : List (List Row)) → at ≡ length before
+pub parts_are : (before : List Need) {at : ℕ} (parts : List (List Row)) → at ≡ length before
     → needs_in_parts (before ++ needs_of_parts parts) (part_places at parts)
     ≡ map (map need_of) parts
 unfolding needs_in_parts part_places
-parts_are before at [] is = refl
-parts_are before at (rows ∷ []) is = grind (arith, needs-cons, nothing, length-append, middle)
-parts_are before at (rows ∷ next ∷ parts) is =
+parts_are before [] is = refl
+parts_are before (rows ∷ []) is = grind (arith, needs-cons, nothing, length-append, middle)
+parts_are before {at} (rows ∷ next ∷ parts) is =
     let part : List Need = map need_of rows in
     let later : List (List Row) = next ∷ parts in
     let to : ℕ = at + length rows in
@@ -137,10 +138,10 @@ parts_are before at (rows ∷ next ∷ parts) is =
     sym (append_assoc before part (needs_of_parts later)) in
     ap (λ l. slice_range l at to ∷ needs_in_parts l (part_places to later)) whole
     ∙ ap (λ l. l ∷ needs_in_parts (before ++ (part ++ needs_of_parts later)) (part_places to later))
-    (middle before part (needs_of_parts later) at to is ends)
+    (middle before (needs_of_parts later) is ends)
     ∙ ap (λ l. part ∷ needs_in_parts l (part_places to later)) seam
     ∙ ap (λ l. part ∷ l)
-    (parts_are (before ++ part) to (next ∷ parts) (ends ∙ sym (length-append before part)))
+    (parts_are (before ++ part) (next ∷ parts) (ends ∙ sym (length-append before part)))
 
 feasible_all : (class : ClassFields) (parts : List (List Row)) → AllFits class parts
     → ArePartsFeasible (window_of class.version) (map (map need_of) parts)
@@ -160,10 +161,10 @@ keeps r known = grind (arith, IsClass-class_of, known)
 
 may_any : (r : Row) → IsHeader r.header → ChoosesInOrder any_choice (need_of r)
 may_any r known =
-    let class = IsClass-class_of r.header known in
+    let class = IsClass-class_of known in
     record {
       class = class;
-      ascending = class-ascend (class_of r.header) (class_of r.header) r.header.protected all_slots
+      ascending = class-ascend r.header.protected
           refl refl (areas-ascend (class_of r.header) class r.header.protected);
       own = Contains-all_slots r.header.slot known.slot;
     }
@@ -182,11 +183,11 @@ module _ (choices : HeaderFields → List SlotFields)
 
 -- ---- all of it
 
-planned : (class : ClassFields) (parts : List (List Row)) → 1 ≤ length parts → AllFits class parts
+planned : {class : ClassFields} (parts : List (List Row)) → 1 ≤ length parts → AllFits class parts
     → IsFitPlanInput class (plan_input parts)
 unfolding part_places
-planned class [] some all = absurd (omega (arith, some))
-planned class (rows ∷ parts) some all =
+planned [] some all = absurd (omega (arith, some))
+planned {class} (rows ∷ parts) some all =
     let whole : List (List Row) = rows ∷ parts in
     let needs : List Need = needs_of_parts whole in
     let classes = class_all class whole all in
@@ -195,11 +196,11 @@ planned class (rows ∷ parts) some all =
     let within = places_within class 0 whole all in
     record {
       all = classes;
-      each = subst (All (λ part. AreNeedsOfClass class part)) (sym (parts_are [] 0 whole refl))
+      each = subst (All (λ part. AreNeedsOfClass class part)) (sym (parts_are [] whole refl))
           (each_class class whole all);
-      kept = subst (PartsChooseInOrder own_choice) (sym (parts_are [] 0 whole refl))
+      kept = subst (PartsChooseInOrder own_choice) (sym (parts_are [] whole refl))
           (parts_choose own_choice keeps class whole all);
-      least = subst (PartsChooseInOrder any_choice) (sym (parts_are [] 0 whole refl))
+      least = subst (PartsChooseInOrder any_choice) (sym (parts_are [] whole refl))
           (parts_choose any_choice may_any class whole all);
       window = window;
       planned = record {
@@ -211,7 +212,7 @@ planned class (rows ∷ parts) some all =
         feasible =
             subst (λ w. ArePartsFeasible w (needs_in_parts needs (part_places 0 whole)))
             (sym window)
-            (subst (ArePartsFeasible (window_of class.version)) (sym (parts_are [] 0 whole refl))
+            (subst (ArePartsFeasible (window_of class.version)) (sym (parts_are [] whole refl))
             (feasible_all class whole all));
       };
     }
@@ -219,27 +220,27 @@ planned class (rows ∷ parts) some all =
 -- parts of one class that each fit can be planned
 pub parts-fit : (class : ClassFields) (parts : List (List Row)) → 1 ≤ length parts
     → All (IsPartOf class) parts → IsFitPlanInput class (plan_input parts)
-parts-fit class parts some all = planned class parts some (all_fits class parts all)
+parts-fit class parts some all = planned parts some (all_fits parts all)
 
 -- one part of a survey can be planned
-pub one-part-fits : (s : SurveyFields) (from to : ℕ) → IsPlacedSurvey s → from < to
+pub one-part-fits : (s : SurveyFields) {from to : ℕ} → IsPlacedSurvey s → from < to
     → to ≤ length s.frames → IsFitPlanInput s.class (plan_input (slice_range s.frames from to ∷ []))
-one-part-fits s from to placed some within =
+one-part-fits s {from} {to} placed some within =
     let part : IsPartOf s.class (slice_range s.frames from to) = grind (arith, some) in
-    planned s.class (slice_range s.frames from to ∷ []) (omega arith)
-    (fits s.class (slice_range s.frames from to) part, tt)
+    planned (slice_range s.frames from to ∷ []) (omega arith)
+    (fits part, tt)
 
 -- the plan of parts that can be planned is the least of all, under either policy
-pub parts-plan : (class : ClassFields) (choices : HeaderFields → List SlotFields)
+pub parts-plan : {class : ClassFields} {choices : HeaderFields → List SlotFields}
     (parts : List (List Row)) (placed : List Placed) → IsFitPlanInput class (plan_input parts)
     → PartsChooseInOrder choices (needs_in_parts (plan_input parts).needs (plan_input parts).places)
     → IsPlan (window_of class.version) choices (map (map need_of) parts) placed
     ↔ (placed ≡ least_plan (window_of class.version) choices (map (map need_of) parts))
-parts-plan class choices parts placed fit in_order =
+parts-plan {class} {choices} parts placed fit in_order =
     let are : needs_in_parts (plan_input parts).needs (plan_input parts).places
     ≡ map (map need_of) parts =
-    parts_are [] 0 parts refl in
-    least-plan-is class choices (map (map need_of) parts) placed
+    parts_are [] parts refl in
+    least-plan-is class placed
     (subst (All (AreNeedsOfClass class)) are fit.each)
     (subst (PartsChooseInOrder choices) are in_order)
     (subst (λ (n : ℕ). ArePartsFeasible n (map (map need_of) parts)) fit.window
@@ -263,10 +264,9 @@ places-push at (first ∷ parts) rows =
     grind (arith, length-needs, places-push (at + length first) parts rows)
 
 -- the input of the planner, with one more part at its end
-pub asked-push : (parts : List (List Row)) (rows : List Row) (needs : List Need) (places : List ℕ)
-    (place : ℕ) (all : List Need) (all_places : List ℕ)
+pub asked-push : (parts : List (List Row)) (rows : List Row) {needs : List Need} {places : List ℕ}
+    {place : ℕ} {all : List Need} {all_places : List ℕ}
     → record { needs = needs; places = places } ≡ plan_input parts → place ≡ length needs
     → all ≡ needs ++ map need_of rows → all_places ≡ places ++ place ∷ []
     → record { needs = all; places = all_places } ≡ plan_input (parts ++ rows ∷ [])
-asked-push parts rows needs places place all all_places is at added put =
-    grind (arith, needs-push, places-push)
+asked-push parts rows is at added put = grind (arith, needs-push, places-push)

@@ -32,23 +32,24 @@ module _ (relay : Relay) (old new : Files) (fed now : Fed) where
   ready-filled same = ready-held (λ file. subst (λ f. Holds f relay.pass.input.now file) same)
 
 -- after bytes were appended to the output, all is ready for the next step
-pub ready-later : (relay : Relay) (old new : Files) (fed : Fed) (more : List ℕ)
+pub ready-later : {relay : Relay} {old new : Files} {fed : Fed} (more : List ℕ)
     → new ≡ with_appended_bytes old relay.pass.output.now more → IsRelayReady relay old fed
     → IsRelayReady relay new fed
-ready-later relay old new fed more is ready = search (arith, ready-with, ready_later)
+ready-later more is ready = search (arith, ready-with, ready_later)
 
 -- after a buffer passed something on, all is ready for the next step
-pub ready-passed : (relay : Relay) {before after : List ℕ} {old new : Files} {fed : Fed}
+pub ready-passed : {relay : Relay} {before after : List ℕ} {old new : Files} {fed : Fed}
     → AppendsWaiting relay.pass.output.now before after old new → IsRelayReady relay old fed
     → IsRelayReady relay new fed
-ready-passed relay {before} {after} {old} {new} {fed} passed ready = search (arith, ready-later)
+ready-passed {before = before} {after = after} {old = old} {new = new} {fed = fed} passed ready =
+    search (arith, ready-later)
 
 -- after bytes were appended to another file, the
 -- window still holds the last of the input's main data
-pub holds-later : (window input output : List ℕ) (s : SurveyFields) (at count i : ℕ)
-    (old new : Files) (more : List ℕ) → input ≢ output → new ≡ with_appended_bytes old output more
+pub holds-later : {window input output : List ℕ} {s : SurveyFields} {at count i : ℕ}
+    {old new : Files} (more : List ℕ) → input ≢ output → new ≡ with_appended_bytes old output more
     → HoldsLastAreas window input old s at count i → HoldsLastAreas window input new s at count i
-holds-later window input output s at count i old new more apart is over = grind (arith, input_held)
+holds-later more apart is over = grind (arith, input_held)
 
 -- after a failed write a pass ended early
 pub ends-short : {name bytes : List ℕ} {old new : Files} {fault : PassFault}
@@ -58,16 +59,16 @@ ends-short part = grind arith
 -- ---- frames passed to the writer
 
 -- main data that begin within one reach begin within a longer one
-pub begins_more : (reach free : ℕ) (ps : List FrameData) → reach ≤ free → BeginsWithin reach ps
+pub begins_more : {reach free : ℕ} (ps : List FrameData) → reach ≤ free → BeginsWithin reach ps
     → BeginsWithin free ps
-begins_more reach free ps within begins = grind arith
+begins_more ps within begins = grind arith
 
 module _ (input output : List ℕ) where
   -- before the first frame none was laid
-  pub lays_none : (made : List ℕ → List Frame) (w : Writing) (files : Files)
+  pub lays_none : {made : List ℕ → List Frame} (w : Writing) {files : Files}
       → IsFileThere files output → ((file : List ℕ) → Holds files input file → [] ≡ made file)
       → LaysFrames input output made w w files files
-  lays_none made w files there none = record {
+  lays_none w {files} there none = record {
     frames = [];
     is = none;
     passed = [];
@@ -76,28 +77,28 @@ module _ (input output : List ℕ) where
   }
 
   -- a frame that the writer accepted was laid
-  pub lays_one : (made : List ℕ → List Frame) (f : Frame) (old new : Writing) (before after : Files)
+  pub lays_one : {made : List ℕ → List Frame} {f : Frame} {old new : Writing} {before after : Files}
       → ((file : List ℕ) → Holds before input file → f ∷ [] ≡ made file)
       → AcceptsFrame output f old new before after
       → LaysFrames input output made old new before after
-  lays_one made f old new before after is on =
+  lays_one {f = f} is on =
       record { frames = f ∷ []; is = is; passed = on.passed; files = on.files; writer = on.writer }
 
   -- laying some frames is laying any others that are equal
-  pub lays_as : (made other : List ℕ → List Frame) (old new : Writing) (before after : Files)
+  pub lays_as : {made other : List ℕ → List Frame} {old new : Writing} {before after : Files}
       → ((file : List ℕ) → Holds before input file → made file ≡ other file)
       → LaysFrames input output made old new before after
       → LaysFrames input output other old new before after
-  lays_as made other old new before after same lays = grind arith
+  lays_as same lays = grind arith
 
   -- a write failed at the first of them
-  pub part_one : (made : List ℕ → List Frame) (reach : ℕ) (f : Frame) (old : Writing)
-      (held : WaitingFrames)
-      (before after : Files) {fault : PassFault}
+  pub part_one : {made : List ℕ → List Frame} {reach : ℕ} {f : Frame} {old : Writing}
+      {held : WaitingFrames}
+      {before after : Files} {fault : PassFault}
       → ((file : List ℕ) → Holds before input file → f ∷ [] ≡ made file) → reach ≤ held.waiting.free
       → WritesPart output f old held before after
       → LaysPart input output made reach old before after fault
-  part_one made reach f old held before after is within part = record {
+  part_one {f = f} {held = held} is within part = record {
     settled = part.settled;
     prefix = ends-short part.prefix;
     done = f ∷ [];
@@ -107,12 +108,12 @@ module _ (input output : List ℕ) where
   }
 
   -- none of them was laid, as a read failed
-  pub part_none : (made : List ℕ → List Frame) (reach : ℕ) (w : Writing) (files : Files)
+  pub part_none : {made : List ℕ → List Frame} {reach : ℕ} {w : Writing} {files : Files}
       {fault : PassFault} → IsReadPassFault fault → IsFileThere files output
       → ((file : List ℕ) → Holds files input file → (more : List Frame) → BeginsWithin reach
       (all_frame_data more) → BeginsWithin w.held.waiting.free (all_frame_data (made file ++ more)))
       → LaysPart input output made reach w files files fault
-  part_none made reach w files read there begins = record {
+  part_none {made} {w = w} read there begins = record {
     settled = w.unsent;
     prefix = grind (arith, appended_nothing);
     done = [];
@@ -124,9 +125,9 @@ module _ (input output : List ℕ) where
   module _ (made next : List ℕ → List Frame) (old mid : Writing) (before now : Files)
       (apart : input ≢ output) (lays : LaysFrames input output made old mid before now) where
     -- two steps lay what they made, concatenated
-    pub lays_then : (new : Writing) (after : Files) → LaysFrames input output next mid new now after
+    pub lays_then : {new : Writing} {after : Files} → LaysFrames input output next mid new now after
         → LaysFrames input output (λ file. made file ++ next file) old new before after
-    lays_then new after more = record {
+    lays_then more = record {
       frames = lays.frames ++ more.frames;
       is = grind (arith, input_holds);
       passed = lays.passed ++ more.passed;
@@ -135,10 +136,10 @@ module _ (input output : List ℕ) where
     }
 
     -- if the second step failed, a part of that was laid
-    pub part_then : (reach : ℕ) (after : Files) {fault : PassFault}
+    pub part_then : {reach : ℕ} {after : Files} {fault : PassFault}
         → LaysPart input output next reach mid now after fault
         → LaysPart input output (λ file. made file ++ next file) reach old before after fault
-    part_then reach after part = record {
+    part_then part = record {
       settled = lays.passed ++ part.settled;
       prefix =
           grind (

@@ -60,21 +60,21 @@ unfolding places_for
 places-end frames = refl
 
 -- frames take the first place, and then as many as the frames left after it take
-pub places-next : (frames : ℕ) (p : Placed) (placed : List Placed) → 0 < frames
+pub places-next : {frames : ℕ} (p : Placed) (placed : List Placed) → 0 < frames
     → places_for frames (p ∷ placed)
     ≡ places_for (frame_count_behind p.lead_in (frames - 1)) placed + 1
 unfolding places_for
-places-next frames p placed some = grind arith
+places-next p placed some = grind arith
 
 -- after a lead-in all frames are left
-pub behind-lead : (b : Bool) (frames next : ℕ) → 0 < frames → b ≡ true → next ≡ frames
+pub behind-lead : {b : Bool} {frames next : ℕ} → 0 < frames → b ≡ true → next ≡ frames
     → frame_count_behind b (frames - 1) ≡ next
-behind-lead b frames next some is same = grind arith
+behind-lead some is same = grind arith
 
 -- after a frame one fewer is left
-pub behind-frame : (b : Bool) (frames next : ℕ) → b ≡ false → next ≡ frames - 1
+pub behind-frame : {b : Bool} (frames : ℕ) {next : ℕ} → b ≡ false → next ≡ frames - 1
     → frame_count_behind b (frames - 1) ≡ next
-behind-frame b frames next is same = grind arith
+behind-frame frames is same = grind arith
 
 -- ---- a plan of some frames, and of others after them
 

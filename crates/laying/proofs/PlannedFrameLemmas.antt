@@ -49,9 +49,9 @@ window_below : (v : Version) (channels : ℕ)
 window_below v channels = grind arith
 
 -- side information with another main_data_begin within the window still fits
-pub begun_fits : (c : ClassFields) (s : Side) (begin : ℕ) → SideFits c s
+pub begun_fits : {c : ClassFields} {s : Side} {begin : ℕ} → SideFits c s
     → begin ≤ window_of c.version → SideFits c (record s { main_data_begin = begin })
-begun_fits c s begin fits within = grind (arith, window_below)
+begun_fits fits within = grind (arith, window_below)
 
 bits_begun : (s : Side) (begin : ℕ)
     → payload_bits (record s { main_data_begin = begin }) ≡ payload_bits s
@@ -63,9 +63,9 @@ bytes_begun : (s : Side) (begin : ℕ)
 unfolding payload_bytes
 bytes_begun s begin = ap (λ n. (n + 7) / 8) (bits_begun s begin)
 
-nothing_filled : (n m : ℕ) → n ≡ 0 → m ≡ 0 → drop n (bits []) ≡ zeros (8 * m - n)
+nothing_filled : {n m : ℕ} → n ≡ 0 → m ≡ 0 → drop n (bits []) ≡ zeros (8 * m - n)
 unfolding bits
-nothing_filled n m none few = grind arith
+nothing_filled none few = grind arith
 
 module _ (c : ClassFields) (p : Placed) (f : Frame) (slot : IsSlot p.slot)
     (near : p.begin ≤ window_of c.version) (is : IsStreamEntry c f) where
@@ -81,10 +81,10 @@ module _ (c : ClassFields) (p : Placed) (f : Frame) (slot : IsSlot p.slot)
         header = header-there false;
         class = is.class;
         pairs = record { scfsi = refl; granules = refl; first = refl; second = refl };
-        fits = begun_fits c no_side p.begin (SideFits-no_side c) near;
+        fits = begun_fits (SideFits-no_side c) near;
         octets = tt;
         size = sym few;
-        filled = nothing_filled _ _ none few;
+        filled = nothing_filled none few;
       }
 
   moved-entry : IsStreamEntry c (frame_with_place p f)
@@ -113,9 +113,9 @@ pub next-map : {X Y : Type 0} (g : X → Y) (b : Bool) (x : X) (xs : List X)
 next-map g b x xs = grind arith
 
 -- what is left after a place can still be laid
-pub next-entries : (c : ClassFields) (b : Bool) (f : Frame) (fs : List Frame) → IsStreamEntry c f
+pub next-entries : {c : ClassFields} (b : Bool) {f : Frame} (fs : List Frame) → IsStreamEntry c f
     → AreStreamEntries c fs → AreStreamEntries c (rest_behind b f fs)
-next-entries c b f fs is are = grind arith
+next-entries b fs is are = grind arith
 
 -- ---- all of them
 
@@ -133,14 +133,14 @@ unfolding relaid_frames stream_with_lead_ins
 none_laid c end before placed = record { entries = tt; fit = tt; stream_is = refl }
 
 -- one more frame before others that are laid is laid
-pub laid_more : (c : ClassFields) (end before bytes area : ℕ) (g : Frame) (gs : List Frame)
-    (q : StreamFrame) (qs : List StreamFrame) → IsStreamEntry c g → stream_entry g ≡ q
+pub laid_more : {c : ClassFields} {end before bytes area : ℕ} {g : Frame} {gs : List Frame}
+    {q : StreamFrame} {qs : List StreamFrame} → IsStreamEntry c g → stream_entry g ≡ q
     → length g.payload
     ≡ bytes → frame_area g.kept ≡ area → end + g.kept.side.main_data_begin ≤ before
     → before - g.kept.side.main_data_begin + bytes ≤ before + area
     → AreLaidFrom c (before - g.kept.side.main_data_begin + bytes) (before + area) gs qs
     → AreLaidFrom c end before (g ∷ gs) (q ∷ qs)
-laid_more c end before bytes area g gs q qs is same long wide starts ends behind = grind arith
+laid_more is same long wide starts ends behind = grind arith
 
 -- ---- the frames that the plan was made for
 
@@ -152,8 +152,8 @@ AreNeedsOf (need ∷ needs) (f ∷ fs) =
 AreNeedsOf _ _ = ⊥
 
 -- each of the 28 is a slot
-pub slot_among : (slot : SlotFields) → Contains all_slots slot → IsSlot slot
-slot_among slot has =
+pub slot_among : {slot : SlotFields} → Contains all_slots slot → IsSlot slot
+slot_among {slot} has =
     let within : has.0 < 28 = omega (arith, has.1, length-all_slots) in
     subst IsSlot (get_or_default all_slots has.0 (slot_of 1 false) slot has.1 ∙ has.2)
-    (IsSlot-nth_slot has.0 within)
+    (IsSlot-nth_slot within)

@@ -17,9 +17,9 @@ use Rattle.sync_survey.specs.Faults.{SurveyFields}
 
 -- ---- how many there are
 
-range-many : {X : Type 0} (xs : List X) (from to : ℕ) → to ≤ length xs
+range-many : {X : Type 0} (xs : List X) (from : ℕ) {to : ℕ} → to ≤ length xs
     → length (slice_range xs from to) ≡ to - from
-range-many xs from to within = grind (arith, length-take-le, length-drop)
+range-many xs from within = grind (arith, length-take-le, length-drop)
 
 module _ (s : SurveyFields) (from to : ℕ) (within : to ≤ length s.frames) where
   -- a file has all frames of its survey between two numbers
@@ -52,20 +52,20 @@ module _ (s : SurveyFields) (from to : ℕ) (within : to ≤ length s.frames) wh
   reach-own reach placed = grind (arith, needs-many, last-own)
 
   -- if the file's content is known, the frames begin within reach
-  pub range-begins : (file : List ℕ) (placed : List Placed) (reach free : ℕ) (more : List Frame)
+  pub range-begins : {file : List ℕ} (placed : List Placed) {reach free : ℕ} (more : List Frame)
       → CanBeRelaid file s → reach ≤ free
       → FitsFromReach (window_of s.class.version) reach (needs_from s from to)
       (own_places (to - from) placed)
       → BeginsWithin (reached reach placed) (all_frame_data more)
       → BeginsWithin free (all_frame_data (planned placed file ++ more))
-  range-begins file placed reach free more has near fits begins =
+  range-begins {file} placed {reach} {free} more has near fits begins =
       let own = own_places (to - from) placed in
       let frames = slice_range (all_frames file s) from to in
-      begins_more reach free (all_frame_data (planned placed file ++ more)) near
+      begins_more (all_frame_data (planned placed file ++ more)) near
       (subst (λ (fs : List Frame). BeginsWithin reach (all_frame_data (fs ++ more)))
       (frames-own file placed)
       (begins-left (window_of s.class.version) reach (needs_from s from to) frames own more
-      (needs-range file s from to has) fits
+      (needs-range from to has) fits
       (subst (λ n. BeginsWithin n (all_frame_data more))
       (sym (reach-own reach placed)) begins)))
 
@@ -97,9 +97,9 @@ module _ (s : SurveyFields) (from to : ℕ) (within : to ≤ length s.frames) wh
     module _ (input output : List ℕ) (old : Writing) (first before after : Files)
         (same : before ≡ first) where
       -- laying these frames is laying those of the range
-      pub lays-range : (new : Writing) → LaysFrames input output made old new before after
+      pub lays-range : {new : Writing} → LaysFrames input output made old new before after
           → LaysFrames input output (planned placed) old new first after
-      lays-range new lays = grind (arith, lays_as, made-is)
+      lays-range lays = grind (arith, lays_as, made-is)
 
       -- laying a part of these is laying a part of those
       pub part-range : (reach : ℕ) {fault : PassFault}

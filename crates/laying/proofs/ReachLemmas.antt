@@ -33,17 +33,17 @@ LeavesBytes place ended behind area bytes begin =
     (place + area - behind ≤ (place - ended) + area) × ((before taken : ℕ)
     → IsTaken before bytes begin taken → 0 < taken → place - behind ≤ before - taken)
 
-leaves_by : (place ended : ℕ) (r : Row) (silent lost : Bool) → is_silent r ≡ silent
+leaves_by : {place ended : ℕ} (r : Row) {silent lost : Bool} → is_silent r ≡ silent
     → (lost ≡ false → StandWell place ended r)
     → LeavesBytes place ended (cond (silent || lost) ended (end_of_data place r))
     (own_area r.header) (cond lost 0 (payload_bytes r.side)) r.side.main_data_begin
-leaves_by h ended r silent lost h5 well = grind (arith, silent_bytes, ltb-false, cases_lt)
+leaves_by r h5 well = grind (arith, silent_bytes, ltb-false, cases_lt)
 
-leaves : (s : SurveyFields) (i : ℕ) (r : Row) → slice_get s.frames i ≡ Some r
+leaves : (s : SurveyFields) {i : ℕ} {r : Row} → slice_get s.frames i ≡ Some r
     → IsWellPlaced s.head s.class s.frames i r → LeavesBytes (place s.head s.frames i)
     (data_end_before s.head s.frames i) (data_end_before s.head
     s.frames (i + 1)) (own_area r.header) (need_of r).bytes r.side.main_data_begin
-leaves s i r found is =
+leaves s {i} {r} found is =
     let at = place s.head s.frames i in
     let ended = data_end_before s.head s.frames i in
     let more : i + 1 ≡ suc i = omega arith in
@@ -52,34 +52,34 @@ leaves s i r found is =
     grind (arith, end_more) in
     subst (λ n. LeavesBytes at ended n (own_area r.header) (need_of r).bytes r.side.main_data_begin)
     (sym behind)
-    (leaves_by at ended r (is_silent r) r.lost refl
-    (λ none. data-none_well at ended r is.sound (sym is.mark ∙ none)))
+    (leaves_by r refl
+    (λ none. data-none_well is.sound (sym is.mark ∙ none)))
 
 -- a frame's area and its main_data_begin are at most 1,939 bytes
-pub area-held : (s : SurveyFields) (i : ℕ) (r : Row) → IsWellPlaced s.head s.class s.frames i r
+pub area-held : (s : SurveyFields) {i : ℕ} {r : Row} → IsWellPlaced s.head s.class s.frames i r
     → own_area r.header + r.side.main_data_begin ≤ 1939
-area-held s i r is =
+area-held s {r = r} is =
     frames-held r.header r.side is.known (subst (λ c. SideFits c r.side) (sym is.class_is) is.fits)
 
 -- ---- a window
 
 -- a window over all areas holds enough
-pub over-holds : (window input : List ℕ) (files : Files) (s : SurveyFields) (i : ℕ)
+pub over-holds : {window input : List ℕ} {files : Files} {s : SurveyFields} {i : ℕ}
     → IsWindowOverFrames window input files s i → HoldsLastAreas window input files s 0 0 i
-over-holds window input files s i over =
+over-holds {window} over =
     grind (
       arith,
-      window-last window over.main over.held,
+      window-last {held = window} {main = over.main} over.held,
       length-append,
-      window-holds window over.main over.held,
+      window-holds {held = window} over.main over.held,
       append-nil,
     )
 
 -- the bytes after a window are those of the input
-pub holds-given : (window last input : List ℕ) (files : Files) (s : SurveyFields) (at count i : ℕ)
+pub holds-given : {window last input : List ℕ} {files : Files} {s : SurveyFields} {at count i : ℕ}
     → HoldsLastAreas window input files s at count i → AreGivenBytes last input files at count
     → HoldsLastWithBytes window last input files s i
-holds-given window last input files s at count i over given = grind arith
+holds-given over given = grind arith
 
 module _ (before after last input : List ℕ) (files : Files) (s : SurveyFields) (i : ℕ)
     (over : HoldsLastWithBytes before last input files s i) where
@@ -90,7 +90,7 @@ module _ (before after last input : List ℕ) (files : Files) (s : SurveyFields)
       × (min 2048 (length kept) ≤ length after)
       × (passed ++ after ≡ (over.passed ++ before) ++ last)
   holds_by front kept split is =
-      let end = window-last after kept is in
+      let end = window-last {held = after} {main = kept} is in
       let whole : (front ++ end.0) ++ after ≡ (over.passed ++ before) ++ last =
       grind (arith, append_assoc) in (
         front ++ end.0,
@@ -102,14 +102,14 @@ module _ (before after last input : List ℕ) (files : Files) (s : SurveyFields)
               length-append over.passed before,
               over.long,
             ),
-        window-holds after kept is,
+        window-holds {held = after} kept is,
         whole,
       )
 
   -- with everything before frame i pushed into the window
-  pub holds-pushed : (at : ℕ) → at ≤ s.length → IsWindowOver after (before ++ last)
+  pub holds-pushed : {at : ℕ} → at ≤ s.length → IsWindowOver after (before ++ last)
       → HoldsLastAreas after input files s at 0 i
-  holds-pushed at within is = grind (arith, holds_by, length-append, append-nil)
+  holds-pushed within is = grind (arith, holds_by, length-append, append-nil)
 
   -- when the area of frame i was read
   module _ (own : List ℕ) (r : Row) (found : slice_get s.frames i ≡ Some r)
@@ -117,21 +117,21 @@ module _ (before after last input : List ℕ) (files : Files) (s : SurveyFields)
     holds_on : (front kept : List ℕ) → front ++ kept ≡ over.passed ++ (before ++ last)
         → IsWindowOver after kept
         → min 511 (place s.head s.frames (i + 1) - data_end_before s.head s.frames (i + 1))
-        ≤ min 2048 (length kept) + length own → IsWellPlaced s.head s.class s.frames i r → (at : ℕ)
+        ≤ min 2048 (length kept) + length own → IsWellPlaced s.head s.class s.frames i r → {at : ℕ}
         → at ≡ r.offset + overhead_of (class_of r.header) r.header.protected
         → at + length own ≤ s.length → HoldsLastAreas after input files s at (length own) (i + 1)
-    holds_on front kept split is many well at at_is within =
+    holds_on front kept split is many well at_is within =
         grind (arith, holds_by, place-next, area-held, area-at, main-next)
 
     -- the window holds all that later main data can reach
-    pub holds-next : IsWellPlaced s.head s.class s.frames i r → (taken : ℕ)
+    pub holds-next : IsWellPlaced s.head s.class s.frames i r → {taken : ℕ}
         → IsTaken (length last) (need_of r).bytes r.side.main_data_begin taken
-        → KeepsReach before after last (length own) taken → (at : ℕ)
+        → KeepsReach before after last (length own) taken → {at : ℕ}
         → at ≡ r.offset + overhead_of (class_of r.header) r.header.protected
         → at + length own ≤ s.length → HoldsLastAreas after input files s at (length own) (i + 1)
-    holds-next well taken taken_is keeps at at_is within =
-        let left = leaves s i r found well in
-        let next = place-next s.head s.frames i r found in
+    holds-next well {taken} taken_is keeps {at} at_is within =
+        let left = leaves s found well in
+        let next = place-next s.head s.frames i found in
         let first = keeps.first in
         elim (cases_lt 0 (taken + first))
         as (λ _. HoldsLastAreas after input files s at (length own) (i + 1)) [
@@ -157,6 +157,6 @@ module _ (before after last input : List ℕ) (files : Files) (s : SurveyFields)
                 | inr none ↦ omega
                     (arith, some, none, keeps.many, keeps.within, over.few, length-drop first last)
               ])
-              well at at_is within
+              well at_is within
           | inr none ↦ grind (arith, holds_on, length-append)
         ]

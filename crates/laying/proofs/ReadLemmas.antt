@@ -34,35 +34,36 @@ use Rattle.sync_survey.specs.declared.places.Head.{Head}
 -- ---- a frame within the file
 
 -- the bytes of an area are at its place
-pub area-at : (file : List ℕ) (offset : ℕ) (h : HeaderFields) (at size : ℕ)
+pub area-at : (file : List ℕ) (offset : ℕ) (h : HeaderFields) {at size : ℕ}
     → at ≡ offset + overhead_of (class_of h) h.protected → size ≡ own_area h
     → take size (drop at file) ≡ area_bytes file offset h
-area-at file offset h at size at_is size_is = grind (arith, drop-drop)
+area-at file offset h at_is size_is = grind (arith, drop-drop)
 
 -- consecutive frames end no earlier than they begin
-pub laid-behind : (from to : ℕ) (rows : List Row) → FramesAreLaid from rows to → from ≤ to
-laid-behind from to [] laid = laid
-laid-behind from to (r ∷ rows) laid = omega (
+pub laid-behind : (from : ℕ) {to : ℕ} (rows : List Row) → FramesAreLaid from rows to → from ≤ to
+laid-behind from [] laid = laid
+laid-behind from {to} (r ∷ rows) laid = omega (
   arith,
   laid.0,
-  laid-behind (r.offset + length_of (class_of r.header) r.header.slot) to rows laid.2,
+  laid-behind (r.offset + length_of (class_of r.header) r.header.slot) rows laid.2,
 )
 
 -- each of consecutive frames ends no later than the last
-pub laid-within : (from to : ℕ) (rows : List Row) (i : ℕ) (r : Row) → FramesAreLaid from rows to
-    → slice_get rows i ≡ Some r → r.offset + length_of (class_of r.header) r.header.slot ≤ to
-laid-within from to [] i r laid is = absurd cc
-laid-within from to (q ∷ rows) zero r laid is = grind (arith, laid-behind)
-laid-within from to (q ∷ rows) (suc i) r laid is =
-    laid-within (q.offset + length_of (class_of q.header) q.header.slot) to rows i r laid.2 is
+pub laid-within : (from : ℕ) {to : ℕ} (rows : List Row) (i : ℕ) {r : Row}
+    → FramesAreLaid from rows to → slice_get rows i ≡ Some r
+    → r.offset + length_of (class_of r.header) r.header.slot ≤ to
+laid-within from [] i laid is = absurd cc
+laid-within from (q ∷ rows) zero laid is = grind (arith, laid-behind)
+laid-within from {to} (q ∷ rows) (suc i) {r} laid is =
+    laid-within (q.offset + length_of (class_of q.header) q.header.slot) rows i laid.2 is
 
 -- ---- one more area
 
-take-next : (rows : List Row) (i : ℕ) (r : Row) → slice_get rows i ≡ Some r
+take-next : (rows : List Row) (i : ℕ) {r : Row} → slice_get rows i ≡ Some r
     → take (i + 1) rows ≡ take i rows ++ r ∷ []
-take-next [] i r is = absurd cc
-take-next (q ∷ rows) zero r is = ap (λ (x : Row). x ∷ []) cc
-take-next (q ∷ rows) (suc i) r is = grind (arith, take-next rows i r is)
+take-next [] i is = absurd cc
+take-next (q ∷ rows) zero is = ap (λ (x : Row). x ∷ []) cc
+take-next (q ∷ rows) (suc i) {r} is = grind (arith, take-next rows i is)
 
 sum-last : (rows : List Row) (r : Row) → sum_by (λ (q : Row). own_area q.header) (rows ++ r ∷ [])
     ≡ sum_by (λ (q : Row). own_area q.header) rows + own_area r.header
@@ -76,18 +77,18 @@ areas-last file [] r = append-nil (area_bytes file r.offset r.header)
 areas-last file (q ∷ rows) r = grind (arith, append_assoc, flat_map, areas-last file rows r)
 
 -- the place of the next frame is further on by the area of this one
-pub place-next : (head : Option Head) (rows : List Row) (i : ℕ) (r : Row)
+pub place-next : (head : Option Head) (rows : List Row) (i : ℕ) {r : Row}
     → slice_get rows i ≡ Some r → place head rows (i + 1) ≡ place head rows i + own_area r.header
 unfolding place
-place-next head rows i r is = grind (arith, sum_by, take-next rows i r is, sum-last (take i rows) r)
+place-next head rows i {r} is = grind (arith, sum_by, take-next rows i is, sum-last (take i rows) r)
 
 -- one more frame adds the bytes of its area to the main data
-pub main-next : (file : List ℕ) (head : Option Head) (rows : List Row) (i : ℕ) (r : Row)
+pub main-next : (file : List ℕ) (head : Option Head) (rows : List Row) (i : ℕ) {r : Row}
     → slice_get rows i ≡ Some r → main_bytes file head (take (i + 1) rows)
     ≡ main_bytes file head (take i rows) ++ area_bytes file r.offset r.header
 unfolding main_bytes
-main-next file head rows i r is =
-    grind (arith, flat_map, take-next rows i r is, areas-last file (take i rows) r, append_assoc)
+main-next file head rows i {r} is =
+    grind (arith, flat_map, take-next rows i is, areas-last file (take i rows) r, append_assoc)
 
 -- the areas of concatenated frames are the areas of the first frames, then of the others
 areas-append : (file : List ℕ) (rows more : List Row)
@@ -127,18 +128,18 @@ window_most c = by_version c.version
     by_version _ = omega arith
 
 -- the main data of a frame that isn't lost are within the areas up to its own
-pub data-within : (head : Option Head) (c : ClassFields) (rows : List Row) (i : ℕ) (r : Row)
+pub data-within : {head : Option Head} {c : ClassFields} {rows : List Row} {i : ℕ} {r : Row}
     → IsWellPlaced head c rows i r → r.lost ≡ false → IsWithin head rows i r
-data-within head c rows i r is kept =
+data-within {head} {c} {rows} {i} {r} is kept =
     let stands =
-    data-none_well (place head rows i)
-    (data_end_before head rows i) r is.sound (sym is.mark ∙ kept) in
+    data-none_well {place = place head rows i}
+    {ended = data_end_before head rows i} {r = r} is.sound (sym is.mark ∙ kept) in
     let begins : r.side.main_data_begin ≤ place head rows i =
     grind (arith, ltb-false) in
     record {
       begins = begins;
       apart = grind (arith, ltb-false);
-      near = omega (arith, begin-near c r.side is.fits, window_most c);
+      near = omega (arith, begin-near {c = c} {s = r.side} is.fits, window_most c);
       ends = omega (
         arith,
         begins,
@@ -152,27 +153,28 @@ pub bits-least : (n : ℕ) → n ≤ 8 * ((n + 7) / 8)
 bits-least n = omega arith
 
 -- bytes that hold these bits are the bits packed
-pub packed_bytes-is : (new bs : List ℕ) (count : ℕ) → AreBytes new → AreBits bs → length bs ≡ count
+pub packed_bytes-is : {new bs : List ℕ} {count : ℕ} → AreBytes new → AreBits bs → length bs ≡ count
     → AreBitsPacked new count bs → new ≡ packed_bytes bs
-packed_bytes-is new bs count octets are many is =
+packed_bytes-is octets are many is =
     grind (arith, bits-injective, AreBytes-packed_bytes, bits-packed_bytes)
 
 -- the bits cut from the window are the frame's main data
-pub cut-is : (file main new : List ℕ) (s : SurveyFields) (i : ℕ) (r : Row) (area begin count : ℕ)
-    → slice_get s.frames i ≡ Some r → r.lost ≡ false → IsWithin s.head s.frames i r → length main
+pub cut-is : (file : List ℕ) {main new : List ℕ} (s : SurveyFields) {i : ℕ} {r : Row}
+    {area begin count : ℕ} → slice_get s.frames i ≡ Some r → r.lost ≡ false
+    → IsWithin s.head s.frames i r → length main
     ≡ place s.head s.frames (i + 1) → main ≡ main_bytes file s.head (take (i + 1) s.frames)
     → area ≡ own_area r.header → begin ≡ r.side.main_data_begin → count ≡ payload_bits r.side
     → count ≤ 8 * payload_bytes r.side → AreBytes new
     → AreBitsPacked new count (main_bits main (length main - area - begin) count)
     → new ≡ payload_of file s i r
-cut-is file main new s i r area begin count found kept within long is area_is begin_is count_is
-    least octets cut =
+cut-is file {main} {new} s {i} {r} {area} {begin} {count} found kept within long is area_is begin_is
+    count_is least octets cut =
     let front = main-front file s.head s.frames (i + 1) in
     let start : length main - area - begin ≡ start_of_data (place s.head s.frames i) r =
-    omega (arith, long, place-next s.head s.frames i r found, area_is, begin_is) in
+    omega (arith, long, place-next s.head s.frames i found, area_is, begin_is) in
     let at = start_of_data (place s.head s.frames i) r in
     let reach : 8 * at + payload_bits r.side ≤ 8 * length main = omega
-    (arith, long, place-next s.head s.frames i r found, within.begins, within.ends, least, count_is)
+    (arith, long, place-next s.head s.frames i found, within.begins, within.ends, least, count_is)
     in
     let bits_are : main_bits main (length main - area - begin) count
     ≡ payload_at (main_bytes file s.head s.frames) at r.side =
@@ -193,7 +195,7 @@ cut-is file main new s i r area begin count found kept within long is area_is be
       length-bits main,
       length-drop (8 * (length main - area - begin)) (bits main),
     )) in
-    packed_bytes-is new own count octets are many cut
+    packed_bytes-is octets are many cut
     ∙ ap packed_bytes bits_are
     ∙ ap (λ lost.
     packed_bytes (payload_at (main_bytes file s.head s.frames) at (cond lost no_side r.side)))
@@ -210,9 +212,9 @@ pub lost-is : (file : List ℕ) (s : SurveyFields) (i : ℕ) (r : Row) → r.los
 lost-is file s i r lost = grind (arith, no_data)
 
 -- a window holds as many bytes as it is over, or 2,048
-pub window-holds : (held main : List ℕ) → IsWindowOver held main
+pub window-holds : {held : List ℕ} (main : List ℕ) → IsWindowOver held main
     → min 2048 (length main) ≤ length held
-window-holds held main is = omega (arith, ap length is ∙ length-drop (length main - 2048) main)
+window-holds main is = omega (arith, ap length is ∙ length-drop (length main - 2048) main)
 
 -- main data have an eighth as many bytes as bits, rounded up
 pub bytes-are : (s : Side) → payload_bytes s ≡ (payload_bits s + 7) / 8
@@ -225,21 +227,21 @@ abbrev some : List ℕ → Option (List ℕ)
 some l = Some l
 
 -- with the area of the next frame the window is over one more frame
-pub last-next : (before after area input : List ℕ) (files : Files) (s : SurveyFields) (first i : ℕ)
-    (r : Row) → slice_get s.frames i ≡ Some r → IsWindowOverLast before input files s first i
+pub last-next : {before after area input : List ℕ} {files : Files} {s : SurveyFields} {first i : ℕ}
+    {r : Row} → slice_get s.frames i ≡ Some r → IsWindowOverLast before input files s first i
     → IsAreaOf area input files r
     → ((main : List ℕ) → IsWindowOver before main → IsWindowOver after (main ++ area))
     → IsWindowOverLast after input files s first (i + 1)
-last-next before after area input files s first i r found over has more =
-    grind (arith, length-append, place-next, main-next, append_assoc)
+last-next found over has more = grind (arith, length-append, place-next, main-next, append_assoc)
 
 -- a window with one more area is over the areas up to this frame
-pub area-next : (before after input : List ℕ) (files now : Files) (s : SurveyFields) (first i : ℕ)
-    (r : Row) (offset : ℕ) (h : HeaderFields) → slice_get s.frames i ≡ Some r → now ≡ files
+pub area-next : {before after input : List ℕ} {files now : Files} {s : SurveyFields} {first i : ℕ}
+    {r : Row} {offset : ℕ} {h : HeaderFields} → slice_get s.frames i ≡ Some r → now ≡ files
     → offset ≡ r.offset → h ≡ r.header → IsWindowOverLast before input files s first i
     → ReadsArea input now offset h before after → IsWindowOverLast after input now s first (i + 1)
-area-next before after input files now s first i r offset h found stay at header over read =
-    last-next before after read.area input now s first i r found
+area-next {before} {after} {input} {now = now} {s = s} {first = first} {i =
+    i} {r = r} found stay at header over read =
+    last-next found
     (subst (λ f. IsWindowOverLast before input f s first i) (sym stay) over)
     (record {
       long = read.long ∙ ap own_area header;
@@ -248,11 +250,11 @@ area-next before after input files now s first i r offset h found stay at header
     read.over
 
 -- with no area read yet
-pub last-none : (window input : List ℕ) (files : Files) (s : SurveyFields) (first : ℕ)
+pub last-none : {window input : List ℕ} {files : Files} {s : SurveyFields} {first : ℕ}
     → (first ≡ 0 → ⊥) → IsWindowOver window []
     → ((file : List ℕ) → Holds files input file → CanBeRelaid file s)
     → IsWindowOverLast window input files s first first
-last-none window input files s first some held has =
+last-none {s = s} {first = first} some held has =
     let skipped : skipped_area_bytes s first ≡ place s.head s.frames first =
     ap (λ b. cond b 0 (place s.head s.frames first)) (other first some) in
     record {
@@ -277,9 +279,9 @@ last-none window input files s first some held has =
     other n some = told n some (eqb_tells n 0)
 
 -- the last 2,048 bytes of the last areas are the last of all areas
-last-kept : (held front main : List ℕ) → 2048 ≤ length main → IsWindowOver held main
+last-kept : {held : List ℕ} (front main : List ℕ) → 2048 ≤ length main → IsWindowOver held main
     → IsWindowOver held (front ++ main)
-last-kept held front main many is = grind (arith, length-append, drop-append-add)
+last-kept front main many is = grind (arith, length-append, drop-append-add)
 
 skipped-most : (s : SurveyFields) (first : ℕ)
     → skipped_area_bytes s first ≤ place s.head s.frames first
@@ -290,12 +292,12 @@ skipped-most s first = by (first == 0)
     by false = omega arith
 
 -- a window over the last areas is over all, if those have 2,048 bytes or are all
-pub last-whole : (window input : List ℕ) (files : Files) (s : SurveyFields) (first i : ℕ)
+pub last-whole : {window input : List ℕ} (files : Files) {s : SurveyFields} {first i : ℕ}
     → IsFileThere files input
     → (first ≡ 0) ⊎ (place s.head s.frames first + 2048 ≤ place s.head s.frames i)
     → IsWindowOverLast window input files s first i → IsWindowOverFrames window input files s i
-last-whole window input files s first i there (inl none) over = grind (arith, nil_from_length)
-last-whole window input (Untold touched) s first i there (inr far) over =
+last-whole files there (inl none) over = grind (arith, nil_from_length)
+last-whole (Untold touched) {s} {first} there (inr far) over =
     let skipped : List ℕ = replicate (skipped_area_bytes s first) 0 in
     record {
       main = skipped ++ over.main;
@@ -303,8 +305,8 @@ last-whole window input (Untold touched) s first i there (inr far) over =
       long = grind (arith, length-append, length-replicate);
       is = λ file holds. absurd holds;
     }
-last-whole window input (Told f) s first i there (inr far) over =
-    let held = there_holds f input there in
+last-whole {input = input} (Told f) there (inr far) over =
+    let held = there_holds f there in
     let own = over.is held.0 held.1 in
     record {
       main = own.0 ++ over.main;
@@ -330,9 +332,10 @@ unfolding main_bytes
 main-first file head rows = append-nil (head_bytes file head)
 
 -- if there is no head, an empty window is over the areas before the first frame
-pub over-none : (window input : List ℕ) (files : Files) (s : SurveyFields) (first : ℕ) → first ≡ 0
-    → s.head ≡ None → IsWindowOver window [] → IsWindowOverLast window input files s first first
-over-none window input files s first zeroth none held =
+pub over-none : {window : List ℕ} (input : List ℕ) (files : Files) {s : SurveyFields} {first : ℕ}
+    → first ≡ 0 → s.head ≡ None → IsWindowOver window []
+    → IsWindowOverLast window input files s first first
+over-none {window} input files {s} zeroth none held =
     subst (λ n. IsWindowOverLast window input files s n n) (sym zeroth) (record {
       main = [];
       held = held;
@@ -341,11 +344,12 @@ over-none window input files s first zeroth none held =
     })
 
 -- a window with the area of the head is over the areas before the first frame
-pub over-head : (window area input : List ℕ) (files : Files) (s : SurveyFields) (first : ℕ)
-    (head : Head) → first ≡ 0 → s.head ≡ Some head → length area ≡ own_area head.header
+pub over-head : {window area input : List ℕ} {files : Files} {s : SurveyFields} {first : ℕ}
+    {head : Head} → first ≡ 0 → s.head ≡ Some head → length area ≡ own_area head.header
     → ((file : List ℕ) → Holds files input file → area ≡ area_bytes file head.offset head.header)
     → IsWindowOver window area → IsWindowOverLast window input files s first first
-over-head window area input files s first head zeroth some long is held =
+over-head {window} {area} {input} {files} {s} zeroth some long
+    is held =
     subst (λ n. IsWindowOverLast window input files s n n) (sym zeroth) (record {
       main = area;
       held = held;
@@ -370,6 +374,6 @@ read-counts way old new (Err (Shrunk first second)) done cause read = cause.5
 read-counts way old new (Err Write) done cause read = absurd read
 
 -- the head is within the length
-pub head-within : (s : SurveyFields) (head : Head) → IsSurveyLaidOut s → s.head ≡ Some head
+pub head-within : {s : SurveyFields} {head : Head} → IsSurveyLaidOut s → s.head ≡ Some head
     → head.offset + length_of (class_of head.header) head.header.slot ≤ s.length
-head-within s head laid is = grind arith
+head-within laid is = grind arith

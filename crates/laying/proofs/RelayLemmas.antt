@@ -16,16 +16,16 @@ use Rattle.sync_survey.specs.{Faults.SurveyFields, Row.Row}
 
 -- ---- lists
 
-drop-next : {X : Type 0} (xs : List X) (i : ℕ) (x : X) → slice_get xs i ≡ Some x
+drop-next : {X : Type 0} (xs : List X) (i : ℕ) {x : X} → slice_get xs i ≡ Some x
     → drop i xs ≡ x ∷ drop (i + 1) xs
-drop-next [] i x is = absurd cc
-drop-next (y ∷ xs) zero x is = ap (λ z. z ∷ xs) cc
-drop-next (y ∷ xs) (suc i) x is = grind (arith, drop-next xs i x is)
+drop-next [] i is = absurd cc
+drop-next (y ∷ xs) zero is = ap (λ z. z ∷ xs) cc
+drop-next (y ∷ xs) (suc i) {x} is = grind (arith, drop-next xs i is)
 
 -- a stretch is its first item and those after it
-pub range-next : {X : Type 0} (xs : List X) (i to : ℕ) (x : X) → slice_get xs i ≡ Some x → i < to
+pub range-next : {X : Type 0} (xs : List X) {i to : ℕ} {x : X} → slice_get xs i ≡ Some x → i < to
     → slice_range xs i to ≡ x ∷ slice_range xs (i + 1) to
-range-next xs i to x is within = grind (arith, drop-next)
+range-next xs is within = grind (arith, drop-next)
 
 module _ {X : Type 0} (xs : List X) (i : ℕ) (x : X) (within : i < length xs)
     (is : x ≡ get_or xs i x) where
@@ -35,12 +35,12 @@ module _ {X : Type 0} (xs : List X) (i : ℕ) (x : X) (within : i < length xs)
 
   -- what is left from a place on is the item there and those after it
   pub item-next : drop i xs ≡ x ∷ drop (i + 1) xs
-  item-next = drop-next xs i x found-at
+  item-next = drop-next xs i found-at
 
 -- the item at a place of a list is at that place of an equal list
-pub read-at : {X : Type 0} (xs ys : List X) (i : ℕ) (x : X) → i < length ys → xs ≡ ys
+pub read-at : {X : Type 0} {xs ys : List X} {i : ℕ} {x : X} → i < length ys → xs ≡ ys
     → x ≡ get_or xs i x → slice_get ys i ≡ Some x
-read-at {X} xs ys i x within same is = grind (arith, found-at)
+read-at {X} within same is = grind (arith, found-at)
 
 module _ {X : Type 0} (xs : List X) where
   -- these items are those from number n on
@@ -48,14 +48,14 @@ module _ {X : Type 0} (xs : List X) where
   AreOnward n more = (i : ℕ) (x : X) → slice_get more i ≡ Some x → slice_get xs (n + i) ≡ Some x
 
   -- the first of them is item n
-  pub onward-first : (n : ℕ) (x : X) (more : List X) → AreOnward n (x ∷ more)
+  pub onward-first : (n : ℕ) {x : X} (more : List X) → AreOnward n (x ∷ more)
       → slice_get xs n ≡ Some x
-  onward-first n x more are = ap (slice_get xs) (omega arith) ∙ are 0 x refl
+  onward-first n {x} more are = ap (slice_get xs) (omega arith) ∙ are 0 x refl
 
   -- those after it are the items from the next number on
-  pub onward-rest : (n next : ℕ) (x : X) (more : List X) → next ≡ n + 1 → AreOnward n (x ∷ more)
-      → AreOnward next more
-  onward-rest n next x more after are =
+  pub onward-rest : (n : ℕ) {next : ℕ} {x : X} (more : List X) → next ≡ n + 1
+      → AreOnward n (x ∷ more) → AreOnward next more
+  onward-rest n more after are =
       λ i y is. ap (slice_get xs) (omega (arith, after)) ∙ are (suc i) y is
 
   -- all items are those from number 0 on
@@ -63,25 +63,25 @@ module _ {X : Type 0} (xs : List X) where
   onward-all = λ i x is. ap (slice_get xs) (omega arith) ∙ is
 
 -- what is left after a lead-in or a frame
-pub left-range : {X : Type 0} (xs : List X) (i to next : ℕ) (x : X) (b : Bool)
+pub left-range : {X : Type 0} (xs : List X) {i to next : ℕ} {x : X} (b : Bool)
     → slice_get xs i ≡ Some x → i < to → next ≡ i + cond b 0 1
     → rest_behind b x (slice_range xs (i + 1) to) ≡ slice_range xs next to
-left-range xs i to next x b found within is = grind (arith, range-next)
+left-range xs b found within is = grind (arith, range-next)
 
 -- ---- the frames of a file
 
-each-get : (f : ℕ → Row → Frame) (n : ℕ) (rows : List Row) (i : ℕ) (r : Row)
+each-get : (f : ℕ → Row → Frame) (n : ℕ) (rows : List Row) (i : ℕ) {r : Row}
     → slice_get rows i ≡ Some r
     → slice_get (map (λ (p : ℕ × Row). f p.0 p.1) (enumerate_from n rows)) i ≡ Some (f (n + i) r)
-each-get f n [] i r is = absurd cc
-each-get f n (q ∷ rows) zero r is = grind arith
-each-get f n (q ∷ rows) (suc i) r is = grind (arith, each-get f (n + 1) rows i r is)
+each-get f n [] i is = absurd cc
+each-get f n (q ∷ rows) zero is = grind arith
+each-get f n (q ∷ rows) (suc i) {r} is = grind (arith, each-get f (n + 1) rows i is)
 
 -- the frame at a place of the survey is made from the row there
-pub all-get : (file : List ℕ) (s : SurveyFields) (i : ℕ) (r : Row) → slice_get s.frames i ≡ Some r
+pub all-get : (file : List ℕ) (s : SurveyFields) (i : ℕ) {r : Row} → slice_get s.frames i ≡ Some r
     → slice_get (all_frames file s) i ≡ Some (survey_frame file s i r)
 unfolding all_frames
-all-get file s i r is = grind (arith, each-get (survey_frame file s) 0 s.frames i r is)
+all-get file s i {r} is = grind (arith, each-get (survey_frame file s) 0 s.frames i is)
 
 -- ---- one place of a plan
 
@@ -90,22 +90,22 @@ module _ (s : SurveyFields) (i to next : ℕ) (row : Row) (p : Placed) (placed :
     (next_is : next ≡ i + cond p.lead_in 0 1) where
   needs-next : map need_of (slice_range s.frames i to)
       ≡ need_of row ∷ map need_of (slice_range s.frames (i + 1) to)
-  needs-next = ap (map need_of) (range-next s.frames i to row found within)
+  needs-next = ap (map need_of) (range-next s.frames found within)
 
   needs-left : rest_behind p.lead_in (need_of row) (map need_of (slice_range s.frames (i + 1) to))
       ≡ map need_of (slice_range s.frames next to)
   needs-left = sym (next-map need_of p.lead_in row (slice_range s.frames (i + 1) to))
-      ∙ ap (map need_of) (left-range s.frames i to next row p.lead_in found within next_is)
+      ∙ ap (map need_of) (left-range s.frames p.lead_in found within next_is)
 
   -- the first place fits, and the others from the reach after it
-  pub fits-next : (window reach : ℕ)
+  pub fits-next : (window : ℕ) {reach : ℕ}
       → FitsFromReach window reach (map need_of (slice_range s.frames i to)) (p ∷ placed)
       → (p.begin ≤ reach)
       × (placed_bytes p.lead_in (need_of row) ≤ p.begin + placed_area p (need_of row))
       × FitsFromReach window (reach_behind window p (need_of row))
       (map need_of (slice_range s.frames next to)) placed
   unfolding FitsFromReach
-  fits-next window reach fits = grind (arith, needs-next, needs-left)
+  fits-next window fits = grind (arith, needs-next, needs-left)
 
   -- all places reach as far as those after the first do
   pub last-next : (window reach : ℕ)
@@ -125,10 +125,10 @@ module _ (s : SurveyFields) (i to next : ℕ) (row : Row) (p : Placed) (placed :
 -- ---- as many places as frames
 
 -- if a place is left, a frame is
-pub fits-some : (window reach : ℕ) (s : SurveyFields) (i to : ℕ) (p : Placed) (placed : List Placed)
+pub fits-some : (window reach : ℕ) (s : SurveyFields) {i to : ℕ} (p : Placed) (placed : List Placed)
     → FitsFromReach window reach (map need_of (slice_range s.frames i to)) (p ∷ placed) → i < to
 unfolding FitsFromReach
-fits-some window reach s i to p placed fits = by_cases (cases_lt i to)
+fits-some window reach s {i} {to} p placed fits = by_cases (cases_lt i to)
   where
     none-fits : (needs : List Need) → needs ≡ [] → FitsFromReach window reach needs (p ∷ placed) → ⊥
     none-fits [] none fits = fits
@@ -165,14 +165,15 @@ unfolding FitsFromReach last_reach relaid_frames
 begins-left window reach needs fs placed more are fits begins = grind arith
 
 -- a failed write among the first frames is one among all of them
-pub part_more : (input output : List ℕ) (made rest whole : List ℕ → List Frame) (reach last : ℕ)
-    (old : Writing) (before after : Files) {fault : PassFault}
+pub part_more : {input output : List ℕ} {made : List ℕ → List Frame} (rest : List ℕ → List Frame)
+    {whole : List ℕ → List Frame} {reach last : ℕ}
+    {old : Writing} {before after : Files} {fault : PassFault}
     → ((file : List ℕ) → Holds before input file → (more : List Frame) → BeginsWithin last
     (all_frame_data more) → BeginsWithin reach (all_frame_data (rest file ++ more)))
     → ((file : List ℕ) → Holds before input file → made file ++ rest file ≡ whole file)
     → LaysPart input output made reach old before after fault
     → LaysPart input output whole last old before after fault
-part_more input output made rest whole reach last old before after begins same part = record {
+part_more {made = made} rest begins same part = record {
   settled = part.settled;
   prefix = part.prefix;
   done = part.done;

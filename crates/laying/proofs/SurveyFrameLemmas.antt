@@ -65,8 +65,8 @@ numbered_frames-whole : (file : List ℕ) (head : Option Head) (ps : List Placed
 numbered_frames-whole file head ps are = grind arith
 
 -- side information with lists as long as the arrays has pairs of granules and channels
-pub shaped_pairs : (s : Side) → IsShaped s → HasPairs s
-shaped_pairs s shaped = grind arith
+pub shaped_pairs : {s : Side} → IsShaped s → HasPairs s
+shaped_pairs shaped = grind arith
 
 rows-whole : (file : List ℕ) (ps : List PlacedFrame) → AreWholeFrames file ps
     → AreWholeRows file (rows_of file ps)
@@ -88,22 +88,22 @@ unfolding marked_rows
 marked_rows-whole file head rows are = marks-whole file head rows 0 rows are
 
 -- the head is a whole frame too
-head_by : (file : List ℕ) (p : PlacedFrame) (o : Option ℕ) → IsWholeFrameAt file p.offset p.header
+head_by : {file : List ℕ} {p : PlacedFrame} (o : Option ℕ) → IsWholeFrameAt file p.offset p.header
     → HasWholeHead file
     (option_map (λ at. record { offset = p.offset; header = p.header; text_at = at }) o)
-head_by file p o is = grind arith
+head_by o is = grind arith
 
 -- the head of a whole frame is whole
-pub head-whole : (file : List ℕ) (p : PlacedFrame) → IsWholeFrameAt file p.offset p.header
+pub head-whole : {file : List ℕ} {p : PlacedFrame} → IsWholeFrameAt file p.offset p.header
     → HasWholeHead file (head_of file p)
 unfolding head_of
-head-whole file p is = head_by file p _ is
+head-whole {file} {p} is = head_by _ is
 
 -- ---- the main data of the file
 
-area-length : (file : List ℕ) (offset : ℕ) (h : HeaderFields) → IsWholeFrameAt file offset h
+area-length : {file : List ℕ} {offset : ℕ} {h : HeaderFields} → IsWholeFrameAt file offset h
     → length (area_bytes file offset h) ≡ own_area h
-area-length file offset h is = grind (arith, area-is, IsClass-class_of, length-take-le, length-drop)
+area-length is = grind (arith, area-is, IsClass-class_of, length-take-le, length-drop)
 
 areas-length : (file : List ℕ) (rows : List Row) → AreWholeRows file rows
     → length (flat_map (λ (r : Row). area_bytes file r.offset r.header) rows)
@@ -116,32 +116,32 @@ head-length : (file : List ℕ) (head : Option Head) → HasWholeHead file head
     → length (head_bytes file head) ≡ head_area head
 head-length file head is = grind (arith, area-length)
 
-area-among : (rows : List Row) (i : ℕ) (r : Row) → slice_get rows i ≡ Some r
+area-among : (rows : List Row) (i : ℕ) {r : Row} → slice_get rows i ≡ Some r
     → sum_by (λ (q : Row). own_area q.header) (take i rows) + own_area r.header
     ≤ sum_by (λ (q : Row). own_area q.header) rows
-area-among [] i r is = absurd cc
-area-among (q ∷ rows) zero r is =
+area-among [] i is = absurd cc
+area-among (q ∷ rows) zero {r} is =
     let same : q ≡ r = cc in
     omega (
       arith,
       ap (λ (x : Row). own_area x.header) same,
       sum_by-cons (λ (x : Row). own_area x.header) q rows,
     )
-area-among (q ∷ rows) (suc i) r is = search (arith, sum_by-cons, area-among rows i r is)
+area-among (q ∷ rows) (suc i) {r} is = search (arith, sum_by-cons, area-among rows i is)
 
 -- the main data of the file reach to the end of the area of each frame
-pub main-reaches : (file : List ℕ) (head : Option Head) (rows : List Row) (i : ℕ) (r : Row)
+pub main-reaches : (file : List ℕ) (head : Option Head) (rows : List Row) (i : ℕ) {r : Row}
     → HasWholeHead file head → AreWholeRows file rows → slice_get rows i ≡ Some r
     → place head rows i + own_area r.header ≤ length (main_bytes file head rows)
 unfolding place main_bytes
-main-reaches file head rows i r front are is =
+main-reaches file head rows i {r} front are is =
     omega (
       arith,
       length-append (head_bytes file head)
           (flat_map (λ (q : Row). area_bytes file q.offset q.header) rows),
       head-length file head front,
       areas-length file rows are,
-      area-among rows i r is,
+      area-among rows i is,
     )
 
 rows-first : (file : List ℕ) (i : ℕ) (rows : List Row) → AreWholeRows file rows
@@ -194,30 +194,30 @@ module _ (bs : List ℕ) (are : AreBits bs) where
 
   -- the bits of the packed bytes are the bits, followed by zeros
   pub bits-packed_bytes : bits (packed_bytes bs) ≡ bs ++ filling
-  bits-packed_bytes = bits-bytes count (bs ++ filling) filled-bits whole
+  bits-packed_bytes = bits-bytes count filled-bits whole
 
 -- ---- a frame with its main data
 
 -- the side information has its pairs, whether or not the frame was lost
-pub side_paired : (lost : Bool) (s : Side) → HasPairs s → HasPairs (cond lost no_side s)
-side_paired lost s pairs = grind arith
+pub side_paired : (lost : Bool) {s : Side} → HasPairs s → HasPairs (cond lost no_side s)
+side_paired lost pairs = grind arith
 
 -- the fields of the side information are within their bits, whether or not the frame was lost
-pub side_fits : (c : ClassFields) (lost : Bool) (s : Side) → SideFits c s
+pub side_fits : {c : ClassFields} (lost : Bool) {s : Side} → SideFits c s
     → SideFits c (cond lost no_side s)
-side_fits c lost s fits = grind arith
+side_fits lost fits = grind arith
 
-bytes_of_bits : (s : Side) (n : ℕ) → n ≡ payload_bits s → (n + 7) / 8 ≡ payload_bytes s
+bytes_of_bits : (s : Side) {n : ℕ} → n ≡ payload_bits s → (n + 7) / 8 ≡ payload_bytes s
 unfolding payload_bytes
-bytes_of_bits s n is = ap (λ m. (m + 7) / 8) is
+bytes_of_bits s is = ap (λ m. (m + 7) / 8) is
 
 -- a lost frame has no main data, and those of another frame end within its own area
-data-ends : (head : Option Head) (c : ClassFields) (rows : List Row) (i : ℕ) (r : Row)
+data-ends : {head : Option Head} {c : ClassFields} {rows : List Row} {i : ℕ} {r : Row}
     → IsWellPlaced head c rows i r → (lost : Bool) → r.lost ≡ lost
     → payload_bytes (cond lost no_side r.side)
     ≤ (place head rows i + own_area r.header) - start_of_data (place head rows i) r
-data-ends head c rows i r is true lost = omega (arith, no_bytes)
-data-ends head c rows i r is false lost = grind (arith, data-none_well, rows, ltb-false)
+data-ends is true lost = omega (arith, no_bytes)
+data-ends {rows = rows} is false lost = grind (arith, data-none_well, rows, ltb-false)
 
 module _ (file : List ℕ) (head : Option Head) (c : ClassFields) (rows : List Row)
     (front : HasWholeHead file head) (are : AreWholeRows file rows)
@@ -241,8 +241,8 @@ module _ (file : List ℕ) (head : Option Head) (c : ClassFields) (rows : List R
           length-drop (8 * start) (bits main),
           length-bits main,
           bits_least (row_side r),
-          data-ends head c rows i r (placed i r found) r.lost refl,
-          main-reaches file head rows i r front are found,
+          data-ends (placed i r found) r.lost refl,
+          main-reaches file head rows i front are found,
         ))
 
     abbrev own : Frame
@@ -253,7 +253,7 @@ module _ (file : List ℕ) (head : Option Head) (c : ClassFields) (rows : List R
         }
 
     bytes-is : (length own_bits + 7) / 8 ≡ payload_bytes (row_side r)
-    bytes-is = bytes_of_bits (row_side r) (length own_bits) data-length
+    bytes-is = bytes_of_bits (row_side r) data-length
 
     own-filled : drop (payload_bits (row_side r)) (bits (packed_bytes own_bits))
         ≡ zeros (8 * payload_bytes (row_side r) - payload_bits (row_side r))
@@ -266,8 +266,8 @@ module _ (file : List ℕ) (head : Option Head) (c : ClassFields) (rows : List R
         record {
           header = row.frame.header;
           class = well.class_is;
-          pairs = side_paired r.lost r.side row.pairs;
-          fits = side_fits c r.lost r.side well.fits;
+          pairs = side_paired r.lost row.pairs;
+          fits = side_fits r.lost well.fits;
           octets = AreBytes-packed_bytes own_bits data-bits;
           size = length-packed_bytes own_bits data-bits ∙ bytes-is;
           filled = own-filled;
@@ -290,8 +290,8 @@ module _ (file : List ℕ) (head : Option Head) (c : ClassFields) (rows : List R
       → AreStreamEntries c (map each (enumerate_from n more))
   each-entries n [] whole_rows at = tt
   each-entries n (r ∷ more) whole_rows at = (
-    own-entry n r (onward-first rows n r more at) whole_rows.0,
-    each-entries (n + 1) more whole_rows.1 (onward-rest rows n (n + 1) r more refl at),
+    own-entry n r (onward-first rows n more at) whole_rows.0,
+    each-entries (n + 1) more whole_rows.1 (onward-rest rows n more refl at),
   )
 
   each-stream : (n : ℕ) (more : List Row) → AreWholeRows file more → AreOnward rows n more
@@ -300,8 +300,8 @@ module _ (file : List ℕ) (head : Option Head) (c : ClassFields) (rows : List R
   each-stream n [] whole_rows at = refl
   each-stream n (r ∷ more) whole_rows at =
       ap₂ (λ (x : StreamFrame) (xs : List StreamFrame). x ∷ xs)
-      (own-stream n r (onward-first rows n r more at) whole_rows.0)
-      (each-stream (n + 1) more whole_rows.1 (onward-rest rows n (n + 1) r more refl at))
+      (own-stream n r (onward-first rows n more at) whole_rows.0)
+      (each-stream (n + 1) more whole_rows.1 (onward-rest rows n more refl at))
 
 -- ---- the frames of a survey
 
@@ -311,9 +311,9 @@ pub record AreFramesOf (file : List ℕ) (s : SurveyFields) : Type 0 where
   pub stream_is : map stream_entry (all_frames file s) ≡ stream_of_survey file s
 
 -- the frames of a survey whose file can be repacked are frames with side information and main data
-pub frames-of : (file : List ℕ) (s : SurveyFields) → CanBeRelaid file s → AreFramesOf file s
+pub frames-of : {file : List ℕ} {s : SurveyFields} → CanBeRelaid file s → AreFramesOf file s
 unfolding all_frames stream_of_survey stream_frames
-frames-of file s has = record {
+frames-of {file} {s} has = record {
   entries = each-entries file s.head s.class s.frames has.head has.rows has.placed 0
       s.frames has.rows (onward-all s.frames);
   stream_is = each-stream file s.head s.class s.frames has.head has.rows has.placed 0
@@ -326,22 +326,22 @@ record IsWholeSurvey (file : List ℕ) (s : SurveyFields) : Type 0 where
   pub head : HasWholeHead file s.head
   pub rows : AreWholeRows file s.frames
 
-survey_fields-whole : (file : List ℕ) (allowed : ℕ) (s : SurveyFields)
+survey_fields-whole : {file : List ℕ} (allowed : ℕ) {s : SurveyFields}
     → survey_fields file allowed ≡ Ok s → IsWholeSurvey file s
-survey_fields-whole file allowed s e =
-    let parts = survey_fields-parts file allowed s e in
+survey_fields-whole {file} allowed {s} e =
+    let parts = survey_fields-parts e in
     let start : Start = parts.0 in
     let stream = stream_run file start in
-    let first = (start-first file start parts.1.start_is).frame in
+    let first = (start-first parts.1.start_is).frame in
     let whole_first : IsWholeFrameAt file start.first.offset start.first.header =
     record {
-      header = header_front-in_range _ start.first.header (stands-at file
+      header = header_front-in_range _ (stands-at file
           start.first.offset (FrameItem start.first.header) first.is);
       within = first.within;
     } in
     subst (IsWholeSurvey file) parts.2
     (record {
-      head = head-whole file start.first whole_first;
+      head = head-whole whole_first;
       rows =
           marked_rows-whole file (head_of file start.first) (rows_of file (frames_from file start))
           (rows-whole file (frames_from file start)
@@ -356,13 +356,13 @@ pub surveys-had : SurveysCanBeRelaid
 surveys-had file allowed s e =
     grind (
       arith,
-      survey_fields-whole file allowed s e,
-      survey_fields-parts file allowed s e,
-      survey_fields-placed file allowed s e,
+      survey_fields-whole allowed e,
+      survey_fields-parts e,
+      survey_fields-placed file allowed e,
       surveyed-blocks file allowed s e,
     )
 
 -- by a survey of a file that isn't too long its file can be repacked
-pub survey-had : (file : List ℕ) (allowed : ℕ) (s : SurveyFields) → survey_of file allowed ≡ Ok s
+pub survey-had : {file : List ℕ} (allowed : ℕ) {s : SurveyFields} → survey_of file allowed ≡ Ok s
     → CanBeRelaid file s
-survey-had file allowed s e = surveys-had file allowed s (survey_of-parts file allowed s e).1
+survey-had {file} allowed {s} e = surveys-had file allowed s (survey_of-parts file allowed e).1

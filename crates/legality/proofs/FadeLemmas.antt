@@ -1,7 +1,7 @@
 -- A fade: its sheet, and the curve of its points.
 use Rattle.std.proofs.Common.{ap, Bool, cond, Err, length, List, map, None, Ok, Option, refl}
 use Rattle.std.proofs.Common.{Result, Some, subst, suc, sym, ℕ, [], ◌<◌, ◌∙◌, ◌∷◌, ◌≡◌}
-use Rattle.std.{proofs.lemmas.Bool.{lt-ltb, ltb-true}, specs.Prelude.nat_lt}
+use Rattle.std.proofs.lemmas.Bool.{lt-ltb, ltb-true}
 use Rattle.command_table.specs.Choices.{CanAllMove, IsLegalFade}
 use Rattle.command_table.specs.Inputs.{FileInput, HoldsOfEachNext}
 use Rattle.commands.proofs.{FoundSheetLemmas.{is-sheet, sheet-is}, RefusingLemmas.then_ok}
@@ -30,17 +30,17 @@ use Rattle.sync_survey.specs.Survey.{survey_of}
 
 -- ---- the sheet
 
-points-ok : (r : Result (List EnvelopePoint) EnvelopeFault) (points : List EnvelopePoint)
+points-ok : (r : Result (List EnvelopePoint) EnvelopeFault) {points : List EnvelopePoint}
     → points_result r ≡ Ok points → r ≡ Ok points
-points-ok (Ok found) points e = cc
-points-ok (Err (Line line)) points e = absurd cc
-points-ok (Err NoPoints) points e = absurd cc
-points-ok (Err NoRoom) points e = absurd cc
+points-ok (Ok found) e = cc
+points-ok (Err (Line line)) e = absurd cc
+points-ok (Err NoPoints) e = absurd cc
+points-ok (Err NoRoom) e = absurd cc
 
-curve-ok : (r : Result (List CurvePoint) ℕ) (curve : List CurvePoint) → curve_result r ≡ Ok curve
+curve-ok : (r : Result (List CurvePoint) ℕ) {curve : List CurvePoint} → curve_result r ≡ Ok curve
     → r ≡ Ok curve
-curve-ok (Ok found) curve e = cc
-curve-ok (Err line) curve e = absurd cc
+curve-ok (Ok found) e = cc
+curve-ok (Err line) e = absurd cc
 
 -- ---- points that rise
 
@@ -54,9 +54,8 @@ module _ (class : ClassFields) (frames : ℕ) where
   rises [] none = λ i p q is next. absurd cc
   rises (x ∷ []) none = λ i p q is next. absurd cc
   rises (x ∷ y ∷ more) none =
-      let parts = none_of (nat_lt (point_frame class frames x) (point_frame class frames y))
-      (line_not_rising class frames (y ∷ more)) y.line none in
-      next-cons Rise x y more
+      let parts = none_of y.line none in
+      next-cons Rise more
       (ltb-true (point_frame class frames x) (point_frame class frames y) parts.0)
       (rises (y ∷ more) parts.1)
 
@@ -71,14 +70,13 @@ module _ (class : ClassFields) (frames : ℕ) where
       ∙ rise-none (y ∷ more) (λ i p q is next. rising (suc i) p q is next)
 
   -- a curve that isn't refused has points that rise
-  pub curve-rises : (points : List EnvelopePoint) (curve : List CurvePoint)
+  pub curve-rises : (points : List EnvelopePoint) {curve : List CurvePoint}
       → curve_of class frames points ≡ Ok curve
       → HoldsOfEachNext points Rise × (map (curve_point class frames) points ≡ curve)
   unfolding curve_of
-  curve-rises points curve e =
+  curve-rises points {curve} e =
       let parts =
-      made_of (line_not_rising class frames points)
-      (map (curve_point class frames) points) curve e in
+      made_of e in
       (rises points parts.0, parts.1)
 
   -- points that rise have a curve
@@ -98,30 +96,33 @@ module _ (sheet : List ℕ) (back : Bool) (files : Contents) (file : List ℕ) (
   along : (curve : List CurvePoint) → Agree (steps_at_offset (Along curve back) s.frames)
       (λ i. equal_steps (steps_back back (steps_at curve i))) s.frames
   along curve = λ i row is. ap (course_steps (Along curve back))
-      (survey_numbered file most_frames s (survey_of-parts file most_frames s surveyed).1 i row is)
+      (survey_numbered file most_frames (survey_of-parts file most_frames surveyed).1 i row is)
 
   -- a fade that isn't refused is legal
   pub fade-legal : (change : FileChange) → input_sheet_change (files sheet) back s ≡ Ok change
       → IsLegalFade sheet back files input
   fade-legal change e =
-      let parts = faded-parts (files sheet) back s change e in
-      let one = then_ok (sheet_in (files sheet)) (sheet_curve s) parts.curve parts.is in
-      let is = sheet-is (files sheet) one.0 one.1 in
-      let two = then_ok (points_result (envelope_of one.0)) (points_curve s) parts.curve one.2 in
+      let parts = faded-parts {sheet = files sheet} {back = back} {s = s} {change = change} e in
+      let one =
+      then_ok {r = sheet_in (files sheet)} {make = sheet_curve s} {b = parts.curve} parts.is in
+      let is = sheet-is {o = files sheet} {bytes = one.0} one.1 in
+      let two = then_ok {r = points_result (envelope_of one.0)} {make = points_curve s} {b =
+      parts.curve} one.2 in
       let rises = curve-rises s.class (length s.frames)
-      two.0 parts.curve (curve-ok (curve_of s.class (length s.frames) two.0) parts.curve two.2) in
+      two.0 {curve = parts.curve} (curve-ok (curve_of s.class (length s.frames) two.0)
+      {curve = parts.curve} two.2) in
       record {
         bytes = one.0;
         there = is.there;
         small = is.small;
         points = two.0;
-        read = points-ok (envelope_of one.0) two.0 two.1;
+        read = points-ok (envelope_of one.0) {points = two.0} two.1;
         rising = rises.0;
         gains = subst (λ (curve : List CurvePoint).
             CanAllMove (λ i. equal_steps (steps_back back (steps_at curve i))) s) (sym rises.1)
             (free-moves (steps_at_offset (Along parts.curve back) s.frames)
-            (λ i. equal_steps (steps_back back
-            (steps_at parts.curve i))) s.frames (along parts.curve) parts.free);
+            {g = λ i. equal_steps (steps_back back
+            (steps_at parts.curve i))} s.frames (along parts.curve) parts.free);
       }
 
   -- a legal fade isn't refused
@@ -134,15 +135,14 @@ module _ (sheet : List ℕ) (back : Bool) (files : Contents) (file : List ℕ) (
       let change : FileChange = record { steps = steps; tag = None } in (
         change,
         ap (λ (r : Result (List ℕ) EditFault). then_made r (λ bytes. sheet_change bytes back s))
-            (is-sheet (files sheet)
-            legal.bytes (record { there = legal.there; small = legal.small }))
+            (is-sheet (record { there = legal.there; small = legal.small }))
             ∙ ap (λ (r : Result (List EnvelopePoint) EnvelopeFault).
             then_made (then_made (points_result r) (points_curve s))
             (curve_change back s)) legal.read
             ∙ ap (λ (r : Result (List CurvePoint) ℕ). then_made (curve_result r)
             (curve_change back s))
             (rising-curve s.class (length s.frames) legal.points legal.rising)
-            ∙ ap (λ (o : Option Refusal). refusal_or o change) (moves-free steps
-            (λ i. equal_steps (steps_back back (steps_at curve i))) s.frames (along curve)
+            ∙ ap (λ (o : Option Refusal). refusal_or o change)
+            (moves-free steps s.frames (along curve)
             legal.gains),
       )

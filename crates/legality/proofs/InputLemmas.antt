@@ -21,24 +21,24 @@ use Rattle.sync_survey.specs.{MainData.rows_of, Survey.survey_of, Walk.head_of}
 -- ---- lists
 
 -- what holds of the first element and of each after it holds of each
-pub each-cons : {A : Type 0} (P : ℕ → A → Type 0) (x : A) (xs : List A) → P 0 x
+pub each-cons : {A : Type 0} (P : ℕ → A → Type 0) {x : A} (xs : List A) → P 0 x
     → HoldsOfEach xs (λ i y. P (suc i) y) → HoldsOfEach (x ∷ xs) P
-each-cons P x xs first rest h y is = grind arith
+each-cons P xs first rest h y is = grind arith
 
 -- what holds of the first two elements and of each two neighbours after them holds of each two
-pub next-cons : {A : Type 0} (P : A → A → Type 0) (x y : A) (more : List A) → P x y
+pub next-cons : {A : Type 0} (P : A → A → Type 0) {x y : A} (more : List A) → P x y
     → HoldsOfEachNext (y ∷ more) P → HoldsOfEachNext (x ∷ y ∷ more) P
-next-cons P x y more first rest h p q is next = grind arith
+next-cons P more first rest h p q is next = grind arith
 
 -- ---- names
 
-none-is : (name : List ℕ) (outputs : List (List ℕ)) → list_any (bytes_eq name) outputs ≡ false
+none-is : {name : List ℕ} (outputs : List (List ℕ)) → list_any (bytes_eq name) outputs ≡ false
     → Contains outputs name → ⊥
-none-is name outputs none has = grind (arith, bytes_eq, list_any_at, bytes_eq_same)
+none-is outputs none has = grind (arith, bytes_eq, list_any_at, bytes_eq_same)
 
-is-none : (name : List ℕ) (outputs : List (List ℕ)) → (Contains outputs name → ⊥)
+is-none : {name : List ℕ} (outputs : List (List ℕ)) → (Contains outputs name → ⊥)
     → list_any (bytes_eq name) outputs ≡ false
-is-none name outputs free = false_from_ne_true _
+is-none {name} outputs free = false_from_ne_true _
     (λ e. free (Contains-from_any (λ x y same. (bytes_eq-Decides x y).0 same) name outputs e))
 
 -- without a clash the names are apart
@@ -47,8 +47,8 @@ pub no-clash_apart : (outputs names : List (List ℕ)) (place : ℕ)
 no-clash_apart outputs [] place none = λ k d within. absurd (omega (arith, within))
 no-clash_apart outputs (name ∷ names) place none =
     let parts =
-    no_clash (list_any (bytes_eq name) outputs) place (clash_from outputs (place + 1) names) none in
-    All-cons (λ n. Contains outputs n → ⊥) name names (none-is name outputs parts.0)
+    no_clash place none in
+    All-cons (λ n. Contains outputs n → ⊥) name names (none-is outputs parts.0)
     (no-clash_apart outputs names (place + 1) parts.1)
 
 -- names that are apart don't clash
@@ -57,7 +57,7 @@ pub apart_no-clash : (outputs names : List (List ℕ)) (place : ℕ) → AreName
 apart_no-clash outputs [] place apart = refl
 apart_no-clash outputs (name ∷ names) place apart =
     ap (λ b. cond b (Some place) (clash_from outputs (place + 1) names))
-    (is-none name outputs (apart 0 [] (omega arith)))
+    (is-none outputs (apart 0 [] (omega arith)))
     ∙ apart_no-clash outputs names (place + 1)
     (λ k d within. apart (suc k) d (omega (arith, within)))
 
@@ -70,37 +70,37 @@ pub record IsWhole (file : List ℕ) (allowed : ℕ) (s : SurveyFields) : Type 0
   pub few : length s.frames ≤ allowed
 
 -- a surveyed file isn't too long, is well-formed, and has no more frames than allowed
-pub survey-whole : (file : List ℕ) (allowed : ℕ) (s : SurveyFields) → survey_of file allowed ≡ Ok s
+pub survey-whole : {file : List ℕ} {allowed : ℕ} {s : SurveyFields} → survey_of file allowed ≡ Ok s
     → IsWhole file allowed s
-survey-whole file allowed s e =
-    let whole = survey_of-parts file allowed s e in
-    let parts = survey_fields-parts file allowed s whole.1 in
+survey-whole {file} {allowed} {s} e =
+    let whole = survey_of-parts file allowed e in
+    let parts = survey_fields-parts whole.1 in
     let head = head_of file parts.0.first in
     let rows = rows_of file (frames_from file parts.0) in
-    let few = few-rows file head (class_from parts.0) allowed rows
+    let few = few-rows file head rows
     (all_faults-none_sound file head (class_from parts.0) allowed rows parts.1.frames) in
     let size : length s.frames ≡ length rows = grind (arith, length-marked_rows) in
     record {
       long = whole.0;
-      well_formed = survey_fields-allowed file allowed (length file + 1) s (omega arith) whole.1;
+      well_formed = survey_fields-allowed file allowed (omega arith) whole.1;
       few = omega (arith, few, size);
     }
 
 -- a whole file has a survey
-pub whole-survey : (file : List ℕ) (allowed : ℕ) (s : SurveyFields) → IsWhole file allowed s
+pub whole-survey : {file : List ℕ} {allowed : ℕ} {s : SurveyFields} → IsWhole file allowed s
     → survey_of file allowed ≡ Ok s
-whole-survey file allowed s whole =
-    let parts = survey_fields-parts file (length file + 1) s whole.well_formed in
+whole-survey {file} {allowed} {s} whole =
+    let parts = survey_fields-parts whole.well_formed in
     let start = parts.0 in
     let read = parts.1 in
     let head = head_of file start.first in
     let rows = rows_of file (frames_from file start) in
     let size : length s.frames ≡ length rows = grind (arith, length-marked_rows) in
     survey_of-short file allowed whole.long
-    ∙ survey_fields-told file allowed start (record {
+    ∙ survey_fields-told (record {
       start_is = read.start_is;
       frames = sound-no_all_faults file head (class_from start) allowed rows
-          (sound_allowed file head (class_from start) (length file + 1) allowed rows
+          (sound_allowed file head rows
           (omega (arith, whole.few, size))
           (all_faults-none_sound file head (class_from start) (length file + 1) rows read.frames));
       end = read.end;
@@ -118,25 +118,26 @@ pub record IsOne (Choice : FileInput → Type 0) (files : Contents) (name : List
   pub choice : Choice input
 
 -- a legal input has its survey
-pub one-survey : (Choice : FileInput → Type 0) (files : Contents) (name : List ℕ) (most : ℕ)
+pub one-survey : (Choice : FileInput → Type 0) {files : Contents} {name : List ℕ} {most : ℕ}
     (one : IsOne Choice files name most) → survey_of one.input.bytes most ≡ Ok one.input.survey
-one-survey Choice files name most one = whole-survey one.input.bytes most one.input.survey
+one-survey Choice {most = most} one = whole-survey
     (record { long = one.is.long; well_formed = one.is.well_formed; few = one.few })
 
 -- a surveyed file with this name is an input
-pub survey-input : (files : Contents) (name file : List ℕ) (allowed : ℕ) (s : SurveyFields)
+pub survey-input : {files : Contents} {name file : List ℕ} (allowed : ℕ) {s : SurveyFields}
     → files name ≡ Some file → survey_of file allowed ≡ Ok s
     → IsInput files name (record { bytes = file; survey = s })
-survey-input files name file allowed s there e = let whole = survey-whole file allowed s e in
+survey-input {file = file} allowed {s} there e = let whole = survey-whole e in
     record { there = there; long = whole.long; well_formed = whole.well_formed }
 
 -- a surveyed file that the choice is legal for is such an input
-pub surveyed-one : (Choice : FileInput → Type 0) (files : Contents) (name file : List ℕ) (most : ℕ)
-    (s : SurveyFields) → files name ≡ Some file → survey_of file most ≡ Ok s
+pub surveyed-one : (Choice : FileInput → Type 0) {files : Contents} {name file : List ℕ} {most : ℕ}
+    {s : SurveyFields} → files name ≡ Some file → survey_of file most ≡ Ok s
     → Choice (record { bytes = file; survey = s }) → IsOne Choice files name most
-surveyed-one Choice files name file most s there surveyed choice = record {
-  input = record { bytes = file; survey = s };
-  is = survey-input files name file most s there surveyed;
-  few = (survey-whole file most s surveyed).few;
-  choice = choice;
-}
+surveyed-one Choice {files} {name} {file} {most} {s} there surveyed
+    choice = record {
+      input = record { bytes = file; survey = s };
+      is = survey-input most there surveyed;
+      few = (survey-whole surveyed).few;
+      choice = choice;
+    }

@@ -1,7 +1,7 @@
 -- What is legal is accepted, and what is accepted is legal, command by command.
-use Rattle.std.proofs.Common.{ap, append-nil, arith, Bool, Err, false, length, List, map, None, Ok}
-use Rattle.std.proofs.Common.{Option, refl, Result, Some, subst, sym, true, ℕ, [], ◌++◌, ◌+◌, ◌↔◌}
-use Rattle.std.proofs.{Common.{◌∙◌, ◌∷◌, ◌≡◌, ◌≤◌}, lemmas.List.Elements.All-cons}
+use Rattle.std.proofs.Common.{ap, append-nil, arith, Bool, Err, false, List, map, None, Ok, Option}
+use Rattle.std.proofs.Common.{refl, Result, Some, subst, sym, true, ℕ, [], ◌++◌, ◌+◌, ◌↔◌, ◌∙◌, ◌∷◌}
+use Rattle.std.proofs.{Common.{◌≡◌, ◌≤◌}, lemmas.List.Elements.All-cons}
 use Rattle.command_table.specs.Choices.{ArePieceRanges, AreSamplePieces, IsLegalExactSheet}
 use Rattle.command_table.specs.Choices.{IsLegalFade, IsLegalGain, IsLegalPack, IsLegalRemoval}
 use Rattle.command_table.specs.Choices.{IsLegalSheet, IsLegalUndo, IsRange, IsSampleRange}
@@ -67,8 +67,8 @@ no-names outputs = λ k d within. absurd (omega (arith, within))
 
 -- ---- one input
 
-few-one : (n most : ℕ) → n ≤ most → n + 0 ≤ most
-few-one n most few = omega (arith, few)
+few-one : {n most : ℕ} → n ≤ most → n + 0 ≤ most
+few-one few = omega (arith, few)
 
 -- a command that reads one stream is legal exactly if no input's name is
 -- an output's, and the stream is an input that its choices are legal for
@@ -98,7 +98,7 @@ module _ (asked : Request) (files : Contents) (input : List ℕ)
       names = subst AreApart (sym reads) is.0;
       inputs = is.1.input ∷ [];
       are = subst (λ names. AreInputs files names (is.1.input ∷ [])) (sym reads) (is.1.is, tt);
-      few = few-one (length is.1.input.survey.frames) (entry_of asked).most is.1.few;
+      few = few-one is.1.few;
       choices = is.1.choice;
     }),
   )
@@ -111,22 +111,22 @@ NoChoice input = Unit {0}
 
 -- the text is sent exactly if the one input has no fault
 module _ (text : List ℕ → SurveyFields → List ℕ) (files : Contents) (input : List ℕ) where
-  text-one : (o : Option (List ℕ)) (made : Made) → files input ≡ o → input_text text o ≡ Ok made
+  text-one : (o : Option (List ℕ)) {made : Made} → files input ≡ o → input_text text o ≡ Ok made
       → IsOne NoChoice files input most_frames
-  text-one None made there e = absurd cc
-  text-one (Some file) made there e = at (survey_of file most_frames) refl e
+  text-one None there e = absurd cc
+  text-one (Some file) {made} there e = at (survey_of file most_frames) refl e
     where
       at : (r : Result SurveyFields SurveyFault) → survey_of file most_frames ≡ r
           → surveyed_text (text file) r ≡ Ok made → IsOne NoChoice files input most_frames
       at (Err fault) surveyed e = absurd cc
-      at (Ok s) surveyed e = surveyed-one NoChoice files input file most_frames s there surveyed tt
+      at (Ok s) surveyed e = surveyed-one NoChoice there surveyed tt
 
   one-text : IsOne NoChoice files input most_frames → AcceptsFiles (text_command text input) files
   one-text one = (
     record { outputs = []; text = text one.input.bytes one.input.survey },
     ap (input_text text) one.is.there
         ∙ ap (surveyed_text (text one.input.bytes))
-        (one-survey NoChoice files input most_frames one),
+        (one-survey NoChoice one),
   )
 
   text-law : {Legal : Type 0}
@@ -151,14 +151,16 @@ one-made : (make : Making) (Choice : FileInput → Type 0) → IsMadeWhere make 
     → IsOne Choice files input most_frames ↔ IsMade (input_result make (files input))
 one-made make Choice where_made files input = (
   (λ one.
-      let surveyed = one-survey Choice files input most_frames one in
+      let surveyed = one-survey Choice {files = files} {name = input} {most = most_frames} one in
       let made = (where_made one.input.bytes one.input.survey surveyed).0 one.choice in (
         made.0,
-        of-made make files input one.input.bytes one.input.survey one.is.there surveyed ∙ made.1,
+        of-made make files {name = input} {file = one.input.bytes} {s =
+            one.input.survey} one.is.there surveyed ∙ made.1,
       )),
   (λ some.
-      let made = made-of make files input some.0 some.1 in
-      surveyed-one Choice files input made.file most_frames made.survey made.there made.surveyed
+      let made = made-of {make = make} {files = files} {name = input} {bytes = some.0} some.1 in
+      surveyed-one Choice {files = files} {name = input} {file = made.file} {most =
+      most_frames} {s = made.survey} made.there made.surveyed
       ((where_made made.file made.survey made.surveyed).1 (made.bytes, made.made))),
 )
 
@@ -176,10 +178,10 @@ module _ (files : Contents) (input : List ℕ) (others : List (List ℕ)) (outpu
     (λ legal.
         let one = is.0 legal in
         let bytes = makes.0 one.1 in
-        parts-make task output files bytes.0 (ap (clash_from (output ∷ []) 0) names
+        parts-make task output (ap (clash_from (output ∷ []) 0) names
         ∙ apart_no-clash (output ∷ []) (input ∷ others) 0 one.0) bytes.1),
     (λ done.
-        let found = makes-parts task output files done.0 done.1 in
+        let found = makes-parts task output done.1 in
         is.1 (
           no-clash_apart (output ∷ []) (input ∷ others) 0
               (sym (ap (clash_from (output ∷ []) 0) names) ∙ found.0),
@@ -199,7 +201,7 @@ changed-made change Choice is file s surveyed = (
   (λ legal.
       let made = (is file s surveyed).0 legal in
       (file_with_change made.0 file s, ap (changed_or_fault file s) made.1)),
-  (λ made. (is file s surveyed).1 (with-parts file s (change file s) made.0 made.1)),
+  (λ made. (is file s surveyed).1 (with-parts file s made.1)),
 )
 
 -- ---- pack
@@ -211,60 +213,59 @@ making_in mode = laying_making all_choice (mode_planning mode)
 abbrev LegalIn : PackMode → FileInput → Type 0
 LegalIn mode i = IsLegalPack mode i.survey
 
-pack-choice : (mode : PackMode) (file : List ℕ) (s : SurveyFields) (bytes : List ℕ)
+pack-choice : (mode : PackMode) (file : List ℕ) {s : SurveyFields} {bytes : List ℕ}
     → survey_of file most_frames ≡ Ok s → making_in mode file s ≡ Ok bytes
     → LegalIn mode (record { bytes = file; survey = s })
-pack-choice mode file s bytes surveyed e = grind (arith, constant-legal, floor-legal)
+pack-choice mode file surveyed e = grind (arith, constant-legal, floor-legal)
 
-choice-pack : (mode : PackMode) (file : List ℕ) (s : SurveyFields)
+choice-pack : (mode : PackMode) (file : List ℕ) {s : SurveyFields}
     → survey_of file most_frames ≡ Ok s → LegalIn mode (record { bytes = file; survey = s })
     → (bytes : List ℕ) × (making_in mode file s ≡ Ok bytes)
-choice-pack Least file s surveyed legal = planned-made file s surveyed (mode_planning Least) _ refl
-choice-pack Best file s surveyed legal = planned-made file s surveyed (mode_planning Best) _ refl
-choice-pack (Constant rate) file s surveyed legal = legal-constant file s surveyed rate legal
-choice-pack (Floor rate) file s surveyed legal = legal-floor file s surveyed rate legal
+choice-pack Least file {s} surveyed legal = planned-made file s surveyed (mode_planning Least) refl
+choice-pack Best file {s} surveyed legal = planned-made file s surveyed (mode_planning Best) refl
+choice-pack (Constant rate) file {s} surveyed legal = legal-constant file s surveyed legal
+choice-pack (Floor rate) file {s} surveyed legal = legal-floor file s surveyed legal
 
 -- the packing in the fewest bytes has a limit of its own
 module _ (files : Contents) (input : List ℕ) where
-  best-parts : (o : Option (List ℕ)) (bytes : List ℕ) → files input ≡ o
+  best-parts : (o : Option (List ℕ)) {bytes : List ℕ} → files input ≡ o
       → limited_result (Some most_best) o (input_result (making_in Best) o) ≡ Ok bytes
       → IsOne (LegalIn Best) files input most_best
-  best-parts None bytes there e = absurd cc
-  best-parts (Some file) bytes there e = at (survey_of file most_best) refl e
+  best-parts None there e = absurd cc
+  best-parts (Some file) {bytes} there e = at (survey_of file most_best) refl e
     where
       at : (r : Result SurveyFields SurveyFault) → survey_of file most_best ≡ r
           → survey_fault_or r (input_result (making_in Best) (Some file)) ≡ Ok bytes
           → IsOne (LegalIn Best) files input most_best
       at (Err fault) surveyed e = absurd cc
-      at (Ok s) surveyed e =
-          surveyed-one (LegalIn Best) files input file most_best s there surveyed tt
+      at (Ok s) surveyed e = surveyed-one (LegalIn Best) there surveyed tt
 
   parts-best : IsOne (LegalIn Best) files input most_best → (bytes : List ℕ) × (limited_result
       (Some most_best) (files input) (input_result (making_in Best) (files input)) ≡ Ok bytes)
   parts-best one =
       let file = one.input.bytes in
       let s = one.input.survey in
-      let surveyed = one-survey (LegalIn Best) files input most_best one in
-      let freely = whole-survey file most_frames s (record {
+      let surveyed = one-survey (LegalIn Best) one in
+      let freely = whole-survey (record {
         long = one.is.long;
         well_formed = one.is.well_formed;
         few = omega (arith, one.few);
       }) in
-      let made = choice-pack Best file s freely tt in (
+      let made = choice-pack Best file freely tt in (
         made.0,
         ap (λ o. limited_result (Some most_best) o (input_result (making_in Best) (files input)))
             one.is.there
             ∙ ap (λ r. survey_fault_or r (input_result (making_in Best) (files input))) surveyed
-            ∙ of-made (making_in Best) files input file s one.is.there freely
+            ∙ of-made (making_in Best) files one.is.there freely
             ∙ made.1,
       )
 
   one-packed : (mode : PackMode) → IsOne (LegalIn mode) files input (allowed_frames mode)
       ↔ IsMade ((pack_task mode input).makes files)
-  one-packed Best = (parts-best, (λ made. best-parts (files input) made.0 refl made.1))
+  one-packed Best = (parts-best, (λ made. best-parts (files input) refl made.1))
   one-packed mode = one-made (making_in mode) (LegalIn mode) (λ file s surveyed. (
-    choice-pack mode file s surveyed,
-    (λ made. pack-choice mode file s made.0 surveyed made.1),
+    choice-pack mode file surveyed,
+    (λ made. pack-choice mode file surveyed made.1),
   )) files input
 
 -- ---- split
@@ -307,7 +308,7 @@ module _ (seamless : Bool) (files : Contents) (output : List ℕ) (inputs : List
   legal-of : clash_from (output ∷ []) 0 inputs ≡ None → (parts : List FilePart)
       → join_parts files inputs ≡ Ok parts → IsLegalFor (Join seamless output inputs) files
   legal-of free parts e =
-      let are = parts-joined files inputs parts e in
+      let are = parts-joined e in
       let names = no-clash_apart (output ∷ []) inputs 0 free in
       record {
         names = subst apart_from (sym (append-nil inputs)) names;
@@ -382,12 +383,12 @@ legal-is-accepted (Cut from to least input output) files =
       (λ legal.
           let chosen = range-cut from to file s legal in (
             _,
-            laying-is choice planning file s chosen.0
-                (Ok (first_plan (slot_choices least) s.class (chosen_needs chosen.0 s)))
+            laying-is choice planning {file = file} {s = s} {chosen = chosen.0}
+                {r = Ok (first_plan (slot_choices least) s.class (chosen_needs chosen.0 s))}
                 chosen.1 refl,
           )),
       (λ made.
-          let by = laid-parts choice planning file s made.0 made.1 in
+          let by = laid-parts choice planning {file = file} {s = s} {made = made.0} made.1 in
           cut-range from to file s by.chosen by.chose),
     )) files input)
     (one-legal (Cut from to least input output) files input refl)
@@ -397,9 +398,9 @@ legal-is-accepted (CutExact input from to output) files =
     (one-made (exact_making from to) Range (λ file s surveyed. (
       (λ legal.
           let span = range-span from to file s legal in
-          (_, exact-is from to file s span.0 span.1)),
+          (_, exact-is from to file s {span = span.0} span.1)),
       (λ made.
-          let by = piece-parts from to file s made.0 made.1 in
+          let by = piece-parts from to {file = file} {s = s} {made = made.0} made.1 in
           span-range from to file s by.span by.span_is),
     )) files input)
     (one-legal (CutExact input from to output) files input refl)
@@ -440,18 +441,19 @@ legal-is-accepted (SplitBy true input prefix sheet) files =
       read.2,
     ))
     (λ i found e each.
-    let read = then_ok (cue_sheet_places (files sheet)) exact_list found e in
+    let read = then_ok {r = cue_sheet_places (files sheet)} {make = exact_list} {b = found} e in
     places-sheet (Pieces i) sheet files read.0 read.1
     (subst (AreSamplePieces i) (sym (same-places (map Position read.0) found read.2)) each))
     (one-legal (SplitBy true input prefix sheet) files input refl)
 legal-is-accepted (Join false output inputs) files = (
   (λ legal.
       let is = joined-of false files output inputs legal in
-      parts-make (join_task inputs) output files (joined_file is.1) is.0
+      parts-make (join_task inputs) output {files = files} {bytes = joined_file is.1} is.0
       (made-parts files inputs joined_file is.1 is.2)),
   (λ made.
-      let one = makes-parts (join_task inputs) output files made.0 made.1 in
-      let parts = then_ok (join_parts files inputs) (λ parts. Ok (joined_file parts)) one.1 one.2 in
+      let one = makes-parts (join_task inputs) output {files = files} {made = made.0} made.1 in
+      let parts = then_ok {r = join_parts files inputs} {make =
+      λ parts. Ok (joined_file parts)} {b = one.1} one.2 in
       legal-of false files output inputs one.0 parts.0 parts.1),
 )
 legal-is-accepted (Join true output inputs) files =
@@ -459,13 +461,15 @@ legal-is-accepted (Join true output inputs) files =
     let task = seamless_task inputs in (
       (λ legal.
           let is = joined-of true files output inputs legal in
-          let one = parts-make task output files (seamless_file is.1) is.0
+          let one = parts-make task output {files = files} {bytes = seamless_file is.1} is.0
           (made-parts files inputs seamless_file is.1 is.2) in
           (record one.0 { text = text }, ap (with_text text) one.1)),
       (λ made.
-          let told = text-parts text ((one_command task output).makes files) made.0 made.1 in
-          let one = makes-parts task output files told.0 told.1 in
-          let parts = then_ok (join_parts files inputs) (λ ps. Ok (seamless_file ps)) one.1 one.2 in
+          let told =
+          text-parts text ((one_command task output).makes files) {made = made.0} made.1 in
+          let one = makes-parts task output {files = files} {made = told.0} told.1 in
+          let parts = then_ok {r = join_parts files inputs} {make =
+          λ ps. Ok (seamless_file ps)} {b = one.1} one.2 in
           legal-of true files output inputs one.0 parts.0 parts.1),
     )
 legal-is-accepted (Remove input output stretches) files =

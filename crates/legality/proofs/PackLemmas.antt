@@ -1,7 +1,7 @@
 -- A packing: with the least slots, the fewest bytes, and the slots of some bit rates.
 use Rattle.std.proofs.Common.{ap, arith, Bool, cond, Contains, Err, false, get_or, inl, inr, length}
 use Rattle.std.proofs.Common.{List, map, None, Ok, refl, Result, Some, subst, suc, sym, true, zero}
-use Rattle.std.proofs.Common.{ℕ, [], ◌<◌, ◌==◌, ◌∙◌, ◌∷◌, ◌≡◌, ◌≤◌}
+use Rattle.std.proofs.Common.{ℕ, [], ◌<◌, ◌∙◌, ◌∷◌, ◌≡◌, ◌≤◌}
 use Rattle.std.proofs.lemmas.{Bool.{eq-eqb, eqb-true, lt-ltb, ltb-true}, List.length-map}
 use Rattle.std.specs.Prelude.{filter, ◌↔◌}
 use Rattle.command_table.specs.Choices.{HasRateRoom, IsFirstUnfit, IsRate}
@@ -32,10 +32,10 @@ use Rattle.sync_survey.specs.Survey.{survey_of}
 
 -- ---- a bit rate of the class
 
-some-kept : (p : SlotFields → Bool) (xs : List SlotFields) → 0 < length (filter p xs)
+some-kept : {p : SlotFields → Bool} (xs : List SlotFields) → 0 < length (filter p xs)
     → (x : SlotFields) × Contains xs x × (p x ≡ true)
-some-kept p [] some = absurd (omega (arith, some))
-some-kept p (x ∷ xs) some = at (p x) refl some (λ more. some-kept p xs more)
+some-kept [] some = absurd (omega (arith, some))
+some-kept {p} (x ∷ xs) some = at (p x) refl some (λ more. some-kept xs more)
   where
     later : (y : SlotFields) × Contains xs y × (p y ≡ true)
         → (y : SlotFields) × Contains (x ∷ xs) y × (p y ≡ true)
@@ -47,29 +47,29 @@ some-kept p (x ∷ xs) some = at (p x) refl some (λ more. some-kept p xs more)
     at true is some rest = (x, (0, omega arith, refl), is)
     at false is some rest = later (rest some)
 
-kept-some : (p : SlotFields → Bool) (x : SlotFields) → p x ≡ true → (xs : List SlotFields) (k : ℕ)
+kept-some : (p : SlotFields → Bool) {x : SlotFields} → p x ≡ true → (xs : List SlotFields) (k : ℕ)
     → k < length xs → get_or xs k x ≡ x → 0 < length (filter p xs)
-kept-some p x is [] k within same = absurd (omega (arith, within))
-kept-some p x is (y ∷ ys) zero within same = ap-kept (p y) (ap p same ∙ is)
+kept-some p is [] k within same = absurd (omega (arith, within))
+kept-some p is (y ∷ ys) zero within same = ap-kept (p y) (ap p same ∙ is)
   where
     ap-kept : (b : Bool) → b ≡ true → 0 < length (cond b (y ∷ filter p ys) (filter p ys))
     ap-kept true e = omega arith
     ap-kept false e = absurd cc
-kept-some p x is (y ∷ ys) (suc k) within same =
-    at (p y) (kept-some p x is ys k (omega (arith, within)) same)
+kept-some p {x} is (y ∷ ys) (suc k) within same =
+    at (p y) (kept-some p is ys k (omega (arith, within)) same)
   where
     at : (b : Bool) → 0 < length (filter p ys) → 0 < length (cond b (y ∷ filter p ys) (filter p ys))
     at true some = omega arith
     at false some = some
 
 -- a bit rate that isn't refused is a bit rate of the class
-pub no-rate_none : (rate : ℕ) (class : ClassFields) → rate_refusal rate class ≡ None
+pub no-rate_none : {rate : ℕ} (class : ClassFields) → rate_refusal rate class ≡ None
     → IsRate rate class
-no-rate_none rate class none = at (is_rate rate class) refl none
+no-rate_none {rate} class none = at (is_rate rate class) refl none
   where
     found : is_rate rate class ≡ true → IsRate rate class
     found is =
-        let kept = some-kept (λ slot. rate_of class slot == rate) all_slots
+        let kept = some-kept all_slots
         (ltb-true 0 (length (menu_in (Constant rate) class)) is) in
         (kept.0, kept.1, eqb-true (rate_of class kept.0) rate kept.2)
 
@@ -79,25 +79,25 @@ no-rate_none rate class none = at (is_rate rate class) refl none
     at false is e = absurd cc
 
 -- a bit rate of the class isn't refused
-pub rate-none : (rate : ℕ) (class : ClassFields) → IsRate rate class
+pub rate-none : {rate : ℕ} (class : ClassFields) → IsRate rate class
     → rate_refusal rate class ≡ None
-rate-none rate class is = grind (arith, lt-ltb, kept-some, eq-eqb)
+rate-none class is = grind (arith, lt-ltb, kept-some, eq-eqb)
 
 -- ---- a plan
 
-laid : (window : ℕ) (menu : List SlotFields) (needs : List Need) (placed : List Placed)
+laid : {window : ℕ} {menu : List SlotFields} {needs : List Need} {placed : List Placed}
     → IsMenuPlan window menu needs placed
     → (lead_in : Bool) × CanBeLaidFromMenu window lead_in menu needs
 unfolding CanBeLaid
-laid window menu needs placed plan = grind (arith, placed)
+laid {placed = placed} plan = grind (arith, placed)
 
 -- all frames are chosen
-same-chosen : (a b : Chosen) (r : Result Chosen EditFault) → r ≡ Ok a → r ≡ Ok b → a ≡ b
-same-chosen a b r e d = cc
+same-chosen : {a b : Chosen} {r : Result Chosen EditFault} → r ≡ Ok a → r ≡ Ok b → a ≡ b
+same-chosen e d = cc
 
-both-answers : (a : Chosen) (fault : EditFault) (r : Result Chosen EditFault) → r ≡ Ok a
+both-answers : {a : Chosen} {fault : EditFault} {r : Result Chosen EditFault} → r ≡ Ok a
     → r ≡ Err fault → ⊥
-both-answers a fault r e d = absurd cc
+both-answers e d = absurd cc
 
 module _ (file : List ℕ) (s : SurveyFields) (is : survey_of file most_frames ≡ Ok s) where
   abbrev chosen : Chosen
@@ -120,26 +120,26 @@ module _ (file : List ℕ) (s : SurveyFields) (is : survey_of file most_frames �
   needs-all = ap (map need_of) (range-whole s.frames)
 
   -- frames that have a plan are laid
-  pub planned-made : (plan : Planning) (placed : List Placed) → plan s.class needs ≡ Ok placed
+  pub planned-made : (plan : Planning) {placed : List Placed} → plan s.class needs ≡ Ok placed
       → (bytes : List ℕ) × (laying_making all_choice plan file s ≡ Ok bytes)
-  planned-made plan placed planned = (
+  planned-made plan {placed} planned = (
     file_laid (placed_part chosen placed) file s,
-    laying-is all_choice plan file s chosen (Ok placed) choose-all planned,
+    laying-is all_choice plan choose-all planned,
   )
 
-  made-planned : (plan : Planning) (bytes : List ℕ)
+  made-planned : (plan : Planning) {bytes : List ℕ}
       → laying_making all_choice plan file s ≡ Ok bytes
       → (placed : List Placed) × (plan s.class needs ≡ Ok placed)
-  made-planned plan bytes made =
-      grind (arith, laid-parts all_choice plan file s bytes made, same-chosen, choose-all)
+  made-planned plan {bytes} made =
+      grind (arith, laid-parts all_choice plan made, same-chosen, choose-all)
 
   -- ---- from a menu
 
   some : 0 < length s.frames
-  some = some-frames file most_frames s is
+  some = some-frames file most_frames is
 
   placed : IsPlacedSurvey s
-  placed = survey_fields-placed file most_frames s (survey_of-parts file most_frames s is).1
+  placed = survey_fields-placed file most_frames (survey_of-parts file most_frames is).1
 
   needs-some : 1 ≤ length needs
   needs-some = grind (arith, rows-some, placed, some, length-map)
@@ -167,8 +167,8 @@ module _ (file : List ℕ) (s : SurveyFields) (is : survey_of file most_frames �
       where
         at : (r : Result (List Placed) ℕ) → least_menu_plan window menu needs ≡ r
             → (bytes : List ℕ) × (laying_making all_choice (rates_plan mode) file s ≡ Ok bytes)
-        at (Ok found) e = planned-made (rates_plan mode) found
-            (plan-is chosen s placed some (omega arith) mode (Ok found) none e)
+        at (Ok found) e = planned-made (rates_plan mode)
+            (plan-is chosen s placed some (omega arith) mode none e)
         at (Err i) e = absurd (fits i e)
 
     room-made : (lead_in : Bool) → CanBeLaidFromMenu window lead_in menu (map need_of s.frames)
@@ -176,62 +176,64 @@ module _ (file : List ℕ) (s : SurveyFields) (is : survey_of file most_frames �
     room-made lead_in can = fit-made (λ i e. ((menu-law.1 i).1 e).never lead_in
         (subst (CanBeLaidFromMenu window lead_in menu) (sym needs-all) can))
 
-    plan-room : (found : List Placed) → least_menu_plan window menu needs ≡ Ok found
+    plan-room : {found : List Placed} → least_menu_plan window menu needs ≡ Ok found
         → (lead_in : Bool) × CanBeLaidFromMenu window lead_in menu (map need_of s.frames)
-    plan-room found e =
-        let room = laid window menu needs found ((menu-law.0 found).1 e) in
+    plan-room {found} e =
+        let room = laid ((menu-law.0 found).1 e) in
         (room.0, subst (CanBeLaidFromMenu window room.0 menu) needs-all room.1)
 
-  rates-parts : (mode : PackMode) (bytes : List ℕ)
+  rates-parts : (mode : PackMode) {bytes : List ℕ}
       → laying_making all_choice (rates_plan mode) file s ≡ Ok bytes
       → (none : no_rate mode s.class ≡ None) × (found : List Placed)
       × (least_menu_plan (window_of s.class.version) (menu_in mode s.class) needs ≡ Ok found)
-  rates-parts mode bytes made = grind (arith, made-planned, then_ok, refusal_or-ok, fitted_plan-ok)
+  rates-parts mode made = grind (arith, made-planned, then_ok, refusal_or-ok, fitted_plan-ok)
 
   -- a packing with one bit rate that isn't refused has a bit rate of the class, and room
-  pub constant-legal : (rate : ℕ) (bytes : List ℕ)
+  pub constant-legal : {rate : ℕ} {bytes : List ℕ}
       → laying_making all_choice (rates_plan (Constant rate)) file s ≡ Ok bytes
       → IsRate rate s.class × HasRateRoom rate s
-  constant-legal rate bytes made =
-      let parts = rates-parts (Constant rate) bytes made in
-      (no-rate_none rate s.class parts.0, plan-room (Constant rate) parts.0 parts.1 parts.2)
+  constant-legal {rate} {bytes} made =
+      let parts = rates-parts (Constant rate) made in
+      (no-rate_none s.class parts.0, plan-room (Constant rate) parts.0 parts.2)
 
   -- with such a bit rate and room, the packing isn't refused
-  pub legal-constant : (rate : ℕ) → IsRate rate s.class × HasRateRoom rate s
+  pub legal-constant : {rate : ℕ} → IsRate rate s.class × HasRateRoom rate s
       → (bytes : List ℕ) × (laying_making all_choice (rates_plan (Constant rate)) file s ≡ Ok bytes)
-  legal-constant rate legal =
-      room-made (Constant rate) (rate-none rate s.class legal.0) legal.1.0 legal.1.1
+  legal-constant {rate} legal =
+      room-made (Constant rate) (rate-none s.class legal.0) legal.1.0 legal.1.1
 
   -- a packing with bit rates from one on that isn't refused has a bit rate of the class
-  pub floor-legal : (rate : ℕ) (bytes : List ℕ)
+  pub floor-legal : {rate : ℕ} {bytes : List ℕ}
       → laying_making all_choice (rates_plan (Floor rate)) file s ≡ Ok bytes → IsRate rate s.class
-  floor-legal rate bytes made = no-rate_none rate s.class (rates-parts (Floor rate) bytes made).0
+  floor-legal {rate} {bytes} made = no-rate_none s.class (rates-parts (Floor rate) made).0
 
   -- with such a bit rate, the packing isn't refused
-  pub legal-floor : (rate : ℕ) → IsRate rate s.class
+  pub legal-floor : {rate : ℕ} → IsRate rate s.class
       → (bytes : List ℕ) × (laying_making all_choice (rates_plan (Floor rate)) file s ≡ Ok bytes)
-  legal-floor rate legal =
-      let none = rate-none rate s.class legal in
+  legal-floor {rate} legal =
+      let none = rate-none s.class legal in
       fit-made (Floor rate) none
-      (λ i e. floor-unfit chosen s placed some (omega arith) rate i none e)
+      (λ i e. floor-unfit chosen s placed some (omega arith) rate none e)
 
   -- ---- no room in slots of one bit rate
 
   -- a packing with a bit rate of the class is refused with the first frame that has no room
-  pub unfit-made : (rate i : ℕ) → no_rate (Constant rate) s.class ≡ None → IsFirstUnfit rate s i
+  pub unfit-made : (rate : ℕ) {i : ℕ} → no_rate (Constant rate) s.class ≡ None
+      → IsFirstUnfit rate s i
       → laying_making all_choice (rates_plan (Constant rate)) file s ≡ Err (Refused (Unfit i))
-  unfit-made rate i none unfit =
+  unfit-made rate {i} none unfit =
       let window = window_of s.class.version in
       let is_unfit : IsFirstUnfitFrame window (menu_in (Constant rate) s.class) needs i =
       grind (arith, needs-all) in
       let least = ((menu-law (Constant rate) none).1 i).0 is_unfit in
-      laying-is all_choice (rates_plan (Constant rate)) file s chosen (Err (Refused (Unfit i)))
-      choose-all (plan-is chosen s placed some (omega arith) (Constant rate) (Err i) none least)
+      laying-is all_choice (rates_plan (Constant rate))
+      choose-all (plan-is chosen s placed some (omega arith) (Constant rate) none least)
 
-  plan-unfit : (rate i : ℕ) → rates_plan (Constant rate) s.class needs ≡ Err (Refused (Unfit i))
+  plan-unfit : (rate : ℕ) {i : ℕ}
+      → rates_plan (Constant rate) s.class needs ≡ Err (Refused (Unfit i))
       → (none : no_rate (Constant rate) s.class ≡ None) ×
       (least_menu_plan (window_of s.class.version) (menu_in (Constant rate) s.class) needs ≡ Err i)
-  plan-unfit rate i e = at (is_rate rate s.class) refl e
+  plan-unfit rate {i} e = at (is_rate rate s.class) refl e
     where
       menu : (r : Result (List Placed) ℕ) → fitted_plan r ≡ Err (Refused (Unfit i)) → r ≡ Err i
       menu (Ok placed) e = absurd cc
@@ -246,19 +248,19 @@ module _ (file : List ℕ) (s : SurveyFields) (is : survey_of file most_frames �
       at b is e = grind arith
 
   -- a packing that is refused with `Unfit` has a bit rate of the class, and names that frame
-  pub made-unfit : (rate i : ℕ)
+  pub made-unfit : {rate i : ℕ}
       → laying_making all_choice (rates_plan (Constant rate)) file s ≡ Err (Refused (Unfit i))
       → IsRate rate s.class × IsFirstUnfit rate s i
-  made-unfit rate i e =
-      elim (laid-fault all_choice (rates_plan (Constant rate)) file s (Refused (Unfit i)) e)
+  made-unfit {rate} {i} e =
+      elim (laid-fault all_choice (rates_plan (Constant rate)) e)
       as (λ _. IsRate rate s.class × IsFirstUnfit rate s i) [
         | inl refused ↦ grind (arith, both-answers, choose-all)
         | inr no_plan ↦
-            let same = same-chosen no_plan.0 chosen (all_choice file s) no_plan.1 choose-all in
-            let plan = plan-unfit rate i (subst (λ (c : Chosen). rates_plan (Constant rate)
+            let same = same-chosen no_plan.1 choose-all in
+            let plan = plan-unfit rate (subst (λ (c : Chosen). rates_plan (Constant rate)
             s.class (chosen_needs c s) ≡ Err (Refused (Unfit i))) same no_plan.2) in
             let unfit = ((menu-law (Constant rate) plan.0).1 i).1 plan.1 in (
-              no-rate_none rate s.class plan.0,
+              no-rate_none s.class plan.0,
               subst (λ l. IsFirstUnfitFrame (window_of s.class.version)
                   (menu_in (Constant rate) s.class) l i)
                   needs-all unfit,

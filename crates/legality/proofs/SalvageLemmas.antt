@@ -14,15 +14,15 @@ use Rattle.salvage_edits.specs.Salvaged.{input_salvage_text, input_salvaged, sal
 use Rattle.salvage_edits.specs.Salvaged.{salvage_task, salvaged_file, salvaged_or_fault}
 use Rattle.sync_survey.specs.Start.{front_end_of}
 
-left-where : (files : Contents) (input bytes : List ℕ) → input_salvaged (files input) ≡ Ok bytes
+left-where : {files : Contents} {input bytes : List ℕ} → input_salvaged (files input) ≡ Ok bytes
     → IsLegalSalvage input files
-left-where files input bytes e = grind (arith, read-where, read-frames)
+left-where e = grind (arith, read-where, read-frames)
 
-read-legal : (files : Contents) (input : List ℕ) (is : IsLegalSalvage input files)
+read-legal : {files : Contents} {input : List ℕ} (is : IsLegalSalvage input files)
     → input_salvaged (files input)
     ≡ Ok (salvaged_file is.bytes (damaged_from is.bytes (front_end_of is.bytes) is.first))
-read-legal files input is =
-    ap input_salvaged is.there ∙ ap (salvaged_or_fault is.bytes) (frames-read is.bytes
+read-legal is =
+    ap input_salvaged is.there ∙ ap (salvaged_or_fault is.bytes) (frames-read
     (record { long = is.long; first = is.first; begins = is.begins; some = is.some; few = is.few }))
 
 -- a salvage is legal exactly if it isn't refused
@@ -31,20 +31,20 @@ pub salvage-law : (files : Contents) (input output : List ℕ)
 salvage-law files input output = (
   (λ legal.
       let is = legal.choices in
-      let one = parts-make (salvage_task input) output files _
-      (apart_no-clash (output ∷ []) (input ∷ []) 0 legal.names) (read-legal files input is) in (
+      let one = parts-make (salvage_task input) output
+      (apart_no-clash (output ∷ []) (input ∷ []) 0 legal.names) (read-legal is) in (
         record one.0 { text = input_salvage_text (files input) },
         ap (with_text (input_salvage_text (files input))) one.1,
       )),
   (λ made.
       let told = text-parts (input_salvage_text (files input))
-      ((one_command (salvage_task input) output).makes files) made.0 made.1 in
-      let one = makes-parts (salvage_task input) output files told.0 told.1 in
+      ((one_command (salvage_task input) output).makes files) made.1 in
+      let one = makes-parts (salvage_task input) output told.1 in
       record {
         names = no-clash_apart (output ∷ []) (input ∷ []) 0 one.0;
         inputs = [];
         are = tt;
         few = omega arith;
-        choices = left-where files input one.1 one.2;
+        choices = left-where one.2;
       }),
 )

@@ -2,7 +2,6 @@
 -- where there is one, and all of its samples are played.
 use Rattle.std.proofs.Common.{ap, ap₂, Bool, cond, length, List, None, Ok, Option, refl, Some, ℕ}
 use Rattle.std.proofs.{Common.{◌&&◌, ◌+◌, ◌<◌, ◌≡◌, ◌≤◌}, lemmas.Bool.{le-leb, lt-ltb}}
-use Rattle.std.specs.Prelude.{nat_le, nat_lt}
 use Rattle.command_table.specs.Choices.{IsSampleRange}
 use Rattle.commands.{proofs.RefusingLemmas.refusal_or-ok, specs.Refusing.refusal_or}
 use Rattle.commands.specs.declared.fault.Refusal.TheVariants.{Span as NoSpan}
@@ -14,8 +13,8 @@ use Rattle.info_header.specs.declared.fields.Info.{Info}
 use Rattle.laying.specs.KeptFields.{fields_of_head}
 use Rattle.sync_survey.specs.Faults.{SurveyFields}
 
-samples_none : (a b samples : ℕ) → a < b → b ≤ samples → samples_fault a b samples ≡ None
-samples_none a b samples some most = ap₂ (λ (m n : Bool). cond (m && n) None
+samples_none : {a b samples : ℕ} → a < b → b ≤ samples → samples_fault a b samples ≡ None
+samples_none {a} {b} {samples} some most = ap₂ (λ (m n : Bool). cond (m && n) None
     (Some (NoSpan a b samples))) (lt-ltb a b some) (le-leb b samples most)
 
 module _ (from to : ExactPlace) (file : List ℕ) (s : SurveyFields) where
@@ -37,9 +36,8 @@ module _ (from to : ExactPlace) (file : List ℕ) (s : SurveyFields) where
   unfolding file_span
   span-range span e =
       let fault = samples_fault (number from) (number to) (length_of_played played) in
-      samples_there (number from) (number to) (length_of_played played)
-      (nat_lt (number from) (number to) && nat_le (number to) (length_of_played played)) refl
-      (refusal_or-ok fault the_span span e).0
+      samples_there refl
+      (refusal_or-ok e).0
 
   -- a range of samples isn't refused
   pub range-span : IsSampleRange from to (record { bytes = file; survey = s })
@@ -48,5 +46,5 @@ module _ (from to : ExactPlace) (file : List ℕ) (s : SurveyFields) where
   range-span are = (
     the_span,
     ap (λ o. refusal_or o the_span)
-        (samples_none (number from) (number to) (length_of_played played) are.0 are.1),
+        (samples_none are.0 are.1),
   )

@@ -11,7 +11,7 @@ use Rattle.cue_sheet.specs.{Places.frame_at, declared.place.Place.Place}
 use Rattle.cut_edits.proofs.ChosenLemmas.{chosen-within}
 use Rattle.cut_edits.specs.Chosen.{Chosen, chosen_range, cut_choice, first_planning, laying_part}
 use Rattle.cut_edits.specs.Chosen.{outside_fault, planned_part}
-use Rattle.cut_edits.specs.Exact.{exact_part, file_span, span_piece, survey_without_head}
+use Rattle.cut_edits.specs.Exact.{exact_part, span_piece, survey_without_head}
 use Rattle.exact_span.specs.declared.{exact_place.ExactPlace.ExactPlace, span.Span.Span}
 use Rattle.laying.specs.{KeptFields.fields_of_head, Laid.LaidPart, NeedsFit.own_choice}
 use Rattle.legality.proofs.InputLemmas.{apart_no-clash, IsOne, next-cons, no-clash_apart}
@@ -31,8 +31,8 @@ use Rattle.sync_survey.specs.Faults.{SurveyFields}
 abbrev pub AreWithin : ℕ → ℕ → ℕ → Type 0
 AreWithin from to frames = (from < to) × (to ≤ frames)
 
-within-none : (from to frames : ℕ) → AreWithin from to frames → outside_fault from to frames ≡ None
-within-none from to frames are = ap₂ (λ (a b : Bool). cond (a && b) None
+within-none : {from to frames : ℕ} → AreWithin from to frames → outside_fault from to frames ≡ None
+within-none {from} {to} {frames} are = ap₂ (λ (a b : Bool). cond (a && b) None
     (Some (Range from to frames))) (lt-ltb from to are.0) (le-leb to frames are.1)
 
 module _ (quality : Option ℕ) (extension : List ℕ) (from to frames : ℕ)
@@ -43,7 +43,7 @@ module _ (quality : Option ℕ) (extension : List ℕ) (from to frames : ℕ)
   within-ok =
       ap (λ o. refusal_or o
       (record { from = from; to = to; quality = quality; extension = extension }))
-      (within-none from to frames are)
+      (within-none are)
 
   within-chosen : (chosen : Chosen) × (chosen_range quality extension from to frames ≡ Ok chosen)
   within-chosen =
@@ -53,9 +53,7 @@ module _ (quality : Option ℕ) (extension : List ℕ) (from to frames : ℕ)
 pub cut-range : (from to : Place) (file : List ℕ) (s : SurveyFields) (chosen : Chosen)
     → cut_choice from to file s ≡ Ok chosen → IsRange s from to
 unfolding cut_choice
-cut-range from to file s chosen e =
-    chosen-within None (replicate 36 0) (frame_at s.class (length s.frames) from)
-    (frame_at s.class (length s.frames) to) (length s.frames) chosen e
+cut-range from to file s chosen e = chosen-within None (replicate 36 0) e
 
 -- a range of the file isn't refused
 pub range-cut : (from to : Place) (file : List ℕ) (s : SurveyFields) → IsRange s from to
@@ -67,10 +65,10 @@ range-cut from to file s is =
 
 -- ---- from each place to the next
 
-first-parts : (first : LaidPart) (r : Result (List LaidPart) EditFault) (all : List LaidPart)
+first-parts : (first : LaidPart) (r : Result (List LaidPart) EditFault) {all : List LaidPart}
     → with_first first r ≡ Ok all → (more : List LaidPart) × (r ≡ Ok more)
-first-parts first (Ok more) all e = (more, refl)
-first-parts first (Err fault) all e = absurd cc
+first-parts first (Ok more) e = (more, refl)
+first-parts first (Err fault) e = absurd cc
 
 -- one place of a file may follow another exactly where the part between them is laid
 pub record IsRightOf {P : Type 0} (cut : Cutting P)
@@ -86,15 +84,14 @@ module _ {P : Type 0} (cut : Cutting P) (Right : FileInput → P → P → Type 
   abbrev Follows : P → P → Type 0
   Follows = Right (record { bytes = file; survey = s })
 
-  laid-next : (place : P) (places : List P) (all : List LaidPart)
+  laid-next : (place : P) (places : List P) {all : List LaidPart}
       → piece_parts_from cut file s place places ≡ Ok all → HoldsOfEachNext (place ∷ places) Follows
-  laid-next place [] all e = λ i p q is next. absurd cc
-  laid-next place (to ∷ places) all e =
-      let one = then_ok (cut.between place to file s)
-      (λ first. with_first first (piece_parts_from cut file s to places)) all e in
-      let more = first-parts one.0 (piece_parts_from cut file s to places) all one.2 in
-      next-cons Follows place to places (right.laid-right place to file s one.0 one.1)
-      (laid-next to places more.0 more.1)
+  laid-next place [] e = λ i p q is next. absurd cc
+  laid-next place (to ∷ places) {all} e =
+      let one = then_ok e in
+      let more = first-parts one.0 (piece_parts_from cut file s to places) one.2 in
+      next-cons Follows places (right.laid-right place to file s one.0 one.1)
+      (laid-next to places more.1)
 
   next-laid : (place : P) (places : List P) → HoldsOfEachNext (place ∷ places) Follows
       → (all : List LaidPart) × (piece_parts_from cut file s place places ≡ Ok all)
@@ -109,10 +106,10 @@ module _ {P : Type 0} (cut : Cutting P) (Right : FileInput → P → P → Type 
       )
 
   -- if all pieces are laid, each place follows the one before it
-  pub laid-pieces : (places : List P) (all : List LaidPart) → piece_parts cut file s places ≡ Ok all
+  pub laid-pieces : (places : List P) {all : List LaidPart} → piece_parts cut file s places ≡ Ok all
       → HoldsOfEachNext places Follows
-  laid-pieces [] all e = λ i p q is next. absurd cc
-  laid-pieces (place ∷ places) all e = laid-next place places all e
+  laid-pieces [] e = λ i p q is next. absurd cc
+  laid-pieces (place ∷ places) {all} e = laid-next place places e
 
   -- if each place follows the one before it, all pieces are laid
   pub pieces-laid : (places : List P) → HoldsOfEachNext places Follows
@@ -128,12 +125,12 @@ FramesFollow input from to = IsRange input.survey from to
 abbrev pub SamplesFollow : FileInput → ExactPlace → ExactPlace → Type 0
 SamplesFollow input from to = IsSampleRange from to input
 
-frames-range : (from to : Place) (file : List ℕ) (s : SurveyFields) (laid : LaidPart)
+frames-range : (from to : Place) (file : List ℕ) (s : SurveyFields) {laid : LaidPart}
     → cut_part from to file s ≡ Ok laid → IsRange s from to
 unfolding laying_part
-frames-range from to file s laid e =
+frames-range from to file s {laid} e =
     let one =
-    then_ok (cut_choice from to file s) (planned_part (first_planning own_choice) s) laid e in
+    then_ok e in
     cut-range from to file s one.0 one.1
 
 range-frames : (from to : Place) (file : List ℕ) (s : SurveyFields) → IsRange s from to
@@ -151,15 +148,14 @@ pub frames-right : (more : List (List ℕ)) (places : Contents → Result (List 
     (refuses : Refusal → Bool) → IsRightOf (frame_cutting more places refuses) FramesFollow
 frames-right more places refuses = record { laid-right = frames-range; right-laid = range-frames }
 
-samples-range : (from to : ExactPlace) (file : List ℕ) (s : SurveyFields) (laid : LaidPart)
+samples-range : (from to : ExactPlace) (file : List ℕ) (s : SurveyFields) {laid : LaidPart}
     → exact_part from to file s ≡ Ok laid
     → IsSampleRange from to (record { bytes = file; survey = s })
 unfolding exact_part
-samples-range from to file s laid e =
+samples-range from to file s {laid} e =
     let head = fields_of_head file s.head in
     let one =
-    then_ok (file_span from to head s)
-    (λ span. Ok (span_piece head span file (survey_without_head s))) laid e in
+    then_ok e in
     span-range from to file s one.0 one.1
 
 range-samples : (from to : ExactPlace) (file : List ℕ) (s : SurveyFields)
@@ -223,19 +219,19 @@ module _ {P : Type 0} (cut : Cutting P) (Right : FileInput → P → P → Type 
           file = one.input.bytes;
           survey = one.input.survey;
           there = one.is.there;
-          surveyed = one-survey Choice files input most_frames one;
+          surveyed = one-survey Choice one;
           found = places.0;
           placed = places.1;
           laid = all.0;
           picked = all.1;
         })),
     (λ made.
-        let done = split-parts cut files prefix input made.0 made.1 in
+        let done = split-parts cut files prefix input made.1 in
         let is = done.1.0 in
         same.1 (
           no-clash_apart (piece_names prefix) (input ∷ cut.more) 0 done.0,
-          surveyed-one Choice files input is.file most_frames is.survey is.there is.surveyed
+          surveyed-one Choice is.there is.surveyed
               (chosen (record { bytes = is.file; survey = is.survey }) is.found is.placed
-              (laid-pieces cut Right right is.file is.survey is.found is.laid is.picked)),
+              (laid-pieces cut Right right is.file is.survey is.found is.picked)),
         )),
   )

@@ -33,10 +33,10 @@ module _ (files : Contents) (rate i : ℕ) (input output : List ℕ) where
   unfit-refused is =
       let file = is.read.bytes in
       let s = is.read.survey in
-      let surveyed = whole-survey file most_frames s
+      let surveyed = whole-survey
       (record { long = is.is.long; well_formed = is.is.well_formed; few = is.few }) in
-      let made = of-made make files input file s is.is.there surveyed
-      ∙ unfit-made file s surveyed rate i (rate-none rate s.class is.named) is.unfit in
+      let made = of-made make files is.is.there surveyed
+      ∙ unfit-made file s surveyed rate (rate-none s.class is.named) is.unfit in
       ap₂ (λ (o : Option ℕ) (r : Result (List ℕ) EditFault). command_result output (clash_or o r))
       (apart_no-clash (output ∷ []) (input ∷ []) 0 is.names) made
 
@@ -65,8 +65,8 @@ module _ (files : Contents) (rate i : ℕ) (input output : List ℕ) where
   refused-unfit e =
       let free = clash-free (clash_in task output) (task.makes files) e in
       let read = read-unfit (files input) refl free.1 in
-      let whole = survey-whole read.0 most_frames read.1 read.3 in
-      let legal = made-unfit read.0 read.1 read.3 rate i read.4 in
+      let whole = survey-whole read.3 in
+      let legal = made-unfit read.0 read.1 read.3 read.4 in
       record {
         names = no-clash_apart (output ∷ []) (input ∷ []) 0 free.0;
         read = record { bytes = read.0; survey = read.1 };

@@ -22,18 +22,18 @@ abbrev digits : ℕ → List ℕ
 digits n =
     if nat_lt n 10 then (48 + n) ∷ [] else if nat_lt n 100 then two_digits n else three_digits n
 
-digits-are : (n : ℕ) → n < 1000 → decimal n ≡ digits n
-digits-are n few = by_size (cases_lt n 10) (cases_lt n 100)
+digits-are : {n : ℕ} → n < 1000 → decimal n ≡ digits n
+digits-are {n} few = by_size (cases_lt n 10) (cases_lt n 100)
   where
     by_size : (n < 10) ⊎ (10 ≤ n) → (n < 100) ⊎ (100 ≤ n) → decimal n ≡ digits n
     by_size (inl one) _ = decimal_digit n one ∙ cond_below n 10 ((48 + n) ∷ []) _ one
     by_size (inr more) (inl two) =
         cond_above n 10 _ _ _ more
-        (decimal_two n more two ∙ cond_below n 100 (two_digits n) (three_digits n) two)
+        (decimal_two more two ∙ cond_below n 100 (two_digits n) (three_digits n) two)
     by_size (inr more) (inr three) =
         cond_above n 10 _ _ _ more
         (cond_above n 100 (two_digits n) (three_digits n) _ three
-        (decimal_split n three (omega arith)
+        (decimal_split three (omega arith)
         ∙ ap (λ ds. ds ++ two_digits (n % 100)) (decimal_digit (n / 100) (omega arith))))
 
 -- whether these texts are the texts of these bit rates

@@ -1,7 +1,6 @@
 -- What a command that sends a text of one file leaves, given the survey of its input.
-use Rattle.std.proofs.Common.{ap, ap₂, arith, Err, length, List, Ok, refl, Result, Some, sym, ℕ, []}
-use Rattle.std.{proofs.Common.{◌+◌, ◌∙◌, ◌≡◌}, specs.Prelude.{IfErr, OnErr, OnOk}}
-use Rattle.std.specs.Result.{IsErrAnd}
+use Rattle.std.proofs.Common.{ap, ap₂, arith, Err, List, Ok, refl, Result, Some, sym, ℕ, [], ◌∙◌}
+use Rattle.std.{proofs.Common.◌≡◌, specs.{Prelude.{IfErr, OnErr, OnOk}, Result.IsErrAnd}}
 use Rattle.commands.proofs.{MakeLemmas.{made-same, ok_made}, SurveyedLemmas.BeginsWithSurvey}
 use Rattle.commands.proofs.TellingLemmas.{says-all, says-prefix}
 use Rattle.commands.specs.AfterCall.{HasSurveyNumbers, IsCommandDone, IsCommandFault, TakesMemory}
@@ -23,23 +22,23 @@ use Rattle.sync_survey.specs.declared.survey_fault.SurveyFault.{SurveyFault}
 
 -- what holds if all was sent, and if a write failed, holds of every result of the last step
 pub told_by : {T : Type 0} (P : Result T EditFault → Type 0) → ((x : T) → P (Ok x))
-    → P (Err NotSent) → (result : Result T EditFault) → IfErr result (λ fault. fault ≡ NotSent)
+    → P (Err NotSent) → {result : Result T EditFault} → IfErr result (λ fault. fault ≡ NotSent)
     → P result
-told_by P all part result is = grind arith
+told_by P all part is = grind arith
 
 -- ---- what the contents of the files make of the command
 
 module _ (text : List ℕ → SurveyFields → List ℕ) (input : List ℕ) where
-  gives_survey : (f : Contents) (bytes : List ℕ) (r : Result SurveyFields SurveyFault)
+  gives_survey : (f : Contents) {bytes : List ℕ} {r : Result SurveyFields SurveyFault}
       → f input ≡ Some bytes → survey_of bytes most_frames ≡ r
       → (text_command text input).makes f ≡ surveyed_text (text bytes) r
-  gives_survey f bytes r holds is = ap (input_text text) holds ∙ ap (surveyed_text (text bytes)) is
+  gives_survey f {bytes} holds is = ap (input_text text) holds ∙ ap (surveyed_text (text bytes)) is
 
-  gives_bytes : (files : Files) (answer : Result Made EditFault) → IsFileThere files input
+  gives_bytes : (files : Files) {answer : Result Made EditFault} → IsFileThere files input
       → ((bytes : List ℕ) → Holds files input bytes
       → surveyed_text (text bytes) (survey_of bytes most_frames) ≡ answer)
       → HasAnswer (text_command text input) files answer
-  gives_bytes files answer there is = grind arith
+  gives_bytes files there is = grind arith
 
   -- the command begins with the survey of its input
   pub begins : BeginsWithSurvey (text_command text input) input
@@ -47,8 +46,8 @@ module _ (text : List ℕ → SurveyFields → List ℕ) (input : List ℕ) wher
     first = refl;
     names = refl;
     absent = λ f is. ap (input_text text) is;
-    refused = λ f bytes fault held is. gives_survey f bytes (Err fault) held is;
-    takes = λ f bytes s held is. rw (gives_survey f bytes (Ok s) held is) tt;
+    refused = λ f bytes fault held is. gives_survey f held is;
+    takes = λ f bytes s held is. rw (gives_survey f held is) tt;
   }
 
   -- ---- a file without fault, with this text
@@ -102,7 +101,7 @@ module _ (text : List ℕ → SurveyFields → List ℕ) (input : List ℕ) wher
             → (made : Made) → ok_made made_of ≡ ok_made made
             → MakesStreams (text_command text input) f made
         none_written f bytes holds sound made e =
-            rw (← (made-same made_of made e))
+            rw (← (made-same e))
             (record { sources = ((bytes, holds, sound), tt); streams = tt })
 
         at : (fs : Files) → IsFileThere fs input
@@ -111,16 +110,16 @@ module _ (text : List ℕ → SurveyFields → List ℕ) (input : List ℕ) wher
             → HoldsStreams (text_command text input) fs
         at (Untold touched) there is g = tt
         at (Told f) there is g =
-            let held = there_holds f input there in
-            let parts = survey_of-parts held.0 most_frames s (is held.0 held.1) in
+            let held = there_holds f there in
+            let parts = survey_of-parts held.0 most_frames (is held.0 held.1) in
             λ made e. none_written f held.0 held.1 (
               s,
-              survey_fields-allowed held.0 most_frames (length held.0 + 1) s (omega arith) parts.1,
+              survey_fields-allowed held.0 most_frames (omega arith) parts.1,
             ) made (sym g ∙ e)
 
     -- the text of the command is this one
-    only_text : (told : List ℕ) → IsCommandText (text_command text input) files told → said ≡ told
-    only_text told h = grind arith
+    only_text : {told : List ℕ} → IsCommandText (text_command text input) files told → said ≡ told
+    only_text h = grind arith
 
     -- all of the text was sent or, if a write failed, a prefix
     pub says : {T : Type 0} (old new : Heard) (result : Result T EditFault)
@@ -133,9 +132,9 @@ module _ (text : List ℕ → SurveyFields → List ℕ) (input : List ℕ) wher
 -- ---- a call that is refused before anything is sent
 
 -- a run that the survey refuses: nothing was sent, and the files stay
-pub refused_run : (text : List ℕ → SurveyFields → List ℕ) (input : List ℕ) (old new : Seen)
-    (heard : Heard) (answer : Result (Unit {0}) EditFault) (fault : EditFault)
+pub refused_run : (text : List ℕ → SurveyFields → List ℕ) {input : List ℕ} {old new : Seen}
+    (heard : Heard) {answer : Result (Unit {0}) EditFault} (fault : EditFault)
     → IsErrAnd answer (λ y. y ≡ fault) → IsCommandFault (text_command text input) old new fault
     → HasSurveyNumbers 0 fault → new.files ≡ old.files → OnlyReads old.counts new.counts
     → IsTextRun (text_command text input) old new heard heard answer
-refused_run text input old new heard answer fault is left of files counts = grind arith
+refused_run text heard fault is left of files counts = grind arith

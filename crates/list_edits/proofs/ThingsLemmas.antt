@@ -26,7 +26,7 @@ frames_rise from to number [] laid = tt
 frames_rise from to number (r ∷ rows) laid =
     let size = length_of (class_of r.header) r.header.slot in (
       laid.0,
-      rises_from offset_of r.offset (r.offset + size) (frames_from (number + 1) rows) (omega arith)
+      rises_from offset_of (frames_from (number + 1) rows) (omega arith)
           (frames_rise (r.offset + size) to (number + 1) rows laid.2),
     )
 
@@ -35,9 +35,9 @@ head_rises : (first : ℕ) (head : Option Head) (ts : List Thing) → RisesBy of
 head_rises first head ts rises = grind arith
 
 -- the junk, the head and the frames are in order of offset
-pub stream_rises : (s : SurveyFields) → IsSurveyLaidOut s
+pub stream_rises : {s : SurveyFields} → IsSurveyLaidOut s
     → RisesBy offset_of s.junk (stream_things s)
-stream_rises s laid =
+stream_rises {s} laid =
     grind (
       arith,
       head_rises s.first s.head (frames_from 0 s.frames) (frames_rise s.first s.length 0
@@ -47,11 +47,11 @@ stream_rises s laid =
     )
 
 -- in order, the things are the blocks merged with the others
-pub ordered_things-is : (s : SurveyFields) → IsSurveyLaidOut s
+pub ordered_things-is : {s : SurveyFields} → IsSurveyLaidOut s
     → ordered_things (things_of s) ≡ merged_list offset_of (map Block s.blocks) (stream_things s)
 unfolding things_of
-ordered_things-is s laid = ordered_both offset_of (map Block s.blocks)
-    (stream_things s) 0 s.junk (blocks_rise 0 s.length s.blocks laid.blocks) (stream_rises s laid)
+ordered_things-is {s} laid = ordered_both offset_of (map Block s.blocks)
+    (stream_things s) 0 s.junk (blocks_rise 0 s.length s.blocks laid.blocks) (stream_rises laid)
 
 -- ---- the walk
 
@@ -59,24 +59,24 @@ from_frames : (at number : ℕ) (rows : List Row) → IsFirstFrom (λ (r : Row).
     → IsFirstFrom offset_of at (frames_from number rows)
 from_frames at number rows from = grind arith
 
-from_leading : (at least : ℕ) (ts us : List Thing) → IsLeadingOffset (Some at) ts → least ≤ at
+from_leading : {at least : ℕ} (ts us : List Thing) → IsLeadingOffset (Some at) ts → least ≤ at
     → IsFirstFrom offset_of least (ts ++ us)
-from_leading at least ts us is le = grind arith
+from_leading ts us is le = grind arith
 
 module _ (old new : Things) where
   -- a block is met
-  block_first : (piece : Piece) → leading_things new ≡ leading_things old
+  block_first : {piece : Piece} → leading_things new ≡ leading_things old
       → PassesFirst piece old.others new.others
       → IsFirstFrom offset_of piece.offset (leading_things old ++ frames_left old)
       → things_left old ≡ Block piece ∷ things_left new
   unfolding things_left
-  block_first piece same passes from = grind (arith, merged_own)
+  block_first same passes from = grind (arith, merged_own)
 
   -- a block is met while the junk or the head is left
-  pub block_met : (piece : Piece) (at : ℕ) → leading_things new ≡ leading_things old
+  pub block_met : {piece : Piece} {at : ℕ} → leading_things new ≡ leading_things old
       → PassesFirst piece old.others new.others → IsLeadingOffset (Some at) (leading_things old)
       → piece.offset ≤ at → things_left old ≡ Block piece ∷ things_left new
-  block_met piece at same passes is le = grind (arith, block_first, from_leading)
+  block_met same passes is le = grind (arith, block_first, from_leading)
 
   -- the junk or the head is met
   pub leading_things-met : (result : Option Thing) (at : ℕ)
@@ -90,17 +90,17 @@ module _ (old new : Things) where
 
   module _ (none : leading_things old ≡ []) (none_now : leading_things new ≡ []) where
     -- a frame is met
-    pub frame_met : (row : Row) → PassesSecond row old.others new.others
+    pub frame_met : {row : Row} → PassesSecond row old.others new.others
         → IsFirstAfter (λ (p : Piece). p.offset) row.offset (firsts_left old.others)
         → things_left old ≡ Frame old.others.next_second row ∷ things_left new
     unfolding things_left
-    frame_met row passes after = grind (arith, merged_other, after_map)
+    frame_met passes after = grind (arith, merged_other, after_map)
 
     -- a block before which no other thing comes is the next
-    pub block_alone : (piece : Piece) → PassesFirst piece old.others new.others
+    pub block_alone : {piece : Piece} → PassesFirst piece old.others new.others
         → IsFirstFrom (λ (r : Row). r.offset) piece.offset (seconds_left old.others)
         → things_left old ≡ Block piece ∷ things_left new
-    block_alone piece passes from = grind (arith, block_first, from_frames)
+    block_alone passes from = grind (arith, block_first, from_frames)
 
 -- if nothing leads and both lists are at their ends, nothing is left
 pub none_met : (t : Things) → leading_things t ≡ [] → firsts_left t.others ≡ []

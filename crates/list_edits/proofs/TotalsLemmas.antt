@@ -33,13 +33,13 @@ pub record AreBefore (rows rest : List Row) (h : HeaderTotals) (s : SideTotals) 
   pub right : joined_extremes s.right (extremes_of 1 rest) ≡ extremes_of 1 rows
 
 -- before the first frame all frames are left
-all-left : (rows : List Row) (first : Row) (rate : ℕ) → slice_get rows 0 ≡ Some first
+all-left : {rows : List Row} {first : Row} {rate : ℕ} → slice_get rows 0 ≡ Some first
     → rate ≡ row_rate first → AreBefore rows rows (no_headers rate) no_sides
-all-left rows first rate is same = record {
+all-left {rows} {first} is same = record {
   areas = omega arith;
   lengths = omega arith;
-  least = ap (λ (n : ℕ). fold min n (row_rates rows)) same ∙ least-again rows first is;
-  greatest = ap (λ (n : ℕ). fold max n (row_rates rows)) same ∙ greatest-again rows first is;
+  least = ap (λ (n : ℕ). fold min n (row_rates rows)) same ∙ least-again rows is;
+  greatest = ap (λ (n : ℕ). fold max n (row_rates rows)) same ∙ greatest-again rows is;
   lost = omega arith;
   main_data = omega arith;
   left = refl;
@@ -47,19 +47,19 @@ all-left rows first rate is same = record {
 }
 
 -- the totals before the first frame
-pub at-first : (rows : List Row) (first : Row) (rate : ℕ) (h : HeaderTotals) (s : SideTotals)
+pub at-first : {rows : List Row} {first : Row} {rate : ℕ} {h : HeaderTotals} {s : SideTotals}
     → 0 < length rows → first ≡ get_or rows 0 first → rate ≡ row_rate first → h ≡ no_headers rate
     → s ≡ no_sides → AreBefore rows rows h s
-at-first rows first rate h s some is same header side =
+at-first {rows} {first} {rate} some is same header side =
     let there = slice_get_read rows (length rows) 0 first refl some is in
-    let all = all-left rows first rate there same in
+    let all = all-left there same in
     rw header (rw side all)
 
 -- ---- one more frame
 
-sum-more : (f : Row → ℕ) (row : Row) (rest : List Row) (so_far all : ℕ)
+sum-more : (f : Row → ℕ) (row : Row) (rest : List Row) (so_far : ℕ) {all : ℕ}
     → so_far + sum_by f (row ∷ rest) ≡ all → (so_far + f row) + sum_by f rest ≡ all
-sum-more f row rest so_far all is = grind (arith, sum_by-cons)
+sum-more f row rest so_far is = grind (arith, sum_by-cons)
 
 lost-cons : (row : Row) (rest : List Row)
     → lost_count (row ∷ rest) ≡ (if row.lost then 1 else 0) + lost_count rest
@@ -75,28 +75,28 @@ gains-more : (channel : ℕ) (row : Row) (rest : List Row) (so_far : Option Gain
     ≡ joined_extremes so_far (extremes_of channel (row ∷ rest))
 gains-more channel row rest so_far = grind (arith, joined_extremes-assoc, extremes-cons)
 
-before-more : (rows rest : List Row) (row : Row) (h : HeaderTotals) (s : SideTotals)
+before-more : {rows rest : List Row} {row : Row} {h : HeaderTotals} {s : SideTotals}
     → AreBefore rows (row ∷ rest) h s
     → AreBefore rows rest (with_header row.header h) (with_side row s)
-before-more rows rest row h s before = record {
-  areas = sum-more (λ (r : Row). own_area r.header) row rest _ _ before.areas;
-  lengths = sum-more (λ (r : Row). header_frame_length r.header) row rest _ _ before.lengths;
+before-more {rest = rest} {row = row} {s = s} before = record {
+  areas = sum-more (λ (r : Row). own_area r.header) row rest _ before.areas;
+  lengths = sum-more (λ (r : Row). header_frame_length r.header) row rest _ before.lengths;
   least = before.least;
   greatest = before.greatest;
   lost = grind (arith, lost-cons);
-  main_data = sum-more row_main_data row rest _ _ before.main_data;
+  main_data = sum-more row_main_data row rest _ before.main_data;
   left = gains-more 0 row rest s.left ∙ before.left;
   right = gains-more 1 row rest s.right ∙ before.right;
 }
 
 -- the totals before the next frame, with what this one adds
-pub before-next : (rows : List Row) (i : ℕ) (row : Row) (h g : HeaderTotals) (s t : SideTotals)
+pub before-next : {rows : List Row} (i : ℕ) {row : Row} {h g : HeaderTotals} {s t : SideTotals}
     → drop i rows ≡ row ∷ drop (i + 1) rows → g ≡ with_header row.header h → t ≡ with_side row s
     → AreBefore rows (drop i rows) h s → AreBefore rows (drop (i + 1) rows) g t
-before-next rows i row h g s t next header side before =
+before-next {rows} i {row} {h} {s = s} next header side before =
     let rest = drop (i + 1) rows in
     let now = rw next at before in
-    let more = before-more rows rest row h s now in
+    let more = before-more now in
     rw header (rw side more)
 
 -- ---- what a frame adds with its side information
@@ -118,7 +118,7 @@ with-lost row s is =
     }) (none s.left) (none s.right))
 
 -- what any other frame adds
-pub with-sound : (row : Row) (s : SideTotals) (bytes : ℕ) (left right : Option Gains)
+pub with-sound : (row : Row) (s : SideTotals) {bytes : ℕ} {left right : Option Gains}
     → row.lost ≡ false → bytes ≡ payload_bytes row.side → left ≡ extremes (side_gains 0 row.side)
     → right ≡ extremes (side_gains 1 row.side)
     → record {
@@ -127,7 +127,7 @@ pub with-sound : (row : Row) (s : SideTotals) (bytes : ℕ) (left right : Option
       left = joined_extremes s.left left;
       right = joined_extremes s.right right;
     } ≡ with_side row s
-with-sound row s bytes left right is p q r =
+with-sound row s {left = left} {right = right} is p q r =
     let zero : s.lost ≡ s.lost + 0 = omega arith in
     rw (is, p, q, r)
     (ap (λ n. record {
@@ -140,24 +140,24 @@ with-sound row s bytes left right is p q r =
 -- ---- the frames of a survey
 
 -- all frames have the class of the survey
-pub classed : (s : SurveyFields) → IsSurveyLaidOut s → (rows : List Row) (class : ClassFields)
+pub classed : {s : SurveyFields} → IsSurveyLaidOut s → {rows : List Row} {class : ClassFields}
     → rows ≡ s.frames → class ≡ s.class → AreFramesOfClass class rows
-classed s laid rows class same is = grind (arith, out_classed)
+classed laid same is = grind (arith, out_classed)
 
 -- ---- no frame is left
 
 none-moves : (channel : ℕ) → extremes_of channel [] ≡ None
 none-moves channel = ap extremes (moving-nil channel) ∙ extremes-nil
 
-gains-all : (channel : ℕ) (so_far all : Option Gains)
+gains-all : (channel : ℕ) {so_far all : Option Gains}
     → joined_extremes so_far (extremes_of channel []) ≡ all → so_far ≡ all
-gains-all channel so_far all is = grind (arith, joined_extremes-None, none-moves)
+gains-all channel is = grind (arith, joined_extremes-None, none-moves)
 
 -- once no frame is left, these are the totals of all frames
-pub all-met : (rows : List Row) (h : HeaderTotals) (s : SideTotals) → AreBefore rows [] h s
+pub all-met : {rows : List Row} {h : HeaderTotals} {s : SideTotals} → AreBefore rows [] h s
     → h.areas ≤ 1441 * length rows → h.lengths ≤ 1441 * length rows
     → AreTotals rows (record { headers = h; sides = s })
-all-met rows h s before few_areas few_lengths = record {
+all-met {s = s} before few_areas few_lengths = record {
   areas = omega (arith, before.areas);
   few_areas = few_areas;
   lengths = omega (arith, before.lengths);
@@ -166,6 +166,6 @@ all-met rows h s before few_areas few_lengths = record {
   greatest_rate = before.greatest;
   lost = omega (arith, before.lost);
   main_data = omega (arith, before.main_data);
-  left = gains-all 0 s.left _ before.left;
-  right = gains-all 1 s.right _ before.right;
+  left = gains-all 0 before.left;
+  right = gains-all 1 before.right;
 }

@@ -18,9 +18,9 @@ use Rattle.sync_survey.specs.declared.places.{Head.Head, Piece.Piece, PlacedFram
 use Rattle.sync_survey.specs.declared.{places.Start.Start, runs.Region.TheVariants.{Front, Stream}}
 use Rattle.sync_survey.specs.declared.survey_fault.SurveyFault.{SurveyFault}
 
-some_frames : (file : List ℕ) (frames : List PlacedFrame) (o : Option SurveyFault)
+some_frames : (file : List ℕ) {frames : List PlacedFrame} (o : Option SurveyFault)
     → end_fault file frames o ≡ None → frames ≡ [] → ⊥
-some_frames file frames o e none = grind arith
+some_frames file o e none = grind arith
 
 -- the blocks of concatenated items are the blocks of the first items, then of the others
 pub blocks-append : (ps qs : List PlacedItem) → blocks_of (ps ++ qs) ≡ blocks_of ps ++ blocks_of qs
@@ -44,7 +44,7 @@ module _ (file : List ℕ) (allowed : ℕ) (start : Start) (read : IsRead file a
   rest = frames_of (later_run file start).items
 
   has : HasStream file start
-  has = has_stream file allowed start read
+  has = has_stream read
 
   -- all bytes are items
   pub items-end : AreEndToEnd Stream file 0 items (length file)
@@ -81,7 +81,7 @@ module _ (file : List ℕ) (allowed : ℕ) (start : Start) (read : IsRead file a
   split_by None is =
       let none : find is_tag (blocks_of items) ≡ None = ap (find is_tag) items-blocks ∙ is in
       let split =
-      split-last file (length file) 0 items start.first rest items-end items-frames none in
+      split-last file (length file) 0 items items-end items-frames none in
       let long : tag_length s ≡ 0 = rw is refl in
       let last : tag_offset s ≡ stop_of (final start.first rest) =
       grind (arith, frames-is, last-told, some_frames, frames_from) in

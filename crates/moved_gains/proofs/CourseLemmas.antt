@@ -15,21 +15,21 @@ use Rattle.sync_survey.specs.Walk.{numbered_frames, stream_run}
 
 -- ---- frames at rising offsets
 
-before : (row : Row) (rows : List Row) (at : ℕ) → row.offset < at
+before : (row : Row) (rows : List Row) {at : ℕ} → row.offset < at
     → number_at (row ∷ rows) at ≡ suc (number_at rows at)
-before row rows at low = grind (arith, lt-ltb)
+before row rows low = grind (arith, lt-ltb)
 
-behind : (row : Row) (rows : List Row) (at : ℕ) → at ≤ row.offset
+behind : (row : Row) (rows : List Row) {at : ℕ} → at ≤ row.offset
     → number_at (row ∷ rows) at ≡ number_at rows at
-behind row rows at high = grind (arith, le-ltb)
+behind row rows high = grind (arith, le-ltb)
 
 -- no frame is before an offset that isn't after the first
-none_before : (at from : ℕ) (rows : List Row) → at ≤ from → AreRising from rows
+none_before : {at from : ℕ} (rows : List Row) → at ≤ from → AreRising from rows
     → number_at rows at ≡ 0
-none_before at from [] low rise = refl
-none_before at from (row ∷ rows) low rise =
-    behind row rows at (omega (arith, low, rise.0))
-    ∙ none_before at (suc row.offset) rows (omega (arith, low, rise.0)) rise.1
+none_before [] low rise = refl
+none_before {at} (row ∷ rows) low rise =
+    behind row rows (omega (arith, low, rise.0))
+    ∙ none_before rows (omega (arith, low, rise.0)) rise.1
 
 -- the number of a frame in order is its place
 pub rising_numbered : (from : ℕ) (rows : List Row) → AreRising from rows → AreRowsNumbered rows
@@ -52,55 +52,55 @@ laid_rising from [] to known laid = tt
 laid_rising from (row ∷ rows) to known laid =
     let next = row.offset + length_of (class_of row.header) row.header.slot in (
       laid.0,
-      rising_less (suc row.offset) next rows (omega (arith, some_bytes row (known 0 row refl)))
+      rising_less rows (omega (arith, some_bytes row (known 0 row refl)))
           (laid_rising next rows to (λ i r is. known (suc i) r is) laid.2),
     )
 
 -- there are at most as many frames as bytes
-laid_few : (from : ℕ) (rows : List Row) (to : ℕ) → AreKnown rows → FramesAreLaid from rows to
+laid_few : (from : ℕ) (rows : List Row) {to : ℕ} → AreKnown rows → FramesAreLaid from rows to
     → from + length rows ≤ to
-laid_few from [] to known laid = omega (arith, laid)
-laid_few from (row ∷ rows) to known laid =
+laid_few from [] known laid = omega (arith, laid)
+laid_few from (row ∷ rows) {to} known laid =
     omega (
       arith,
       laid.0,
       some_bytes row (known 0 row refl),
-      laid_few (row.offset + length_of (class_of row.header) row.header.slot) rows to
+      laid_few (row.offset + length_of (class_of row.header) row.header.slot) rows
           (λ i r is. known (suc i) r is) laid.2,
     )
 
 -- the frames of a survey that is laid out are in order
-pub out_rising : (s : SurveyFields) → IsSurveyLaidOut s → AreRising s.first s.frames
-out_rising s laid =
+pub out_rising : {s : SurveyFields} → IsSurveyLaidOut s → AreRising s.first s.frames
+out_rising {s} laid =
     laid_rising s.first s.frames s.length (λ i row is. (laid.placed i row is).known) laid.frames
 
 -- the number of a frame of a survey that is laid out is its place
-pub out_numbered : (s : SurveyFields) → IsSurveyLaidOut s → AreRowsNumbered s.frames
-out_numbered s laid = rising_numbered s.first s.frames (out_rising s laid)
+pub out_numbered : {s : SurveyFields} → IsSurveyLaidOut s → AreRowsNumbered s.frames
+out_numbered {s} laid = rising_numbered s.first s.frames (out_rising laid)
 
 -- the frames of a survey that is laid out are of its class
-pub out_classed : (s : SurveyFields) → IsSurveyLaidOut s → AreFramesOfClass s.class s.frames
-out_classed s laid i row is = (laid.placed i row is).class_is
+pub out_classed : {s : SurveyFields} → IsSurveyLaidOut s → AreFramesOfClass s.class s.frames
+out_classed laid i row is = (laid.placed i row is).class_is
 
 -- a survey that is laid out has at most as many frames as bytes
-pub out_few : (s : SurveyFields) → IsSurveyLaidOut s → length s.frames ≤ s.length
-out_few s laid = omega (
+pub out_few : {s : SurveyFields} → IsSurveyLaidOut s → length s.frames ≤ s.length
+out_few {s} laid = omega (
   arith,
-  laid_few s.first s.frames s.length (λ i row is. (laid.placed i row is).known) laid.frames,
+  laid_few s.first s.frames (λ i row is. (laid.placed i row is).known) laid.frames,
 )
 
 -- the steps of frame i are the steps at its offset
-pub frame_steps : (course : Course) (rows : List Row) (i : ℕ) (row : Row) → AreRowsNumbered rows → i
+pub frame_steps : (course : Course) (rows : List Row) {i : ℕ} {row : Row} → AreRowsNumbered rows → i
     < length rows → row ≡ get_or rows i row
     → steps_at_offset course rows row.offset ≡ course_steps course i
-frame_steps course rows i row numbered_frames within is = grind (arith, slice_get_read)
+frame_steps course rows numbered_frames within is = grind (arith, slice_get_read)
 
 -- the number of a frame of a surveyed file is its place
-pub survey_numbered : (file : List ℕ) (allowed : ℕ) (s : SurveyFields)
+pub survey_numbered : (file : List ℕ) (allowed : ℕ) {s : SurveyFields}
     → survey_fields file allowed ≡ Ok s → AreRowsNumbered s.frames
-survey_numbered file allowed s e =
-    let is = survey_fields-is file allowed s e in
-    let walk = walked file allowed s is in
+survey_numbered file allowed {s} e =
+    let is = survey_fields-is e in
+    let walk = walked is in
     let frames =
     rows_of file (numbered_frames s.head (frames_of (stream_run file is.start).items)) in
     subst AreRowsNumbered (sym walk.frames_are)

@@ -7,7 +7,7 @@ use Rattle.bit_fields.{proofs.BitsLemmas.{AreBelow-drop, AreBelow-take}, specs.B
 use Rattle.frame_header.specs.Fields.{HeaderFields}
 use Rattle.moved_gains.proofs.ImageLemmas.{AreImages, image_moved}
 use Rattle.moved_gains.proofs.MovedFrameLemmas.{IsWhole, moved_whole, whole_item}
-use Rattle.moved_gains.specs.Edited.{moved_frame_unless_lost, moved_item, moved_items}
+use Rattle.moved_gains.specs.Edited.{moved_item, moved_items}
 use Rattle.requests.specs.declared.shift.Steps.{Steps}
 use Rattle.sync_survey.proofs.ItemBytesLemmas.{frame-least, header_front-four, IsItem, kept_item}
 use Rattle.sync_survey.proofs.ItemListLemmas.{AreItems, items_of}
@@ -22,16 +22,16 @@ use Rattle.sync_survey.specs.declared.runs.Region.TheVariants.{Stream}
 -- ---- one item
 
 -- the bytes of a whole frame of a file are a whole frame
-pub frame_whole : (file : List ℕ) (at : ℕ) (h : HeaderFields) → AreBytes file
+pub frame_whole : (file : List ℕ) (at : ℕ) {h : HeaderFields} → AreBytes file
     → item_at file at ≡ Frame h → at + size_of (Frame h) ≤ length file
     → IsWhole h (take (size_of (Frame h)) (drop at file))
-frame_whole file at h all is within =
+frame_whole file at {h} all is within =
     let bytes = drop at file in
     let size = size_of (Frame h) in
     let header = stands-at file at (Frame h) is in
     record {
       header = header_front-four (take size bytes) bytes
-          (take-take 4 size bytes (frame-least h (header_front-in_range bytes h header))) ∙ header;
+          (take-take 4 size bytes (frame-least (header_front-in_range bytes header))) ∙ header;
       size = length-take-le size bytes (omega (arith, within, length-drop at file));
       all = AreBelow-take 256 size bytes (AreBelow-drop 256 at file all);
     }
@@ -42,8 +42,8 @@ pub moved_own : (steps : Steps) (lost : Bool) (file : List ℕ) (at : ℕ) (item
     → IsItem item (moved_item steps lost item (take (size_of item) (drop at file)))
 moved_own steps lost file at (Frame h) all is belongs within =
     let frame = take (size_of (Frame h)) (drop at file) in
-    whole_item h (moved_frame_unless_lost lost steps h frame)
-    (moved_whole lost steps h frame (frame_whole file at h all is within)).whole
+    whole_item
+    (moved_whole lost steps (frame_whole file at all is within)).whole
 moved_own steps lost file at (Block b) all is belongs within =
     kept_item file at (Block b) is belongs within
 moved_own steps lost file at Zero all is belongs within = kept_item file at Zero is belongs within
@@ -94,8 +94,8 @@ module _ (steps : ℕ → Steps) (lost : ℕ → Bool) (file new : List ℕ) (ga
       → AreMovedAt frames → AreMovedAt (cons_option (frame_of_item at item) frames)
   frame_more at (Frame h) rest frames all is within stands later =
       let p : PlacedFrame = record { offset = at; header = h } in (
-        image_moved (λ at. at - gap) steps lost file new p rest
-            (frame_whole file at h all is within) stands,
+        image_moved (λ at. at - gap) steps lost file new rest
+            (frame_whole file at all is within) stands,
         later,
       )
   frame_more at _ rest frames all is within stands later = later

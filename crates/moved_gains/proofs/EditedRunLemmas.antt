@@ -96,7 +96,7 @@ module _ (steps : ℕ → Steps) (file : List ℕ) (allowed : ℕ) (start : Star
   head = head_of file start.first
 
   has : HasStream file start
-  has = has_stream file allowed start read
+  has = has_stream read
 
   -- ---- the runs of the file
 
@@ -133,15 +133,14 @@ module _ (steps : ℕ → Steps) (file : List ℕ) (allowed : ℕ) (start : Star
 
   -- the first frame is whole
   pub first_frame : IsWhole h (frame_bytes file start.first)
-  first_frame = frame_whole file first h all has.first.is has.first.within
+  first_frame = frame_whole file first all has.first.is has.first.within
 
   own_moved : IsMoved (first_stays lost start.first head) (steps first) h
       (frame_bytes file start.first) own
-  own_moved = moved_whole (first_stays lost start.first head) (steps first) h
-      (frame_bytes file start.first) first_frame
+  own_moved = moved_whole (first_stays lost start.first head) (steps first) first_frame
 
   own_item : IsItem (Frame h) own
-  own_item = whole_item h own own_moved.whole
+  own_item = whole_item own_moved.whole
 
   before_are : AreItems Front (items_of front.items) before
   before_are = kept_items Front file 0 front.items front.stop front_ends
@@ -159,7 +158,7 @@ module _ (steps : ℕ → Steps) (file : List ℕ) (allowed : ℕ) (start : Star
   pub before_long : length before ≡ front_end
   before_long = omega (
     arith,
-    items-length Front file 0 front.items front.stop before front_ends before_are,
+    items-length Front file 0 front.items before front_ends before_are,
     has.front,
   )
 
@@ -176,7 +175,7 @@ module _ (steps : ℕ → Steps) (file : List ℕ) (allowed : ℕ) (start : Star
         length-append {A = ℕ},
         before_long,
         own_item.size,
-        items-length Stream file (first + size) later.items later.stop after later_ends after_are,
+        items-length Stream file (first + size) later.items after later_ends after_are,
         has.stop,
         has.low,
         has.first.within,
@@ -198,9 +197,9 @@ module _ (steps : ℕ → Steps) (file : List ℕ) (allowed : ℕ) (start : Star
       let same : placed 0 (items_of front.items) ≡ front.items =
       placed-nearer Front file 0 0 0 front.items front.stop front_ends (omega arith)
       ∙ nearer-none front.items in
-      items-item_run Front new_file 0 (items_of front.items) before (own ++ after) before_are
+      items-item_run Front new_file (items_of front.items) before (own ++ after) before_are
       (omega arith) new-is
-      (not_in_front new_file (0 + length before) h (ap (item_at new_file) stop ∙ new_first))
+      (not_in_front new_file (0 + length before) (ap (item_at new_file) stop ∙ new_first))
       ∙ (λ i. record { items = same i; stop = stop i })
 
   -- the stream of the edited file has the same items, nearer by the junk
@@ -214,7 +213,7 @@ module _ (steps : ℕ → Steps) (file : List ℕ) (allowed : ℕ) (start : Star
       let same : placed front_end (items_of items) ≡ map (nearer gap) items =
       placed-nearer Stream file gap first front_end items later.stop ends
       (omega (arith, has.low)) in
-      items-item_run Stream new_file front_end (items_of items) (own ++ after) []
+      items-item_run Stream new_file (items_of items) (own ++ after) []
       (own, after, refl, own_item, refl, after_are) (omega (arith, new_room))
       (new-stands ∙ sym (append-nil (own ++ after)))
       (whole_item_at-past Stream new_file (front_end + length (own ++ after)) (omega (arith, long)))
@@ -247,7 +246,7 @@ module _ (steps : ℕ → Steps) (file : List ℕ) (allowed : ℕ) (start : Star
       → drop front_end new_file ≡ first_bytes steps lost file start.first o ++ after → AreMovedAt
       steps lost file new_file gap (numbered_frames o (start.first ∷ frames_of later.items))
   moved_by None is = (
-    image_moved (λ at. at - gap) steps lost file new_file start.first after first_frame
+    image_moved (λ at. at - gap) steps lost file new_file after first_frame
         (ap (λ n. drop n new_file) place ∙ is),
     later_moved,
   )
@@ -262,7 +261,7 @@ module _ (steps : ℕ → Steps) (file : List ℕ) (allowed : ℕ) (start : Star
       new_file start.first
   first_image =
       image_moved (λ at. at - gap) steps (λ at. first_stays lost start.first head) file new_file
-      start.first after first_frame (ap (λ n. drop n new_file) place ∙ new-stands)
+      after first_frame (ap (λ n. drop n new_file) place ∙ new-stands)
 
   -- it is a head if the first frame is one
   pub new-head : head_of new_file (moved_start start).first ≡ option_map (nearer_head gap) head

@@ -26,13 +26,13 @@ use Rattle.sync_survey.specs.declared.runs.Region.TheVariants.{Front, Stream}
 abbrev same_block : Piece → Piece
 same_block b = b
 
-before_first : (first gap : ℕ) (b : Piece) → b.offset < first
+before_first : {first : ℕ} (gap : ℕ) {b : Piece} → b.offset < first
     → edited_block first gap b ≡ same_block b
-before_first first gap b below = grind (arith, lt-ltb, nearer_piece)
+before_first gap below = grind (arith, lt-ltb, nearer_piece)
 
-behind_first : (first gap : ℕ) (b : Piece) → first ≤ b.offset
+behind_first : {first : ℕ} (gap : ℕ) {b : Piece} → first ≤ b.offset
     → edited_block first gap b ≡ nearer_piece gap b
-behind_first first gap b above = grind (arith, le-ltb, nearer_piece)
+behind_first gap above = grind (arith, le-ltb, nearer_piece)
 
 -- ---- the survey
 
@@ -79,12 +79,12 @@ module _ (steps : ℕ → Steps) (file : List ℕ) (allowed : ℕ) (start : Star
         offset = r.offset - gap;
         side = moved_side_unless_lost b (steps r.offset) r.side;
         lost = is_lost head rows i r;
-      }) (lost-at head start.first.offset rows (walk_rising file start head) i r is))
+      }) (lost-at head start.first.offset rows (walk_rising file start head) i is))
 
   -- nothing is at fault in the edited file
   pub new-read : IsRead new allowed (moved_start start)
-  new-read = read-image (λ at. at - gap) steps lost file new start (moved_start start) edited_image
-      allowed read
+  new-read =
+      read-image (λ at. at - gap) steps lost file new start (moved_start start) edited_image read
 
   blocks_same : all_blocks new (moved_start start)
       ≡ map (edited_block start.first.offset gap) (all_blocks file start)
@@ -92,17 +92,21 @@ module _ (steps : ℕ → Steps) (file : List ℕ) (allowed : ℕ) (start : Star
       let front = item_run Front file 0 in
       let stream = stream_run file start in
       let first = start.first.offset in
-      let has = has_stream file allowed start read in
+      let has = has_stream {file = file} {allowed = allowed} {start = start} read in
       let front_blocks : map (edited_block first gap) (blocks_of front.items)
       ≡ blocks_of front.items =
-      blocks-between Front (edited_block first gap) same_block file 0 first 0 front.items front.stop
-      (λ b above below. before_first first gap b below) (item_run-ends Front file 0) (omega arith)
+      blocks-between Front {f = edited_block first gap} {g = same_block} file
+      {low = 0} {high = first} 0 front.items {to = front.stop}
+      (λ b above below. before_first {first = first} gap {b = b} below) (item_run-ends Front file 0)
+      (omega arith)
       (omega (arith, has.low, has.front))
       ∙ map-id (blocks_of front.items) in
       let stream_blocks : map (edited_block first gap) (blocks_of stream.items)
       ≡ map (nearer_piece gap) (blocks_of stream.items) =
-      blocks-between Stream (edited_block first gap) (nearer_piece gap) file first stream.stop first
-      stream.items stream.stop (λ b above below. behind_first first gap b above)
+      blocks-between Stream {f = edited_block first gap} {g = nearer_piece gap} file
+      {low = first} {high = stream.stop} first
+      stream.items {to =
+      stream.stop} (λ b above below. behind_first {first = first} gap {b = b} above)
       (item_run-ends Stream file first)
       (omega arith) (omega arith) in
       new-blocks steps file allowed start all read
@@ -115,13 +119,13 @@ module _ (steps : ℕ → Steps) (file : List ℕ) (allowed : ℕ) (start : Star
   new-told = grind (arith, new-head, new-length, new-marked, blocks_same)
 
   survey_fields-from : survey_fields new allowed ≡ Ok (edited_survey steps (told_from file start))
-  survey_fields-from = survey_fields-told new allowed (moved_start start) new-read ∙ ap Ok new-told
+  survey_fields-from = survey_fields-told new-read ∙ ap Ok new-told
 
 -- the edited file has the survey of the file, with moved gains and without the junk
-pub survey_fields-edited_file : (steps : ℕ → Steps) (file : List ℕ) (allowed : ℕ) (s : SurveyFields)
+pub survey_fields-edited_file : (steps : ℕ → Steps) (file : List ℕ) (allowed : ℕ) {s : SurveyFields}
     → AreBytes file → survey_fields file allowed ≡ Ok s
     → survey_fields (edited_file steps file s) allowed ≡ Ok (edited_survey steps s)
-survey_fields-edited_file steps file allowed s all e =
-    let parts = survey_fields-parts file allowed s e in
+survey_fields-edited_file steps file allowed {s} all e =
+    let parts = survey_fields-parts e in
     subst (λ t. survey_fields (edited_file steps file t) allowed ≡ Ok (edited_survey steps t))
     parts.2 (survey_fields-from steps file allowed parts.0 all parts.1)

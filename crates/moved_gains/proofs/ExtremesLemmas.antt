@@ -61,9 +61,9 @@ extremes-cons channel row rows = grind (arith, moving-cons, joined_extremes-appe
 -- ---- what they are
 
 -- if there are no extreme gains, there are no gains
-pub extremes-None : (xs : List ℕ) → extremes xs ≡ None → xs ≡ []
+pub extremes-None : {xs : List ℕ} → extremes xs ≡ None → xs ≡ []
 unfolding extremes
-extremes-None xs e = grind arith
+extremes-None e = grind arith
 
 module _ (a x : ℕ) (xs : List ℕ) (n : ℕ) where
   min_there : (k : ℕ) → k < length (min a x ∷ xs) → slice_index_or (min a x ∷ xs) k n ≡ n
@@ -114,18 +114,18 @@ are_extremes : (a : ℕ) (xs : List ℕ)
 are_extremes a xs = grind (arith, least_there, greatest_there, between)
 
 -- if there are extreme gains, they are the least and the greatest
-pub extremes-Some : (xs : List ℕ) (g : Gains) → extremes xs ≡ Some g → AreExtremes xs g
+pub extremes-Some : (xs : List ℕ) {g : Gains} → extremes xs ≡ Some g → AreExtremes xs g
 unfolding extremes
-extremes-Some [] g e = absurd cc
-extremes-Some (x ∷ xs) g e = grind (arith, are_extremes x xs)
+extremes-Some [] e = absurd cc
+extremes-Some (x ∷ xs) e = grind (arith, are_extremes x xs)
 
 -- the two gains that a call returns are the least and the greatest
-pub some_extremes : (xs : List ℕ) (o : Option Gains) → o ≡ extremes xs → IfSome o (AreExtremes xs)
-some_extremes xs o is = grind (arith, extremes-Some)
+pub some_extremes : (xs : List ℕ) {o : Option Gains} → o ≡ extremes xs → IfSome o (AreExtremes xs)
+some_extremes xs is = grind (arith, extremes-Some)
 
 -- if a call returns no gains, there are none
-pub no_extremes : (xs : List ℕ) (o : Option Gains) → o ≡ extremes xs → IfNone o (xs ≡ [])
-no_extremes xs o is = grind (arith, extremes-None)
+pub no_extremes : (xs : List ℕ) {o : Option Gains} → o ≡ extremes xs → IfNone o (xs ≡ [])
+no_extremes xs is = grind (arith, extremes-None)
 
 -- ---- frame by frame
 
@@ -140,22 +140,21 @@ pub extremes-empty : (channel : ℕ) (rows : List Row) → None ≡ slice_get ro
 extremes-empty channel rows is = grind (arith, no_first, moving-nil, extremes-nil)
 
 -- the extreme gains from frame i on are those of frame i and of the frames after it, joined
-pub extremes-from : (channel : ℕ) (rows : List Row) (i : ℕ) (row : Row) → i < length rows
+pub extremes-from : (channel : ℕ) (rows : List Row) {i : ℕ} {row : Row} → i < length rows
     → row ≡ get_or rows i row → extremes_of channel (drop i rows)
     ≡ joined_extremes (extremes (row_gains channel row)) (extremes_of channel (drop (i + 1) rows))
-extremes-from channel rows i row lt is = grind (arith, drop_more, extremes-cons)
+extremes-from channel rows lt is = grind (arith, drop_more, extremes-cons)
 
 -- after the last frame what was found is all
-pub extremes-all : (channel : ℕ) (rows : List Row) (i : ℕ) (found : Option Gains) → length rows ≤ i
+pub extremes-all : (channel : ℕ) (rows : List Row) {i : ℕ} {found : Option Gains} → length rows ≤ i
     → extremes_of channel rows ≡ joined_extremes found (extremes_of channel (drop i rows))
     → extremes_of channel rows ≡ found
-extremes-all channel rows i found end is =
+extremes-all channel rows end is =
     grind (arith, drop_all, moving-nil, extremes-nil, joined_extremes-None)
 
 -- ---- the channels of frames
 
 -- the channels of a survey's frames are those of its class
-pub has_channel : (channel : ℕ) (s : SurveyFields) → IsSurveyLaidOut s → channel < s.class.channels
+pub has_channel : {channel : ℕ} {s : SurveyFields} → IsSurveyLaidOut s → channel < s.class.channels
     → HasChannel channel s.frames
-has_channel channel s laid below =
-    record { class = s.class; same = out_classed s laid; below = below }
+has_channel {s = s} laid below = record { class = s.class; same = out_classed laid; below = below }

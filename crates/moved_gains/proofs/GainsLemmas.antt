@@ -13,7 +13,7 @@ moved_at : (version : Version) (has : Bool) (steps : ℤ) (g : Granule)
 moved_at version has steps g fits = grind arith
 
 -- side information with moved gains still has its fields within their bits
-pub SideFits-moved_side : (c : ClassFields) (steps : Steps) (s : Side) → SideFits c s
+pub SideFits-moved_side : {c : ClassFields} (steps : Steps) {s : Side} → SideFits c s
     → SideFits c (moved_side steps s)
 unfolding moved_side
-SideFits-moved_side c steps s fits = grind (arith, granules_fit, moved_at)
+SideFits-moved_side steps fits = grind (arith, granules_fit, moved_at)

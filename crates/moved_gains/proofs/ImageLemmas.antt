@@ -32,8 +32,8 @@ use Rattle.sync_survey.specs.declared.places.{PlacedFrame.PlacedFrame, Start.Sta
 
 -- ---- the bytes of one frame
 
-frame_long : (h : HeaderFields) → IsHeader h → 6 ≤ length_of (class_of h) h.slot
-frame_long h header = grind (arith, area_some, IsClass-class_of, header)
+frame_long : {h : HeaderFields} → IsHeader h → 6 ≤ length_of (class_of h) h.slot
+frame_long header = grind (arith, area_some, IsClass-class_of, header)
 
 module _ (file : List ℕ) (p : PlacedFrame) (header : IsHeader p.header) where
   abbrev h : HeaderFields
@@ -44,15 +44,15 @@ module _ (file : List ℕ) (p : PlacedFrame) (header : IsHeader p.header) where
 
   -- the side information of a frame is in its own bytes
   pub own-side : side_in h (frame_bytes file p) ≡ side_in h bytes
-  own-side = side_in-take h (length_of (class_of h) h.slot) bytes (overhead-within h header)
+  own-side = side_in-take h bytes (overhead-within header)
 
   -- its check word too
   own-word : stored_crc (frame_bytes file p) ≡ stored_crc bytes
-  own-word = stored_crc-take (length_of (class_of h) h.slot) bytes (frame_long h header)
+  own-word = stored_crc-take bytes (frame_long header)
 
-  wrong_by : (b : Bool) (said right : ℕ) → (b && not (said == right)) ≡ false → b ≡ true
+  wrong_by : {b : Bool} {said right : ℕ} → (b && not (said == right)) ≡ false → b ≡ true
       → said ≡ right
-  wrong_by b said right none is = grind arith
+  wrong_by none is = grind arith
 
   -- a frame without a wrong check word has the right one or none
   pub own-right : has_wrong_crc (stored_crc bytes) (row_of file p) ≡ false
@@ -99,19 +99,19 @@ module _ (to : ℕ → ℕ) (steps : ℕ → Steps) (stays : ℕ → Bool) (file
   images-append (p ∷ ps) qs are more = (are.0, images-append ps qs are.1 more)
 
   -- a whole frame whose bytes are there with moved gains, unless it stays
-  pub image_moved : (p : PlacedFrame) (rest : List ℕ) → IsWhole p.header (frame_bytes file p)
+  pub image_moved : {p : PlacedFrame} (rest : List ℕ) → IsWhole p.header (frame_bytes file p)
       → drop (to p.offset) new ≡ moved_frame_unless_lost (stays p.offset) (steps p.offset) p.header
       (frame_bytes file p) ++ rest → IsImage p
-  image_moved p rest whole stands =
+  image_moved {p} rest whole stands =
       let h = p.header in
       let frame = frame_bytes file p in
       let size = length_of (class_of h) h.slot in
-      let moved = moved_whole (stays p.offset) (steps p.offset) h frame whole in
+      let moved = moved_whole (stays p.offset) (steps p.offset) whole in
       let same : frame_bytes new (frame_by to p)
       ≡ moved_frame_unless_lost (stays p.offset) (steps p.offset) h frame =
       grind (arith, take_at) in
       record {
-        header = header_front-in_range frame h whole.header;
+        header = header_front-in_range frame whole.header;
         whole = λ all. whole;
         bytes = same;
         side = ap (side_in h) same ∙ moved.side;
@@ -138,7 +138,7 @@ module _ (to : ℕ → ℕ) (steps : ℕ → Steps) (stays : ℕ → Bool) (file
     -- its area is the same
     pub area-image : area_bytes new (to p.offset) p.header ≡ area_bytes file p.offset p.header
     area-image =
-        let room = overhead-within p.header image.header in
+        let room = overhead-within image.header in
         area-frame new (frame_by to p) room ∙ image.area ∙ sym (area-frame file p room)
 
   rows-image : (ps : List PlacedFrame) → AreImages ps
@@ -147,13 +147,13 @@ module _ (to : ℕ → ℕ) (steps : ℕ → Steps) (stays : ℕ → Bool) (file
   rows-image (p ∷ ps) are = grind (arith, row-image, rows-image ps are.1)
 
   words-image : (ps : List PlacedFrame) → AreImages ps → AreRight file (rows_of file ps) → (i : ℕ)
-      (r : Row) → slice_get (rows_of file ps) i ≡ Some r
+      {r : Row} → slice_get (rows_of file ps) i ≡ Some r
       → has_wrong_crc (stored_crc (drop (to r.offset) new)) (image_row to steps stays r) ≡ false
-  words-image [] are right i r is = absurd cc
-  words-image (p ∷ ps) are right zero r is =
+  words-image [] are right i is = absurd cc
+  words-image (p ∷ ps) are right zero is =
       grind (arith, word-image p are.0 (right 0 (row_of file p) refl), right 0 (row_of file p) refl)
-  words-image (p ∷ ps) are right (suc i) r is =
-      words-image ps are.1 (λ i r is. right (suc i) r is) i r is
+  words-image (p ∷ ps) are right (suc i) {r} is =
+      words-image ps are.1 (λ i r is. right (suc i) r is) i is
 
   areas-image : (ps : List PlacedFrame) → AreImages ps
       → flat_map (λ (r : Row). area_bytes new (to r.offset) r.header) (rows_of file ps)
@@ -244,8 +244,8 @@ module _ (to : ℕ → ℕ) (steps : ℕ → Steps) (stays : ℕ → Bool) (file
   rows_there = grind (arith, rows-image, frames_from)
 
   -- it is without fault if the file is
-  pub read-image : (allowed : ℕ) → IsRead file allowed start → IsRead new allowed there
-  read-image allowed read =
+  pub read-image : {allowed : ℕ} → IsRead file allowed start → IsRead new allowed there
+  read-image {allowed} read =
       let sound = all_faults-none_sound file head (class_from start) allowed rows read.frames in
       let stop = (stream_run new there).stop in
       let nothing : drop stop new ≡ [] = drop_all stop new image.past in
@@ -256,7 +256,7 @@ module _ (to : ℕ → ℕ) (steps : ℕ → Steps) (stays : ℕ → Bool) (file
             ∙ sound-no_all_faults new far_head (class_from start) allowed
             (map (image_row to steps stays) rows)
             (sound-image to steps stays head rows (rows_shaped file (frames_from file start)) file
-            new (class_from start) allowed
+            new
             (words-image to steps stays file new (frames_from file start) image.images
             (λ i r is. (sound i r is).word)) sound);
         end =
@@ -305,5 +305,4 @@ module _ (to : ℕ → ℕ) (steps : ℕ → Steps) (stays : ℕ → Bool) (file
         let main = main_bytes file head marked in
         ap (λ m. map (λ (p : ℕ × Row). stream_frame m far_head (map by marked) p.0 p.1)
         (enumerate_from 0 (map by marked))) main-image
-        ∙ numbered-same by (stream_frame main far_head (map by marked))
-        (λ i r. change r (stream_frame main head marked i r)) marked (each main)
+        ∙ numbered-same (stream_frame main far_head (map by marked)) marked (each main)

@@ -21,18 +21,17 @@ AreRising at [] = Unit {0}
 AreRising at (r ∷ rows) = (at ≤ r.offset) × AreRising (suc r.offset) rows
 
 -- frames in order from an offset on are in order from any earlier one
-pub rising_less : (low high : ℕ) (rows : List Row) → low ≤ high → AreRising high rows
+pub rising_less : {low high : ℕ} (rows : List Row) → low ≤ high → AreRising high rows
     → AreRising low rows
-rising_less low high [] le rise = tt
-rising_less low high (r ∷ rows) le rise = (omega (arith, le, rise.0), rise.1)
+rising_less [] le rise = tt
+rising_less (r ∷ rows) le rise = (omega (arith, le, rise.0), rise.1)
 
 -- no frame in order from an offset on is before it
-pub rising_get : (from : ℕ) (rows : List Row) (i : ℕ) (r : Row) → AreRising from rows
+pub rising_get : {from : ℕ} (rows : List Row) (i : ℕ) {r : Row} → AreRising from rows
     → slice_get rows i ≡ Some r → from ≤ r.offset
-rising_get from [] i r rise is = absurd cc
-rising_get from (q ∷ rows) zero r rise is = grind arith
-rising_get from (q ∷ rows) (suc i) r rise is =
-    omega (arith, rise.0, rising_get (suc q.offset) rows i r rise.1 is)
+rising_get [] i rise is = absurd cc
+rising_get (q ∷ rows) zero rise is = grind arith
+rising_get (q ∷ rows) (suc i) {r} rise is = omega (arith, rise.0, rising_get rows i rise.1 is)
 
 -- ---- frames between two offsets
 
@@ -43,22 +42,22 @@ EndBy from (row ∷ rows) to =
     (from ≤ row.offset) × (row.offset < row_end row) × EndBy (row_end row) rows to
 
 -- frames between two offsets: the second offset isn't before the first
-pub end_rises : (from : ℕ) (rows : List Row) (to : ℕ) → EndBy from rows to → from ≤ to
-end_rises from [] to ends = ends
-end_rises from (row ∷ rows) to ends = grind (arith, end_rises (row_end row) rows to ends.2)
+pub end_rises : (from : ℕ) (rows : List Row) {to : ℕ} → EndBy from rows to → from ≤ to
+end_rises from [] ends = ends
+end_rises from (row ∷ rows) {to} ends = grind (arith, end_rises (row_end row) rows ends.2)
 
 -- frames in order between two offsets are in order from any earlier one
-pub end_earlier : (from later : ℕ) (rows : List Row) (to : ℕ) → from ≤ later → EndBy later rows to
+pub end_earlier : {from later : ℕ} (rows : List Row) (to : ℕ) → from ≤ later → EndBy later rows to
     → EndBy from rows to
-end_earlier from later [] to low ends = omega (arith, low, ends)
-end_earlier from later (row ∷ rows) to low ends = (omega (arith, low, ends.0), ends.1, ends.2)
+end_earlier [] to low ends = omega (arith, low, ends)
+end_earlier (row ∷ rows) to low ends = (omega (arith, low, ends.0), ends.1, ends.2)
 
 -- frames in order between two offsets end before any later one
-pub end_later : (from : ℕ) (rows : List Row) (to later : ℕ) → to ≤ later → EndBy from rows to
+pub end_later : (from : ℕ) (rows : List Row) {to later : ℕ} → to ≤ later → EndBy from rows to
     → EndBy from rows later
-end_later from [] to later up ends = omega (arith, ends, up)
-end_later from (row ∷ rows) to later up ends =
-    (ends.0, ends.1, end_later (row_end row) rows to later up ends.2)
+end_later from [] up ends = omega (arith, ends, up)
+end_later from (row ∷ rows) {to} {later} up ends =
+    (ends.0, ends.1, end_later (row_end row) rows up ends.2)
 
 end_rising : (from : ℕ) (rows : List Row) (to : ℕ) → EndBy from rows to → AreRising from rows
 end_rising from [] to ends = tt
@@ -87,23 +86,23 @@ module _ (lost : ℕ → Bool) (file : List ℕ) where
 
 -- ---- the lost frame at an offset
 
-not_there : (lost other same : Bool) → same ≡ false → ((lost && same) || other) ≡ other
-not_there lost other same is = grind arith
+not_there : (lost other : Bool) {same : Bool} → same ≡ false → ((lost && same) || other) ≡ other
+not_there lost other is = grind arith
 
-there_alone : (lost other same : Bool) → same ≡ true → other ≡ false
+there_alone : (lost : Bool) {other same : Bool} → same ≡ true → other ≡ false
     → ((lost && same) || other) ≡ lost
-there_alone lost other same is none = grind arith
+there_alone lost is none = grind arith
 
 none_lost : (rows : List Row) (at : ℕ) → AreRising (suc at) rows → is_lost_at rows at ≡ false
 none_lost [] at rise = refl
 none_lost (r ∷ rows) at rise = grind (arith, not_there, ne_eqb, rising_less, none_lost rows)
 
-lost_get : (from : ℕ) (rows : List Row) (i : ℕ) (r : Row) → AreRising from rows
+lost_get : (from : ℕ) (rows : List Row) (i : ℕ) {r : Row} → AreRising from rows
     → slice_get rows i ≡ Some r → is_lost_at rows r.offset ≡ r.lost
-lost_get from [] i r rise is = absurd cc
-lost_get from (q ∷ rows) zero r rise is = grind (arith, there_alone, eq-eqb, none_lost)
-lost_get from (q ∷ rows) (suc i) r rise is =
-    grind (arith, rising_get, not_there, ne_eqb, lost_get (suc q.offset) rows i r rise.1 is)
+lost_get from [] i rise is = absurd cc
+lost_get from (q ∷ rows) zero rise is = grind (arith, there_alone, eq-eqb, none_lost)
+lost_get from (q ∷ rows) (suc i) {r} rise is =
+    grind (arith, rising_get, not_there, ne_eqb, lost_get (suc q.offset) rows i rise.1 is)
 
 -- ---- marked frames
 
@@ -120,26 +119,26 @@ pub marked_rows-rising : (head : Option Head) (from : ℕ) (rows : List Row) →
 unfolding marked_rows
 marked_rows-rising head from rows rise = each_rising head rows 0 from rows rise
 
-each_get : (head : Option Head) (all : List Row) (n : ℕ) (rows : List Row) (i : ℕ) (r : Row)
+each_get : (head : Option Head) (all : List Row) (n : ℕ) (rows : List Row) (i : ℕ) {r : Row}
     → slice_get rows i ≡ Some r
     → slice_get (map (λ (p : ℕ × Row). marked_row head all p.0 p.1) (enumerate_from n rows)) i
     ≡ Some (marked_row head all (n + i) r)
-each_get head all n [] i r is = absurd cc
-each_get head all n (q ∷ rows) zero r is = grind arith
-each_get head all n (q ∷ rows) (suc i) r is = grind (arith, each_get head all (n + 1) rows i r is)
+each_get head all n [] i is = absurd cc
+each_get head all n (q ∷ rows) zero is = grind arith
+each_get head all n (q ∷ rows) (suc i) {r} is = grind (arith, each_get head all (n + 1) rows i is)
 
-marked_rows-get : (head : Option Head) (rows : List Row) (i : ℕ) (r : Row) → slice_get rows i
+marked_rows-get : (head : Option Head) (rows : List Row) (i : ℕ) {r : Row} → slice_get rows i
     ≡ Some r → slice_get (marked_rows head rows) i ≡ Some (marked_row head rows i r)
 unfolding marked_rows
-marked_rows-get head rows i r is = grind (arith, each_get head rows 0 rows i r is, zero-add i)
+marked_rows-get head rows i {r} is = grind (arith, each_get head rows 0 rows i is, zero-add i)
 
 -- frame i is lost exactly if a lost frame of them is at its offset
 pub lost-at : (head : Option Head) (from : ℕ) (rows : List Row) → AreRising from rows
-    → (i : ℕ) (r : Row) → slice_get rows i ≡ Some r
+    → (i : ℕ) {r : Row} → slice_get rows i ≡ Some r
     → is_lost_at (marked_rows head rows) r.offset ≡ is_lost head rows i r
-lost-at head from rows rise i r is =
-    lost_get from (marked_rows head rows) i (marked_row head rows i r)
-    (marked_rows-rising head from rows rise) (marked_rows-get head rows i r is)
+lost-at head from rows rise i {r} is =
+    lost_get from (marked_rows head rows) i
+    (marked_rows-rising head from rows rise) (marked_rows-get head rows i is)
 
 by_each : (lost : ℕ → Bool) (file : List ℕ) (head : Option Head) (all : List Row) (n : ℕ)
     (ps : List PlacedFrame) → ((i : ℕ) (r : Row) → slice_get (rows_of file ps) i ≡ Some r
@@ -162,7 +161,7 @@ pub marked_rows-by : (file : List ℕ) (head : Option Head) (from : ℕ) (ps : L
 unfolding marked_rows
 marked_rows-by file head from ps rise =
     by_each (is_lost_at (marked_rows head (rows_of file ps))) file head (rows_of file ps) 0 ps
-    (λ i r is. lost-at head from (rows_of file ps) rise i r is
+    (λ i r is. lost-at head from (rows_of file ps) rise i is
     ∙ ap (λ m. is_lost head (rows_of file ps) m r) (sym (zero-add i)))
 
 -- ---- the frames of a walk

@@ -63,7 +63,7 @@ last_bytes-moved : (steps : Steps) (h : HeaderFields) (frame : List ℕ) → IsC
     ≡ drop (overhead_of (class_of h) h.protected - 2) frame
 last_bytes-moved steps h frame class all room =
     let s = side_in h frame in
-    last_bytes-frame_with_side h (moved_side steps s) frame class all (IsShaped-moved steps s
+    last_bytes-frame_with_side h frame class all (IsShaped-moved steps
     (shaped-side_in h frame)) room (last_granule-moved steps (class_of h) class s)
 
 -- ---- a frame with other side information is bytes
@@ -94,14 +94,13 @@ pub record IsWhole (h : HeaderFields) (frame : List ℕ) : Type 0 where
   pub all : AreBytes frame
 
 -- a whole frame is of a class of the standard
-pub whole_class : (h : HeaderFields) (frame : List ℕ) → IsWhole h frame → IsClass (class_of h)
-whole_class h frame whole = IsClass-class_of h (header_front-in_range frame h whole.header)
+pub whole_class : {h : HeaderFields} {frame : List ℕ} → IsWhole h frame → IsClass (class_of h)
+whole_class {h} {frame} whole = IsClass-class_of (header_front-in_range frame whole.header)
 
 -- a whole frame has room for side information, and more after it
-pub whole_room : (h : HeaderFields) (frame : List ℕ) → IsWhole h frame
+pub whole_room : {h : HeaderFields} {frame : List ℕ} → IsWhole h frame
     → (HasRoom h frame) × (6 + side_size_of (class_of h) < length frame)
-whole_room h frame whole =
-    grind (arith, header_front-in_range, area_some, IsClass-class_of, overhead-most)
+whole_room whole = grind (arith, header_front-in_range, area_some, IsClass-class_of, overhead-most)
 
 -- ---- with moved gains
 
@@ -118,36 +117,36 @@ pub record IsMoved (lost : Bool) (steps : Steps) (h : HeaderFields)
   pub right : (lost ≡ true → IsRight h frame) → IsRight h new
 
 -- a whole frame with moved gains is whole, and keeps its header, its length and its area
-pub moved_whole : (lost : Bool) (steps : Steps) (h : HeaderFields) (frame : List ℕ)
+pub moved_whole : (lost : Bool) (steps : Steps) {h : HeaderFields} {frame : List ℕ}
     → IsWhole h frame → IsMoved lost steps h frame (moved_frame_unless_lost lost steps h frame)
-moved_whole true steps h frame whole = record {
+moved_whole true steps whole = record {
   whole = whole;
   same_end = refl;
   same_area = refl;
   side = refl;
   right = λ was. was refl;
 }
-moved_whole false steps h frame whole =
+moved_whole false steps {h} {frame} whole =
     let s = moved_side steps (side_in h frame) in
-    let class = whole_class h frame whole in
-    let room = (whole_room h frame whole).0 in
-    let shaped = IsShaped-moved steps (side_in h frame) (shaped-side_in h frame) in
+    let class = whole_class whole in
+    let room = (whole_room whole).0 in
+    let shaped = IsShaped-moved steps (shaped-side_in h frame) in
     let fits =
-    SideFits-moved_side (class_of h) steps (side_in h frame) (fits-side_in h frame class) in
+    SideFits-moved_side steps (fits-side_in h frame class) in
     let side : side_in h (frame_with_side h s frame) ≡ s = grind (arith, side_in-frame_with_side) in
     record {
       whole = record {
         header = grind (arith, header_front-four, header-frame_with_side);
-        size = length-frame_with_side h s frame class shaped room ∙ whole.size;
+        size = length-frame_with_side h frame class shaped room ∙ whole.size;
         all = frame_bytes h s frame whole.all;
       };
       same_end = last_bytes-moved steps h frame class whole.all room;
-      same_area = area-frame_with_side h s frame class shaped room;
+      same_area = area-frame_with_side h frame class shaped room;
       side = side;
       right = grind (arith, stored_crc-frame_with_side, side);
     }
 
 -- a whole frame is an item by itself
-pub whole_item : (h : HeaderFields) (frame : List ℕ) → IsWhole h frame → IsItem (Frame h) frame
-whole_item h frame whole =
-    frame_item h frame whole.header whole.size (omega (arith, (whole_room h frame whole).1))
+pub whole_item : {h : HeaderFields} {frame : List ℕ} → IsWhole h frame → IsItem (Frame h) frame
+whole_item {h} {frame} whole =
+    frame_item whole.header whole.size (omega (arith, (whole_room whole).1))

@@ -18,8 +18,8 @@ pub record IsGain (sum : ℤ) : Type 0 where
   pub small : gain < 256
 
 -- a sum that isn't outside the range is a gain
-pub within : (sum : ℤ) → is_out_of_range sum ≡ false → IsGain sum
-within sum inside = grind arith
+pub within : {sum : ℤ} → is_out_of_range sum ≡ false → IsGain sum
+within inside = grind arith
 
 -- ---- what moved gains leave unchanged
 
@@ -34,27 +34,27 @@ module _ (steps : Steps) (m p a b : ℕ) (g h k l : Granule) where
   payload-with = grind (arith, moved_granule-payload)
 
 -- the main data have as many bits as before
-pub payload_bits-moved : (steps : Steps) (s : Side) → IsShaped s
+pub payload_bits-moved : (steps : Steps) {s : Side} → IsShaped s
     → payload_bits (moved_side steps s) ≡ payload_bits s
-payload_bits-moved steps s shaped = each_shaped (λ t. payload_bits (moved_side steps t)
+payload_bits-moved steps {s} shaped = each_shaped (λ t. payload_bits (moved_side steps t)
     ≡ payload_bits t) (payload-with steps) s shaped
 
 -- the lists are as long as before
-pub IsShaped-moved : (steps : Steps) (s : Side) → IsShaped s → IsShaped (moved_side steps s)
+pub IsShaped-moved : (steps : Steps) {s : Side} → IsShaped s → IsShaped (moved_side steps s)
 unfolding moved_side
-IsShaped-moved steps s shaped =
+IsShaped-moved steps shaped =
     record { scfsi = shaped.scfsi; granules = refl; first = refl; second = refl }
 
 -- the main data have as many bits as before, also if a lost frame stays
-pub payload_bits-unless : (lost : Bool) (steps : Steps) (s : Side) → IsShaped s
+pub payload_bits-unless : (lost : Bool) (steps : Steps) {s : Side} → IsShaped s
     → payload_bits (moved_side_unless_lost lost steps s) ≡ payload_bits s
-payload_bits-unless lost steps s shaped = grind (arith, payload_bits-moved)
+payload_bits-unless lost steps shaped = grind (arith, payload_bits-moved)
 
 -- the main data have as many bytes as before, moved or lost
-pub payload-unless : (lost : Bool) (steps : Steps) (s : Side) → IsShaped s
+pub payload-unless : (lost : Bool) (steps : Steps) {s : Side} → IsShaped s
     → payload_bytes (moved_side_unless_lost lost steps s) ≡ payload_bytes s
 unfolding payload_bytes
-payload-unless lost steps s shaped = ap (λ n. (n + 7) / 8) (payload_bits-unless lost steps s shaped)
+payload-unless lost steps {s} shaped = ap (λ n. (n + 7) / 8) (payload_bits-unless lost steps shaped)
 
 -- the main data begin where they did, moved or lost
 pub begin-unless : (lost : Bool) (steps : Steps) (s : Side)
@@ -74,9 +74,9 @@ unfolding moved_side
 lengths-with steps version mono m p a b g h k l = grind arith
 
 -- the lengths of all parts of main data stay
-pub lengths-moved : (steps : Steps) (h : HeaderFields) (s : Side) → IsShaped s
+pub lengths-moved : (steps : Steps) (h : HeaderFields) {s : Side} → IsShaped s
     → granule_lengths h (moved_side steps s) ≡ granule_lengths h s
 unfolding granules_in
-lengths-moved steps h s shaped =
+lengths-moved steps h {s} shaped =
     each_shaped (λ t. lengths_of h.version (h.mode == 3) (moved_side steps t)
     ≡ lengths_of h.version (h.mode == 3) t) (lengths-with steps h.version (h.mode == 3)) s shaped

@@ -18,21 +18,21 @@ use Rattle.sync_survey.specs.declared.runs.Region.TheVariants.{Stream}
 
 -- ---- one item
 
-there : (own at : ℕ) (item : Item) (file : List ℕ) (bytes : List ℕ) → IsItem item bytes
+there : (own at : ℕ) {item : Item} (file : List ℕ) {bytes : List ℕ} → IsItem item bytes
     → take own (drop at file) ≡ bytes → item_at file at ≡ item
 unfolding item_at
-there own at item file bytes is same = grind (arith, take-append-drop own (drop at file), same)
+there own at file is same = grind (arith, take-append-drop own (drop at file), same)
 
 -- a whole item is where its bytes are
-pub item-moved : (file new : List ℕ) (at place : ℕ) (item : Item) → whole_item_at Stream file at
+pub item-moved : (file new : List ℕ) (at place : ℕ) {item : Item} → whole_item_at Stream file at
     ≡ Some item → take (size_of item) (drop place new) ≡ take (size_of item) (drop at file)
     → whole_item_at Stream new place ≡ Some item
-item-moved file new at place item is same =
+item-moved file new at place {item} is same =
     let here = whole_item_at-is Stream file at item is in
     let size = size_of item in
     let own = take size (drop at file) in
     let kept : IsItem item own = kept_item file at item here.is here.belongs here.within in
-    whole_item_at-whole Stream new place item (there size place item new own kept same) here.belongs
+    whole_item_at-whole Stream new place item (there size place new kept same) here.belongs
     (omega (
       arith,
       ap length same,
@@ -56,9 +56,9 @@ pub record IsMovedTo (to : ℕ → ℕ) (file new : List ℕ) (from end at : ℕ
 
 module _ (to : ℕ → ℕ) (file new : List ℕ) where
   -- the bytes `size` bytes after the first offset are moved in the same way
-  behind : (from end at size : ℕ) → IsMovedTo to file new from end at
+  behind : {from end at : ℕ} (size : ℕ) → IsMovedTo to file new from end at
       → IsMovedTo to file new (from + size) end (at + size)
-  behind from end at size moved = record {
+  behind size moved = record {
     place = λ x low high. omega (arith, moved.place x (omega (arith, low)) high, low);
     same = λ x k low high within. moved.same x k (omega (arith, low)) high within;
   }
@@ -73,8 +73,8 @@ module _ (to : ℕ → ℕ) (file new : List ℕ) where
   kept_more at (Frame h) frames is same kept =
       let here = whole_item_at-is Stream file at (Frame h) is in (
         record {
-          header = header_front-in_range (drop at file) h (stands-at file at (Frame h) here.is);
-          whole = λ all. frame_whole file at h all here.is here.within;
+          header = header_front-in_range (drop at file) (stands-at file at (Frame h) here.is);
+          whole = λ all. frame_whole file at all here.is here.within;
           bytes = same;
           side = ap (side_in h) same;
           right = λ was. subst (IsRight h) (sym same) was;
@@ -86,15 +86,15 @@ module _ (to : ℕ → ℕ) (file new : List ℕ) where
   kept_more at _ frames is same kept = kept
 
   -- items that are end to end are end to end there, and their frames are kept
-  pub items-moved : (from : ℕ) (ps : List PlacedItem) (end at : ℕ)
+  pub items-moved : (from : ℕ) (ps : List PlacedItem) {end at : ℕ}
       → AreEndToEnd Stream file from ps end → IsMovedTo to file new from end at
       → AreEndToEnd Stream new at (map (placed_by to) ps) (at + (end - from))
       × AreKept (frames_of ps)
-  items-moved from [] end at ends moved = (omega (arith, ends), tt)
-  items-moved from (p ∷ ps) end at ends moved =
+  items-moved from [] ends moved = (omega (arith, ends), tt)
+  items-moved from (p ∷ ps) {end} {at} ends moved =
       let size = size_of p.item in
       let some = (whole_item_at-is Stream file p.offset p.item ends.1).some in
-      let rise = ends-rise Stream file (p.offset + size) ps end ends.2 in
+      let rise = ends-rise Stream file (p.offset + size) ps ends.2 in
       let high : p.offset < end = omega (arith, some, rise) in
       let place : to p.offset ≡ at =
       omega (arith, moved.place p.offset (omega (arith, ends.0)) high, ends.0) in
@@ -102,10 +102,10 @@ module _ (to : ℕ → ℕ) (file new : List ℕ) where
       let next : IsMovedTo to file new (p.offset + size) end (at + size) = grind (arith, behind) in
       let last : (at + size) + (end - (p.offset + size)) ≡ at + (end - from) =
       omega (arith, ends.0, rise) in
-      let later = items-moved (p.offset + size) ps end (at + size) ends.2 next in (
+      let later = items-moved (p.offset + size) ps ends.2 next in (
         (
           place,
-          item-moved file new p.offset (to p.offset) p.item ends.1 same,
+          item-moved file new p.offset (to p.offset) ends.1 same,
           subst (λ n. AreEndToEnd Stream new (to p.offset + size) (map (placed_by to) ps) n) last
               (subst (λ n. AreEndToEnd Stream new (n + size) (map (placed_by to) ps)
               ((at + size) + (end - (p.offset + size)))) (sym place) later.0),

@@ -27,9 +27,9 @@ abbrev pub head_by : (ℕ → ℕ) → Head → Head
 head_by to head = record head { offset = to head.offset }
 
 -- what is true of all frames and of those after the first is true of those that have numbers
-pub numbered_either : (P : List PlacedFrame → Type 0) (o : Option Head) (p : PlacedFrame)
-    (ps : List PlacedFrame) → P (p ∷ ps) → P ps → P (numbered_frames o (p ∷ ps))
-numbered_either P o p ps all rest = grind arith
+pub numbered_either : (P : List PlacedFrame → Type 0) (o : Option Head) {p : PlacedFrame}
+    {ps : List PlacedFrame} → P (p ∷ ps) → P ps → P (numbered_frames o (p ∷ ps))
+numbered_either P o all rest = grind arith
 
 -- the frames that have numbers, elsewhere
 pub numbered_frames-by : (to : ℕ → ℕ) (o : Option Head) (frames : List PlacedFrame)
@@ -45,23 +45,23 @@ end_fault-by file new to frames o e = grind arith
 
 -- ---- lists of what is made of numbered rows
 
-numbered_from : {X : Type 0} (by : Row → Row) (f g : ℕ → Row → X) (n : ℕ) (rows : List Row)
+numbered_from : {X : Type 0} {by : Row → Row} (f g : ℕ → Row → X) (n : ℕ) (rows : List Row)
     → ((i : ℕ) (r : Row) → slice_get rows i ≡ Some r → f (n + i) (by r) ≡ g (n + i) r)
     → map (λ (p : ℕ × Row). f p.0 p.1) (enumerate_from n (map by rows))
     ≡ map (λ (p : ℕ × Row). g p.0 p.1) (enumerate_from n rows)
-numbered_from by f g n [] same = refl
-numbered_from {X} by f g n (r ∷ rows) same =
+numbered_from f g n [] same = refl
+numbered_from {X} {by} f g n (r ∷ rows) same =
     ap₂ (λ (x : X) (xs : List X). x ∷ xs)
     (subst (λ m. f m (by r) ≡ g m r) (omega arith) (same 0 r refl))
-    (numbered_from by f g (n + 1) rows
+    (numbered_from f g (n + 1) rows
     (λ i q is. subst (λ m. f m (by q) ≡ g m q) (omega arith) (same (suc i) q is)))
 
 -- what is made of changed rows by their numbers is what is made of the rows, if it is of each
-pub numbered-same : {X : Type 0} (by : Row → Row) (f g : ℕ → Row → X) (rows : List Row)
-    → ((i : ℕ) (r : Row) → slice_get rows i ≡ Some r → f i (by r) ≡ g i r)
+pub numbered-same : {X : Type 0} {by : Row → Row} (f : ℕ → Row → X) {g : ℕ → Row → X}
+    (rows : List Row) → ((i : ℕ) (r : Row) → slice_get rows i ≡ Some r → f i (by r) ≡ g i r)
     → map (λ (p : ℕ × Row). f p.0 p.1) (enumerate_from 0 (map by rows))
     ≡ map (λ (p : ℕ × Row). g p.0 p.1) (enumerate_from 0 rows)
-numbered-same by f g rows same = numbered_from by f g 0 rows
+numbered-same {by = by} f {g} rows same = numbered_from f g 0 rows
     (λ i r is. subst (λ m. f m (by r) ≡ g m r) (sym (zero-add i)) (same i r is))
 
 -- ---- rows with other offsets and side information
@@ -101,28 +101,28 @@ module _ (to : ℕ → ℕ) (side : Row → Side) (head : Option Head) (rows : L
       (ap (sum_by (λ (r : Row). own_area r.header)) (take-map changed i rows) ∙ areas (take i rows))
 
   -- the changed row at i is the row at i, changed
-  row_get : (rs : List Row) (i : ℕ) (q : Row) → slice_get (map changed rs) i ≡ Some q
+  row_get : (rs : List Row) (i : ℕ) {q : Row} → slice_get (map changed rs) i ≡ Some q
       → (r : Row) × (slice_get rs i ≡ Some r) × (changed r ≡ q)
-  row_get [] i q is = absurd cc
-  row_get (r ∷ rs) zero q is = (r, refl, cc)
-  row_get (r ∷ rs) (suc i) q is = row_get rs i q is
+  row_get [] i is = absurd cc
+  row_get (r ∷ rs) zero is = (r, refl, cc)
+  row_get (r ∷ rs) (suc i) {q} is = row_get rs i is
 
   module _ (keeps : (i : ℕ) (r : Row) → slice_get rows i ≡ Some r → KeepsData r.side (side r)) where
-    lacks-by : (place_now new_place ended new_ended : ℕ) (r : Row) → (side r).main_data_begin
+    lacks-by : {place_now new_place ended new_ended : ℕ} {r : Row} → (side r).main_data_begin
         ≡ r.side.main_data_begin → new_place ≡ place_now → new_ended ≡ ended
         → lacks_data new_place new_ended (changed r) ≡ lacks_data place_now ended r
-    lacks-by place_now new_place ended new_ended r begin same_place same_ended =
+    lacks-by begin same_place same_ended =
         ap₂ (λ (a b : Bool). a && b) (ap (λ n. n == 0) same_ended) (ap₂ ltb same_place begin)
 
-    data_end-by : (place_now new_place : ℕ) (r : Row) → KeepsData r.side (side r)
+    data_end-by : {place_now new_place : ℕ} {r : Row} → KeepsData r.side (side r)
         → new_place ≡ place_now → end_of_data new_place (changed r) ≡ end_of_data place_now r
-    data_end-by place_now new_place r kept same_place = grind arith
+    data_end-by kept same_place = grind arith
 
-    behind-by : (place_now new_place ended new_ended : ℕ) (o : Option Row)
+    behind-by : {place_now new_place ended new_ended : ℕ} {o : Option Row}
         → ((r : Row) → o ≡ Some r → KeepsData r.side (side r)) → new_place ≡ place_now
         → new_ended ≡ ended → data_end_after new_place new_ended (option_map changed o)
         ≡ data_end_after place_now ended o
-    behind-by place_now new_place ended new_ended o kept same_place same_ended = grind arith
+    behind-by kept same_place same_ended = grind arith
 
     end-by : (i : ℕ) → data_end_before new_head new_rows i ≡ data_end_before head rows i
     unfolding data_end_before
@@ -132,15 +132,15 @@ module _ (to : ℕ → ℕ) (side : Row → Side) (head : Option Head) (rows : L
     -- the same frames are lost
     pub lost-by : (i : ℕ) (r : Row) → (side r).main_data_begin ≡ r.side.main_data_begin
         → is_lost new_head new_rows i (changed r) ≡ is_lost head rows i r
-    lost-by i r begin = lacks-by _ _ _ _ r begin (place-by i) (end-by i)
+    lost-by i r begin = lacks-by begin (place-by i) (end-by i)
 
     -- with right check words the frames have no fault if they had none
-    pub sound-by : (file new : List ℕ) (class : ClassFields) (allowed : ℕ)
+    pub sound-by : (file new : List ℕ) {class : ClassFields} {allowed : ℕ}
         → ((i : ℕ) (r : Row) → slice_get rows i ≡ Some r
         → has_wrong_crc (stored_crc (drop (to r.offset) new)) (changed r) ≡ false)
         → AreSound file head class allowed rows → AreSound new new_head class allowed new_rows
-    sound-by file new class allowed words sound i q is =
-        let found = row_get rows i q is in
+    sound-by file new {class} {allowed} words sound i q is =
+        let found = row_get rows i is in
         let r = found.0 in
         let own = keeps i r found.1 in
         let here = sound i r found.1 in
@@ -201,17 +201,17 @@ module _ (to : ℕ → ℕ) (steps : ℕ → Steps) (stays : ℕ → Bool) (head
   keeps : (i : ℕ) (r : Row) → slice_get rows i ≡ Some r → KeepsData r.side (side_by r)
   keeps i r is = record {
     begin = begin-unless (stays r.offset) (steps r.offset) r.side;
-    bits = payload_bits-unless (stays r.offset) (steps r.offset) r.side (shaped i r is);
-    bytes = payload-unless (stays r.offset) (steps r.offset) r.side (shaped i r is);
+    bits = payload_bits-unless (stays r.offset) (steps r.offset) (shaped i r is);
+    bytes = payload-unless (stays r.offset) (steps r.offset) (shaped i r is);
   }
 
   -- with right check words the frames have no fault if they had none
-  pub sound-image : (file new : List ℕ) (class : ClassFields) (allowed : ℕ)
+  pub sound-image : (file new : List ℕ) {class : ClassFields} {allowed : ℕ}
       → ((i : ℕ) (r : Row) → slice_get rows i ≡ Some r
       → has_wrong_crc (stored_crc (drop (to r.offset) new)) (image_row to steps stays r) ≡ false)
       → AreSound file head class allowed rows → AreSound new far_head class allowed far_rows
-  sound-image file new class allowed words sound =
-      sound-by to side_by head rows keeps file new class allowed words sound
+  sound-image file new {class} {allowed} words sound =
+      sound-by to side_by head rows keeps file new words sound
 
   -- the same rows are marked, so that the marked rows are there as each marked row is
   pub marked-image : (far : Row → Row) → ((i : ℕ) (r : Row) → slice_get rows i ≡ Some r
@@ -220,8 +220,7 @@ module _ (to : ℕ → ℕ) (steps : ℕ → Steps) (stays : ℕ → Bool) (head
       → marked_rows far_head far_rows ≡ map far (marked_rows head rows)
   unfolding marked_rows
   marked-image far same =
-      numbered-same (image_row to steps stays) (marked_row far_head far_rows)
-      (λ i r. far (marked_row head rows i r)) rows
+      numbered-same (marked_row far_head far_rows) rows
       (λ i r is. ap (λ b. record (image_row to steps stays r) { lost = b })
       (lost-by to side_by head rows keeps i r
       (begin-unless (stays r.offset) (steps r.offset) r.side)) ∙ same i r is)

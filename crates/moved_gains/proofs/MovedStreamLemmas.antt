@@ -37,9 +37,9 @@ none_shaped : IsShaped no_side
 none_shaped = record { scfsi = refl; granules = refl; first = refl; second = refl }
 
 -- the side information has lists as long as the arrays, whether or not the frame was lost
-pub counts_shaped : (lost : Bool) (s : Side) → IsShaped s → IsShaped (cond lost no_side s)
-counts_shaped true s shaped = none_shaped
-counts_shaped false s shaped = shaped
+pub counts_shaped : (lost : Bool) {s : Side} → IsShaped s → IsShaped (cond lost no_side s)
+counts_shaped true shaped = none_shaped
+counts_shaped false shaped = shaped
 
 module _ (steps : ℕ → Steps) (gap : ℕ) (main : List ℕ) (o : Option Head) (rows : List Row) where
   frame-moved : (i : ℕ) (r : Row) → IsShaped r.side
@@ -51,14 +51,14 @@ module _ (steps : ℕ → Steps) (gap : ℕ) (main : List ℕ) (o : Option Head)
       (begin-unless r.lost (steps r.offset) r.side) in
       let counts : row_side (edited_row steps gap r) ≡ moved_side (steps r.offset) (row_side r) =
       counts-moved (steps r.offset) r.lost r.side in
-      let well = counts_shaped r.lost r.side shaped in
+      let well = counts_shaped r.lost shaped in
       let side = ap (λ (s : Side). record s { main_data_begin = 0 }) counts
       ∙ side-moved (steps r.offset) (row_side r) in
       let lengths =
       ap (granule_lengths r.header) counts
-      ∙ lengths-moved (steps r.offset) r.header (row_side r) well in
+      ∙ lengths-moved (steps r.offset) r.header well in
       let payload =
-      ap payload_bits counts ∙ payload_bits-moved (steps r.offset) (row_side r) well in
+      ap payload_bits counts ∙ payload_bits-moved (steps r.offset) well in
       λ j. record (stream_frame main o rows i r) {
         side = side j;
         payload = split_bits (lengths j) (take (payload j) (drop (8 * begin j) (bits main)));
@@ -92,11 +92,11 @@ module _ (steps : ℕ → Steps) (file : List ℕ) (allowed : ℕ) (start : Star
       (λ main i r is. frame-moved steps (gap_of start) main head rows i r (shaped i r is))
 
 -- The stream of the edited file: each frame with its gains moved, and all else unchanged.
-pub stream-edited_file : (steps : ℕ → Steps) (file : List ℕ) (allowed : ℕ) (s : SurveyFields)
+pub stream-edited_file : (steps : ℕ → Steps) (file : List ℕ) (allowed : ℕ) {s : SurveyFields}
     → AreBytes file → survey_fields file allowed ≡ Ok s
     → stream_of_survey (edited_file steps file s) (edited_survey steps s)
     ≡ moved_stream_of steps file s
-stream-edited_file steps file allowed s all e =
-    let parts = survey_fields-parts file allowed s e in
+stream-edited_file steps file allowed {s} all e =
+    let parts = survey_fields-parts e in
     subst (λ t. stream_of_survey (edited_file steps file t) (edited_survey steps t)
     ≡ moved_stream_of steps file t) parts.2 (stream-from steps file allowed parts.0 all parts.1)

@@ -72,9 +72,9 @@ moved_from-later steps file at size (row ∷ rows) behind =
 -- ---- the items, in order
 
 -- frames after an offset are after any earlier one
-pub behind_earlier : (at later : ℕ) (rows : List Row) → at ≤ later → IsBehind later rows
+pub behind_earlier : {at later : ℕ} (rows : List Row) → at ≤ later → IsBehind later rows
     → IsBehind at rows
-behind_earlier at later rows le behind = grind arith
+behind_earlier rows le behind = grind arith
 
 -- frames in order from an offset on are after it
 pub is_behind : (at : ℕ) (rows : List Row) (to : ℕ) → EndBy at rows to → IsBehind at rows
@@ -93,27 +93,27 @@ item_bytes file at item = take (size_of item) (drop at file)
 module _ (steps : ℕ → Steps) (lost : ℕ → Bool) (part : Region) (file : List ℕ)
     (frames : List PlacedFrame) (at : ℕ) where
   -- a frame
-  frame_step : (h : HeaderFields) → IsItemOf part file at (Frame h)
+  frame_step : {h : HeaderFields} → IsItemOf part file at (Frame h)
       → moved_from steps file at (rows_by lost file (record { offset = at; header = h } ∷ frames))
       ≡ moved_frame_unless_lost (lost at) (steps at) h (item_bytes file at (Frame h))
       ++ moved_from steps file (at + size_of (Frame h)) (rows_by lost file frames)
-  frame_step h here =
+  frame_step {h} here =
       grind (
         arith,
-        overhead-within h (header_front-in_range (drop at file) h (stands-at file at
+        overhead-within (header_front-in_range (drop at file) (stands-at file at
             (Frame h) here.is)),
-        header_front-in_range (drop at file) h (stands-at file at (Frame h)
+        header_front-in_range (drop at file) (stands-at file at (Frame h)
             here.is),
         stands-at file,
         side_in-take,
       )
 
-  item_step : (item : Item) → IsItemOf part file at item
+  item_step : {item : Item} → IsItemOf part file at item
       → IsBehind (at + size_of item) (rows_by lost file frames) → moved_from steps file at
       (rows_by lost file (option_to_list (frame_of_item at item) ++ frames))
       ≡ moved_item (steps at) (lost at) item (item_bytes file at item)
       ++ moved_from steps file (at + size_of item) (rows_by lost file frames)
-  item_step item here behind = grind (arith, frame_step, moved_from-later)
+  item_step here behind = grind (arith, frame_step, moved_from-later)
 
 -- consecutive items are written as the moved items
 pub moved_from-items : (steps : ℕ → Steps) (lost : ℕ → Bool) (part : Region) (file : List ℕ)
@@ -127,7 +127,7 @@ moved_from-items steps lost part file (p ∷ ps) from to e =
     let next = p.offset + size_of p.item in
     ap₂ (λ n (l : List PlacedFrame). moved_from steps file n (rows_by lost file l)) (sym e.0)
     (cons_list (frame_of_item p.offset p.item) (frames_of ps))
-    ∙ item_step steps lost part file (frames_of ps) p.offset p.item here
+    ∙ item_step steps lost part file (frames_of ps) p.offset here
     (frames_behind lost file part ps next to e.2)
     ∙ ap (λ (l : List ℕ). moved_item (steps p.offset) (lost p.offset) p.item (item_bytes_in file p)
     ++ l)
@@ -148,14 +148,14 @@ whole steps lost file ps from to e nothing =
 
 -- after the head, if the first frame is one
 behind_head : (steps : ℕ → Steps) (lost : ℕ → Bool) (file : List ℕ) (head : Option Head)
-    (ps : List PlacedItem) (from to : ℕ) (h : HeaderFields) → AreEndToEnd Stream file from ps to
+    (ps : List PlacedItem) (from to : ℕ) {h : HeaderFields} → AreEndToEnd Stream file from ps to
     → drop to file ≡ [] → item_at file from ≡ Frame h
     → moved_from steps file from (rows_by lost file (numbered_frames head (frames_of ps)))
     ≡ moved_stream steps lost file head ps
-behind_head steps lost file None ps from to h e nothing first = grind (arith, whole)
-behind_head steps lost file (Some head) [] from to h e nothing first =
+behind_head steps lost file None ps from to e nothing first = grind (arith, whole)
+behind_head steps lost file (Some head) [] from to e nothing first =
     grind (arith, moved_from-nil steps file from, moved-nil steps lost file)
-behind_head steps lost file (Some head) (p ∷ ps) from to h e nothing first =
+behind_head steps lost file (Some head) (p ∷ ps) from to {h} e nothing first =
     let here = whole_item_at-is Stream file p.offset p.item e.1 in
     let is : p.item ≡ Frame h = sym here.is ∙ ap (item_at file) e.0 ∙ first in
     let size = size_of p.item in
@@ -186,34 +186,34 @@ front_bytes file =
 
 -- ---- the whole file
 
-written_from : (steps : ℕ → Steps) (file : List ℕ) (allowed : ℕ) (start : Start)
+written_from : (steps : ℕ → Steps) {file : List ℕ} {allowed : ℕ} {start : Start}
     → IsRead file allowed start → take start.front_end file
     ++ moved_from steps file start.first.offset (told_from file start).frames
     ≡ edited_file steps file (told_from file start)
 unfolding edited_file
-written_from steps file allowed start read =
-    let has = has_stream file allowed start read in
+written_from steps {file} {allowed} {start} read =
+    let has = has_stream read in
     let stream = stream_run file start in
     let stop : stream.stop ≡ length file = ap (λ (r : ItemRun). r.stop) has.stream ∙ has.stop in
     ap₂ (λ (l m : List ℕ). l ++ m) (ap (λ n. take n file) (sym has.front) ∙ sym (front_bytes file))
     (ap (moved_from steps file start.first.offset) (told_rows file start)
     ∙ behind_head steps (is_lost_at (told_from file start).frames) file (head_of file start.first)
-    stream.items start.first.offset stream.stop start.first.header
+    stream.items start.first.offset stream.stop
     (item_run-ends Stream file start.first.offset) (drop_all stream.stop file (omega (arith, stop)))
     has.first.is)
 
 -- the bytes up to the junk, and those from the first frame on with moved gains, are the edited file
-pub written-edited_file : (steps : ℕ → Steps) (file : List ℕ) (allowed : ℕ) (s : SurveyFields)
+pub written-edited_file : (steps : ℕ → Steps) (file : List ℕ) (allowed : ℕ) {s : SurveyFields}
     → survey_fields file allowed ≡ Ok s
     → take s.junk file ++ moved_from steps file s.first s.frames ≡ edited_file steps file s
-written-edited_file steps file allowed s e = grind (arith, survey_fields-parts, written_from)
+written-edited_file steps file allowed e = grind (arith, survey_fields-parts, written_from)
 
 -- ---- a survey over a folder
 
 -- a survey says how long the file is
-pub survey_of-length : (file : List ℕ) (allowed : ℕ) (s : SurveyFields)
+pub survey_of-length : (file : List ℕ) (allowed : ℕ) {s : SurveyFields}
     → survey_of file allowed ≡ Ok s → length file ≡ s.length
-survey_of-length file allowed s e = grind (arith, survey_fields-length, survey_of-survey_fields)
+survey_of-length file allowed e = grind (arith, survey_fields-length, survey_of-survey_fields)
 
 -- ---- the rows are those of the file
 
@@ -223,7 +223,7 @@ are_rows lost file [] = tt
 are_rows lost file (p ∷ ps) = (refl, are_rows lost file ps)
 
 -- the rows of a survey are those of frames in the file
-pub survey_of-rows : (file : List ℕ) (allowed : ℕ) (s : SurveyFields)
+pub survey_of-rows : (file : List ℕ) (allowed : ℕ) {s : SurveyFields}
     → survey_of file allowed ≡ Ok s → AreRowsOf file s.frames
-survey_of-rows file allowed s e =
+survey_of-rows file allowed e =
     grind (arith, survey_fields-parts, survey_of-survey_fields, told_rows, are_rows)

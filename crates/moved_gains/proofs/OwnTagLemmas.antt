@@ -24,26 +24,26 @@ own_same file s =
     ∙ ap (λ l. take (tag_offset s) file ++ l) (take-append-drop (tag_length s) rest)
     ∙ take-append-drop (tag_offset s) file
 
-own_is : (file : List ℕ) (s : SurveyFields) (b : Piece) → tag_block s ≡ Some b
+own_is : (file : List ℕ) (s : SurveyFields) {b : Piece} → tag_block s ≡ Some b
     → own_tag_bytes file s ≡ take b.block.length (drop b.offset file)
-own_is file s b is = grind (arith, place-some)
+own_is file s is = grind (arith, place-some)
 
 own_are : (file : List ℕ) (allowed : ℕ) (s : SurveyFields) → survey_fields file allowed ≡ Ok s
     → (o : Option Piece) → tag_block s ≡ o → IsTagBytes (own_tag_bytes file s)
 own_are file allowed s e None is = grind arith
 own_are file allowed s e (Some b) is =
-    subst IsTagBytes (sym (own_is file s b is)) (inr (tag-there file allowed s b e is).front)
+    subst IsTagBytes (sym (own_is file s is)) (inr (tag-there allowed e is).front)
 
-read_by : (at size : ℕ) (tag : TagFields) (long : Bool) (r : Result TagFields TagFault)
+read_by : (at size : ℕ) {tag : TagFields} {long : Bool} {r : Result TagFields TagFault}
     → cond long (Err (TooLarge size)) (tag_result_in_file at r) ≡ Ok tag
     → (long ≡ false) × (r ≡ Ok tag)
-read_by at size tag long r e = grind arith
+read_by at size e = grind arith
 
 -- a block whose tag can be read isn't too long, and its bytes are those of the tag
-block_bytes : (at : ℕ) (block : List ℕ) (tag : TagFields) → AreBytes block
+block_bytes : (at : ℕ) {block : List ℕ} {tag : TagFields} → AreBytes block
     → block_front block ≡ Some (record { kind = Ape; length = length block })
     → tag_of_block at block ≡ Ok tag → IsTag tag × (tag_bytes tag ≡ block)
-block_bytes at block tag all is e =
+block_bytes at all is e =
     grind (arith, read_by, tag_of-ok, places_below, ltb-false, IsTag-in, tag_bytes-in)
 
 own_read : (file : List ℕ) (allowed : ℕ) (s : SurveyFields) → survey_fields file allowed ≡ Ok s
@@ -51,10 +51,10 @@ own_read : (file : List ℕ) (allowed : ℕ) (s : SurveyFields) → survey_field
     → file_tag file s ≡ Ok tag → IsTag tag × (tag_bytes tag ≡ own_tag_bytes file s)
 own_read file allowed s e tag b all is found =
     let block = take b.block.length (drop b.offset file) in
-    let own = block_bytes b.offset block tag
+    let own = block_bytes b.offset
     (AreBelow-take 256 b.block.length (drop b.offset file) (AreBelow-drop 256 b.offset file all))
-    (tag-there file allowed s b e is).front (sym (file_tag-some file s b is) ∙ found) in
-    (own.0, own.1 ∙ sym (own_is file s b is))
+    (tag-there allowed e is).front (sym (file_tag-some file s is) ∙ found) in
+    (own.0, own.1 ∙ sym (own_is file s is))
 
 -- a file that gets its own tag is unchanged
 pub own-tag : (file : List ℕ) (allowed : ℕ) (s : SurveyFields) → survey_fields file allowed ≡ Ok s

@@ -36,15 +36,15 @@ low_cases : (file : List ℕ) (start : Start) → IsLeastStart file start
 low_cases file start h = grind arith
 
 -- a file without fault is such a file
-pub has_stream : (file : List ℕ) (allowed : ℕ) (start : Start) → IsRead file allowed start
+pub has_stream : {file : List ℕ} {allowed : ℕ} {start : Start} → IsRead file allowed start
     → HasStream file start
-has_stream file allowed start read =
+has_stream {file} {start = start} read =
     let at = start.first.offset in
     let item = Frame start.first.header in
     let later = later_run file start in
-    let begins = start-first file start read.start_is in
+    let begins = start-first read.start_is in
     let there = first_item file start.first begins.frame.is begins.frame.within in
-    let stream = item_run-next Stream file at item there in
+    let stream = item_run-next Stream file there in
     let items : List PlacedItem = record { offset = at; item = item } ∷ later.items in
     let bytes = bytes_of_items file items in
     let ends : AreEndToEnd Stream file at items later.stop = grind (arith, there, item_run-ends) in
@@ -53,11 +53,11 @@ has_stream file allowed start read =
       first = begins.frame;
       there = there;
       low = low_cases file start begins.least;
-      front = sym (start-front file start read.start_is ∙ front_end-is file);
+      front = sym (start-front file read.start_is ∙ front_end-is file);
       stream = stream;
       stop = omega (
         arith,
-        items-length Stream file at items later.stop bytes ends
+        items-length Stream file at items bytes ends
             (kept_items Stream file at items later.stop ends),
         ap (λ (r : ItemRun). length (bytes_of_items file r.items)) stream,
         length-append (bytes_of_items file (stream_run file start).items) (drop (length file) file),

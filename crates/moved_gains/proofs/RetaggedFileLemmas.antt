@@ -54,20 +54,20 @@ record IsNewTag (new : List ℕ) (at n : ℕ) (blocks : List Piece) : Type 0 whe
 abbrev blocks_at : ℕ → ℕ → List Piece
 blocks_at at n = cond (n == 0) [] (record { offset = at; block = ape n } ∷ [])
 
-new_tag : (new bytes : List ℕ) (at : ℕ) → take (length bytes) (drop at new) ≡ bytes
+new_tag : {new bytes : List ℕ} {at : ℕ} → take (length bytes) (drop at new) ≡ bytes
     → IsTagBytes bytes → IsNewTag new at (length bytes) (blocks_at at (length bytes))
-new_tag new bytes at there (inl none) =
+new_tag {new} {bytes} {at} there (inl none) =
     let long : length bytes ≡ 0 = ap length none in
     subst (λ n. IsNewTag new at n (blocks_at at n)) (sym long)
     (record { own = []; ends = omega arith; frames_none = refl; blocks_are = refl })
-new_tag new bytes at there (inr is) =
+new_tag {new} {bytes} {at} there (inr is) =
     let n = length bytes in
-    let least = block_front-least bytes (ape n) is in
+    let least = block_front-least bytes is in
     let whole : whole_item_at Stream bytes 0 ≡ Some (Block (ape n)) =
     whole_item_at-whole Stream bytes 0
     (Block (ape n)) (sym (stands-only_at bytes 0 (Block (ape n)) is)) refl (omega arith) in
     let all : take n (drop 0 bytes) ≡ bytes = take_all n bytes (omega arith) in
-    let here = item-moved bytes new 0 at (Block (ape n)) whole (there ∙ sym all) in
+    let here = item-moved bytes new 0 at whole (there ∙ sym all) in
     let some : (n == 0) ≡ false = ne_eqb n 0 (λ e. omega (arith, e, least)) in
     record {
       own = record { offset = at; item = Block (ape n) } ∷ [];
@@ -108,10 +108,10 @@ module _ (file : List ℕ) (allowed : ℕ) (start : Start) (read : IsRead file a
 
   -- the tag is within the file
   pub room : cut + gone ≤ length file
-  room = ends-rise Stream file (cut + gone) parts.rest (length file) parts.behind
+  room = ends-rise Stream file (cut + gone) parts.rest parts.behind
 
   tag : IsNewTag new cut n (blocks_at cut n)
-  tag = new_tag new bytes cut (new-own bytes file s room) are
+  tag = new_tag (new-own bytes file s room) are
 
   -- ---- the items of the new file
 
@@ -126,11 +126,11 @@ module _ (file : List ℕ) (allowed : ℕ) (start : Start) (read : IsRead file a
 
   low : AreEndToEnd Stream new 0 before (0 + (cut - 0))
       × AreKept to file new (frames_of parts.front)
-  low = items-moved to file new 0 parts.front cut 0 parts.before (front-moved bytes file s room)
+  low = items-moved to file new 0 parts.front parts.before (front-moved bytes file s room)
 
   high : AreEndToEnd Stream new (cut + n) behind ((cut + n) + (length file - (cut + gone)))
       × AreKept to file new (frames_of parts.rest)
-  high = items-moved to file new (cut + gone) parts.rest (length file) (cut + n) parts.behind
+  high = items-moved to file new (cut + gone) parts.rest parts.behind
       (later-moved bytes file s room)
 
   new_ends : AreEndToEnd Stream new 0 new_items (length new)
@@ -162,9 +162,9 @@ module _ (file : List ℕ) (allowed : ℕ) (start : Start) (read : IsRead file a
   is_old : (o : Option Piece) → tag_block s ≡ o → IsOld s o
   is_old None is = tt
   is_old (Some b) is =
-      let place = place-some s b is in
-      let there = tag-there file allowed s b (survey_fields-told file allowed start read) is in
-      let least = block_front-least _ _ there.front in
+      let place = place-some s is in
+      let there = tag-there allowed (survey_fields-told read) is in
+      let least = block_front-least _ there.front in
       (sym place.0, omega (arith, place.1, least, there.long))
 
   old_blocks : s.blocks
@@ -219,7 +219,7 @@ module _ (file : List ℕ) (allowed : ℕ) (start : Start) (read : IsRead file a
   -- the file with another tag is the file's image, with no gain moved
   new_image : IsFileImage to no_steps (λ at. true) file new start new_start
   new_image = record {
-    start_is = clean-start new first _ _ new_clean;
+    start_is = clean-start new_clean;
     class = refl;
     head = new_head;
     head_area = head_area-by to file new start.first
@@ -231,7 +231,7 @@ module _ (file : List ℕ) (allowed : ℕ) (start : Start) (read : IsRead file a
   }
 
   new_read : IsRead new allowed new_start
-  new_read = read-image to no_steps (λ at. true) file new start new_start new_image allowed read
+  new_read = read-image to no_steps (λ at. true) file new start new_start new_image read
 
   -- ---- what its survey finds
 
@@ -257,7 +257,7 @@ module _ (file : List ℕ) (allowed : ℕ) (start : Start) (read : IsRead file a
 
   -- the survey is the one of the file with another tag
   pub survey-from : survey_fields new allowed ≡ Ok (retagged_fields n s)
-  survey-from = survey_fields-told new allowed new_start new_read ∙ ap Ok new_told
+  survey-from = survey_fields-told new_read ∙ ap Ok new_told
 
   -- the stream is the same
   pub stream-from : stream_of_survey new (retagged_fields n s) ≡ stream_of_survey file s
@@ -274,21 +274,21 @@ module _ (file : List ℕ) (allowed : ℕ) (start : Start) (read : IsRead file a
 -- ---- from the survey
 
 -- a file without junk has its first frame where its front ends
-pub no_junk-start : (s : SurveyFields) (file : List ℕ) (start : Start) → told_from file start ≡ s
+pub no_junk-start : {s : SurveyFields} (file : List ℕ) (start : Start) → told_from file start ≡ s
     → s.junk ≡ s.first → start.front_end ≡ start.first.offset
-no_junk-start s file start told clean = grind (arith, clean)
+no_junk-start file start told clean = grind (arith, clean)
 
 -- a file with another tag has the survey of the file, with that tag
-pub survey_fields-retagged_fields : (file bytes : List ℕ) (allowed : ℕ) (s : SurveyFields)
-    → survey_fields file allowed ≡ Ok s → s.junk ≡ s.first → IsTagBytes bytes
+pub survey_fields-retagged_fields : (file : List ℕ) {bytes : List ℕ} (allowed : ℕ)
+    {s : SurveyFields} → survey_fields file allowed ≡ Ok s → s.junk ≡ s.first → IsTagBytes bytes
     → survey_fields (file_with_tag bytes s file) allowed ≡ Ok (retagged_fields (length bytes) s)
-survey_fields-retagged_fields file bytes allowed s e clean are =
+survey_fields-retagged_fields file allowed e clean are =
     grind (arith, survey_fields-parts, survey-from, no_junk-start, clean)
 
 -- The stream of a file with another tag is the same.
-pub stream-retagged_fields : (file bytes : List ℕ) (allowed : ℕ) (s : SurveyFields)
+pub stream-retagged_fields : (file : List ℕ) {bytes : List ℕ} (allowed : ℕ) {s : SurveyFields}
     → survey_fields file allowed ≡ Ok s → s.junk ≡ s.first → IsTagBytes bytes
     → stream_of_survey (file_with_tag bytes s file) (retagged_fields (length bytes) s)
     ≡ stream_of_survey file s
-stream-retagged_fields file bytes allowed s e clean are =
-    grind (arith, survey_fields-parts file allowed s e, stream-from, no_junk-start, clean)
+stream-retagged_fields file allowed {s} e clean are =
+    grind (arith, survey_fields-parts e, stream-from, no_junk-start, clean)

@@ -15,14 +15,14 @@ abbrev pub BeginBetween : ℕ → ℕ → List Piece → Type 0
 BeginBetween from to [] = Unit {0}
 BeginBetween from to (b ∷ bs) = (from ≤ b.offset) × (b.offset < to) × BeginBetween from to bs
 
-begin_lower : (low from to : ℕ) (bs : List Piece) → low ≤ from → BeginBetween from to bs
+begin_lower : {low from : ℕ} (to : ℕ) (bs : List Piece) → low ≤ from → BeginBetween from to bs
     → BeginBetween low to bs
-begin_lower low from to [] le begin = tt
-begin_lower low from to (b ∷ bs) le begin = grind (arith, begin_lower low from to bs le begin.2)
+begin_lower to [] le begin = tt
+begin_lower {low} {from} to (b ∷ bs) le begin = grind (arith, begin_lower to bs le begin.2)
 
-begin_more : (from to at : ℕ) (item : Item) (bs : List Piece) → from ≤ at → at < to
+begin_more : {from to at : ℕ} (item : Item) (bs : List Piece) → from ≤ at → at < to
     → BeginBetween from to bs → BeginBetween from to (cons_option (block_of_item at item) bs)
-begin_more from to at item bs low high begin = grind arith
+begin_more item bs low high begin = grind arith
 
 -- each block of items between two offsets begins between them
 pub items-begin : (file : List ℕ) (from : ℕ) (ps : List PlacedItem) (to : ℕ)
@@ -31,25 +31,25 @@ items-begin file from [] to ends = tt
 items-begin file from (p ∷ ps) to ends =
     let size = size_of p.item in
     let some = (whole_item_at-is Stream file p.offset p.item ends.1).some in
-    let rise = ends-rise Stream file (p.offset + size) ps to ends.2 in
-    begin_more from to p.offset p.item (blocks_of ps) (omega (arith, ends.0))
+    let rise = ends-rise Stream file (p.offset + size) ps ends.2 in
+    begin_more p.item (blocks_of ps) (omega (arith, ends.0))
     (omega (arith, some, rise))
-    (begin_lower from (p.offset + size) to (blocks_of ps) (omega (arith, ends.0))
+    (begin_lower to (blocks_of ps) (omega (arith, ends.0))
     (items-begin file (p.offset + size) ps to ends.2))
 
 -- ---- a test that all blocks pass, or none
 
-keeps_all : (test : Piece → Bool) (from to : ℕ) (bs : List Piece) → BeginBetween from to bs
+keeps_all : {test : Piece → Bool} {from to : ℕ} (bs : List Piece) → BeginBetween from to bs
     → ((b : Piece) → from ≤ b.offset → b.offset < to → test b ≡ true) → filter test bs ≡ bs
-keeps_all test from to [] begin passes = refl
-keeps_all test from to (b ∷ bs) begin passes =
-    rw (passes b begin.0 begin.1) (ap (λ l. b ∷ l) (keeps_all test from to bs begin.2 passes))
+keeps_all [] begin passes = refl
+keeps_all {test} {from} {to} (b ∷ bs) begin passes =
+    rw (passes b begin.0 begin.1) (ap (λ l. b ∷ l) (keeps_all bs begin.2 passes))
 
-keeps_none : (test : Piece → Bool) (from to : ℕ) (bs : List Piece) → BeginBetween from to bs
+keeps_none : {test : Piece → Bool} {from to : ℕ} (bs : List Piece) → BeginBetween from to bs
     → ((b : Piece) → from ≤ b.offset → b.offset < to → test b ≡ false) → filter test bs ≡ []
-keeps_none test from to [] begin fails = refl
-keeps_none test from to (b ∷ bs) begin fails =
-    rw (fails b begin.0 begin.1) (keeps_none test from to bs begin.2 fails)
+keeps_none [] begin fails = refl
+keeps_none {test} {from} {to} (b ∷ bs) begin fails =
+    rw (fails b begin.0 begin.1) (keeps_none bs begin.2 fails)
 
 -- blocks before an offset don't move
 pub blocks-stay : (to : ℕ → ℕ) (from end : ℕ) (bs : List Piece) → BeginBetween from end bs
@@ -71,10 +71,10 @@ module _ (s : SurveyFields) (before behind : List Piece) (old : Option Piece) (e
   abbrev blocks : List Piece
   blocks = before ++ (option_to_list old ++ behind)
 
-  three : (test : Piece → Bool) (xs ys zs : List Piece) → filter test before ≡ xs
+  three : (test : Piece → Bool) {xs ys zs : List Piece} → filter test before ≡ xs
       → filter test (option_to_list old) ≡ ys → filter test behind ≡ zs
       → filter test blocks ≡ xs ++ (ys ++ zs)
-  three test xs ys zs first second third = grind (arith, filter-append)
+  three test first second third = grind (arith, filter-append)
 
   old_before : (o : Option Piece) → IsOld s o → filter (stands_before s) (option_to_list o) ≡ []
   old_before o old_is = grind arith

@@ -29,10 +29,10 @@ pub record IsSplit (file : List ℕ) (ps : List PlacedItem) (from cut next to : 
   pub none : find is_tag (blocks_of front) ≡ None
 
 -- with nothing before the offset
-split_here : (file : List ℕ) (ps rest : List PlacedItem) (cut next to : ℕ) (old : List Piece)
-    → AreEndToEnd Stream file next rest to → frames_of ps ≡ frames_of rest
+split_here : {file : List ℕ} {ps : List PlacedItem} (rest : List PlacedItem) (cut : ℕ) {next to : ℕ}
+    {old : List Piece} → AreEndToEnd Stream file next rest to → frames_of ps ≡ frames_of rest
     → blocks_of ps ≡ old ++ blocks_of rest → IsSplit file ps cut cut next to old
-split_here file ps rest cut next to old ends frames blocks = record {
+split_here rest cut ends frames blocks = record {
   front = [];
   rest = rest;
   before = refl;
@@ -42,24 +42,24 @@ split_here file ps rest cut next to old ends frames blocks = record {
   none = refl;
 }
 
-none_more : (o : Option Piece) (xs : List Piece) → ((x : Piece) → o ≡ Some x → is_tag x ≡ false)
+none_more : {o : Option Piece} (xs : List Piece) → ((x : Piece) → o ≡ Some x → is_tag x ≡ false)
     → find is_tag xs ≡ None → find is_tag (cons_option o xs) ≡ None
-none_more o xs other none = grind arith
+none_more xs other none = grind arith
 
 -- one more item before them, which is no tag
-push : (file : List ℕ) (at : ℕ) (item : Item) (ps : List PlacedItem) (cut next to : ℕ)
-    (old : List Piece) → whole_item_at Stream file at ≡ Some item
+push : {file : List ℕ} {at : ℕ} {item : Item} {ps : List PlacedItem} {cut next to : ℕ}
+    {old : List Piece} → whole_item_at Stream file at ≡ Some item
     → ((x : Piece) → block_of_item at item ≡ Some x → is_tag x ≡ false)
     → IsSplit file ps (at + size_of item) cut next to old
     → IsSplit file (record { offset = at; item = item } ∷ ps) at cut next to old
-push file at item ps cut next to old is other split = record {
+push {at = at} {item = item} is other split = record {
   front = record { offset = at; item = item } ∷ split.front;
   rest = split.rest;
   before = (refl, is, split.before);
   behind = split.behind;
   frames = grind (arith, cons-append);
   blocks = grind (arith, cons-append);
-  none = none_more (block_of_item at item) (blocks_of split.front) other split.none;
+  none = none_more (blocks_of split.front) other split.none;
 }
 
 -- ---- at the tag
@@ -67,22 +67,22 @@ push file at item ps cut next to old is other split = record {
 abbrev IsSplitAt : List ℕ → ℕ → List PlacedItem → ℕ → Piece → Type 0
 IsSplitAt file from ps to b = IsSplit file ps from b.offset (b.offset + b.block.length) to (b ∷ [])
 
-tag_more : (file : List ℕ) (at : ℕ) (item : Item) (ps : List PlacedItem) (to : ℕ) (b : Piece)
+tag_more : {file : List ℕ} {at : ℕ} {item : Item} {ps : List PlacedItem} {to : ℕ} {b : Piece}
     → whole_item_at Stream file at ≡ Some item → AreEndToEnd Stream file (at + size_of item) ps to
     → (find is_tag (blocks_of ps) ≡ Some b → IsSplitAt file (at + size_of item) ps to b)
     → find is_tag (cons_option (block_of_item at item) (blocks_of ps)) ≡ Some b
     → IsSplitAt file at (record { offset = at; item = item } ∷ ps) to b
-tag_more file at item ps to b is ends later e = grind (arith, found_case, split_here, push)
+tag_more is ends later e = grind (arith, found_case, split_here, push)
 
 -- the items are those before the tag, the tag, and those after it
-pub split-tag : (file : List ℕ) (from : ℕ) (ps : List PlacedItem) (to : ℕ) (b : Piece)
+pub split-tag : {file : List ℕ} (from : ℕ) (ps : List PlacedItem) {to : ℕ} {b : Piece}
     → AreEndToEnd Stream file from ps to → find is_tag (blocks_of ps) ≡ Some b
     → IsSplitAt file from ps to b
-split-tag file from [] to b ends e = absurd cc
-split-tag file from (q ∷ ps) to b ends e =
+split-tag from [] ends e = absurd cc
+split-tag {file} from (q ∷ ps) {to} {b} ends e =
     subst (λ n. IsSplitAt file n (q ∷ ps) to b) ends.0
-    (tag_more file q.offset q.item ps to b
-    ends.1 ends.2 (split-tag file (q.offset + size_of q.item) ps to b ends.2) e)
+    (tag_more
+    ends.1 ends.2 (split-tag (q.offset + size_of q.item) ps ends.2) e)
 
 -- ---- after the last frame
 
@@ -102,8 +102,8 @@ none_first : (x : Piece) (xs : List Piece) → find is_tag (x ∷ xs) ≡ None
 none_first x xs e = grind arith
 
 module _ (file : List ℕ) (to : ℕ) where
-  last_frame : (at : ℕ) (item : Item) (ps : List PlacedItem) (p : PlacedFrame)
-      (rest fs : List PlacedFrame) → whole_item_at Stream file at ≡ Some item
+  last_frame : {at : ℕ} {item : Item} {ps : List PlacedItem} {p : PlacedFrame}
+      {rest : List PlacedFrame} (fs : List PlacedFrame) → whole_item_at Stream file at ≡ Some item
       → AreEndToEnd Stream file (at + size_of item) ps to
       → ((x : Piece) → block_of_item at item ≡ Some x → is_tag x ≡ false)
       → size_of item ≡ length_of (class_of p.header) p.header.slot → at ≡ p.offset
@@ -111,30 +111,29 @@ module _ (file : List ℕ) (to : ℕ) where
       ≡ Some p → frames_of ps ≡ fs → fs ≡ rest → ((q : PlacedFrame) (qs : List PlacedFrame)
       → frames_of ps ≡ q ∷ qs → IsSplitBehind file (at + size_of item) ps to (stop_of (final q qs)))
       → IsSplitBehind file at (record { offset = at; item = item } ∷ ps) to (stop_of (final p rest))
-  last_frame at item ps p rest [] is ends other size place none block frame are same later =
+  last_frame [] is ends other size place none block frame are same later =
       grind (arith, push, split_here)
-  last_frame at item ps p rest (q ∷ qs) is ends other size place none block frame are same later =
-      grind (arith, push)
+  last_frame (q ∷ qs) is ends other size place none block frame are same later = grind (arith, push)
 
-  last_item : (at : ℕ) (item : Item) (ps : List PlacedItem) (p : PlacedFrame)
-      (rest : List PlacedFrame) → whole_item_at Stream file at ≡ Some item
+  last_item : {at : ℕ} {item : Item} {ps : List PlacedItem} {p : PlacedFrame}
+      {rest : List PlacedFrame} → whole_item_at Stream file at ≡ Some item
       → AreEndToEnd Stream file (at + size_of item) ps to
       → ((q : PlacedFrame) (qs : List PlacedFrame) → frames_of ps ≡ q ∷ qs → find is_tag
       (blocks_of ps) ≡ None → IsSplitBehind file (at + size_of item) ps to (stop_of (final q qs)))
       → cons_option (frame_of_item at item) (frames_of ps) ≡ p ∷ rest
       → find is_tag (cons_option (block_of_item at item) (blocks_of ps)) ≡ None
       → IsSplitBehind file at (record { offset = at; item = item } ∷ ps) to (stop_of (final p rest))
-  last_item at item ps p rest is ends later e none = grind (arith, last_frame, none_first, push)
+  last_item is ends later e none = grind (arith, last_frame, none_first, push)
 
   -- without a tag the items are those up to the last frame and those after it
-  pub split-last : (from : ℕ) (ps : List PlacedItem) (p : PlacedFrame) (rest : List PlacedFrame)
+  pub split-last : (from : ℕ) (ps : List PlacedItem) {p : PlacedFrame} {rest : List PlacedFrame}
       → AreEndToEnd Stream file from ps to → frames_of ps ≡ p ∷ rest
       → find is_tag (blocks_of ps) ≡ None → IsSplitBehind file from ps to (stop_of (final p rest))
-  split-last from [] p rest ends e none = absurd cc
-  split-last from (x ∷ ps) p rest ends e none =
+  split-last from [] ends e none = absurd cc
+  split-last from (x ∷ ps) {p} {rest} ends e none =
       subst (λ n. IsSplitBehind file n (x ∷ ps) to (stop_of (final p rest))) ends.0
-      (last_item x.offset x.item ps p rest ends.1 ends.2 (λ q qs are nothing.
-      split-last (x.offset + size_of x.item) ps q qs ends.2 are nothing) e none)
+      (last_item ends.1 ends.2 (λ q qs are nothing.
+      split-last (x.offset + size_of x.item) ps ends.2 are nothing) e none)
 
 -- ---- the last frame that a survey lists
 

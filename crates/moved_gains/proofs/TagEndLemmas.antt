@@ -5,6 +5,6 @@ use Rattle.moved_gains.{proofs.TagReadingLemmas.place-some, specs.TagPlace.{tag_
 use Rattle.sync_survey.specs.{Faults.{longest_file, SurveyFields}, Survey.IsSurveyLaidOut}
 
 -- the tag, or the place for one, is within the file
-pub tag_end-most : (s : SurveyFields) → IsSurveyLaidOut s
+pub tag_end-most : {s : SurveyFields} → IsSurveyLaidOut s
     → tag_offset s + tag_length s ≤ longest_file
-tag_end-most s laid = grind (arith, tag_none, last-within, place-some, tag-within)
+tag_end-most laid = grind (arith, tag_none, last-within, place-some, tag-within)

@@ -43,21 +43,21 @@ module _ (lost : ℕ → Bool) (file : List ℕ) where
   -- ---- a moved frame keeps its length
 
   module _ (steps : ℕ → Steps) where
-    one_sized : (part : Region) (at : ℕ) (h : HeaderFields) → IsItemOf part file at (Frame h)
+    one_sized : {part : Region} {at : ℕ} {h : HeaderFields} → IsItemOf part file at (Frame h)
         → (b : Bool) → length (cond b (take (length_of (class_of h) h.slot) (drop at file))
         (frame_with_side h (moved_side (steps at) (side_in h (drop at file)))
         (take (length_of (class_of h) h.slot) (drop at file)))) ≡ length_of (class_of h) h.slot
-    one_sized part at h here b =
+    one_sized {at = at} {h = h} here b =
         let size = length_of (class_of h) h.slot in
         let frame = take size (drop at file) in
-        let fields = header_front-in_range (drop at file) h (stands-at file at (Frame h) here.is) in
+        let fields = header_front-in_range (drop at file) (stands-at file at (Frame h) here.is) in
         let long : length frame ≡ size =
         length-take-le size (drop at file) (omega (arith, here.within, length-drop at file)) in
         let s = side_in h (drop at file) in
         let kept : length (frame_with_side h (moved_side (steps at) s) frame) ≡ length frame =
-        length-frame_with_side h (moved_side (steps at) s) frame (IsClass-class_of h fields)
-        (IsShaped-moved (steps at) s (shaped-side_in h (drop at file)))
-        (omega (arith, overhead-within h fields, long)) in
+        length-frame_with_side h frame (IsClass-class_of fields)
+        (IsShaped-moved (steps at) (shaped-side_in h (drop at file)))
+        (omega (arith, overhead-within fields, long)) in
         by_lost b frame (frame_with_side h (moved_side (steps at) s) frame) size long (kept ∙ long)
       where
         by_lost : (b : Bool) (l m : List ℕ) (n : ℕ) → length l ≡ n → length m ≡ n
@@ -65,17 +65,17 @@ module _ (lost : ℕ → Bool) (file : List ℕ) where
         by_lost true l m n a c = a
         by_lost false l m n a c = c
 
-    sized_more : (part : Region) (at : ℕ) (item : Item) (frames : List PlacedFrame)
+    sized_more : {part : Region} {at : ℕ} {item : Item} (frames : List PlacedFrame)
         → IsItemOf part file at item → AreSized steps file (by frames)
         → AreSized steps file (by (cons_option (frame_of_item at item) frames))
-    sized_more part at item frames here sized = grind (arith, one_sized)
+    sized_more frames here sized = grind (arith, one_sized)
 
     -- with moved gains the frames of items end to end are as long as before
     pub items_sized : (part : Region) (from : ℕ) (ps : List PlacedItem) (to : ℕ)
         → AreEndToEnd part file from ps to → AreSized steps file (by (frames_of ps))
     items_sized part from [] to ends = tt
     items_sized part from (p ∷ ps) to ends =
-        sized_more part p.offset p.item (frames_of ps)
+        sized_more (frames_of ps)
         (whole_item_at-is part file p.offset p.item ends.1)
         (items_sized part (p.offset + size_of p.item) ps to ends.2)
 
@@ -90,23 +90,23 @@ module _ (lost : ℕ → Bool) (file : List ℕ) where
     pub rest : EndBy (b.offset + b.block.length) (by behind) to
     pub some : 0 < b.block.length
 
-  cut_later : (from at : ℕ) (frames : List PlacedFrame) (b : Piece) (to : ℕ) → from ≤ at
+  cut_later : {from at : ℕ} {frames : List PlacedFrame} {b : Piece} {to : ℕ} → from ≤ at
       → IsCut at frames b to → IsCut from frames b to
-  cut_later from at frames b to low cut = record {
+  cut_later {from} {at} {b = b} low cut = record {
     before = cut.before;
     behind = cut.behind;
     all = cut.all;
-    front = end_earlier from at (by cut.before) b.offset low cut.front;
+    front = end_earlier (by cut.before) b.offset low cut.front;
     rest = cut.rest;
     some = cut.some;
   }
 
   -- the frames of items split at the first tag among the items
-  pub items_cut : (from : ℕ) (ps : List PlacedItem) (b : Piece) (to : ℕ)
+  pub items_cut : {from : ℕ} (ps : List PlacedItem) {b : Piece} {to : ℕ}
       → AreEndToEnd Stream file from ps to → find is_tag (blocks_of ps) ≡ Some b
       → IsCut from (frames_of ps) b to
-  items_cut from ps b to ends e =
-      let split = split-tag file from ps to b ends e in
+  items_cut {from} ps {b} {to} ends e =
+      let split = split-tag from ps ends e in
       record {
         before = frames_of split.front;
         behind = frames_of split.rest;
@@ -114,17 +114,17 @@ module _ (lost : ℕ → Bool) (file : List ℕ) where
         front = items_end lost file Stream from split.front b.offset split.before;
         rest = items_end lost file Stream (b.offset + b.block.length) split.rest to split.behind;
         some = (whole_item_at-is Stream file b.offset (Block b.block)
-            (found_item Stream file from ps to b ends e)).some;
+            (found_item Stream file from ps to ends e)).some;
       }
 
 -- ---- the end of the last frame
 
 -- all frames end no later than the last
-pub last_ends : (from : ℕ) (row : Row) (rows : List Row) (to : ℕ) → EndBy from (row ∷ rows) to
+pub last_ends : (from : ℕ) (row : Row) (rows : List Row) {to : ℕ} → EndBy from (row ∷ rows) to
     → EndBy from (row ∷ rows) (last_end (row ∷ rows)) × (last_end (row ∷ rows) ≤ to)
-last_ends from row [] to ends = ((ends.0, ends.1, omega arith), ends.2)
-last_ends from row (q ∷ rows) to ends =
-    grind (arith, last_more, last_ends (row_end row) q rows to ends.2)
+last_ends from row [] ends = ((ends.0, ends.1, omega arith), ends.2)
+last_ends from row (q ∷ rows) {to} ends =
+    grind (arith, last_more, last_ends (row_end row) q rows ends.2)
 
 -- ---- where the tag is
 
@@ -198,7 +198,7 @@ module _ (steps : ℕ → Steps) (file : List ℕ) (allowed : ℕ) (start : Star
   lost = is_lost_at s.frames
 
   has : HasStream file start
-  has = has_stream file allowed start read
+  has = has_stream read
 
   later_ends : AreEndToEnd Stream file (first + size) later.items later.stop
   later_ends = item_run-ends Stream file (first + size)
@@ -215,17 +215,16 @@ module _ (steps : ℕ → Steps) (file : List ℕ) (allowed : ℕ) (start : Star
       has.stream
 
   later_end : EndBy (first + size) (rows_by lost file (frames_of later.items)) (length file)
-  later_end = end_later (first + size) (rows_by lost file (frames_of later.items)) later.stop
-      (length file) stop_within
+  later_end = end_later (first + size) (rows_by lost file (frames_of later.items)) stop_within
       (items_end lost file Stream (first + size) later.items later.stop later_ends)
 
   later_sized : AreSized steps file (rows_by lost file (frames_of later.items))
   later_sized = items_sized lost file steps Stream (first + size) later.items later.stop later_ends
 
-  cut_by : (o : Option Head) (b : Piece)
+  cut_by : (o : Option Head) {b : Piece}
       → IsCut lost file (first + size) (frames_of later.items) b later.stop
       → IsCut lost file first (numbered_frames o (start.first ∷ frames_of later.items)) b later.stop
-  cut_by None b cut = record {
+  cut_by None cut = record {
     before = start.first ∷ cut.before;
     behind = cut.behind;
     all = ap (λ (l : List PlacedFrame). start.first ∷ l) cut.all;
@@ -233,14 +232,14 @@ module _ (steps : ℕ → Steps) (file : List ℕ) (allowed : ℕ) (start : Star
     rest = cut.rest;
     some = cut.some;
   }
-  cut_by (Some found) b cut = grind (arith, cut_later, first, size)
+  cut_by (Some found) cut = grind (arith, cut_later, first, size)
 
-  among_by : (b : Piece) → tag_block s ≡ Some b → first < b.offset → IsCut lost file first
+  among_by : {b : Piece} → tag_block s ≡ Some b → first < b.offset → IsCut lost file first
       (numbered_frames head (start.first ∷ frames_of later.items)) b later.stop → IsApart s
-  among_by b is beyond cut =
-      let tag = place-some s b is in
+  among_by {b} is beyond cut =
+      let tag = place-some s is in
       let high =
-      end_rises (b.offset + b.block.length) (rows_by lost file cut.behind) later.stop cut.rest in
+      end_rises (b.offset + b.block.length) (rows_by lost file cut.behind) cut.rest in
       let among : IsAmong s = record {
         before = rows_by lost file cut.before;
         behind = rows_by lost file cut.behind;
@@ -261,9 +260,9 @@ module _ (steps : ℕ → Steps) (file : List ℕ) (allowed : ℕ) (start : Star
 
   rows_ends : EndBy first s.frames (length file)
   rows_ends = subst (λ l. EndBy first l (length file)) (sym rows_told)
-      (numbered_either (λ ps. EndBy first (rows_by lost file ps) (length file)) head start.first
-      (frames_of later.items) (omega arith, omega (arith, has.first.some), later_end)
-      (end_earlier first (first + size) (rows_by lost file (frames_of later.items)) (length file)
+      (numbered_either (λ ps. EndBy first (rows_by lost file ps) (length file)) head
+      (omega arith, omega (arith, has.first.some), later_end)
+      (end_earlier (rows_by lost file (frames_of later.items)) (length file)
       (omega arith) later_end))
 
   frames_some : 0 < length s.frames
@@ -274,8 +273,8 @@ module _ (steps : ℕ → Steps) (file : List ℕ) (allowed : ℕ) (start : Star
   last_by [] same ends some is = absurd (omega (arith, some))
   last_by (row ∷ rows) same ends some is =
       let tag = tag_none s is in
-      let last = last_ends first row rows (length file) ends in
-      let beyond = end_rises (row_end row) rows (last_end (row ∷ rows)) last.0.2 in
+      let last = last_ends first row rows ends in
+      let beyond = end_rises (row_end row) rows last.0.2 in
       let place : tag_offset s ≡ last_end (row ∷ rows) = tag.0 ∙ ap last_end (sym same) in
       let among : IsAmong s = record {
         before = row ∷ rows;
@@ -296,19 +295,19 @@ module _ (steps : ℕ → Steps) (file : List ℕ) (allowed : ℕ) (start : Star
       → find is_tag (blocks_of later.items) ≡ y → tag_block s ≡ option_or x y
       → IsInFront s ⊎ IsApart s
   place_by (Some b) y front_is later_is is =
-      let tag = place-some s b is in
+      let tag = place-some s is in
       let ends = ends-stream Front file 0 front.items front.stop (item_run-ends Front file 0) in
-      let cut = items_cut lost file 0 front.items b front.stop ends front_is in
+      let cut = items_cut lost file front.items ends front_is in
       let last =
-      end_rises (b.offset + b.block.length) (rows_by lost file cut.behind) front.stop cut.rest in
+      end_rises (b.offset + b.block.length) (rows_by lost file cut.behind) cut.rest in
       inl (record {
         some = omega (arith, tag.1, cut.some);
         before = omega (arith, tag.0, tag.1, last, has.front);
       })
   place_by None (Some b) front_is later_is is =
-      let cut = items_cut lost file (first + size) later.items b later.stop later_ends later_is in
-      let beyond = end_rises (first + size) (rows_by lost file cut.before) b.offset cut.front in
-      inr (among_by b is (omega (arith, beyond, has.first.some)) (cut_by head b cut))
+      let cut = items_cut lost file later.items later_ends later_is in
+      let beyond = end_rises (first + size) (rows_by lost file cut.before) cut.front in
+      inr (among_by is (omega (arith, beyond, has.first.some)) (cut_by head cut))
   place_by None None front_is later_is is = inr (last_by s.frames refl rows_ends frames_some is)
 
   -- the tag is before the junk, or apart from all frames
@@ -325,25 +324,24 @@ module _ (steps : ℕ → Steps) (file : List ℕ) (allowed : ℕ) (start : Star
     junk = has.low;
     first = omega (arith, has.first.within);
     sized = subst (AreSized steps file) (sym rows_told)
-        (numbered_either (λ ps. AreSized steps file (rows_by lost file ps)) head start.first
-        (frames_of later.items)
-        (one_sized lost file steps Stream first h has.first (lost first), later_sized) later_sized);
+        (numbered_either (λ ps. AreSized steps file (rows_by lost file ps)) head
+        (one_sized lost file steps has.first (lost first), later_sized) later_sized);
     ends = rows_ends;
     some = frames_some;
     place = somewhere apart_place;
   }
 
 -- in every surveyed file the tag is before the junk or among the frames
-pub stands_somewhere : (steps : ℕ → Steps) (file : List ℕ) (allowed : ℕ) (s : SurveyFields)
+pub stands_somewhere : (steps : ℕ → Steps) {file : List ℕ} (allowed : ℕ) {s : SurveyFields}
     → survey_fields file allowed ≡ Ok s → StandsSomewhere steps file s
-stands_somewhere steps file allowed s e =
-    let parts = survey_fields-parts file allowed s e in
+stands_somewhere steps {file} allowed {s} e =
+    let parts = survey_fields-parts e in
     subst (StandsSomewhere steps file) parts.2 (stands steps file allowed parts.0 parts.1)
 
 -- in every surveyed file no frame begins where the tag begins
-pub stands_apart : (steps : ℕ → Steps) (file : List ℕ) (allowed : ℕ) (s : SurveyFields)
+pub stands_apart : (steps : ℕ → Steps) (file : List ℕ) (allowed : ℕ) {s : SurveyFields}
     → survey_fields file allowed ≡ Ok s → IsInFront s ⊎ IsApart s
-stands_apart steps file allowed s e =
-    let parts = survey_fields-parts file allowed s e in
+stands_apart steps file allowed {s} e =
+    let parts = survey_fields-parts e in
     subst (λ (t : SurveyFields). IsInFront t ⊎ IsApart t)
     parts.2 (apart_place steps file allowed parts.0 parts.1)

@@ -21,25 +21,25 @@ unfolding file_tag
 file_tag-none file s none = rw none refl
 
 -- a file with a tag has the tag of its block's bytes
-pub file_tag-some : (file : List ℕ) (s : SurveyFields) (b : Piece) → tag_block s ≡ Some b
+pub file_tag-some : (file : List ℕ) (s : SurveyFields) {b : Piece} → tag_block s ≡ Some b
     → file_tag file s ≡ tag_of_block b.offset (take b.block.length (drop b.offset file))
 unfolding file_tag
-file_tag-some file s b some = rw some refl
+file_tag-some file s some = rw some refl
 
 -- the tag is where its block is
-pub place-some : (s : SurveyFields) (b : Piece) → tag_block s ≡ Some b
+pub place-some : (s : SurveyFields) {b : Piece} → tag_block s ≡ Some b
     → (tag_offset s ≡ b.offset) × (tag_length s ≡ b.block.length)
-place-some s b some = (rw some refl, rw some refl)
+place-some s some = (rw some refl, rw some refl)
 
 -- ---- a survey of a file of a folder
 
 module _ (name : List ℕ) (files : Files) (s : SurveyFields) (surveyed : (bytes : List ℕ)
     → Holds files name bytes → IsFileSurvey bytes s) (b : Piece) (tag : tag_block s ≡ Some b) where
   -- the block is in the file
-  pub told-there : (bytes : List ℕ) → Holds files name bytes → IsTagThere bytes b
-  told-there bytes holds =
+  pub told-there : {bytes : List ℕ} → Holds files name bytes → IsTagThere bytes b
+  told-there {bytes} holds =
       let is = surveyed bytes holds in
-      tag-there bytes is.0 s b (survey_of-survey_fields bytes is.0 s is.1) tag
+      tag-there is.0 (survey_of-survey_fields bytes is.0 is.1) tag
 
   -- the file is as long as the survey says
   pub told-length : (bytes : List ℕ) → Holds files name bytes → length bytes ≡ s.length
@@ -49,7 +49,7 @@ module _ (name : List ℕ) (files : Files) (s : SurveyFields) (surveyed : (bytes
   pub too_large-refused : longest_tag < b.block.length
       → RefusesTag name files s (TooLarge b.block.length)
   too_large-refused large bytes holds =
-      grind (arith, told-there bytes holds, lt-ltb, file_tag-some bytes s b tag)
+      grind (arith, told-there holds, lt-ltb, file_tag-some bytes s tag)
 
   module _ (block : List ℕ) (own : (bytes : List ℕ) → Holds files name bytes → block
       ≡ take b.block.length (drop b.offset bytes)) (long : length block ≡ b.block.length) where
@@ -57,17 +57,17 @@ module _ (name : List ℕ) (files : Files) (s : SurveyFields) (surveyed : (bytes
         → block_front block ≡ Some (record { kind = Ape; length = length block })
     front_there bytes holds = grind (arith, told-there)
 
-    tag_is : (bytes : List ℕ) → Holds files name bytes → (r : Result TagFields FileTagFault)
+    tag_is : (bytes : List ℕ) → Holds files name bytes → {r : Result TagFields FileTagFault}
         → tag_of_block b.offset block ≡ r → file_tag bytes s ≡ r
-    tag_is bytes holds r is = grind (arith, file_tag-some)
+    tag_is bytes holds is = grind (arith, file_tag-some)
 
     -- the tag is that of the block
     pub block-tag : (t : TagFields) → (block_front block
         ≡ Some (record { kind = Ape; length = length block }) → tag_of_block b.offset block ≡ Ok t)
         → (bytes : List ℕ) → Holds files name bytes → file_tag bytes s ≡ Ok t
-    block-tag t is bytes holds = tag_is bytes holds (Ok t) (is (front_there bytes holds))
+    block-tag t is bytes holds = tag_is bytes holds (is (front_there bytes holds))
 
     -- the fault of the tag is that of the block
-    pub block-cause : (before after : Counts) (fault : FileTagFault) → after ≡ before
+    pub block-cause : {before after : Counts} (fault : FileTagFault) → after ≡ before
         → IsBlockCause b.offset block fault → IsTagCause name files s before after fault
-    block-cause before after fault same cause = grind (arith, place-some, tag_is, front_there)
+    block-cause fault same cause = grind (arith, place-some, tag_is, front_there)

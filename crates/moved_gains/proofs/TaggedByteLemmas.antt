@@ -23,8 +23,8 @@ module _ (n : ℕ) (s : SurveyFields) where
   stays x low = grind (arith, lt-ltb)
 
   -- the offset of what was after the tag changes by the difference in length
-  pub follows : (x : ℕ) → tag_offset s ≤ x → retagged_offset n s x ≡ x - tag_length s + n
-  follows x high = grind (arith, le-ltb)
+  pub follows : {x : ℕ} → tag_offset s ≤ x → retagged_offset n s x ≡ x - tag_length s + n
+  follows high = grind (arith, le-ltb)
 
 module _ (bytes file : List ℕ) (s : SurveyFields)
     (room : tag_offset s + tag_length s ≤ length file) where
@@ -80,9 +80,9 @@ module _ (bytes file : List ℕ) (s : SurveyFields)
   pub front-moved : IsMovedTo (retagged_offset n s) file new 0 (tag_offset s) 0
   front-moved = grind (arith, stays, front_same)
 
-  later_same : (x : ℕ) → tag_offset s + tag_length s ≤ x
+  later_same : {x : ℕ} → tag_offset s + tag_length s ≤ x
       → drop (x - tag_length s + n) new ≡ drop x file
-  later_same x above =
+  later_same {x} above =
       let off = x - (tag_offset s + tag_length s) in
       let split : x - tag_length s + n ≡ (tag_offset s + n) + off = omega (arith, above) in
       let back : (tag_offset s + tag_length s) + off ≡ x = omega (arith, above) in

@@ -16,10 +16,10 @@ use Rattle.sync_survey.specs.declared.places.{Piece.Piece, PlacedFrame.PlacedFra
 use Rattle.sync_survey.specs.declared.runs.Region.TheVariants.{Front, Stream}
 
 -- no frame is an item of the front
-pub not_in_front : (file : List ℕ) (at : ℕ) (h : HeaderFields) → item_at file at ≡ Frame h
+pub not_in_front : (file : List ℕ) (at : ℕ) {h : HeaderFields} → item_at file at ≡ Frame h
     → whole_item_at Front file at ≡ None
 unfolding whole_item_at
-not_in_front file at h is = ap (item_if_whole Front file at) is
+not_in_front file at is = ap (item_if_whole Front file at) is
 
 -- from an offset on the file has this first frame,
 -- these frames after it and these blocks, and no junk
@@ -32,16 +32,16 @@ pub record IsClean (file : List ℕ) (from : ℕ) (p : PlacedFrame) (rest : List
   pub blocks_are : blocks_of (item_run Front file from).items
       ++ blocks_of (item_run Stream file p.offset).items ≡ blocks
 
-frame_first : (file : List ℕ) (at : ℕ) (h : HeaderFields) (ps : List PlacedItem) (p : PlacedFrame)
-    (rest : List PlacedFrame) → whole_item_at Stream file at ≡ Some (Frame h)
+frame_first : {file : List ℕ} {at : ℕ} {h : HeaderFields} (ps : List PlacedItem) {p : PlacedFrame}
+    {rest : List PlacedFrame} → whole_item_at Stream file at ≡ Some (Frame h)
     → AreEndToEnd Stream file (at + size_of (Frame h)) ps (length file)
     → record { offset = at; header = h } ∷ frames_of ps ≡ p ∷ rest
     → IsClean file at p rest (blocks_of ps)
-frame_first file at h ps p rest is ends e =
+frame_first {file} {at} {h} ps {p} {rest} is ends e =
     let same : record { offset = at; header = h } ≡ p = cc in
     let stream : item_run Stream file at
     ≡ record { items = record { offset = at; item = Frame h } ∷ ps; stop = length file } =
-    item_run-only Stream file at (record { offset = at; item = Frame h } ∷ ps) (length file)
+    item_run-only Stream file at (record { offset = at; item = Frame h } ∷ ps)
     (refl, is, ends) (whole_item_at-past Stream file (length file) (omega arith)) in
     let front : item_run Front file at ≡ record { items = []; stop = at } =
     grind (arith, item_run-stopped_run, not_in_front, whole_item_at-is) in
@@ -53,12 +53,12 @@ frame_first file at h ps p rest is ends e =
       blocks_are = ap₂ (λ (a b : ItemRun). blocks_of a.items ++ blocks_of b.items) front stream;
     })
 
-passed : (file : List ℕ) (at : ℕ) (item : Item) (p : PlacedFrame) (rest : List PlacedFrame)
-    (blocks : List Piece) → whole_item_at Front file at ≡ Some item
+passed : {file : List ℕ} {at : ℕ} {item : Item} {p : PlacedFrame} {rest : List PlacedFrame}
+    {blocks : List Piece} → whole_item_at Front file at ≡ Some item
     → IsClean file (at + size_of item) p rest blocks
     → IsClean file at p rest (cons_option (block_of_item at item) blocks)
-passed file at item p rest blocks is clean =
-    let front = item_run-next Front file at item is in
+passed {file} {at} {item} is clean =
+    let front = item_run-next Front file is in
     record {
       front = ap (λ (r : ItemRun). r.stop) front ∙ clean.front;
       first = clean.first;
@@ -67,19 +67,19 @@ passed file at item p rest blocks is clean =
       blocks_are = grind (arith, front, cons-append);
     }
 
-one_item : (file : List ℕ) (at : ℕ) (item : Item) (ps : List PlacedItem) (p : PlacedFrame)
-    (rest : List PlacedFrame) → whole_item_at Stream file at ≡ Some item
+one_item : {file : List ℕ} {at : ℕ} (item : Item) (ps : List PlacedItem) {p : PlacedFrame}
+    {rest : List PlacedFrame} → whole_item_at Stream file at ≡ Some item
     → AreEndToEnd Stream file (at + size_of item) ps (length file)
     → (frames_of ps ≡ p ∷ rest → IsClean file (at + size_of item) p rest (blocks_of ps))
     → cons_option (frame_of_item at item) (frames_of ps) ≡ p ∷ rest
     → IsClean file at p rest (cons_option (block_of_item at item) (blocks_of ps))
-one_item file at (Frame h) ps p rest is ends later e = frame_first file at h ps p rest is ends e
-one_item file at Free ps p rest is ends later e = grind (arith, false≢true, whole_item_at-is)
-one_item file at End ps p rest is ends later e = grind (arith, false≢true, whole_item_at-is)
-one_item file at Nothing ps p rest is ends later e = grind (arith, false≢true, whole_item_at-is)
-one_item file at item ps p rest is ends later e =
+one_item {file} {at} (Frame h) ps {p} {rest} is ends later e = frame_first ps is ends e
+one_item Free ps is ends later e = grind (arith, false≢true, whole_item_at-is)
+one_item End ps is ends later e = grind (arith, false≢true, whole_item_at-is)
+one_item Nothing ps is ends later e = grind (arith, false≢true, whole_item_at-is)
+one_item {file} {at} item ps {p} {rest} is ends later e =
     let here = whole_item_at-is Stream file at item is in
-    passed file at item p rest (blocks_of ps)
+    passed
     (whole_item_at-whole Front file at item here.is refl here.within) (later e)
 
 -- the front ends at the first frame, and the stream from there has the others
@@ -89,7 +89,7 @@ pub clean : (file : List ℕ) (from : ℕ) (ps : List PlacedItem) (p : PlacedFra
 clean file from [] p rest ends e = absurd cc
 clean file from (q ∷ ps) p rest ends e =
     subst (λ n. IsClean file n p rest (blocks_of (q ∷ ps))) ends.0
-    (one_item file q.offset q.item ps p rest
+    (one_item q.item ps
     ends.1 ends.2 (clean file (q.offset + size_of q.item) ps p rest ends.2) e)
 
 -- ---- the start
@@ -100,17 +100,17 @@ unfolding front_end_of
 front_end-is file = refl
 
 -- a whole frame where the front ends is the start
-pub start_by : (file : List ℕ) (at : ℕ) (h : HeaderFields) → front_end_of file ≡ at
+pub start_by : (file : List ℕ) {at : ℕ} {h : HeaderFields} → front_end_of file ≡ at
     → item_at file at ≡ Frame h → at + size_of (Frame h) ≤ length file
     → start_of file ≡ Ok (record { front_end = at; first = record { offset = at; header = h } })
 unfolding start_of
-start_by file at h front is within = grind (arith, le-leb, front)
+start_by file front is within = grind (arith, le-leb, front)
 
 -- the start of a stream that begins with this frame, without junk
 abbrev pub start_with : PlacedFrame → Start
 start_with p = record { front_end = p.offset; first = p }
 
 -- the stream of a clean file starts with its first frame
-pub clean-start : (file : List ℕ) (p : PlacedFrame) (rest : List PlacedFrame) (blocks : List Piece)
+pub clean-start : {file : List ℕ} {p : PlacedFrame} {rest : List PlacedFrame} {blocks : List Piece}
     → IsClean file 0 p rest blocks → start_of file ≡ Ok (start_with p)
-clean-start file p rest blocks is = grind (arith, whole_item_at-is, start_by, front_end-is)
+clean-start is = grind (arith, whole_item_at-is, start_by, front_end-is)

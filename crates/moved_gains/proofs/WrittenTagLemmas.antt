@@ -33,10 +33,10 @@ module _ (first gap : ℕ) where
   kind_kept : (p : Piece) → is_tag (edited_block first gap p) ≡ is_tag p
   kind_kept p = grind arith
 
-  found_moved : (p : Piece) (b : Bool) (x y : Option Piece)
+  found_moved : (p : Piece) (b : Bool) {x : Option Piece} (y : Option Piece)
       → x ≡ option_map (edited_block first gap) y → cond b (Some (edited_block first gap p)) x
       ≡ option_map (edited_block first gap) (cond b (Some p) y)
-  found_moved p b x y same = grind arith
+  found_moved p b y same = grind arith
 
   find_moved : (blocks : List Piece) → find is_tag (map (edited_block first gap) blocks)
       ≡ option_map (edited_block first gap) (find is_tag blocks)
@@ -46,13 +46,13 @@ module _ (first gap : ℕ) where
   size_kept : (p : Piece) → (edited_block first gap p).block.length ≡ p.block.length
   size_kept p = grind arith
 
-last_moved : (steps : ℕ → Steps) (gap from : ℕ) (row : Row) (rows : List Row) (to : ℕ)
+last_moved : (steps : ℕ → Steps) {gap : ℕ} (from : ℕ) (row : Row) (rows : List Row) (to : ℕ)
     → EndBy from (row ∷ rows) to → gap ≤ from
     → last_end (map (edited_row steps gap) (row ∷ rows)) ≡ last_end (row ∷ rows) - gap
-last_moved steps gap from row [] to ends low = omega (arith, ends.0, low)
-last_moved steps gap from row (q ∷ rows) to ends low =
+last_moved steps from row [] to ends low = omega (arith, ends.0, low)
+last_moved steps {gap} from row (q ∷ rows) to ends low =
     last_more (edited_row steps gap row) (edited_row steps gap q) (map (edited_row steps gap) rows)
-    ∙ last_moved steps gap (row_end row) q rows to ends.2 (omega (arith, low, ends.0, ends.1))
+    ∙ last_moved steps (row_end row) q rows to ends.2 (omega (arith, low, ends.0, ends.1))
     ∙ ap (λ n. n - gap) (sym (last_more row q rows))
 
 module _ (steps : ℕ → Steps) (s : SurveyFields) where
@@ -70,8 +70,8 @@ module _ (steps : ℕ → Steps) (s : SurveyFields) where
   unfolding edited_survey
   frames_moved = refl
 
-  some_moved : (b : Piece) → tag_block s ≡ Some b → tag_block m ≡ Some (edited_block s.first gap b)
-  some_moved b is = block_moved ∙ ap (option_map (edited_block s.first gap)) is
+  some_moved : {b : Piece} → tag_block s ≡ Some b → tag_block m ≡ Some (edited_block s.first gap b)
+  some_moved is = block_moved ∙ ap (option_map (edited_block s.first gap)) is
 
   none_moved : tag_block s ≡ None → tag_block m ≡ None
   none_moved is = block_moved ∙ ap (option_map (edited_block s.first gap)) is
@@ -82,8 +82,8 @@ module _ (steps : ℕ → Steps) (s : SurveyFields) where
     where
       at : (o : Option Piece) → tag_block s ≡ o → tag_length m ≡ tag_length s
       at None is = (tag_none m (none_moved is)).1 ∙ sym (tag_none s is).1
-      at (Some b) is = (place-some m (edited_block s.first gap b) (some_moved b is)).1
-          ∙ size_kept s.first gap b ∙ sym (place-some s b is).1
+      at (Some b) is = (place-some m (some_moved is)).1
+          ∙ size_kept s.first gap b ∙ sym (place-some s is).1
 
   -- a tag before the frames stays where it is
   pub at_front : tag_offset s < s.first → 0 < tag_length s → tag_offset m ≡ tag_offset s
@@ -92,9 +92,9 @@ module _ (steps : ℕ → Steps) (s : SurveyFields) where
       at : (o : Option Piece) → tag_block s ≡ o → tag_offset m ≡ tag_offset s
       at None is = absurd (omega (arith, some, (tag_none s is).1))
       at (Some b) is =
-          let place = (place-some s b is).0 in
+          let place = (place-some s is).0 in
           let low : ltb b.offset s.first ≡ true = grind (arith, lt-ltb, place) in
-          (place-some m (edited_block s.first gap b) (some_moved b is)).0
+          (place-some m (some_moved is)).0
           ∙ ap (λ c. (cond c b (record b { offset = b.offset - gap })).offset) low
           ∙ sym place
 
@@ -106,17 +106,17 @@ module _ (steps : ℕ → Steps) (s : SurveyFields) where
       last : (rows : List Row) → EndBy s.first rows to → 0 < length rows
           → last_end (map (edited_row steps gap) rows) ≡ last_end rows - gap
       last [] ends some = absurd (omega (arith, some))
-      last (row ∷ rows) ends some = last_moved steps gap s.first row rows to ends (omega arith)
+      last (row ∷ rows) ends some = last_moved steps s.first row rows to ends (omega arith)
 
       at : (o : Option Piece) → tag_block s ≡ o → tag_offset m ≡ tag_offset s - gap
       at None is =
           (tag_none m (none_moved is)).0 ∙ ap last_end frames_moved ∙ last s.frames ends some
           ∙ ap (λ n. n - gap) (sym (tag_none s is).0)
       at (Some b) is =
-          let place = (place-some s b is).0 in
+          let place = (place-some s is).0 in
           let high : ltb b.offset s.first ≡ false =
           le-ltb b.offset s.first (omega (arith, low, place)) in
-          (place-some m (edited_block s.first gap b) (some_moved b is)).0
+          (place-some m (some_moved is)).0
           ∙ ap (λ c. (cond c b (record b { offset = b.offset - gap })).offset) high
           ∙ ap (λ n. n - gap) (sym place)
 
@@ -131,11 +131,11 @@ pub record IsParted (steps : ℕ → Steps) (file : List ℕ) (s : SurveyFields)
       → file_with_tag bytes (edited_survey steps s) (edited_file steps file s)
       ≡ before ++ (bytes ++ behind)
 
-parted_by : (steps : ℕ → Steps) (file : List ℕ) (s : SurveyFields) (before behind : List ℕ)
+parted_by : {steps : ℕ → Steps} {file : List ℕ} {s : SurveyFields} {before behind : List ℕ}
     → tag_offset (edited_survey steps s) ≡ length before → length (own_tag_bytes file s)
     ≡ tag_length s → edited_file steps file s ≡ before ++ (own_tag_bytes file s ++ behind)
     → IsParted steps file s before behind
-parted_by steps file s before behind place size own =
+parted_by {steps} {file} {s} {before} {behind} place size own =
     let m = edited_survey steps s in
     let moved = edited_file steps file s in
     let front : take (tag_offset m) moved ≡ before =
@@ -158,10 +158,10 @@ parted_by steps file s before behind place size own =
 module _ (steps : ℕ → Steps) (file : List ℕ) (allowed : ℕ) (s : SurveyFields)
     (is : survey_fields file allowed ≡ Ok s) where
   known : StandsSomewhere steps file s
-  known = stands_somewhere steps file allowed s is
+  known = stands_somewhere steps allowed is
 
   moved_is : edited_file steps file s ≡ take s.junk file ++ moved_from steps file s.first s.frames
-  moved_is = sym (written-edited_file steps file allowed s is)
+  moved_is = sym (written-edited_file steps file allowed is)
 
   -- the tag is before the junk
   pub parted_front : IsInFront s
@@ -180,7 +180,7 @@ module _ (steps : ℕ → Steps) (file : List ℕ) (allowed : ℕ) (s : SurveyFi
       grind (arith, take-add, append_assoc, own) in
       let front_long : length (take a file) ≡ a = grind (arith, length-take-le) in
       let own_long : length own ≡ size = grind (arith, length-take-le, length-drop) in
-      parted_by steps file s (take a file) (between ++ all)
+      parted_by
       (at_front steps s (omega (arith, front.some, front.before, known.junk)) front.some
       ∙ sym front_long)
       own_long
@@ -202,12 +202,12 @@ module _ (steps : ℕ → Steps) (file : List ℕ) (allowed : ℕ) (s : SurveyFi
       let rest = moved_from steps file (a + size) among.behind in
       let up : a + size ≤ length file = omega (arith, known.size, among.up) in
       let long : length (take junk file) ≡ junk = grind (arith, length-take-le) in
-      let before_long : length before ≡ a - s.first = moved_to-long steps file s.first a
+      let before_long : length before ≡ a - s.first = moved_to-long steps file s.first
       among.before (each_before (IsSized steps file) among.before among.behind
       (subst (AreSized steps file) among.all known.sized)) among.front (omega (arith, up)) in
       let own_long : length own ≡ size = grind (arith, length-take-le, length-drop) in
       let next : IsBehind (a + size) among.behind = grind (arith, is_behind) in
-      parted_by steps file s (take junk file ++ before) rest
+      parted_by
       (at_behind steps s s.length (omega (arith, among.low)) known.ends known.some
       ∙ omega
       (arith, length-append (take junk file) before, long, before_long, known.junk, among.low))
@@ -215,8 +215,8 @@ module _ (steps : ℕ → Steps) (file : List ℕ) (allowed : ℕ) (s : SurveyFi
       (moved_is
       ∙ ap (λ (l : List ℕ). take junk file ++ l)
       (ap (moved_from steps file s.first) among.all
-      ∙ moved_split steps file s.first a among.before among.behind among.front (behind_earlier a
-      (a + size) among.behind (omega arith) next)
+      ∙ moved_split steps file s.first a
+      among.before among.behind among.front (behind_earlier among.behind (omega arith) next)
       ∙ ap (λ (l : List ℕ). before ++ l) (moved_from-later steps file a size among.behind next))
       ∙ sym (append_assoc (take junk file) before (own ++ rest)))
 
@@ -235,7 +235,7 @@ module _ (steps : ℕ → Steps) (file : List ℕ) (allowed : ℕ) (s : SurveyFi
   with_new = file_with_tag bytes (edited_survey steps s) (edited_file steps file s)
 
   there : StandsSomewhere steps file s
-  there = stands_somewhere steps file allowed s is
+  there = stands_somewhere steps allowed is
 
   front_case : IsInFront s → copied_bytes (Some tag) file 0 s.junk
       ++ bytes_written_from steps (Some tag) file s.first s.frames
@@ -247,7 +247,7 @@ module _ (steps : ℕ → Steps) (file : List ℕ) (allowed : ℕ) (s : SurveyFi
       let high : at_tag + long_tag ≤ junk = front.before in
       let between = bytes_between file (at_tag + long_tag) junk in
       ap₂ (λ (l r : List ℕ). l ++ r)
-      (around_tag steps file tag 0 junk (omega arith) (omega (arith, new.0, new.1))
+      (around_tag steps file tag (omega arith) (omega (arith, new.0, new.1))
       (omega (arith, new.1, high))
       ∙ ap₂ (λ n k. bytes_between file 0 n ++ (tag.bytes.now ++ bytes_between file k junk))
       new.0 new.1
@@ -266,7 +266,7 @@ module _ (steps : ℕ → Steps) (file : List ℕ) (allowed : ℕ) (s : SurveyFi
       let before = moved_to steps file s.first at_tag among.before in
       let rest = moved_from steps file (at_tag + long_tag) among.behind in
       ap₂ (λ (l r : List ℕ). l ++ r)
-      (before_tag steps file tag 0 s.junk (omega (arith, new.1, among.past))
+      (before_tag steps file tag 0 (omega (arith, new.1, among.past))
       ∙ ap (λ n. take n file) none)
       (ap (bytes_written_from steps (Some tag) file s.first) among.all
       ∙ written-split steps file tag s.first among.before among.behind s.length
@@ -292,11 +292,11 @@ module _ (steps : ℕ → Steps) (file : List ℕ) (allowed : ℕ) (s : SurveyFi
 -- what the second pass writes
 pub written-file_with_change : (change : FileChange) (tag : Option NewTag) (file : List ℕ)
     (allowed : ℕ)
-    (s : SurveyFields) → IsNewTag s change tag → survey_fields file allowed ≡ Ok s
+    {s : SurveyFields} → IsNewTag s change tag → survey_fields file allowed ≡ Ok s
     → copied_bytes tag file 0 s.junk ++ bytes_written_from change.steps tag file s.first s.frames
     ≡ file_with_change change file s
 unfolding file_with_change
-written-file_with_change change tag file allowed s new is = at change.tag tag new
+written-file_with_change change tag file allowed {s} new is = at change.tag tag new
   where
     none : s.junk - 0 ≡ s.junk
     none = omega arith
@@ -307,6 +307,6 @@ written-file_with_change change tag file allowed s new is = at change.tag tag ne
     at None None new =
         ap₂ (λ n (l : List ℕ). take n file ++ l) none
         (written-none change.steps file s.first s.frames)
-        ∙ written-edited_file change.steps file allowed s is
+        ∙ written-edited_file change.steps file allowed is
     at (Some bytes) (Some t) new = tag_case change.steps file allowed s is t bytes new
     at _ _ new = absurd new

@@ -7,15 +7,15 @@ use Rattle.mp3_cli.specs.Run.{HasFewest, HasFewestBytes}
 use Rattle.outside.specs.Seen.{Seen}
 use Rattle.pack_edits.proofs.PackedLengthLemmas.{done-fewest}
 
-has-fewest : (asked : Request) (old new : Seen) → IsCommandDone (command_of asked) old new
+has-fewest : (asked : Request) {old new : Seen} → IsCommandDone (command_of asked) old new
     → HasFewest asked old.files new.files
-has-fewest (Pack mode input output) old new done = done-fewest mode input output old new done
-has-fewest _ old new done = tt
+has-fewest (Pack mode input output) {old} {new} done = done-fewest mode done
+has-fewest _ done = tt
 
 -- a packing into the fewest bytes that was done wrote the fewest
-pub fewest-bytes : (words : List (List ℕ)) (asked : Request) → job_of words ≡ Ok asked
+pub fewest-bytes : (words : List (List ℕ)) {asked : Request} → job_of words ≡ Ok asked
     → {old new : Seen} → IsCommandDone (command_of asked) old new
     → HasFewestBytes words old.files new.files
-fewest-bytes words asked is {old} {new} done =
+fewest-bytes words {asked} is {old} {new} done =
     subst (λ (r : Result Request ℕ). IfOk r (λ a. HasFewest a old.files new.files)) (sym is)
-    (has-fewest asked old new done)
+    (has-fewest asked done)

@@ -35,30 +35,30 @@ kept-accepts true c f = (
         (λ made. first_there f 0 (made_names made) ≡ None)) h.0.1 (h.1 refl)),
   )),
   (λ h.
-      let made = unless-ok f (c.makes f) h.0 h.1 in (
+      let made = unless-ok f (c.makes f) h.1 in (
         (h.0, made),
         λ keep. subst (λ r. IfOk r (λ m. first_there f 0 (made_names m) ≡ None)) (sym made)
-            (kept_done-free c f h.0 h.1),
+            (kept_done-free c f h.1),
       )),
 )
 
 -- ---- each file that was there
 
-none-first : (here : Bool) (place : ℕ) (later : Option ℕ) → cond here (Some place) later ≡ None
+none-first : (here : Bool) (place : ℕ) {later : Option ℕ} → cond here (Some place) later ≡ None
     → (here ≡ false) × (later ≡ None)
-none-first true place later e = absurd cc
-none-first false place later e = (refl, e)
+none-first true place e = absurd cc
+none-first false place e = (refl, e)
 
 -- a name that is there is none of those of which none is there
-apart-there : (f : Contents) (name bytes : List ℕ) → f name ≡ Some bytes → (place : ℕ)
+apart-there : (f : Contents) {name bytes : List ℕ} → f name ≡ Some bytes → (place : ℕ)
     (outputs : List Output) → first_there f place (map (λ (o : Output). o.name) outputs) ≡ None
     → HasNone name outputs
-apart-there f name bytes held place [] none = tt
-apart-there f name bytes held place (output ∷ outputs) none =
-    let parts = none-first (is_some (f output.name)) place _ none in (
+apart-there f held place [] none = tt
+apart-there f {name} {bytes} held place (output ∷ outputs) none =
+    let parts = none-first (is_some (f output.name)) place none in (
       (λ same. let here : is_some (f output.name) ≡ true =
           ap (λ n. is_some (f n)) (sym same) ∙ ap is_some held in absurd cc),
-      apart-there f name bytes held (place + 1) outputs parts.1,
+      apart-there f held (place + 1) outputs parts.1,
     )
 
 -- a name that is none of some outputs is none of the first of them, the last in part
@@ -79,60 +79,61 @@ apart-part name (suc k) count (output ∷ outputs) none =
 written-keeps : (f : Contents) (made : Made) → first_there f 0 (made_names made) ≡ None
     → KeepsContents f (written_files made.outputs f)
 written-keeps f made none name bytes held =
-    written-other made.outputs f name (apart-there f name bytes held 0 made.outputs none) ∙ held
+    written-other made.outputs f (apart-there f held 0 made.outputs none) ∙ held
 
 partly-keeps : (f : Contents) (made : Made) (k : ℕ) (count : Option ℕ)
     → first_there f 0 (made_names made) ≡ None
     → KeepsContents f (partly_written_files k count made.outputs f)
 partly-keeps f made k count none name bytes held =
-    written-other (take k made.outputs ++ begun_output count (drop k made.outputs)) f name
-    (apart-part name k count made.outputs (apart-there f name bytes held 0 made.outputs none))
+    written-other (take k made.outputs ++ begun_output count (drop k made.outputs)) f
+    (apart-part name k count made.outputs (apart-there f held 0 made.outputs none))
     ∙ held
 
 -- the contents are known, and are these
-keeps-told : (f g : Contents) (new : Files) → new ≡ Told g → KeepsContents f g
+keeps-told : {f g : Contents} {new : Files} → new ≡ Told g → KeepsContents f g
     → IfTold new (KeepsContents f)
-keeps-told f g new is keeps = rw is keeps
+keeps-told is keeps = rw is keeps
 
 -- files that stay are kept
-pub keeps-same : (old new : Files) → new ≡ old → KeepsEachFile old new
-keeps-same (Told f) new same = rw same (λ name bytes held. held)
-keeps-same (Untold t) new same = tt
+pub keeps-same : (old : Files) {new : Files} → new ≡ old → KeepsEachFile old new
+keeps-same (Told f) same = rw same (λ name bytes held. held)
+keeps-same (Untold t) same = tt
 
 module _ (c : Command) where
   keeps-done : (old : Files) (new : Seen) → IfTold old (λ f. (made : Made)
       × ((kept c).makes f ≡ Ok made) × (new.files ≡ Told (written_files made.outputs f)))
       → KeepsEachFile old new.files
   keeps-done (Untold t) new made = tt
-  keeps-done (Told f) new made = keeps-told f (written_files made.0.outputs f) new.files made.2
-      (written-keeps f made.0 (kept_done-free c f made.0 made.1))
+  keeps-done (Told f) new made = keeps-told made.2
+      (written-keeps f made.0 (kept_done-free c f made.1))
 
-  keeps-written : (k : ℕ) (old new : Files) → IsWrittenTo (kept c) k old new → KeepsEachFile old new
-  keeps-written k (Untold t) new h = tt
-  keeps-written k (Told f) new h =
-      let m = h.made in
-      keeps-told f (partly_written_files k m.3 m.0.outputs f) new m.4
-      (partly-keeps f m.0 k m.3 (kept_done-free c f m.0 m.1))
-
-  keeps-unfinished : (k : ℕ) (old new : Files) → IsOutputUnfinished (kept c) k old new
+  keeps-written : {k : ℕ} (old : Files) {new : Files} → IsWrittenTo (kept c) k old new
       → KeepsEachFile old new
-  keeps-unfinished k (Untold t) new h = tt
-  keeps-unfinished k (Told f) new h =
+  keeps-written (Untold t) h = tt
+  keeps-written {k} (Told f) {new} h =
       let m = h.made in
-      keeps-told f (partly_written_files k m.3 m.0.outputs f) new m.5
-      (partly-keeps f m.0 k m.3 (kept_done-free c f m.0 m.1))
+      keeps-told m.4
+      (partly-keeps f m.0 k m.3 (kept_done-free c f m.1))
+
+  keeps-unfinished : {k : ℕ} (old : Files) {new : Files} → IsOutputUnfinished (kept c) k old new
+      → KeepsEachFile old new
+  keeps-unfinished (Untold t) h = tt
+  keeps-unfinished {k} (Told f) {new} h =
+      let m = h.made in
+      keeps-told m.5
+      (partly-keeps f m.0 k m.3 (kept_done-free c f m.1))
 
   -- a command that keeps what is there leaves each file that was there, however it ends
   module _ (old new : Seen) where
     keeps-unread : (new.files ≡ old.files) ⊎ ((k : ℕ) × IsWrittenTo (kept c) k old.files new.files)
         → KeepsEachFile old.files new.files
-    keeps-unread (inl same) = keeps-same old.files new.files same
-    keeps-unread (inr wrote) = keeps-written wrote.0 old.files new.files wrote.1
+    keeps-unread (inl same) = keeps-same old.files same
+    keeps-unread (inr wrote) = keeps-written old.files wrote.1
 
-    keeps-unwritten : (k : ℕ) → IsOutputUnfinished (kept c) k old.files new.files
+    keeps-unwritten : {k : ℕ} → IsOutputUnfinished (kept c) k old.files new.files
         ⊎ IsOutputUnasked (kept c) k old.files new.files → KeepsEachFile old.files new.files
-    keeps-unwritten k (inl part) = keeps-unfinished k old.files new.files part
-    keeps-unwritten k (inr none) = keeps-same old.files new.files none.stays
+    keeps-unwritten {k} (inl part) = keeps-unfinished old.files part
+    keeps-unwritten (inr none) = keeps-same old.files none.stays
 
     -- a file that became shorter tells no contents
     keeps-untold : (files : Files) → is_told files ≡ false → KeepsEachFile files new.files
@@ -143,13 +144,13 @@ module _ (c : Command) where
     pub keeps-left : (fault : EditFault) → IsCommandFault (kept c) old new fault
         → KeepsEachFile old.files new.files
     keeps-left fault h = of_why (why_of fault) h (record {
-      rejected = λ l. keeps-same old.files new.files (ap (λ (s : Seen). s.files) l.stays);
-      missing = λ l. keeps-same old.files new.files l.files;
+      rejected = λ l. keeps-same old.files (ap (λ (s : Seen). s.files) l.stays);
+      missing = λ l. keeps-same old.files l.files;
       unread = λ l. keeps-unread l.files;
       shorter = λ l. keeps-untold old.files l.ended.untold;
-      unwritten = λ k l. keeps-unwritten k l.files;
+      unwritten = λ k l. keeps-unwritten l.files;
       unsent = λ l. keeps-done old.files new l.made;
-      no_memory = λ l. keeps-same old.files new.files (ap (λ (s : Seen). s.files) l.stays);
+      no_memory = λ l. keeps-same old.files (ap (λ (s : Seen). s.files) l.stays);
     })
 
     -- with a fault or without
@@ -161,12 +162,12 @@ module _ (c : Command) where
 -- ---- names that are only made
 
 -- what only touches as a folder does that keeps what is there only makes new files
-pub only-new : (names : List (List ℕ)) (old new : Files)
+pub only-new : {names : List (List ℕ)} (old new : Files)
     → OnlyTouches names (keeping_files old) (keeping_files new) → OnlyMakesNew old new
 unfolding keeping_files
-only-new names (Told f) new only = tt
-only-new names (Untold t) (Told g) only = tt
-only-new names (Untold t) (Untold u) only = only.as_it_does.1
+only-new (Told f) new only = tt
+only-new (Untold t) (Told g) only = tt
+only-new (Untold t) (Untold u) only = only.as_it_does.1
 
 -- ---- a folder that is lent
 
@@ -214,10 +215,10 @@ module _ (c : Command) (old new : Seen) where
     no_memory = λ l. record { names = l.names; takes = l.takes; stays = ap lender l.stays };
   })
 
-  ends-lender : {out_old out_new : Heard} (fault : Option EditFault)
+  ends-lender : {out_old out_new : Heard} {fault : Option EditFault}
       → CommandEnds c old new out_old out_new fault
       → CommandEnds c (lender old) (lender new) out_old out_new fault
-  ends-lender fault ends = record {
+  ends-lender {fault = fault} ends = record {
     says = ends.says;
     done = λ e. done-lender (ends.done e);
     left = at fault ends.left;
@@ -233,16 +234,16 @@ module _ (c : Command) (old new : Seen) where
 -- a command over a folder that is lent as one that keeps what is there answers as over that folder
 module _ (by then : GName) (old new : Seen) where
   -- what it says of the folder that is lent, it says of the folder
-  pub lent-answers : (c : Command) {lent_old lent_new : Seen}
+  pub lent-answers : {c : Command} {lent_old lent_new : Seen}
       {out_old out_new err_old err_new : Heard} {status : ℕ}
       → lent_old ≡ kept_seen by old → lent_new ≡ kept_seen then new
       → CommandAnswers c (world lent_old out_old err_old) (world lent_new out_new err_new) status
       → CommandAnswers c (world (seen_kept true old) out_old err_old)
       (world (seen_kept true new) out_new err_new) status
-  lent-answers c is_old is_new all =
+  lent-answers {c} is_old is_new all =
       let lent = rw (is_old, is_new) at all in record {
         fault = lent.fault;
-        ends = ends-lender c (kept_seen by old) (kept_seen then new) lent.fault lent.ends;
+        ends = ends-lender c (kept_seen by old) (kept_seen then new) lent.ends;
         status_is = lent.status_is;
         line = lent.line;
       }

@@ -18,8 +18,8 @@ use Rattle.outside.{proofs.FilesLemmas.touches_none, specs.Counts.NoneFell}
 use Rattle.outside.specs.Files.{Contents, IfTold, OnlyTouches, sent_and_more, Told}
 use Rattle.outside.specs.Seen.{Heard, Seen}
 
-told-same : (f g : Contents) → Told f ≡ Told g → f ≡ g
-told-same f g e = cc
+told-same : {f g : Contents} → Told f ≡ Told g → f ≡ g
+told-same e = cc
 
 -- a run with the words of a command ends as the command does
 module _ (keeps : Bool) (words : List (List ℕ)) (asked : Request) (is : job_of words ≡ Ok asked)
@@ -46,11 +46,11 @@ module _ (keeps : Bool) (words : List (List ℕ)) (asked : Request) (is : job_of
         defined = is_defined keeps words asked is folder after old.out new.out old.err new.err
             status all;
         accepted = λ files told calls found. is_accepted keeps words asked is folder after
-            old.out new.out old.err new.err status all files told calls.0 calls.1 calls.2 found;
-        streams = λ zero_is. written-streams words asked is sound
+            old.out new.out old.err new.err status all told calls.0 calls.1 calls.2 found;
+        streams = λ zero_is. written-streams words is sound
             (asked_done (command_of asked) keeps (done zero_is))
             (asked_streams (command_of asked) keeps (done zero_is) (streams zero_is));
-        fewest = λ zero_is. fewest-bytes words asked is
+        fewest = λ zero_is. fewest-bytes words is
             (asked_done (command_of asked) keeps (done zero_is));
         touches = subst (λ r. OnlyTouches (outputs_asked r) folder.files after.files) (sym is)
             (subst (λ names. OnlyTouches names folder.files after.files)
@@ -73,14 +73,14 @@ module _ (keeps : Bool) (words : List (List ℕ)) (asked : Request) (is : job_of
             keep all.ends);
         all_or_nothing = λ keep before now told is_now calls.
             all-or-nothing keeps words asked is folder after old.out new.out old.err new.err status
-            all before told keep now is_now calls;
+            all told keep is_now calls;
       }
 
 -- a run with a bad word ends as a bad word does
-pub word_refused : (keeps : Bool) (words : List (List ℕ)) (place : ℕ) → job_of words ≡ Err place
-    → (old new : World) → AnswersBadWord place old new 2
+pub word_refused : (keeps : Bool) {words : List (List ℕ)} {place : ℕ} → job_of words ≡ Err place
+    → {old new : World} → AnswersBadWord place old new 2
     → NoneFell old.folder.counts new.folder.counts → RunOfWords keeps words old new 2
-word_refused keeps words place is old new all fell = record {
+word_refused keeps {words} {place} is {old} {new} all fell = record {
   statuses = lit≤ tt;
   bad_word = subst (λ r. (◌≡◌ {A = ℕ} 2 2) ↔ IsErr r) (sym is) ((λ two. refl), (λ bad. refl));
   answers = subst (AnswersWords keeps old new 2) (sym is) all;
@@ -90,7 +90,7 @@ word_refused keeps words place is old new all fell = record {
       (world f new.out new.err) 2)) (sym all.stays)
       (subst (λ (h : Heard). IfTold old.folder.files (λ files. IsOutcome (outcome keeps words files)
       old (world old.folder h new.err) 2)) (sym all.silent)
-      (bad_word_defined keeps words old.folder place old.out is all.line));
+      (bad_word_defined keeps words old.folder old.out is all.line));
   accepted = λ files told calls found. (
     (λ zero_is. absurd (omega (arith, zero_is))),
     (λ legal. absurd (subst (IsLegalBy files) is legal.legal)),
@@ -108,19 +108,19 @@ word_refused keeps words place is old new all fell = record {
   text = λ zero_is. absurd (omega (arith, zero_is));
   counts = fell;
   keeps_all = λ keep.
-      keeps-same old.folder.files new.folder.files (ap (λ (s : Seen). s.files) all.stays);
+      keeps-same old.folder.files (ap (λ (s : Seen). s.files) all.stays);
   all_or_nothing = λ keep before after told is_now calls.
-      inr (told-same after before
+      inr (told-same
       (sym is_now ∙ ap (λ (s : Seen). s.files) all.stays ∙ told));
 }
 
 -- with `-n` no name is touched but by making a new file
-pub program_ran : (keeping : Bool) (words : List (List ℕ)) (old new : World) (status : ℕ)
+pub program_ran : {keeping : Bool} {words : List (List ℕ)} {old new : World} {status : ℕ}
     → RunOfWords (keeping || keeps_of words) words (world_kept (keeps_of words) old)
     (world_kept (keeps_of words) new) status → ProgramRun keeping words old new status
-program_ran keeping words old new status ran = record {
+program_ran {words = words} {old = old} {new = new} ran = record {
   run = ran;
-  only_new = λ keep. only-new (outputs_asked (job_of words)) old.folder.files new.folder.files
+  only_new = λ keep. only-new old.folder.files new.folder.files
       (subst (λ k. OnlyTouches (outputs_asked (job_of words)) (world_kept k old).folder.files
       (world_kept k new).folder.files) keep ran.touches);
 }

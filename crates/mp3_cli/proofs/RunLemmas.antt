@@ -75,8 +75,8 @@ module _ (command : Command) (files : Files) (old new : Heard) where
 pub sent_no_line : (sent : Sent) (faults : ℕ) → GotLine sent sent faults faults []
 sent_no_line sent faults = grind (arith, sent_nothing)
 
-got_nothing : (old new : Heard) → GetsLine old new [] → new.sent ≡ old.sent
-got_nothing old new line = at line.got
+got_nothing : {old new : Heard} → GetsLine old new [] → new.sent ≡ old.sent
+got_nothing {old} {new} line = at line.got
   where
     at : GotWhole old.sent new.sent old.faults new.faults []
         ⊎ GotPrefix old.sent new.sent old.faults new.faults [] → new.sent ≡ old.sent
@@ -93,7 +93,7 @@ module _ (command : Command) (old new : Seen) (out_old out_new err_old err_new :
   by_case : {P : Type 0} → (status ≡ 0 → all.fault ≡ None → P)
       → ((fault : EditFault) (why : Why) → all.fault ≡ Some fault → status ≡ cause_status why
       → why_of fault ≡ why → by_why (left_cases command old new fault) why → P) → P
-  by_case {P = P} done failed = at all.fault refl all.status_is all.ends.left
+  by_case {P} done failed = at all.fault refl all.status_is all.ends.left
     where
       at : (o : Option EditFault) → all.fault ≡ o → status ≡ fault_status o
           → IfSome o (IsCommandFault command old new) → P
@@ -112,21 +112,21 @@ module _ (command : Command) (old new : Seen) (out_old out_new err_old err_new :
   pub is_done : status ≡ 0 → IsCommandDone command old new
   is_done zero_is = all.ends.done (done_at zero_is)
 
-  line_here : (o : Option EditFault) → all.fault ≡ o
+  line_here : {o : Option EditFault} → all.fault ≡ o
       → GetsLine err_old err_new (command_fault_line command o)
-  line_here o e = subst (λ o. GetsLine err_old err_new (command_fault_line command o)) e all.line
+  line_here {o} e = subst (λ o. GetsLine err_old err_new (command_fault_line command o)) e all.line
 
   -- with status 0 standard error got nothing
   pub quiet : status ≡ 0 → err_new.sent ≡ err_old.sent
-  quiet zero_is = got_nothing err_old err_new (line_here None (done_at zero_is))
+  quiet zero_is = got_nothing (line_here (done_at zero_is))
 
   -- what standard output got
-  says_here : (o : Option EditFault) → all.fault ≡ o → SaysText command old.files out_old out_new o
-  says_here o e = subst (SaysText command old.files out_old out_new) e all.ends.says
+  says_here : {o : Option EditFault} → all.fault ≡ o → SaysText command old.files out_old out_new o
+  says_here e = subst (SaysText command old.files out_old out_new) e all.ends.says
 
-  nothing_by : (fault : EditFault) (why : Why) → all.fault ≡ Some fault → status ≡ cause_status why
+  nothing_by : {fault : EditFault} {why : Why} → all.fault ≡ Some fault → status ≡ cause_status why
       → status ≢ 3 → why_of fault ≡ why → out_new ≡ out_old
-  nothing_by fault why e is other w = grind (arith, sent_none, says_here)
+  nothing_by e is other w = grind (arith, sent_none, says_here)
 
   -- ---- by its status
 
@@ -165,12 +165,12 @@ module _ (command : Command) (old new : Seen) (out_old out_new err_old err_new :
       at : (o : Option (List ℕ)) → command.always ≡ o
           → IfSome o (λ text. out_new.sent ≡ sent_and_more out_old.sent text)
       at None e = tt
-      at (Some text) e = (says_here None (done_at zero_is)).text text (inl e)
+      at (Some text) e = (says_here (done_at zero_is)).text text (inl e)
 
   -- ---- over a folder whose contents are known
   module _ (f : Contents) (told : old.files ≡ Told f) where
-    gives : (r : Result Made EditFault) → HasAnswer command old.files r → command.makes f ≡ r
-    gives r h = subst (λ files. HasAnswer command files r) told h
+    gives : {r : Result Made EditFault} → HasAnswer command old.files r → command.makes f ≡ r
+    gives {r} h = subst (λ files. HasAnswer command files r) told h
 
     made_here : all.fault ≡ None → (made : Made) × (command.makes f ≡ Ok made)
         × (new.files ≡ Told (written_files made.outputs f))
@@ -181,23 +181,23 @@ module _ (command : Command) (old new : Seen) (out_old out_new err_old err_new :
         (world new out_new err_new) status
 
     -- with status 0, 1 or 2 all is as defined
-    refused_here : (fault : EditFault) → all.fault ≡ Some fault → status ≡ 1 → why_of fault
+    refused_here : {fault : EditFault} → all.fault ≡ Some fault → status ≡ 1 → why_of fault
         ≡ Rejected → IsCommandRefused command old new fault → IsAsDefinedBy (command.makes f)
-    refused_here fault e is w left =
-        subst IsAsDefinedBy (sym (gives (Err fault) left.defined))
+    refused_here {fault} e is w left =
+        subst IsAsDefinedBy (sym (gives left.defined))
         (record {
           status_is = is ∙ sym (ap cause_status w);
           files_are = ap (λ (s : Seen). s.files) left.stays ∙ told;
-          text_is = ap (λ (h : Heard). h.sent) (nothing_by fault Rejected e is
+          text_is = ap (λ (h : Heard). h.sent) (nothing_by e is
               (λ three. absurd (omega (arith, is, three))) w) ∙ sym (sent_nothing out_old.sent);
-          line_is = line_here (Some fault) e;
+          line_is = line_here e;
         })
 
-    failed_here : (fault : EditFault) (why : Why) → all.fault ≡ Some fault
+    failed_here : {fault : EditFault} (why : Why) → all.fault ≡ Some fault
         → status ≡ cause_status why → status ≤ 2 → why_of fault ≡ why
         → by_why (left_cases command old new fault) why → IsAsDefinedBy (command.makes f)
-    failed_here fault Rejected e is low w left = refused_here fault e is w left
-    failed_here fault _ e is low w left = absurd (omega (arith, is, low))
+    failed_here {fault} Rejected e is low w left = refused_here e is w left
+    failed_here _ e is low w left = absurd (omega (arith, is, low))
 
     -- up to status 2 the outcome is what the definition says
     pub as_defined : status ≤ 2 → IsOutcome (command_outcome command f) (world old out_old err_old)
@@ -210,34 +210,33 @@ module _ (command : Command) (old new : Seen) (out_old out_new err_old err_new :
         (record {
           status_is = is;
           files_are = made.2;
-          text_is = (says_here None e).text made.0.text (inr (f, made.0, told, made.1, refl));
-          line_is = line_here None e;
+          text_is = (says_here e).text made.0.text (inr (f, made.0, told, made.1, refl));
+          line_is = line_here e;
         }))
-        (λ fault why e is w left. failed_here fault why e is low w left)
+        (λ fault why e is w left. failed_here why e is low w left)
 
     -- where no call of the folder and no write to standard output failed, and memory didn't run
     -- out, the command succeeds exactly where it isn't refused
-    not_made : (made : Made) (fault : EditFault) → command.makes f ≡ Ok made
+    not_made : {made : Made} {fault : EditFault} → command.makes f ≡ Ok made
         → command.makes f ≡ Err fault → ⊥
-    not_made made fault ok err = cc
+    not_made ok err = cc
 
     told_twice : is_told old.files ≡ false → ⊥
     told_twice e = grind arith
 
-    not_failed : (made : Made) (fault : EditFault) (why : Why) → command.makes f ≡ Ok made
+    not_failed : {made : Made} {fault : EditFault} (why : Why) → command.makes f ≡ Ok made
         → (Rose old.counts.read_faults.times new.counts.read_faults.times → ⊥)
         → (Rose old.counts.write_faults.times new.counts.write_faults.times → ⊥)
         → (Rose out_old.faults out_new.faults → ⊥) → status ≢ 4 → all.fault ≡ Some fault
         → why_of fault ≡ why → status ≡ cause_status why
         → by_why (left_cases command old new fault) why → ⊥
-    not_failed made fault Unread ok reads writes sends found e w is left = reads left.rose.0
-    not_failed made fault Shorter ok reads writes sends found e w is left =
-        told_twice left.ended.untold
-    not_failed made fault (Unwritten k) ok reads writes sends found e w is left = writes left.rose.0
-    not_failed made fault NoMemory ok reads writes sends found e w is left = found is
-    not_failed made fault Unsent ok reads writes sends found e w is left =
-        sends (sent_rose command old.files out_old out_new fault w (says_here (Some fault) e))
-    not_failed made fault _ ok reads writes sends found e w is left = grind (arith, not_made, gives)
+    not_failed Unread ok reads writes sends found e w is left = reads left.rose.0
+    not_failed Shorter ok reads writes sends found e w is left = told_twice left.ended.untold
+    not_failed (Unwritten k) ok reads writes sends found e w is left = writes left.rose.0
+    not_failed NoMemory ok reads writes sends found e w is left = found is
+    not_failed {fault = fault} Unsent ok reads writes sends found e w is left =
+        sends (sent_rose command old.files out_old out_new fault w (says_here e))
+    not_failed _ ok reads writes sends found e w is left = grind (arith, not_made, gives)
 
     -- where the command succeeded, the files are those from before and all that it makes
     pub files_where_done : status ≡ 0 → (made : Made) × (command.makes f ≡ Ok made)
@@ -258,8 +257,8 @@ module _ (command : Command) (old new : Seen) (out_old out_new err_old err_new :
 
 -- ---- of words
 
-contents-same : (f g : Contents) → Told f ≡ Told g → f ≡ g
-contents-same f g e = cc
+contents-same : {f g : Contents} → Told f ≡ Told g → f ≡ g
+contents-same e = cc
 
 -- what follows where the folder's contents are known
 pub if_told : (files : Files) {P : Contents → Type 0} → ((f : Contents) → files ≡ Told f → P f)
@@ -267,20 +266,21 @@ pub if_told : (files : Files) {P : Contents → Type 0} → ((f : Contents) → 
 if_told (Untold names) each = tt
 if_told (Told f) each = each f refl
 
-outcome-words : (keeps : Bool) (words : List (List ℕ)) (f : Contents) (r : Result Request ℕ)
+outcome-words : (keeps : Bool) (words : List (List ℕ)) (f : Contents) {r : Result Request ℕ}
     → job_of words ≡ r → outcome keeps words f ≡ job_outcome keeps f r
 unfolding outcome
-outcome-words keeps words f r is = ap (job_outcome keeps f) is
+outcome-words keeps words f is = ap (job_outcome keeps f) is
 
 -- for a bad word, the outcome is what the definition says
-pub bad_word_defined : (keeps : Bool) (words : List (List ℕ)) (old : Seen) (place : ℕ)
+pub bad_word_defined : (keeps : Bool) (words : List (List ℕ)) (old : Seen) {place : ℕ}
     (out : Heard) {err_old err_new : Heard} → job_of words ≡ Err place
     → GetsLine err_old err_new (bad_word_line place) → IfTold old.files
     (λ f. IsOutcome (outcome keeps words f) (world old out err_old) (world old out err_new) 2)
-bad_word_defined keeps words old place out {err_old} {err_new} is line =
+bad_word_defined keeps words old {place} out
+    {err_old} {err_new} is line =
     if_told old.files (λ f told.
     subst (λ o. IsOutcome o (world old out err_old) (world old out err_new) 2)
-    (sym (outcome-words keeps words f (Err place) is))
+    (sym (outcome-words keeps words f is))
     (record {
       status_is = refl;
       files_are = told;
@@ -298,18 +298,18 @@ module _ (keeps : Bool) (words : List (List ℕ)) (asked : Request) (is : job_of
   is_defined low =
       if_told old.files (λ f told.
       subst (λ o. IsOutcome o (world old out_old err_old) (world new out_new err_new) status)
-      (sym (outcome-words keeps words f (Ok asked) is))
+      (sym (outcome-words keeps words f is))
       (as_defined (kept_command_of keeps asked) old new out_old out_new err_old err_new status all
       f told low))
 
   -- where no call failed and memory didn't run out, status 0 comes exactly if words and files are
   -- legal, and no output is there where what is there is kept
-  pub is_accepted : (f : Contents) → old.files ≡ Told f
+  pub is_accepted : {f : Contents} → old.files ≡ Told f
       → (Rose old.counts.read_faults.times new.counts.read_faults.times → ⊥)
       → (Rose old.counts.write_faults.times new.counts.write_faults.times → ⊥)
       → (Rose out_old.faults out_new.faults → ⊥) → status ≢ 4
       → (status ≡ 0) ↔ IsLegalKept keeps words f
-  is_accepted f told reads writes sends found =
+  is_accepted {f} told reads writes sends found =
       let law = legal-by (Ok asked) f in
       let command = command_of asked in
       let takes = kept-accepts keeps command f in (
@@ -329,11 +329,11 @@ module _ (keeps : Bool) (words : List (List ℕ)) (asked : Request) (is : job_of
   -- ---- where what is there is kept
 
   -- either the command was done, and none of its outputs was there, or nothing was created
-  pub all-or-nothing : (before : Contents) → old.files ≡ Told before → keeps ≡ true
-      → (after : Contents) → new.files ≡ Told after
+  pub all-or-nothing : {before : Contents} → old.files ≡ Told before → keeps ≡ true
+      → {after : Contents} → new.files ≡ Told after
       → NoCallFailed (world old out_old err_old) (world new out_new err_new)
       → AllOrNothing words before after status
-  all-or-nothing before told keep after now calls =
+  all-or-nothing {before} told keep {after} now calls =
       by_case (kept_command_of keeps asked) old new out_old out_new err_old err_new status all
       (λ zero_is e.
       let made =
@@ -344,7 +344,7 @@ module _ (keeps : Bool) (words : List (List ℕ)) (asked : Request) (is : job_of
       (λ fault why e w reason left. nothing-by fault why e reason left)
     where
       same : new.files ≡ old.files → AllOrNothing words before after status
-      same stays = inr (contents-same after before (sym now ∙ stays ∙ told))
+      same stays = inr (contents-same (sym now ∙ stays ∙ told))
 
       nothing-by : (fault : EditFault) (why : Why) → all.fault ≡ Some fault → why_of fault ≡ why
           → by_why (left_cases (kept_command_of keeps asked) old new fault) why
@@ -358,7 +358,7 @@ module _ (keeps : Bool) (words : List (List ℕ)) (asked : Request) (is : job_of
       nothing-by fault Unsent e reason left =
           absurd (calls.2 (sent_rose (kept_command_of keeps asked)
           old.files out_old out_new fault reason (says_here (kept_command_of keeps asked) old new
-          out_old out_new err_old err_new status all (Some fault) e)))
+          out_old out_new err_old err_new status all e)))
       nothing-by fault NoMemory e reason left = same (ap (λ (s : Seen). s.files) left.stays)
 
 -- ---- a command that makes no file
@@ -367,10 +367,11 @@ module _ (keeps : Bool) (words : List (List ℕ)) (asked : Request) (is : job_of
 module _ (keeps : Bool) (command : Command)
     (none : (f : Contents) (made : Made) → command.makes f ≡ Ok made → made.outputs ≡ []) where
   -- it ends in the same way
-  pub asked_ends : {old new : Seen} {out_old out_new : Heard} (fault : Option EditFault)
+  pub asked_ends : {old new : Seen} {out_old out_new : Heard} {fault : Option EditFault}
       → CommandEnds command old new out_old out_new fault
       → CommandEnds (asked_of keeps command) old new out_old out_new fault
-  asked_ends {old} {new} {out_old} {out_new} fault ends = at keeps
+  asked_ends {old} {new} {out_old} {out_new} {fault} ends =
+      at keeps
     where
       at : (keeps : Bool) → CommandEnds (asked_of keeps command) old new out_old out_new fault
       at false = ends
@@ -405,12 +406,12 @@ module _ (keeps : Bool) (command : Command)
 
 -- a command that sends a text of one file makes no file
 pub text_makes-none : (text : List ℕ → SurveyFields → List ℕ) (input : List ℕ) (f : Contents)
-    (made : Made) → (text_command text input).makes f ≡ Ok made → made.outputs ≡ []
-text_makes-none text input f made is = of (f input) is
+    {made : Made} → (text_command text input).makes f ≡ Ok made → made.outputs ≡ []
+text_makes-none text input f {made} is = of (f input) is
   where
     by : (file : List ℕ) (r : Result SurveyFields SurveyFault)
         → surveyed_text (text file) r ≡ Ok made → made.outputs ≡ []
-    by file (Ok s) e = sym (ap (λ (m : Made). m.outputs) (made-same _ made e))
+    by file (Ok s) e = sym (ap (λ (m : Made). m.outputs) (made-same e))
     by file (Err fault) e = absurd cc
 
     of : (o : Option (List ℕ)) → input_text text o ≡ Ok made → made.outputs ≡ []
@@ -418,23 +419,23 @@ text_makes-none text input f made is = of (f input) is
     of (Some file) e = by file (survey_of file most_frames) e
 
 -- a command that only sends a text makes no file
-pub fixed_makes-none : (text : List ℕ) (f : Contents) (made : Made)
+pub fixed_makes-none : {text : List ℕ} (f : Contents) {made : Made}
     → (fixed_text_command text).makes f ≡ Ok made → made.outputs ≡ []
-fixed_makes-none text f made is = sym (ap (λ (m : Made). m.outputs) (made-same _ made is))
+fixed_makes-none f {made} is = sym (ap (λ (m : Made). m.outputs) (made-same is))
 
 -- a command that only sends a text holds no stream
 pub fixed_streams : {T E : Type 0} (keeps : Bool) (text : List ℕ) (files : Files) (r : Result T E)
     → OnOk r (HoldsStreams (asked_of keeps (fixed_text_command text)) files)
 fixed_streams keeps text files (Err fault) = tt
 fixed_streams keeps text files (Ok x) = asked_holds keeps (fixed_text_command text)
-    (fixed_makes-none text) files (at files)
+    (fixed_makes-none) files (at files)
   where
     at : (files : Files) → HoldsStreams (fixed_text_command text) files
     at (Untold t) = tt
     at (Told f) = λ made is. record {
       sources = tt;
       streams = subst (λ (outputs : List Output). AreStreams outputs [])
-          (sym (fixed_makes-none text f made is)) tt;
+          (sym (fixed_makes-none f is)) tt;
     }
 
 -- ---- a command without a text
@@ -445,9 +446,9 @@ pub record IsSilent (command : Command) : Type 0 where
   pub silent : (f : Contents) (made : Made) → command.makes f ≡ Ok made → made.text ≡ []
 
 module _ (command : Command) (no_text : IsSilent command) (files : Files) (out : Heard) where
-  text_is : (text : List ℕ) → IsCommandText command files text → text ≡ []
-  text_is text (inl always) = same_Some text [] (sym always ∙ no_text.always)
-  text_is text (inr told) = sym told.4 ∙ no_text.silent told.0 told.1 told.3
+  text_is : {text : List ℕ} → IsCommandText command files text → text ≡ []
+  text_is {text} (inl always) = same_Some text [] (sym always ∙ no_text.always)
+  text_is (inr told) = sym told.4 ∙ no_text.silent told.0 told.1 told.3
 
   -- such a command sends nothing, whatever fault it ends with
   says_nothing : {T : Type 0} (r : Result T EditFault) → IfErr r (HasNumbers command)
@@ -462,17 +463,17 @@ pub asked_silent : (keeps : Bool) {command : Command} → IsSilent command
 asked_silent false silent = silent
 asked_silent true {command} silent = record {
   always = silent.always;
-  silent = λ f made is. silent.silent f made (unless-ok f (command.makes f) made is);
+  silent = λ f made is. silent.silent f made (unless-ok f (command.makes f) is);
 }
 
 -- how a command ends, from what it promises
-pub told_ends : {T : Type 0} (command : Command) (r : Result T EditFault) (old new : Seen)
-    (out_old out_new : Heard) → OnOk r (IsCommandDone command old new)
+pub told_ends : {T : Type 0} {command : Command} (r : Result T EditFault) {old new : Seen}
+    {out_old out_new : Heard} → OnOk r (IsCommandDone command old new)
     → IfErr r (IsCommandFault command old new)
     → SaysText command old.files out_old out_new (answer_fault r) → IfErr r (HasNumbers command)
     → ((place : ℕ) → IsErrOf r (EqualNames place) ↔ (clash_of command ≡ Some place))
     → CommandEnds command old new out_old out_new (answer_fault r)
-told_ends command (Ok x) old new out_old out_new done left says numbers names =
+told_ends (Ok x) done left says numbers names =
     record {
       says = says;
       done = λ e. done;
@@ -481,7 +482,7 @@ told_ends command (Ok x) old new out_old out_new done left says numbers names =
       names =
           λ place clash. ap answer_fault ((names place).1 clash);
     }
-told_ends command (Err fault) old new out_old out_new done left says numbers names =
+told_ends (Err fault) done left says numbers names =
     record {
       says = says;
       done = λ e. absurd cc;
@@ -492,39 +493,40 @@ told_ends command (Err fault) old new out_old out_new done left says numbers nam
     }
 
 -- how a command without a text ends, from what it promises
-pub silent_ends : {T : Type 0} (command : Command) → IsSilent command → (r : Result T EditFault)
-    (old new : Seen) (out : Heard) → OnOk r (IsCommandDone command old new)
+pub silent_ends : {T : Type 0} {command : Command} → IsSilent command → {r : Result T EditFault}
+    {old new : Seen} (out : Heard) → OnOk r (IsCommandDone command old new)
     → IfErr r (IsCommandFault command old new) → IfErr r (HasNumbers command)
     → ((place : ℕ) → IsErrOf r (EqualNames place) ↔ (clash_of command ≡ Some place))
     → CommandEnds command old new out out (answer_fault r)
-silent_ends command no_text r old new out done left numbers names = told_ends command r old new out
-    out done left (says_nothing command no_text old.files out r numbers) numbers names
+silent_ends {command = command} no_text
+    {r} {old} {new} out done left numbers names =
+    told_ends r done left (says_nothing command no_text old.files out r numbers) numbers names
 
 -- ---- a command that sends a text of one file
 
 -- what each call of such a command promises; no name is an output's, since there are no outputs
-pub text_ends : (text : List ℕ → SurveyFields → List ℕ) (input : List ℕ)
-    (r : Result (Unit {0}) EditFault) (old new : Seen) (out_old out_new : Heard)
+pub text_ends : (text : List ℕ → SurveyFields → List ℕ) {input : List ℕ}
+    (r : Result (Unit {0}) EditFault) {old new : Seen} {out_old out_new : Heard}
     → IsTextRun (text_command text input) old new out_old out_new r
     → CommandEnds (text_command text input) old new out_old out_new (answer_fault r)
-text_ends text input (Ok x) old new out_old out_new run = grind arith
-text_ends text input (Err fault) old new out_old out_new run = grind arith
+text_ends text (Ok x) run = grind arith
+text_ends text (Err fault) run = grind arith
 
 -- ---- a command that makes one file
 
 -- what each call of a command that makes files promises
-pub run_ends : (command : Command) → IsSilent command
-    → (r : Result (Unit {0}) EditFault) (old new : Seen) (out : Heard) → IsRunOf command old new r
+pub run_ends : {command : Command} → IsSilent command
+    → {r : Result (Unit {0}) EditFault} {old new : Seen} (out : Heard) → IsRunOf command old new r
     → CommandEnds command old new out out (answer_fault r)
-run_ends command no_text r old new out run =
-    silent_ends command no_text r old new out run.done run.left run.numbers run.names
+run_ends {command} no_text {r} {old} {new} out run =
+    silent_ends no_text out run.done run.left run.numbers run.names
 
 -- a command that makes one file sends nothing
 pub one_silent : (task : Task) (output : List ℕ) → IsSilent (one_command task output)
 one_silent task output = record {
   always = refl;
   silent = λ f made is.
-      sym (ap (λ (made : Made). made.text) (one_made output (task_result task output f) made is).1);
+      sym (ap (λ (made : Made). made.text) (one_made (task_result task output f) is).1);
 }
 
 -- ---- a command that splits a file
@@ -535,7 +537,7 @@ pub split_silent : {P : Type 0} (cut : Cutting P) (prefix input : List ℕ)
 split_silent cut prefix input = record {
   always = refl;
   silent = λ f made is.
-      sym (ap (λ (made : Made). made.text) (split-parts cut f prefix input made is).1.1);
+      sym (ap (λ (made : Made). made.text) (split-parts cut f prefix input is).1.1);
 }
 
 -- ---- a command that only sends a text
@@ -553,12 +555,12 @@ module _ (text : List ℕ) (some : Some text ≢ Some []) (now : Seen) where
   said_left _ is = absurd is
 
   -- a command that only sends a text ends as its fault says
-  pub said_ends : {T : Type 0} (r : Result T EditFault) (out_old out_new : Heard)
+  pub said_ends : {T : Type 0} (r : Result T EditFault) {out_old out_new : Heard}
       → SaysText (fixed_text_command text) now.files out_old out_new (answer_fault r)
       → IfErr r IsDrillFault
       → CommandEnds (fixed_text_command text) now now out_old out_new (answer_fault r)
-  said_ends (Ok x) out_old out_new says is = grind (arith, text_made, touches_none)
-  said_ends (Err fault) out_old out_new says is = grind (arith, said_left)
+  said_ends (Ok x) says is = grind (arith, text_made, touches_none)
+  said_ends (Err fault) says is = grind (arith, said_left)
 
 -- a failed write to standard output is one of the faults of a drill
 pub sent_alone : {T : Type 0} (r : Result T EditFault) → IfErr r (λ fault. fault ≡ NotSent)

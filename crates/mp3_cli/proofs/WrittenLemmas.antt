@@ -26,8 +26,8 @@ hold-frames [] (output ∷ outputs) (stream ∷ streams) (frames ∷ more) files
 hold-frames (name ∷ names) (output ∷ outputs) (stream ∷ streams)
     (frames ∷ more) files named are consist =
     let now = with_file files output.name output.bytes in
-    let held : written_files outputs now output.name ≡ Some output.bytes = written-other outputs now
-    output.name named.1 ∙ with_file_here files output.name output.bytes in (
+    let held : written_files outputs now output.name ≡ Some output.bytes =
+    written-other outputs now named.1 ∙ with_file_here files output.name output.bytes in (
       (
         output.bytes,
         subst (λ (n : List ℕ). written_files outputs now n ≡ Some output.bytes) named.0 held,
@@ -39,10 +39,10 @@ hold-frames (name ∷ names) (output ∷ outputs) (stream ∷ streams)
 
 -- ---- whatever is asked for
 
-there : (asked : Request) (f : Contents) (made : Made) → IsSoundRequest asked
+there : {asked : Request} {f : Contents} {made : Made} → IsSoundRequest asked
     → (command_of asked).makes f ≡ Ok made → MakesStreams (command_of asked) f made
     → HoldsWritten asked f (written_files made.outputs f)
-there asked f made sound e holds =
+there {asked} {f} {made} sound e holds =
     let named = subst (λ names. AreNamed names made.outputs) (sym (names-are asked).outputs)
     (outputs-named asked sound f made e) in
     record {
@@ -53,10 +53,10 @@ there asked f made sound e holds =
     }
 
 -- after a command that was done, each output is there, with the frames that were chosen
-pub written-streams : (words : List (List ℕ)) (asked : Request) → job_of words ≡ Ok asked
+pub written-streams : (words : List (List ℕ)) {asked : Request} → job_of words ≡ Ok asked
     → IsSoundRequest asked → {old new : Seen} → IsCommandDone (command_of asked) old new
     → HoldsStreams (command_of asked) old.files → HoldsAllStreams words old.files new.files
-written-streams words asked is sound {old} {new} done holds =
+written-streams words {asked} is sound {old} {new} done holds =
     subst (λ (r : Result Request ℕ). IfOk r
     (λ a. IfTold old.files (λ f. IfTold new.files (λ g. HoldsWritten a f g)))) (sym is)
     (if_told old.files (λ f told.
@@ -65,4 +65,4 @@ written-streams words asked is sound {old} {new} done holds =
     × (new.files ≡ Told (written_files made.outputs f)))) told done.made in
     let held = subst (HoldsStreams (command_of asked)) told holds in
     subst (λ (files : Files). IfTold files (λ g. HoldsWritten asked f g)) (sym made.2)
-    (there asked f made.0 sound made.1 (held made.0 made.1))))
+    (there sound made.1 (held made.0 made.1))))

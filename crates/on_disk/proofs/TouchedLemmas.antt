@@ -19,7 +19,7 @@ module _ (old : TouchedNames) (name : List ℕ) where
       (λ key. slice_cmp nat_cmp name (string_bytes key)) old.created new.created true
       → new.made ≡ old.made
       → touched_in new ≡ with_touch (touched_in old) name (created_touch false)
-  created_added new sets same = same_touched _ _ (λ other.
+  created_added new sets same = same_touched (λ other.
       ap₂ noted_touch
       (btree_set_updates_text name old.created new.created true sets other)
       (ap (λ set. contains_text set other) same)
@@ -37,7 +37,7 @@ module _ (old : TouchedNames) (name : List ℕ) where
       (λ key. slice_cmp nat_cmp name (string_bytes key)) old.made new.made true
       → new.created ≡ old.created
       → touched_in new ≡ with_touch (touched_in old) name (created_touch true)
-  made_added new sets same = same_touched _ _ (λ other.
+  made_added new sets same = same_touched (λ other.
       ap₂ noted_touch (ap (λ set. contains_text set other) same)
       (btree_set_updates_text name old.made new.made true sets other)
       ∙ at (bytes_eq name other) (contains_text old.created other) (contains_text old.made other))
@@ -50,9 +50,10 @@ module _ (old : TouchedNames) (name : List ℕ) where
       at false created was = refl
 
 -- a name that becomes what it is stays
-pub touch_here : (touched : Touched) (name : List ℕ) (becomes : Touch → Touch)
+pub touch_here : {touched : Touched} (name : List ℕ) (becomes : Touch → Touch)
     → becomes (touched name) ≡ touched name → touched ≡ with_touch touched name becomes
-touch_here touched name becomes is = same_touched _ _ (λ other. at other (bytes_eq name other) refl)
+touch_here {touched} name becomes is =
+    same_touched (λ other. at other (bytes_eq name other) refl)
   where
     here : (other : List ℕ) → name ≡ other → touched other ≡ becomes (touched other)
     here other same = rw (← same) (sym is)
@@ -65,13 +66,13 @@ touch_here touched name becomes is = same_touched _ _ (λ other. at other (bytes
 -- a name that is noted as one that is to be created stays when it is added
 pub created_again : (touched : TouchedNames) (name : List ℕ) → contains_text touched.created name
     ≡ true → touched_in touched ≡ with_touch (touched_in touched) name (created_touch false)
-created_again touched name is = touch_here (touched_in touched) name (created_touch false)
+created_again touched name is = touch_here name (created_touch false)
     (rw is refl)
 
 -- so does one that is to be made
 pub made_again : (touched : TouchedNames) (name : List ℕ) → contains_text touched.made name ≡ true
     → touched_in touched ≡ with_touch (touched_in touched) name (created_touch true)
-made_again touched name is = touch_here (touched_in touched) name (created_touch true)
+made_again touched name is = touch_here name (created_touch true)
     (rw is (at (contains_text touched.created name)))
   where
     at : (created : Bool) → created_touch true (noted_touch created true) ≡ noted_touch created true
@@ -82,9 +83,9 @@ created_is-touched : (keeps : Bool) (t : Touch) → is_touched (created_touch ke
 created_is-touched keeps t = grind arith
 
 -- a name that was added is touched
-pub touch_there : (old new : Touched) (name : List ℕ) (keeps : Bool)
+pub touch_there : (old : Touched) {new : Touched} (name : List ℕ) (keeps : Bool)
     → new ≡ with_touch old name (created_touch keeps) → IsTrue (is_touched (new name))
-touch_there old new name keeps added = ap (λ touched. is_touched (touched name)) added
+touch_there old name keeps added = ap (λ touched. is_touched (touched name)) added
     ∙ at (bytes_eq name name) ((bytes_eq-Decides name name).1 refl)
   where
     at : (same : Bool) → same ≡ true

@@ -22,14 +22,14 @@ pub err_by : {T E : Type 0} {P Q : E → Type 0} (r : Result T E) → ((e : E) �
 err_by r f p = grind arith
 
 -- a buffer that passed on nothing
-pub passed_nothing : (files : Files) (name bytes : List ℕ) → IsFileThere files name
+pub passed_nothing : {files : Files} {name : List ℕ} (bytes : List ℕ) → IsFileThere files name
     → AppendsWaiting name bytes bytes files files
-passed_nothing files name bytes there = grind (arith, appended_nothing)
+passed_nothing bytes there = grind (arith, appended_nothing)
 
 -- a buffer that passed on a prefix
-pub passed_front : (name bytes : List ℕ) (n : ℕ) (f g : Files)
+pub passed_front : {name bytes : List ℕ} (n : ℕ) {f g : Files}
     → g ≡ with_appended_bytes f name (take n bytes) → AppendsWaiting name bytes (drop n bytes) f g
-passed_front name bytes n f g is = grind (arith, take-append-drop)
+passed_front n is = grind (arith, take-append-drop)
 
 module _ {name before after : List ℕ} {f g : Files} where
   -- more waits after it
@@ -42,10 +42,10 @@ module _ {name before after : List ℕ} {f g : Files} where
   passed_there p = grind (arith, appended_there)
 
 -- a piece that fits waits after what waited, and nothing is passed on
-pub piece_waits : {name waits after : List ℕ} (piece : List ℕ) (seen : Seen)
+pub piece_waits : {name waits after : List ℕ} {piece : List ℕ} {seen : Seen}
     → IsFileThere seen.files name → after ≡ waits ++ piece → length after ≤ 65536
     → PushAnswer name waits piece after seen seen (Ok tt)
-piece_waits {name} {waits} piece seen there is few = grind (arith, passed_nothing)
+piece_waits {name} {waits} there is few = grind (arith, passed_nothing)
 
 -- what was passed on in two steps was passed on in one
 pub passed_then : {name before mid after : List ℕ} {f g h : Files}

@@ -24,9 +24,9 @@ module _ {X : Type 0} (before n held : ℕ) where
   parts_same xs ys within same = grind (arith, part_of_front xs within, part_of_front ys within)
 
 -- what is given is the part of the file that was asked for, as far as there is one
-pub given_is : (n k : ℕ) (room rest : List ℕ) → take k room ≡ take k rest
+pub given_is : {n k : ℕ} (room rest : List ℕ) → take k room ≡ take k rest
     → (k < n → length rest ≤ k) → take (min n k) room ≡ take n rest
-given_is n k room rest same ended = by_order (cases_lt k n)
+given_is {n} {k} room rest same ended = by_order (cases_lt k n)
   where
     by_order : (k < n) ⊎ (n ≤ k) → take (min n k) room ≡ take n rest
     by_order (inr fits) =
@@ -39,9 +39,9 @@ given_is n k room rest same ended = by_order (cases_lt k n)
         ∙ sym (take_all n rest (omega (arith, ended short)))
 
 -- a part that was moved to the beginning
-pub moved_front : (before held : ℕ) (xs : List ℕ) → held ≤ length xs → before ≤ held
+pub moved_front : {before held : ℕ} (xs : List ℕ) → held ≤ length xs → before ≤ held
     → take (held - before) (copy_within xs before held 0) ≡ take (held - before) (drop before xs)
-moved_front before held xs within ordered =
+moved_front {before} {held} xs within ordered =
     grind (
       arith,
       take-paste xs 0 (drop before xs) (held - before) (omega arith) (omega (
@@ -52,26 +52,26 @@ moved_front before held xs within ordered =
     )
 
 -- a list that fills a room is all that is in it
-pub fills : (n : ℕ) (xs rest : List ℕ) → length xs ≡ n → take n (xs ++ rest) ≡ xs
-fills n xs rest size = ap (λ k. take k (xs ++ rest)) (sym size) ∙ take-append_seam xs rest
+pub fills : {n : ℕ} {xs : List ℕ} (rest : List ℕ) → length xs ≡ n → take n (xs ++ rest) ≡ xs
+fills {xs = xs} rest size = ap (λ k. take k (xs ++ rest)) (sym size) ∙ take-append_seam xs rest
 
 -- a buffer that was filled has the bounds of a feed
-pub within_filled : (n place held to : ℕ) (xs rest : List ℕ) → length xs ≡ n → n ≡ 65536 → held
+pub within_filled : {n place held to : ℕ} (xs rest : List ℕ) → length xs ≡ n → n ≡ 65536 → held
     ≤ 65536 → to ≤ held → place ≤ 2 ^ 32 → AreFeedBounds (take n (xs ++ rest)) place held 0 to
-within_filled n place held to xs rest size whole few among early = grind (arith, fills)
+within_filled xs rest size whole few among early = grind (arith, fills)
 
 -- what was read is held
-pub fed_by : (k at : ℕ) (room bytes : List ℕ) → k ≤ length room → take k room
+pub fed_by : {k : ℕ} (at : ℕ) (room bytes : List ℕ) → k ≤ length room → take k room
     ≡ take k (drop at bytes) → take (length (take k room)) (drop at bytes) ≡ take k room
-fed_by k at room bytes within same = grind (arith, length-take-le)
+fed_by at room bytes within same = grind (arith, length-take-le)
 
 -- what is held was read
-pub fed_front : (held at : ℕ) (room bytes : List ℕ) → held ≤ length room
+pub fed_front : {held : ℕ} (at : ℕ) (room bytes : List ℕ) → held ≤ length room
     → take (length (take held room)) (drop at bytes) ≡ take held room
     → take held (drop at bytes) ≡ take held room
-fed_front held at room bytes within same = grind (arith, length-take-le)
+fed_front at room bytes within same = grind (arith, length-take-le)
 
 -- a feed that holds nothing is fed from any file
-pub fed_nothing : (fed : Fed) (files : Files) (name : List ℕ) → fed.held ≡ []
+pub fed_nothing : {fed : Fed} (files : Files) (name : List ℕ) → fed.held ≡ []
     → IsFedFrom fed files name
-fed_nothing fed files name none = grind arith
+fed_nothing files name none = grind arith

@@ -48,22 +48,22 @@ module _ (old new : FileRooms) (name : List ℕ) (slot : FileRoom)
     pub rooms_stay : slot.buffer.room ≡ before.buffer.room → rooms_in new ≡ rooms_in old
     rooms_stay same =
         rooms_set
-        ∙ update_held (rooms_in old) name (Some slot.buffer.room)
+        ∙ update_held name
         (sym (ap (option_map (λ (s : FileRoom). s.buffer.room)) was)
         ∙ ap (λ (room : ℕ). Some room) (sym same))
 
     -- if the slot has a file of these bytes, the name has them
-    pub contents_written : (bytes : List ℕ) → content_of slot ≡ Some bytes
+    pub contents_written : {bytes : List ℕ} → content_of slot ≡ Some bytes
         → contents_in new ≡ with_file (contents_in old) name bytes
     unfolding with_file
-    contents_written bytes is = contents_set ∙ ap (update bytes_eq (contents_in old) name) is
+    contents_written is = contents_set ∙ ap (update bytes_eq (contents_in old) name) is
 
     -- the slot took more bytes if they fit, and otherwise is unchanged
     pub contents_appended : (fits : Bool) (more : List ℕ) → content_of slot
         ≡ (if fits then Some (unwrap_or (content_of before) [] ++ more) else content_of before)
         → contents_in new ≡ (if fits then with_file (contents_in old) name
         (unwrap_or (contents_in old name) [] ++ more) else contents_in old)
-    contents_appended true more is = contents_written _
+    contents_appended true more is = contents_written
         (is ∙ ap (λ (o : Option (List ℕ)). Some (unwrap_or o [] ++ more)) (sym content_before))
     contents_appended false more is = contents_set
-        ∙ update_held (contents_in old) name (content_of slot) (content_before ∙ sym is)
+        ∙ update_held name (content_before ∙ sym is)

@@ -19,12 +19,12 @@ pub bytes_eq_same : (name : List ℕ) → bytes_eq name name ≡ true
 bytes_eq_same name = (bytes_eq-Decides name name).1 refl
 
 -- names that differ are compared as different
-pub bytes_eq_other : (name other : List ℕ) → other ≢ name → bytes_eq name other ≡ false
-bytes_eq_other name other apart = grind (arith, false_from_ne_true, bytes_eq-Decides)
+pub bytes_eq_other : {name other : List ℕ} → other ≢ name → bytes_eq name other ≡ false
+bytes_eq_other apart = grind (arith, false_from_ne_true, bytes_eq-Decides)
 
 -- contents that give each name the same are equal
-pub same_contents : (f g : Contents) → ((name : List ℕ) → f name ≡ g name) → f ≡ g
-same_contents f g same = λ i name. same name i
+pub same_contents : {f g : Contents} → ((name : List ℕ) → f name ≡ g name) → f ≡ g
+same_contents same = λ i name. same name i
 
 -- a name has the bytes that it was given
 pub with_file_here : (f : Contents) (name bytes : List ℕ) → with_file f name bytes name ≡ Some bytes
@@ -32,10 +32,10 @@ unfolding with_file
 with_file_here f name bytes = update_same bytes_eq f name (Some bytes) name (bytes_eq_same name)
 
 -- every other name keeps its own
-pub with_file_other : (f : Contents) (name bytes other : List ℕ) → other ≢ name
-    → with_file f name bytes other ≡ f other
+pub with_file_other : (f : Contents) {name : List ℕ} (bytes : List ℕ) {other : List ℕ}
+    → other ≢ name → with_file f name bytes other ≡ f other
 unfolding with_file
-with_file_other f name bytes other apart = grind (arith, update_other, bytes_eq_other)
+with_file_other f bytes apart = grind (arith, update_other, bytes_eq_other)
 
 -- of bytes given to a name twice, the second count
 pub with_file_twice : (f : Contents) (name bytes more : List ℕ)
@@ -44,15 +44,15 @@ unfolding with_file
 with_file_twice f name bytes more = grind (arith, same_contents, update-update)
 
 -- giving a name what it has changes nothing
-pub update_held : {X : Type 0} (f : List ℕ → Option X) (name : List ℕ) (w : Option X) → f name ≡ w
+pub update_held : {X : Type 0} {f : List ℕ → Option X} (name : List ℕ) {w : Option X} → f name ≡ w
     → update bytes_eq f name w ≡ f
-update_held f name w is = grind (arith, update_same, bytes_eq-Decides, update_other)
+update_held name is = grind (arith, update_same, bytes_eq-Decides, update_other)
 
 -- giving a name the bytes that it has changes nothing
-pub with_file_same : (f : Contents) (name bytes : List ℕ) → f name ≡ Some bytes
+pub with_file_same : {f : Contents} (name : List ℕ) {bytes : List ℕ} → f name ≡ Some bytes
     → with_file f name bytes ≡ f
 unfolding with_file
-with_file_same f name bytes is = update_held f name (Some bytes) is
+with_file_same {f} name {bytes} is = update_held name is
 
 -- a name that is there stays there when a name is given bytes
 pub is_some_with_file : (f : Contents) (name bytes other : List ℕ) → IsSome (f other)
@@ -63,24 +63,24 @@ is_some_with_file f name bytes other there = grind arith
 -- ---- which names may have been touched
 
 -- touches that say the same of each name are equal
-pub same_touched : (a b : Touched) → ((name : List ℕ) → a name ≡ b name) → a ≡ b
-same_touched a b same = λ i name. same name i
+pub same_touched : {a b : Touched} → ((name : List ℕ) → a name ≡ b name) → a ≡ b
+same_touched same = λ i name. same name i
 
 -- what a name becomes twice is what it becomes by both
-pub touch_twice : (touched : Touched) (name : List ℕ) (first second both : Touch → Touch)
-    → ((t : Touch) → second (first t) ≡ both t)
+pub touch_twice : (touched : Touched) (name : List ℕ) {first : Touch → Touch}
+    (second : Touch → Touch) {both : Touch → Touch} → ((t : Touch) → second (first t) ≡ both t)
     → with_touch (with_touch touched name first) name second ≡ with_touch touched name both
-touch_twice touched name first second both is = grind (arith, same_touched)
+touch_twice touched name second is = grind (arith, same_touched)
 
 -- a name that becomes what it is stays
-pub touch_same : (touched : Touched) (name : List ℕ) (becomes : Touch → Touch)
+pub touch_same : (touched : Touched) (name : List ℕ) {becomes : Touch → Touch}
     → ((t : Touch) → becomes t ≡ t) → with_touch touched name becomes ≡ touched
-touch_same touched name becomes is = grind (arith, same_touched)
+touch_same touched name is = grind (arith, same_touched)
 
 -- a touch leaves every other name
-touch_other : (touched : Touched) (name : List ℕ) (becomes : Touch → Touch) (other : List ℕ)
+touch_other : (touched : Touched) {name : List ℕ} (becomes : Touch → Touch) {other : List ℕ}
     → other ≢ name → with_touch touched name becomes other ≡ touched other
-touch_other touched name becomes other apart = grind (arith, bytes_eq_other)
+touch_other touched becomes apart = grind (arith, bytes_eq_other)
 
 -- each name is as before, or becomes this
 touch_each : (touched : Touched) (name : List ℕ) (becomes : Touch → Touch) (other : List ℕ)
@@ -121,8 +121,7 @@ pub appended_twice : (files : Files) (name xs ys : List ℕ)
     ≡ with_appended_bytes files name (xs ++ ys)
 unfolding with_appended_bytes
 appended_twice (Untold t) name xs ys = ap (λ names. Untold (record t { names = names }))
-    (touch_twice t.names name (written_touch (is_some_byte xs)) (written_touch (is_some_byte ys))
-    (written_touch (is_some_byte (xs ++ ys))) (written_joined xs ys))
+    (touch_twice t.names name (written_touch (is_some_byte ys)) (written_joined xs ys))
 appended_twice (Told f) name xs ys = grind (arith, with_file_twice, with_file_here, append_assoc)
 
 -- appending nothing to a file that is there changes nothing
@@ -130,27 +129,27 @@ pub appended_nothing : (files : Files) (name : List ℕ) → IsFileThere files n
     → with_appended_bytes files name [] ≡ files
 unfolding with_appended_bytes
 appended_nothing (Untold t) name there = ap (λ names. Untold (record t { names = names }))
-    (touch_same t.names name (written_touch false) (λ touch. refl))
+    (touch_same t.names name (λ touch. refl))
 appended_nothing (Told f) name there = grind (arith, append-nil, with_file_same)
 
 -- known contents in which a name has no bytes are those with it emptied
-pub emptied_is : (f new : Contents) (name : List ℕ) → new ≡ with_file f name []
+pub emptied_is : (f : Contents) {new : Contents} (name : List ℕ) → new ≡ with_file f name []
     → Told new ≡ with_empty_file (Told f) name
 unfolding with_empty_file
-emptied_is f new name is = ap Told is
+emptied_is f name is = ap Told is
 
 -- the same, where the name wasn't there
-pub new_is : (f new : Contents) (name : List ℕ) → new ≡ with_file f name []
+pub new_is : (f : Contents) {new : Contents} (name : List ℕ) → new ≡ with_file f name []
     → Told new ≡ with_new_file (Told f) name
 unfolding with_new_file
-new_is f new name is = ap Told is
+new_is f name is = ap Told is
 
 -- known contents with these bytes after the name's own are those with them appended
-pub appended_is : (f new : Contents) (name bytes : List ℕ)
+pub appended_is : (f : Contents) {new : Contents} (name bytes : List ℕ)
     → new ≡ with_file f name (unwrap_or (f name) [] ++ bytes)
     → Told new ≡ with_appended_bytes (Told f) name (take (length bytes) bytes)
 unfolding with_appended_bytes
-appended_is f new name bytes is = grind (arith, take_all)
+appended_is f name bytes is = grind (arith, take_all)
 
 -- a name that was emptied and then appended to holds exactly these bytes
 pub written_holds : (files : Files) (name bytes : List ℕ) → is_told files ≡ true
@@ -159,16 +158,17 @@ unfolding with_empty_file with_appended_bytes
 written_holds files name bytes told = grind (arith, with_file_here)
 
 -- when a name is emptied, every other holds what it held
-pub emptied_holds_other : (files : Files) (name other bytes : List ℕ) → other ≢ name
+pub emptied_holds_other : (files : Files) {name other : List ℕ} (bytes : List ℕ) → other ≢ name
     → Holds files other bytes → Holds (with_empty_file files name) other bytes
 unfolding with_empty_file
-emptied_holds_other files name other bytes apart holds = grind (arith, with_file_other)
+emptied_holds_other files bytes apart holds = grind (arith, with_file_other)
 
 -- when a name is appended to, every other holds what it held
-pub appended_holds_other : (files : Files) (name more other bytes : List ℕ) → other ≢ name
-    → Holds files other bytes → Holds (with_appended_bytes files name more) other bytes
+pub appended_holds_other : (files : Files) {name : List ℕ} (more : List ℕ) {other : List ℕ}
+    (bytes : List ℕ) → other ≢ name → Holds files other bytes
+    → Holds (with_appended_bytes files name more) other bytes
 unfolding with_appended_bytes
-appended_holds_other files name more other bytes apart holds = grind (arith, with_file_other)
+appended_holds_other files more bytes apart holds = grind (arith, with_file_other)
 
 -- when a name is emptied, every other held what it holds
 pub emptied_held_other : (files : Files) (name other bytes : List ℕ) → other ≢ name
@@ -177,10 +177,11 @@ unfolding with_empty_file
 emptied_held_other files name other bytes apart holds = grind (arith, with_file_other)
 
 -- when a name is appended to, every other held what it holds
-pub appended_held_other : (files : Files) (name more other bytes : List ℕ) → other ≢ name
-    → Holds (with_appended_bytes files name more) other bytes → Holds files other bytes
+pub appended_held_other : (files : Files) {name : List ℕ} (more : List ℕ) {other : List ℕ}
+    (bytes : List ℕ) → other ≢ name → Holds (with_appended_bytes files name more) other bytes
+    → Holds files other bytes
 unfolding with_appended_bytes
-appended_held_other files name more other bytes apart holds = grind (arith, with_file_other)
+appended_held_other files more bytes apart holds = grind (arith, with_file_other)
 
 -- a name that was emptied is there
 pub emptied_there : (files : Files) (name : List ℕ) → IsFileThere (with_empty_file files name) name
@@ -265,19 +266,19 @@ others_then : (names : List (List ℕ)) (a b c : Files) → LeavesAllBut names a
     → LeavesAllBut names b c → LeavesAllBut names a c
 others_then names a b c first second = grind arith
 
-created_then : (keeps : Bool) (a b c : Touch) → (b ≡ a) ⊎ (b ≡ created_touch keeps a)
+created_then : (keeps : Bool) {a b c : Touch} → (b ≡ a) ⊎ (b ≡ created_touch keeps a)
     → (c ≡ b) ⊎ (c ≡ created_touch keeps b) → (c ≡ a) ⊎ (c ≡ created_touch keeps a)
-created_then keeps a b c (inl p) (inl q) = inl (q ∙ p)
-created_then keeps a b c (inl p) (inr q) = inr (q ∙ ap (created_touch keeps) p)
-created_then keeps a b c (inr p) (inl q) = inr (q ∙ p)
-created_then keeps a b c (inr p) (inr q) =
+created_then keeps (inl p) (inl q) = inl (q ∙ p)
+created_then keeps (inl p) (inr q) = inr (q ∙ ap (created_touch keeps) p)
+created_then keeps (inr p) (inl q) = inr (q ∙ p)
+created_then keeps {a} (inr p) (inr q) =
     inr (q ∙ ap (created_touch keeps) p ∙ created_twice keeps a)
 
 as_it_does_then : (names : List (List ℕ)) (a b c : Files) → LeavesAllBut names a b
     → LeavesAllBut names b c → TouchesAsItDoes a b → TouchesAsItDoes b c → TouchesAsItDoes a c
 as_it_does_then names (Untold a) (Untold b) (Untold c) l m first second = (
   second.0 ∙ first.0,
-  λ name. created_then a.keeps (a.names name) (b.names name) (c.names name) (first.1 name)
+  λ name. created_then a.keeps (first.1 name)
       (subst (λ keeps. (c.names name ≡ b.names name)
       ⊎ (c.names name ≡ created_touch keeps (b.names name))) first.0 (second.1 name)),
 )
@@ -288,19 +289,19 @@ as_it_does_then names (Untold a) (Told b) c l m first second = absurd l
 as_it_does_then names (Untold a) (Untold b) (Told c) l m first second = tt
 
 -- two calls that touch only these names are one that does
-pub touches_then : (names : List (List ℕ)) (a b c : Files) → OnlyTouches names a b
+pub touches_then : {names : List (List ℕ)} {a b c : Files} → OnlyTouches names a b
     → OnlyTouches names b c → OnlyTouches names a c
-touches_then names a b c first second = record {
+touches_then {names} {a} {b} {c} first second = record {
   others = others_then names a b c first.others second.others;
   as_it_does = as_it_does_then names a b c first.others second.others first.as_it_does
       second.as_it_does;
 }
 
 -- a call that touches only some names touches only these and more
-pub touches_more : (few many : List (List ℕ)) (old new : Files)
+pub touches_more : {few many : List (List ℕ)} {old new : Files}
     → ((other : List ℕ) → All (λ name. other ≢ name) many → All (λ name. other ≢ name) few)
     → OnlyTouches few old new → OnlyTouches many old new
-touches_more few many old new among only =
+touches_more {few} {many} {old} {new} among only =
     record { others = at old new only.others; as_it_does = only.as_it_does }
   where
     at : (f g : Files) → LeavesAllBut few f g → LeavesAllBut many f g
@@ -310,23 +311,23 @@ touches_more few many old new among only =
     at (Untold f) (Told g) leaves = leaves
 
 -- a call that touches some names and then one that touches others touch only both
-pub touches_both : (first second : List (List ℕ)) (a b c : Files) → OnlyTouches first a b
+pub touches_both : {first second : List (List ℕ)} {a b c : Files} → OnlyTouches first a b
     → OnlyTouches second b c → OnlyTouches (first ++ second) a c
-touches_both first second a b c before after =
-    touches_then (first ++ second) a b c
-    (touches_more first (first ++ second) a b
+touches_both {first} {second} {a} {b} {c} before after =
+    touches_then
+    (touches_more
     (λ other apart. (All-split (λ name. other ≢ name) first second apart).0) before)
-    (touches_more second (first ++ second) b c
+    (touches_more
     (λ other apart. (All-split (λ name. other ≢ name) first second apart).1) after)
 
-first_apart : (name other : List ℕ) → All (λ n. other ≢ n) (name ∷ []) → other ≢ name
-first_apart name other apart = All-head (λ n. other ≢ n) name [] apart
+first_apart : {name other : List ℕ} → All (λ n. other ≢ n) (name ∷ []) → other ≢ name
+first_apart {name} {other} apart = All-head (λ n. other ≢ n) name [] apart
 
 module _ (t : Touches) (name : List ℕ) where
   created_alone : OnlyTouches (name ∷ []) (Untold t) (Untold (with_created_name t name))
   created_alone = record {
-    others = λ other apart. touch_other t.names name (created_touch t.keeps) other
-        (first_apart name other apart);
+    others = λ other apart. touch_other t.names (created_touch t.keeps)
+        (first_apart apart);
     as_it_does = (refl, λ other. touch_each t.names name (created_touch t.keeps) other);
   }
 
@@ -335,7 +336,7 @@ pub emptied_touches : (files : Files) (name : List ℕ)
     → OnlyTouches (name ∷ []) files (with_empty_file files name)
 unfolding with_empty_file
 emptied_touches (Told f) name = record {
-  others = λ other apart. with_file_other f name [] other (first_apart name other apart);
+  others = λ other apart. with_file_other f [] (first_apart apart);
   as_it_does = tt;
 }
 emptied_touches (Untold t) name = created_alone t name
@@ -351,8 +352,8 @@ pub created_and_appended : (files : Files) (name bytes : List ℕ)
     → with_appended_bytes (with_empty_file files name) name bytes ≡ files_holding files name bytes
 unfolding with_appended_bytes with_empty_file files_holding
 created_and_appended (Untold t) name bytes = ap (λ names. Untold (record t { names = names }))
-    (touch_twice t.names name (created_touch t.keeps) (written_touch (is_some_byte bytes))
-    (created_touch t.keeps) (created_written t.keeps (is_some_byte bytes)))
+    (touch_twice t.names name (written_touch (is_some_byte bytes))
+    (created_written t.keeps (is_some_byte bytes)))
 created_and_appended (Told f) name bytes =
     ap (λ (held : Option (List ℕ)). Told (with_file (with_file f name []) name
     (unwrap_or held [] ++ bytes))) (with_file_here f name [])
@@ -363,7 +364,7 @@ pub holding_touches : (files : Files) (name bytes : List ℕ)
     → OnlyTouches (name ∷ []) files (files_holding files name bytes)
 unfolding files_holding
 holding_touches (Told f) name bytes = record {
-  others = λ other apart. with_file_other f name bytes other (first_apart name other apart);
+  others = λ other apart. with_file_other f bytes (first_apart apart);
   as_it_does = tt;
 }
 holding_touches (Untold t) name bytes = created_alone t name
@@ -375,21 +376,21 @@ with_tried_create-touches (Told f) name = record { others = λ other apart. refl
 with_tried_create-touches (Untold t) name = created_alone t name
 
 -- a call to create a name that fails touches it alone
-pub fails_touches : (old new : Files) (name : List ℕ) → FailsToCreate name old new
+pub fails_touches : {old new : Files} {name : List ℕ} → FailsToCreate name old new
     → OnlyTouches (name ∷ []) old new
-fails_touches old new name (inl same) = rw same (touches_none (name ∷ []) old)
-fails_touches old new name (inr tried) = rw tried (with_tried_create-touches old name)
+fails_touches {old} {name = name} (inl same) = rw same (touches_none (name ∷ []) old)
+fails_touches {old} {name = name} (inr tried) = rw tried (with_tried_create-touches old name)
 
 -- a call to create a name that failed left files whose content is known
-pub fails_told : (f : Contents) (new : Files) (name : List ℕ) → FailsToCreate name (Told f) new
+pub fails_told : {f : Contents} {new : Files} (name : List ℕ) → FailsToCreate name (Told f) new
     → new ≡ Told f
 unfolding with_tried_create
-fails_told f new name h = grind arith
+fails_told name h = grind arith
 
 -- touching names doesn't change whether the content of the files is known
-pub touches_told : (names : List (List ℕ)) (old new : Files) → OnlyTouches names old new
+pub touches_told : {names : List (List ℕ)} {old new : Files} → OnlyTouches names old new
     → is_told new ≡ is_told old
-touches_told names old new only = at old new only.others
+touches_told {names} {old} {new} only = at old new only.others
   where
     at : (f g : Files) → LeavesAllBut names f g → is_told g ≡ is_told f
     at f g leaves = grind arith
@@ -397,9 +398,9 @@ touches_told names old new only = at old new only.others
 -- ---- what is known
 
 -- if the content of the files is known, a name that is there holds bytes
-pub there_holds : (f : Contents) (name : List ℕ) → IsFileThere (Told f) name
+pub there_holds : (f : Contents) {name : List ℕ} → IsFileThere (Told f) name
     → (bytes : List ℕ) × Holds (Told f) name bytes
-there_holds f name there = grind arith
+there_holds f there = grind arith
 
 -- if no bytes can be those of a name that is there, the content isn't known
 pub nothing_told : (files : Files) (name : List ℕ) → IsFileThere files name
@@ -419,7 +420,7 @@ unfolding sent_and_more
 sent_nothing sent = grind (arith, append-nil)
 
 -- known bytes with these after them are the bytes with these sent
-pub sent_is : (s new bytes : List ℕ) → new ≡ s ++ bytes
+pub sent_is : (s : List ℕ) {new : List ℕ} (bytes : List ℕ) → new ≡ s ++ bytes
     → Some new ≡ sent_and_more (Some s) (take (length bytes) bytes)
 unfolding sent_and_more
-sent_is s new bytes is = grind (arith, take_all)
+sent_is s bytes is = grind (arith, take_all)

@@ -62,15 +62,15 @@ unfolding keeping_files with_appended_bytes
 kept_appended (Told f) name more = refl
 kept_appended (Untold t) name more = refl
 
-fails_created : (name : List ℕ) (old new : Files) → FailsToMake name old new
+fails_created : (name : List ℕ) {old new : Files} → FailsToMake name old new
     → FailsToCreate name (keeping_files old) (keeping_files new)
-fails_created name old new (inl same) = inl (ap keeping_files same)
-fails_created name old new (inr tried) = inr (ap keeping_files tried ∙ kept_tried old name)
+fails_created name (inl same) = inl (ap keeping_files same)
+fails_created name {old} (inr tried) = inr (ap keeping_files tried ∙ kept_tried old name)
 
-fails_made : (name : List ℕ) (old new : Files) → FailsToMake name old new
+fails_made : (name : List ℕ) {old new : Files} → FailsToMake name old new
     → FailsToMake name (keeping_files old) (keeping_files new)
-fails_made name old new (inl same) = inl (ap keeping_files same)
-fails_made name old new (inr tried) = inr (ap keeping_files tried ∙ kept_tried-made old name)
+fails_made name (inl same) = inl (ap keeping_files same)
+fails_made name {old} (inr tried) = inr (ap keeping_files tried ∙ kept_tried-made old name)
 
 -- ---- the counts of a folder that is lent
 
@@ -159,7 +159,7 @@ module _ (by : GName) where
       kept_creates = record {
         created =
             on_ok_weaker r (λ is. ap keeping_files is ∙ kept_created old.files name) a.created;
-        kept = on_err_weaker r (fails_created name old.files new.files) a.kept;
+        kept = on_err_weaker r (fails_created name) a.kept;
         failed = a.failed;
         done = on_ok_weaker r (ap lent_counts) a.done;
         counts = writes_lent a.counts;
@@ -174,7 +174,7 @@ module _ (by : GName) where
       kept_makes = record {
         missing = kept_fresh;
         created = on_ok_weaker r (λ is. ap keeping_files is ∙ kept_made old.files name) a.created;
-        kept = on_err_weaker r (fails_made name old.files new.files) a.kept;
+        kept = on_err_weaker r (fails_made name) a.kept;
         failed = a.failed;
         done = on_ok_weaker r (ap lent_counts) a.done;
         counts = writes_lent a.counts;

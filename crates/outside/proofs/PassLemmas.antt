@@ -35,58 +35,58 @@ module _ (old new : Files) (input output more file : List ℕ) (apart : input �
   input_held holds = grind (arith, appended_held_other)
 
 -- a name that was there is still there
-pub still_there : (old new : Files) (output more name : List ℕ)
+pub still_there : (old : Files) {new : Files} (output more name : List ℕ)
     → new ≡ with_appended_bytes old output more → IsFileThere old name → IsFileThere new name
-still_there old new output more name is there = grind (arith, appended_keeps)
+still_there old output more name is there = grind (arith, appended_keeps)
 
 -- all is ready for the next step
-pub ready_later : (pass : Pass) (old new : Files) (fed : Fed) (more : List ℕ)
+pub ready_later : {pass : Pass} {old new : Files} {fed : Fed} (more : List ℕ)
     → new ≡ with_appended_bytes old pass.output.now more → IsPassReady pass old fed
     → IsPassReady pass new fed
-ready_later pass old new fed more is ready = grind (arith, input_held, still_there)
+ready_later more is ready = grind (arith, input_held, still_there)
 
 -- after a buffer passed something on, all is ready for the next step
-pub passed_ready : (pass : Pass) {before after : List ℕ} {old new : Files} {fed : Fed}
+pub passed_ready : {pass : Pass} {before after : List ℕ} {old new : Files} {fed : Fed}
     → AppendsWaiting pass.output.now before after old new → IsPassReady pass old fed
     → IsPassReady pass new fed
-passed_ready pass {before} {after} {old} {new} {fed} passed ready =
-    ready_later pass old new fed passed.passed passed.files ready
+passed_ready {pass} {before} {after} {old} {new} {fed} passed ready =
+    ready_later passed.passed passed.files ready
 
 -- ---- single steps
 
 module _ (pass : Pass) where
   -- a step that writes nothing
-  pub writes_nothing : (made : List ℕ → List ℕ) (waiting : List ℕ) (files : Files)
+  pub writes_nothing : {made : List ℕ → List ℕ} (waiting : List ℕ) {files : Files}
       → IsFileThere files pass.output.now → AreBytesMade files pass.input.now made []
       → WritesMadeBytes pass made waiting waiting files files
-  writes_nothing made waiting files there none = grind (arith, append-nil, appended_nothing)
+  writes_nothing waiting there none = grind (arith, append-nil, appended_nothing)
 
   -- a step that pushes a piece
-  pub writes_piece : (made : List ℕ → List ℕ) {piece before after : List ℕ} {old new : Files}
+  pub writes_piece : {made : List ℕ → List ℕ} {piece before after : List ℕ} {old new : Files}
       → AreBytesMade old pass.input.now made piece
       → AppendsWaiting pass.output.now (before ++ piece) after old new
       → WritesMadeBytes pass made before after old new
-  writes_piece made {piece} is passed = record { piece = piece; is = is; passed = passed }
+  writes_piece {piece = piece} is passed = record { piece = piece; is = is; passed = passed }
 
   -- a step that wrote only a prefix of a piece
-  pub prefix_piece : (made : List ℕ → List ℕ) {piece before : List ℕ} {old new : Files}
+  pub prefix_piece : {made : List ℕ → List ℕ} {piece before : List ℕ} {old new : Files}
       {fault : PassFault} → AreBytesMade old pass.input.now made piece
       → AppendedPrefix pass.output.now (before ++ piece) old new
       → WritesPrefix pass made before old new fault
-  prefix_piece made {piece} {before} is prefix = grind (arith, length-take)
+  prefix_piece {piece = piece} {before = before} is prefix = grind (arith, length-take)
 
   -- a step whose read failed appended nothing
-  pub prefix_nothing : (made : List ℕ → List ℕ) (before : List ℕ) (old new : Files)
+  pub prefix_nothing : (made : List ℕ → List ℕ) (before : List ℕ) {old new : Files}
       {fault : PassFault} → IsReadPassFault fault → new ≡ old → IsFileThere old pass.output.now
       → WritesPrefix pass made before old new fault
-  prefix_nothing made before old new read same there = grind (arith, appended_nothing)
+  prefix_nothing made before read same there = grind (arith, appended_nothing)
 
   -- bytes that are made in another way with the same result
-  pub writes_as : {made : List ℕ → List ℕ} (other : List ℕ → List ℕ) {before after : List ℕ}
+  pub writes_as : {made : List ℕ → List ℕ} {other : List ℕ → List ℕ} {before after : List ℕ}
       {old new : Files} → ((file : List ℕ) → Holds old pass.input.now file → made file ≡ other file)
       → WritesMadeBytes pass made before after old new
       → WritesMadeBytes pass other before after old new
-  writes_as other same step = grind arith
+  writes_as same step = grind arith
 
   -- a prefix of some bytes is a prefix of these and more
   pub prefix_as : {made : List ℕ → List ℕ} (other rest : List ℕ → List ℕ) {before : List ℕ}
@@ -137,11 +137,11 @@ module _ (pass : Pass) (apart : pass.input.now ≢ pass.output.now) {made : List
 
 module _ (pass : Pass) where
   -- before the first step nothing was passed on, and all bytes are still to come
-  pub up_to_begun : (whole : List ℕ → List ℕ) (waiting : List ℕ) (files : Files)
+  pub up_to_begun : (whole : List ℕ → List ℕ) (waiting : List ℕ) {files : Files}
       → IsFileThere files pass.output.now → WritesUpTo pass whole whole waiting waiting files files
-  up_to_begun whole waiting files there = record {
+  up_to_begun whole waiting {files} there = record {
     made = λ file. [];
-    written = writes_nothing pass (λ file. []) waiting files there (λ file holds. refl);
+    written = writes_nothing pass waiting there (λ file holds. refl);
     left = λ file holds. refl;
   }
 
@@ -231,11 +231,11 @@ pub read_kind : (fault : ReadFault) → IsReadPassFault (pass_fault_of fault)
 read_kind fault = grind arith
 
 -- a cause after a step that succeeded is a cause of both steps
-pub cause_later : (way : Route) (old now : Files) (output more : List ℕ) (before mid after : Counts)
+pub cause_later : (way : Route) (old : Files) {now : Files} (output more : List ℕ)
+    {before mid : Counts} (after : Counts)
     (fault : PassFault) → now ≡ with_appended_bytes old output more → mid ≡ before
     → HasPassCause way now mid after fault → HasPassCause way old before after fault
-cause_later way old now output more before mid after fault grown same cause =
-    grind (arith, appended_told)
+cause_later way old output more after fault grown same cause = grind (arith, appended_told)
 
 -- a result's cause after a step that succeeded is a cause of both steps
 pub causes_later : {T : Type 0} (r : Result T PassFault) (way : Route) (old now : Files)
@@ -285,11 +285,11 @@ pub record CopiesUpTo (pass : Pass) (from at to : ℕ) (before mid : List ℕ) (
   pub done : now.counts ≡ old.counts
 
 -- before the first of them nothing was passed on, and all is ready
-pub copies_begun : (pass : Pass) (from to : ℕ) (waiting : List ℕ) (fed : Fed) (old : Seen) → from
+pub copies_begun : {pass : Pass} {from to : ℕ} (waiting : List ℕ) {fed : Fed} {old : Seen} → from
     ≤ to → IsPassReady pass old.files fed → CopiesUpTo pass from from to waiting waiting fed old old
-copies_begun pass from to waiting fed old ordered ready = record {
+copies_begun {pass} {from} {to} waiting {old = old} ordered ready = record {
   in_range = ordered;
-  up_to = up_to_begun pass (λ file. bytes_between file from to) waiting old.files ready.target;
+  up_to = up_to_begun pass (λ file. bytes_between file from to) waiting ready.target;
   ready = ready;
   done = refl;
 }

@@ -24,22 +24,22 @@ pub part_from : {X : Type 0} (m : ℕ) (xs : List X) → take (length xs - m) (d
 part_from m xs = take_all (length xs - m) (drop m xs) (omega (arith, length-drop m xs))
 
 -- files to which a prefix was appended, and then the next part of the bytes
-pub with_appended_bytes-then : (old before now : Files) (name bytes : List ℕ) (m n : ℕ)
+pub with_appended_bytes-then : (old : Files) {before now : Files} (name bytes : List ℕ) (m n : ℕ)
     → before ≡ with_appended_bytes old name (take m bytes)
     → now ≡ with_appended_bytes before name (take n (drop m bytes))
     → now ≡ with_appended_bytes old name (take (m + n) bytes)
-with_appended_bytes-then old before now name bytes m n first then =
-    grind (arith, appended_twice, take_then)
+with_appended_bytes-then old name bytes m n first then = grind (arith, appended_twice, take_then)
 
 -- a prefix that was sent and the next part of the bytes are a longer prefix
-pub sent_then : (old before now : Sent) (bytes : List ℕ) (m n : ℕ)
+pub sent_then : (old : Sent) {before now : Sent} (bytes : List ℕ) (m n : ℕ)
     → before ≡ sent_and_more old (take m bytes) → now ≡ sent_and_more before (take n (drop m bytes))
     → now ≡ sent_and_more old (take (m + n) bytes)
-sent_then old before now bytes m n first then = grind (arith, sent_twice, take_then)
+sent_then old bytes m n first then = grind (arith, sent_twice, take_then)
 
 -- what precedes the part that was put in is kept
-pub front_kept : (m n : ℕ) (xs ys : List ℕ) → m ≤ length xs → take m (put_mid m n xs ys) ≡ take m xs
-front_kept m n xs ys in_range =
+pub front_kept : {m : ℕ} (n : ℕ) (xs ys : List ℕ) → m ≤ length xs
+    → take m (put_mid m n xs ys) ≡ take m xs
+front_kept {m} n xs ys in_range =
     ap (λ k. take k (put_mid m n xs ys)) (sym (length-take-le m xs in_range))
     ∙ take-append_seam (take m xs) (ys ++ drop n (drop m xs))
 

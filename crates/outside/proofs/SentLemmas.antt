@@ -11,14 +11,15 @@ pub sent_none : (sent : Sent) (bytes : List ℕ) → SendsWaiting bytes bytes se
 sent_none sent bytes = record { passed = []; split = refl; sent = sym (sent_nothing sent) }
 
 -- all that waited was sent, and this piece waits after it
-pub sent_all : (sent new : Sent) (waits piece : List ℕ) → new ≡ sent_and_more sent waits
+pub sent_all : {sent new : Sent} (waits piece : List ℕ) → new ≡ sent_and_more sent waits
     → SendsWaiting (waits ++ piece) piece sent new
-sent_all sent new waits piece is = record { passed = waits; split = refl; sent = is }
+sent_all {sent} waits piece is = record { passed = waits; split = refl; sent = is }
 
 -- all was sent, and nothing waits
-pub sent_out : (sent new : Sent) (bytes : List ℕ) → new ≡ sent_and_more sent bytes
+pub sent_out : {sent new : Sent} {bytes : List ℕ} → new ≡ sent_and_more sent bytes
     → SendsWaiting bytes [] sent new
-sent_out sent new bytes is = record { passed = bytes; split = sym (append-nil bytes); sent = is }
+sent_out {sent} {bytes = bytes} is =
+    record { passed = bytes; split = sym (append-nil bytes); sent = is }
 
 -- more waits after
 pub sent_with : {before after : List ℕ} {s t : Sent} (piece : List ℕ)
@@ -64,17 +65,18 @@ sent_prefix_of {bytes} {s} {t} behind p = grind (arith, length-append, take-appe
 -- ---- a piece that is sent at once, after what waited
 
 -- if what waited and then a piece were sent, nothing waits
-pub sent_over : {T E : Type 0} (r : Result T E) (waits piece after : List ℕ) (s t u : Sent)
-    → t ≡ sent_and_more s waits → after ≡ [] → OnOk r (u ≡ sent_and_more t piece)
-    → OnOk r (SendsWaiting (waits ++ piece) after s u)
-sent_over r waits piece after s t u first none more = grind (arith, sent_out, sent_twice)
+pub sent_over : {T E : Type 0} (r : Result T E) (waits piece : List ℕ) {after : List ℕ} (s : Sent)
+    {t : Sent} (u : Sent) → t ≡ sent_and_more s waits → after ≡ []
+    → OnOk r (u ≡ sent_and_more t piece) → OnOk r (SendsWaiting (waits ++ piece) after s u)
+sent_over r waits piece s u first none more = grind (arith, sent_out, sent_twice)
 
 -- if a write of the piece failed, a prefix of what waited and the piece was sent
-pub sent_over_prefix : {T E : Type 0} (r : Result T E) (waits piece : List ℕ) (s t u : Sent) → t
+pub sent_over_prefix : {T E : Type 0} (r : Result T E) (waits piece : List ℕ) (s : Sent) {t : Sent}
+    (u : Sent) → t
     ≡ sent_and_more s waits
     → OnErr r ((k : ℕ) × (k ≤ length piece) × (u ≡ sent_and_more t (take k piece)))
     → OnErr r (SentPrefix (waits ++ piece) s u)
-sent_over_prefix (Ok x) waits piece s t u first part = tt
-sent_over_prefix (Err e) waits piece s t u first part =
-    sent_then_prefix (sent_all s t waits piece first)
+sent_over_prefix (Ok x) waits piece s u first part = tt
+sent_over_prefix (Err e) waits piece s {t} u first part =
+    sent_then_prefix (sent_all waits piece first)
     (record { count = part.0; within = part.1; sent = part.2 })

@@ -9,28 +9,28 @@ use Rattle.outside.specs.ShortFolders.{IsCreated}
 use Rattle.outside.specs.declared.memory.folder.Call.TheVariants.{Create, Write}
 use Rattle.outside.specs.declared.memory.folder.MemFolder.{MemFolder}
 
-told_same : (f g : Contents) → Told f ≡ Told g → f ≡ g
-told_same f g is = cc
+told_same : {f g : Contents} → Told f ≡ Told g → f ≡ g
+told_same is = cc
 
 -- known contents with an emptied name have no bytes at that name
-pub with_empty_file-contents : (f new : Contents) (name : List ℕ)
+pub with_empty_file-contents : (f : Contents) {new : Contents} (name : List ℕ)
     → Told new ≡ with_empty_file (Told f) name → new ≡ with_file f name []
 unfolding with_empty_file
-with_empty_file-contents f new name is = told_same _ _ is
+with_empty_file-contents f name is = told_same is
 
-none-bytes : (o : Option (List ℕ)) → o ≡ None → unwrap_or o [] ≡ []
-none-bytes o is = ap (λ q. unwrap_or q []) is
+none-bytes : {o : Option (List ℕ)} → o ≡ None → unwrap_or o [] ≡ []
+none-bytes is = ap (λ q. unwrap_or q []) is
 
 -- a name that wasn't there was created
-pub created-new : (old new : MemFolder) (name : List ℕ) → contents_of old name ≡ None
+pub created-new : {old new : MemFolder} {name : List ℕ} → contents_of old name ≡ None
     → Told (contents_of new) ≡ with_empty_file (Told (contents_of old)) name
     → MakesCall old new Create → IsCreated old new name
-created-new old new name none made called =
-    let is = with_empty_file-contents (contents_of old) (contents_of new) name made in
+created-new {old} {new} {name} none made called =
+    let is = with_empty_file-contents (contents_of old) name made in
     let holds : mem_bytes new name ≡ [] = ap (λ (f : Contents). unwrap_or (f name) []) is
     ∙ ap (λ (o : Option (List ℕ)). unwrap_or o []) (with_file_here (contents_of old) name []) in
     let same : mem_bytes new name ≡ mem_bytes old name =
-    holds ∙ sym (none-bytes (contents_of old name) none) in
+    holds ∙ sym (none-bytes none) in
     let fails : is_to_fail new Write ≡ is_to_fail old Write =
     ap₂ (λ made (failing : List ℕ). list_any (λ number. eqb number (one_more made)) failing)
     (called.others_made Write (λ e. cc)) (called.failing Write) in

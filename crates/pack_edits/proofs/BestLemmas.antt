@@ -32,26 +32,28 @@ pub asks-behind : (lead_in : Bool) (needs : List Need)
 asks-behind lead_in needs = subst (λ items. Asks items needs) (behind-from lead_in needs)
     (asks-from lead_in all_slots needs)
 
-best-fits : (window : ℕ) (needs : List Need) (placed : List Placed)
+best-fits : {window : ℕ} {needs : List Need} {placed : List Placed}
     → IsBestPlan window any_choice needs placed → IsFittingFew window needs placed
-best-fits window needs placed is =
+best-fits {window} {needs} {placed} is =
     let whole = is.whole in
-    items-fitting window is.lead_in all_slots needs (items_with_lead_in is.lead_in any_choice needs)
-    (behind-from is.lead_in needs) slot_among placed whole.slots whole.best.feasible whole.begins
+    items-fitting {window = window} is.lead_in all_slots
+    {needs = needs} {items = items_with_lead_in is.lead_in any_choice needs}
+    (behind-from is.lead_in needs) (λ slot. slot_among {slot = slot})
+    {placed = placed} whole.slots whole.best.feasible whole.begins
 
 -- ---- chosen frames
 
-unwrapped : (o : Option (List Placed)) (best placed : List Placed) → o ≡ Some best
+unwrapped : (o : Option (List Placed)) {best placed : List Placed} → o ≡ Some best
     → unwrap_or o [] ≡ placed → o ≡ Some placed
-unwrapped (Some other) best placed some is = ap Some is
-unwrapped None best placed some is = absurd cc
+unwrapped (Some other) some is = ap Some is
+unwrapped None some is = absurd cc
 
 module _ (chosen : Chosen) (s : SurveyFields) (placed : IsPlacedSurvey s)
     (some : chosen.from < chosen.to)
     (within : chosen.to ≤ length s.frames) where
   -- the choices ascend for each frame
   pub in-order : PartsChooseInOrder any_choice (chosen_needs chosen s ∷ [])
-  in-order = subst (PartsChooseInOrder any_choice) (parts_are [] 0 (chosen_rows chosen s ∷ []) refl)
+  in-order = subst (PartsChooseInOrder any_choice) (parts_are [] (chosen_rows chosen s ∷ []) refl)
       (rows-fit chosen s placed some within).least
 
   -- the needs are of one class
@@ -71,10 +73,10 @@ module _ (chosen : Chosen) (s : SurveyFields) (placed : IsPlacedSurvey s)
       (part-fits s chosen.from chosen.to placed).1
 
   -- what the planner returns is the best plan
-  pub best-answer : (plan : List Placed)
+  pub best-answer : {plan : List Placed}
       → IsBestPlan (window_in (chosen_needs chosen s)) any_choice (chosen_needs chosen s) plan
       → best_planning s.class (chosen_needs chosen s) ≡ Ok plan
-  best-answer plan best =
+  best-answer {plan} best =
       ap (λ o. Ok (unwrap_or o []))
       ((best-plan-of (window_of s.class.version) any_choice (chosen_needs chosen s) plan in-order).0
       (subst (λ w. IsBestPlan w any_choice (chosen_needs chosen s) plan) window_is best))
@@ -91,18 +93,17 @@ module _ (chosen : Chosen) (s : SurveyFields) (placed : IsPlacedSurvey s)
       (first_plan any_choice s.class (chosen_needs chosen s)) plain-plan
 
   -- the plan that isn't refused is the best plan
-  pub best-is : (plan : List Placed) → best_planning s.class (chosen_needs chosen s) ≡ Ok plan
+  pub best-is : {plan : List Placed} → best_planning s.class (chosen_needs chosen s) ≡ Ok plan
       → IsBestPlan (window_of s.class.version) any_choice (chosen_needs chosen s) plan
-  best-is plan planned =
+  best-is {plan} planned =
       let same : unwrap_or
       (best_plan_of (window_of s.class.version) any_choice (chosen_needs chosen s)) [] ≡ plan =
       cc in
       (best-plan-of (window_of s.class.version) any_choice (chosen_needs chosen s) plan in-order).1
       (unwrapped (best_plan_of (window_of s.class.version) any_choice (chosen_needs chosen s))
-      best-some.0 plan best-some.1 same)
+      best-some.1 same)
 
   -- the frames can be laid by the best plan
-  pub best-fitting : (plan : List Placed) → best_planning s.class (chosen_needs chosen s) ≡ Ok plan
+  pub best-fitting : {plan : List Placed} → best_planning s.class (chosen_needs chosen s) ≡ Ok plan
       → IsFittingFew (window_of s.class.version) (chosen_needs chosen s) plan
-  best-fitting plan planned =
-      best-fits (window_of s.class.version) (chosen_needs chosen s) plan (best-is plan planned)
+  best-fitting {plan} planned = best-fits (best-is planned)

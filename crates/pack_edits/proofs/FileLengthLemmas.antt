@@ -24,17 +24,16 @@ use Rattle.sync_survey.specs.{Faults.SurveyFields, Row.Row}
 
 -- ---- the bytes of all areas
 
-length-laid_data_from : (end start : ℕ) (ps : List FrameData) → end ≤ start
+length-laid_data_from : (end : ℕ) {start : ℕ} (ps : List FrameData) → end ≤ start
     → CanDataBeLaidFrom end start ps
     → length (laid_data_from end start ps) + end ≡ areas_end start ps
-length-laid_data_from end start [] within fits = omega (arith, length-zeros (start - end), within)
-length-laid_data_from end start (p ∷ ps) within fits =
+length-laid_data_from end {start} [] within fits = omega (arith, length-zeros (start - end), within)
+length-laid_data_from end {start} (p ∷ ps) within fits =
     grind (
       arith,
       length-append,
       length-zeros,
-      length-laid_data_from (frame_data_end start p) (start
-          + p.area) ps fits.1 fits.2,
+      length-laid_data_from (frame_data_end start p) ps fits.1 fits.2,
     )
 
 -- ---- frames
@@ -49,7 +48,7 @@ length-framed_bytes c (f ∷ fs) bytes entries many =
     let front = frame_front_bytes k.header k.side in
     let more = framed_bytes (fields_of_frames fs) (drop n bytes) in
     let entry = length-entry k.header k.side (take n bytes) entries.0.header
-    (shaped k.side entries.0.pairs) (length-take-le n bytes (omega (arith, many))) in
+    (shaped entries.0.pairs) (length-take-le n bytes (omega (arith, many))) in
     omega (
       arith,
       entry,
@@ -65,7 +64,7 @@ length-frames : (c : ClassFields) (fs : List Frame) → AreStreamEntries c fs
     → CanDataBeLaidFrom 0 0 (all_frame_data fs)
     → length (bytes_of_frames fs) ≡ frames_length c slot_in fs
 length-frames c fs entries fit = length-framed_bytes c fs (laid_data (all_frame_data fs)) entries
-    (omega (arith, length-laid_data_from 0 0 (all_frame_data fs) (omega arith) fit, areas-all 0 fs))
+    (omega (arith, length-laid_data_from 0 (all_frame_data fs) (omega arith) fit, areas-all 0 fs))
 
 -- the lengths of the slots of a plan together
 abbrev pub size_of : ClassFields → List Placed → ℕ
@@ -108,11 +107,11 @@ module _ (l : LaidPart) (file : List ℕ) (s : SurveyFields) (is : CanBeRelaid f
       (frames_laid l file s) l.placed (laid-slots l file s is some within fitting)
 
   -- the file is as long as these and what comes before and after the frames
-  pub length-file : (first : Row) → slice_get s.frames l.from ≡ Some first
+  pub length-file : {first : Row} → slice_get s.frames l.from ≡ Some first
       → length (file_with_first (Some first) l file s)
       ≡ others_length first file s + size_of s.class l.placed
   unfolding laid_file
-  length-file first found =
+  length-file {first} found =
       grind (
         arith,
         length-laid,
@@ -142,9 +141,9 @@ module _ (l : LaidPart) (other : List Placed) (file : List ℕ) (s : SurveyField
   from-first (Some first) found =
       grind (
         arith,
-        length-file l file s is some within fitting extension first found,
+        length-file l file s is some within fitting extension found,
         length-file
-            by_other file s is some within fits extension first found,
+            by_other file s is some within fits extension found,
       )
 
   -- of two files of the same frames the one with shorter slots is the shorter

@@ -21,15 +21,15 @@ use Rattle.sync_survey.specs.{Survey.survey_of, declared.survey_fault.SurveyFaul
 abbrev unfit : {A : Type 0} → ℕ → Result A EditFault
 unfit i = Err (Refused (Unfit i))
 
-unfit-menu : (i : ℕ) (r : Result (List Placed) ℕ) → fitted_plan r ≡ unfit i → r ≡ Err i
-unfit-menu i (Ok placed) e = absurd cc
-unfit-menu i (Err k) e = cc
+unfit-menu : {i : ℕ} (r : Result (List Placed) ℕ) → fitted_plan r ≡ unfit i → r ≡ Err i
+unfit-menu (Ok placed) e = absurd cc
+unfit-menu (Err k) e = cc
 
 module _ (rate i : ℕ) (file : List ℕ) (s : SurveyFields)
     (is : survey_of file most_frames ≡ Ok s) where
-  unfit-plan : (chosen : Chosen) → all_choice file s ≡ Ok chosen
+  unfit-plan : {chosen : Chosen} → all_choice file s ≡ Ok chosen
       → rates_plan (Floor rate) s.class (chosen_needs chosen s) ≡ unfit i → ⊥
-  unfit-plan chosen chose e = at (is_rate rate s.class) refl e
+  unfit-plan {chosen} chose e = at (is_rate rate s.class) refl e
     where
       at : (b : Bool) → is_rate rate s.class ≡ b
           → then_made (refusal_or (cond b None (Some (NoRate rate))) (menu_in (Floor rate) s.class))
@@ -38,12 +38,12 @@ module _ (rate i : ℕ) (file : List ℕ) (s : SurveyFields)
           ≡ unfit i → ⊥
       at false none e = absurd cc
       at true some e =
-          let right = all_right file s chosen chose in
+          let right = all_right file chose in
           let none : no_rate (Floor rate) s.class ≡ None =
           ap (λ b. cond b None (Some (NoRate rate))) some in
           floor-unfit chosen s
-          (survey_fields-placed file most_frames s (survey_of-parts file most_frames s is).1)
-          right.some right.within rate i none (unfit-menu i _ e)
+          (survey_fields-placed file most_frames (survey_of-parts file most_frames is).1)
+          right.some right.within rate none (unfit-menu _ e)
 
   unfit-chosen : (o : Bool) (chosen : Chosen)
       → refusal_or (cond o None (Some (Range 0 (length s.frames) (length s.frames)))) chosen
@@ -58,10 +58,10 @@ module _ (rate i : ℕ) (file : List ℕ) (s : SurveyFields)
 
   unfit-packing : laying_making all_choice (rates_plan (Floor rate)) file s ≡ unfit i → ⊥
   unfit-packing e =
-      elim (laid-fault all_choice (rates_plan (Floor rate)) file s (Refused (Unfit i)) e)
+      elim (laid-fault all_choice (rates_plan (Floor rate)) e)
       as (λ _. ⊥) [
         | inl refused ↦ unfit-choice refused
-        | inr no_plan ↦ unfit-plan no_plan.0 no_plan.1 no_plan.2
+        | inr no_plan ↦ unfit-plan no_plan.1 no_plan.2
       ]
 
 -- with all bit rates of the class from one on, no file is refused because there is no room

@@ -32,18 +32,18 @@ same_count : (n : ℕ) → (n == n) ≡ false → ⊥
 same_count n is = search rules
 
 -- sound frames are no more than are allowed
-pub few-rows : (file : List ℕ) (head : Option Head) (class : ClassFields) (allowed : ℕ)
+pub few-rows : (file : List ℕ) (head : Option Head) {class : ClassFields} {allowed : ℕ}
     (rows : List Row) → AreSound file head class allowed rows → length rows ≤ allowed
-few-rows file head class allowed rows sound =
+few-rows file head {allowed = allowed} rows sound =
     elim (slice_get_cases rows allowed).1 as (λ _. length rows ≤ allowed) [
       | inl found ↦ absurd (same_count allowed (sound allowed found.0 found.2).few)
       | inr past ↦ past.0
     ]
 
-sound-more : (file : List ℕ) (head : Option Head) (class : ClassFields) (allowed other : ℕ)
+sound-more : (file : List ℕ) (head : Option Head) {class : ClassFields} {allowed other : ℕ}
     (rows : List Row) → allowed ≤ other → AreSound file head class allowed rows
     → AreSound file head class other rows
-sound-more file head class allowed other rows more sound = λ i r is.
+sound-more file head {class} {allowed} rows more sound = λ i r is.
     let here = sound i r is in
     record {
       same = here.same;
@@ -53,27 +53,27 @@ sound-more file head class allowed other rows more sound = λ i r is.
           grind (
             arith,
             ne_eqb,
-            few-rows file head class allowed rows sound,
+            few-rows file head rows sound,
             slice_get_within rows i
                 r is,
           );
     }
 
 -- a survey with fewer allowed frames is the survey with more
-pub survey_of-more : (file : List ℕ) (allowed other : ℕ) (s : SurveyFields) → allowed ≤ other
+pub survey_of-more : (file : List ℕ) {allowed other : ℕ} {s : SurveyFields} → allowed ≤ other
     → survey_of file allowed ≡ Ok s → survey_of file other ≡ Ok s
-survey_of-more file allowed other s more e =
-    let whole = survey_of-parts file allowed s e in
-    let parts = survey_fields-parts file allowed s whole.1 in
+survey_of-more file {allowed} {other} {s} more e =
+    let whole = survey_of-parts file allowed e in
+    let parts = survey_fields-parts whole.1 in
     let start = parts.0 in
     let read = parts.1 in
     let rows = rows_of file (frames_from file start) in
     let head = head_of file start.first in
     survey_of-short file other whole.0
-    ∙ survey_fields-told file other start (record {
+    ∙ survey_fields-told (record {
       start_is = read.start_is;
       frames = sound-no_all_faults file head (class_from start) other rows
-          (sound-more file head (class_from start) allowed other rows more
+          (sound-more file head rows more
           (all_faults-none_sound file head (class_from start) allowed rows read.frames));
       end = read.end;
     })
@@ -81,15 +81,15 @@ survey_of-more file allowed other s more e =
 
 -- ---- the source has no fault
 
-limited-sound : (allowed : ℕ) (o : Option (List ℕ)) (made : Result (List ℕ) EditFault)
+limited-sound : (allowed : ℕ) {o : Option (List ℕ)} (made : Result (List ℕ) EditFault)
     → ((file : List ℕ) → o ≡ Some file → (s : SurveyFields) × (survey_of file allowed ≡ Ok s))
     → limited_result (Some allowed) o made ≡ made
-limited-sound allowed o made sound = grind arith
+limited-sound allowed made sound = grind arith
 
 -- what was made within the limit is made without it
-pub limited-made : (allowed : ℕ) (o : Option (List ℕ)) (made : Result (List ℕ) EditFault)
-    (new : List ℕ) → limited_result (Some allowed) o made ≡ Ok new → made ≡ Ok new
-limited-made allowed o made new is = grind arith
+pub limited-made : (allowed : ℕ) (o : Option (List ℕ)) {made : Result (List ℕ) EditFault}
+    {new : List ℕ} → limited_result (Some allowed) o made ≡ Ok new → made ≡ Ok new
+limited-made allowed o is = grind arith
 
 limited-late : (allowed : ℕ) (file : List ℕ) (made : Result (List ℕ) EditFault) → length file
     ≤ longest_file → IfErr made IsLateFault
@@ -104,9 +104,9 @@ module _ (allowed : ℕ) (task : Task) where
       → (s : SurveyFields) × (survey_of file allowed ≡ Ok s)
 
   -- what the task makes is made within the limit
-  pub limited_task-making : (made : List ℕ → List ℕ) (files : Files) → IsFaultless files
+  pub limited_task-making : {made : List ℕ → List ℕ} {files : Files} → IsFaultless files
       → IsMaking task made files → IsMaking (limited_task (Some allowed) task) made files
-  limited_task-making made files sound is =
+  limited_task-making {made} {files} sound is =
       record { there = is.there; makes = at files sound is.makes }
     where
       at : (files : Files) → IsFaultless files → IfTold files (λ f. (bytes : List ℕ)
@@ -115,7 +115,7 @@ module _ (allowed : ℕ) (task : Task) where
           × (limited_result (Some allowed) (f task.source) (task.makes f) ≡ Ok (made bytes)))
       at (Untold touched) sound makes = tt
       at (Told f) sound makes = λ bytes held. let m = makes bytes held in
-          (m.0, limited-sound allowed (f task.source) (task.makes f) sound ∙ m.1)
+          (m.0, limited-sound allowed (task.makes f) sound ∙ m.1)
 
   -- a proper task is proper with the limit
   pub limited_task-proper : IsProperTask task → IsProperTask (limited_task (Some allowed) task)
@@ -124,7 +124,7 @@ module _ (allowed : ℕ) (task : Task) where
     first = proper.first;
     late = grind (arith, limited-late);
     streams = λ f bytes new held octets is. proper.streams f bytes new held octets
-        (limited-made allowed (f task.source) (task.makes f) new is);
+        (limited-made allowed (f task.source) is);
   }
 
 -- ---- a fault of the survey
@@ -134,10 +134,10 @@ module _ (allowed : ℕ) (make : Making) (stream : List ℕ → List StreamFrame
   abbrev of_file : Task
   of_file = file_task make stream refuses input
 
-  file-refused : (files : Files) (fault : SurveyFault) → IsFileThere files input
+  file-refused : (files : Files) {fault : SurveyFault} → IsFileThere files input
       → ((bytes : List ℕ) → Holds files input bytes → survey_of bytes allowed ≡ Err fault)
       → TaskRefuses (limited_task (Some allowed) of_file) files (Input 0 fault)
-  file-refused files fault there is = grind arith
+  file-refused files there is = grind arith
 
   file-missing : (files : Files) → IsFileMissing files input
       → TaskRefuses (limited_task (Some allowed) of_file) files (Input 0 Absent)

@@ -55,7 +55,7 @@ menu-ascends mode class sound =
 -- all slots have legal bit rates
 pub all-slots : All IsSlot all_slots
 all-slots = λ k d within. subst IsSlot (get_or_default all_slots k (slot_of 1 false) d within)
-    (IsSlot-nth_slot k (omega (arith, within, length-all_slots)))
+    (IsSlot-nth_slot (omega (arith, within, length-all_slots)))
 
 -- the slots of a menu have legal bit rates
 pub menu-slots : (mode : PackMode) (class : ClassFields) (slot : SlotFields)
@@ -84,11 +84,11 @@ unfolding all_slots slots_to
 rates-top version = grind arith
 
 -- if all of these numbers are at most `most`, so is one of them
-any-most : (f : SlotFields → ℕ) (n most : ℕ) (xs : List SlotFields)
+any-most : (f : SlotFields → ℕ) {n most : ℕ} (xs : List SlotFields)
     → list_all (λ x. leb (f x) most) xs ≡ true → 1 ≤ length (filter (λ x. f x == n) xs) → n ≤ most
-any-most f n most [] all some = absurd (omega (arith, some))
-any-most f n most (x ∷ xs) all some =
-    at (leb (f x) most) refl all (f x == n) refl some (λ more. any-most f n most xs more)
+any-most f [] all some = absurd (omega (arith, some))
+any-most f {n} {most} (x ∷ xs) all some =
+    at (leb (f x) most) refl all (f x == n) refl some (λ more. any-most f xs more)
   where
     at : (a : Bool) → leb (f x) most ≡ a → (a && list_all (λ y. leb (f y) most) xs) ≡ true
         → (b : Bool) → (f x == n) ≡ b
@@ -100,9 +100,9 @@ any-most f n most (x ∷ xs) all some =
         omega (arith, leb-true (f x) most below, eqb-true (f x) n same)
     at true below all false same some rest = rest all some
 
-contains-kept : (p : SlotFields → Bool) (xs : List SlotFields) (x : SlotFields) → Contains xs x
+contains-kept : (p : SlotFields → Bool) (xs : List SlotFields) {x : SlotFields} → Contains xs x
     → p x ≡ true → Contains (filter p xs) x
-contains-kept p xs x has passes = walk xs has.0 has.1 has.2
+contains-kept p xs {x} has passes = walk xs has.0 has.1 has.2
   where
     at : (y : SlotFields) (ys : List SlotFields) → Contains (filter p ys) x → (b : Bool)
         → Contains (cond b (y ∷ filter p ys) (filter p ys)) x
@@ -122,7 +122,7 @@ contains-kept p xs x has passes = walk xs has.0 has.1 has.2
 -- a mode that allows the largest slot has it in its menu
 largest-kept : (mode : PackMode) (class : ClassFields) → allows mode class largest_slot ≡ true
     → Contains (menu_in mode class) largest_slot
-largest-kept mode class allowed = contains-kept (allows mode class) all_slots largest_slot
+largest-kept mode class allowed = contains-kept (allows mode class) all_slots
     (Contains-all_slots largest_slot (omega arith, omega arith)) allowed
 
 -- with all bit rates from one on the largest slot is in the menu
@@ -130,7 +130,7 @@ pub floor-largest : (rate : ℕ) (class : ClassFields) → no_rate (Floor rate) 
     → Contains (menu_in (Floor rate) class) largest_slot
 unfolding rate_of
 floor-largest rate class none =
-    let most = any-most (rate_of class) rate (rate_of class largest_slot) all_slots
+    let most = any-most (rate_of class) all_slots
     (rates-top class.version) (rate-is rate class none) in
     largest-kept (Floor rate) class (le-leb rate (rate_of class largest_slot) most)
 

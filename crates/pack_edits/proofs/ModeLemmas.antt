@@ -38,22 +38,22 @@ module _ (chosen : Chosen) (s : SurveyFields) (placed : IsPlacedSurvey s)
   }
 
   -- frames can be laid by the plan of a mode, with at most one lead-in
-  pub mode-fitting : (mode : PackMode) (plan : List Placed)
+  pub mode-fitting : (mode : PackMode) {plan : List Placed}
       → mode_planning mode s.class (chosen_needs chosen s) ≡ Ok plan
       → IsFittingFew (window_of s.class.version) (chosen_needs chosen s) plan
-  mode-fitting Least plan planned = grind (arith, least-fitting)
-  mode-fitting Best plan planned = best-fitting chosen s placed some within plan planned
-  mode-fitting (Constant rate) plan planned =
-      chosen-fitting chosen s placed some within (Constant rate) plan planned
-  mode-fitting (Floor rate) plan planned =
-      chosen-fitting chosen s placed some within (Floor rate) plan planned
+  mode-fitting Least planned = grind (arith, least-fitting)
+  mode-fitting Best {plan} planned = best-fitting chosen s placed some within planned
+  mode-fitting (Constant rate) {plan} planned =
+      chosen-fitting chosen s placed some within (Constant rate) planned
+  mode-fitting (Floor rate) {plan} planned =
+      chosen-fitting chosen s placed some within (Floor rate) planned
 
 -- the plans of each mode are refused late, and frames can be laid by them
 pub planning : (mode : PackMode) → IsPlanning (mode_planning mode)
 planning mode = record {
   late = late mode;
   fitting = λ chosen s well some within placed planned.
-      (mode-fitting chosen s well some within mode placed planned).fitting;
+      (mode-fitting chosen s well some within mode planned).fitting;
 }
   where
     late : (mode : PackMode) (class : ClassFields) (needs : List Need)
@@ -110,10 +110,10 @@ pub mode_survey_numbers : (mode : PackMode) (input : List ℕ) (fault : EditFaul
 mode_survey_numbers mode input fault is = grind (arith, mode_numbers, of_survey_input)
 
 -- what is written for a file with no more frames than allowed is what the command makes
-pub mode_makes : (mode : PackMode) (input : List ℕ) (made : List ℕ → List ℕ) (files : Files)
+pub mode_makes : (mode : PackMode) {input : List ℕ} {made : List ℕ → List ℕ} {files : Files}
     → IsAllowed mode input files
     → IsMaking (laying_task all_choice (mode_planning mode) (mode_refuses mode) input) made files
     → IsMaking (pack_task mode input) made files
-mode_makes Best input made files sound is =
-    limited_task-making most_best (free_task Best input) made files sound is
-mode_makes mode input made files sound is = is
+mode_makes Best {input} {made} {files} sound is =
+    limited_task-making most_best (free_task Best input) sound is
+mode_makes mode sound is = is

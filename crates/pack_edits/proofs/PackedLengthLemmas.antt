@@ -44,19 +44,19 @@ record IsMadeOf (input output : List ℕ) (files : Contents) (made : List ℕ) :
   by : IsLaidBy all_choice best_planning file survey made
 
 module _ (input output : List ℕ) (files : Contents) (made : List ℕ) where
-  by-survey : clash_from (output ∷ []) 0 (input ∷ []) ≡ None → (file : List ℕ) → files input
+  by-survey : clash_from (output ∷ []) 0 (input ∷ []) ≡ None → {file : List ℕ} → files input
       ≡ Some file → (r : Result SurveyFields SurveyFault) → survey_of file most_frames ≡ r
       → surveyed_result (laying_making all_choice best_planning) file r ≡ Ok made
       → IsMadeOf input output files made
-  by-survey apart file there (Err fault) surveyed e = absurd cc
-  by-survey apart file there (Ok s) surveyed e = record {
+  by-survey apart there (Err fault) surveyed e = absurd cc
+  by-survey apart {file} there (Ok s) surveyed e = record {
     apart = apart;
     file = file;
     there = there;
     survey = s;
     surveyed = surveyed;
     by =
-        laid-parts all_choice best_planning file s made e;
+        laid-parts all_choice best_planning e;
   }
 
   by-there : clash_from (output ∷ []) 0 (input ∷ []) ≡ None → (o : Option (List ℕ))
@@ -64,16 +64,14 @@ module _ (input output : List ℕ) (files : Contents) (made : List ℕ) where
       → IsMadeOf input output files made
   unfolding made_file
   by-there apart None there e = absurd cc
-  by-there apart (Some file) there e =
-      by-survey apart file there (survey_of file most_frames) refl e
+  by-there apart (Some file) there e = by-survey apart there (survey_of file most_frames) refl e
 
   by-clash : (o : Option ℕ) → clash_from (output ∷ []) 0 (input ∷ []) ≡ o
       → clash_or o (limited_result (Some most_best) (files input)
       (input_result (laying_making all_choice best_planning) (files input))) ≡ Ok made
       → IsMadeOf input output files made
   by-clash (Some place) apart e = absurd cc
-  by-clash None apart e = by-there apart (files input) refl (limited-made most_best (files input)
-      (input_result (laying_making all_choice best_planning) (files input)) made e)
+  by-clash None apart e = by-there apart (files input) refl (limited-made most_best (files input) e)
 
   made-of : task_result (pack_task Best input) output files ≡ Ok made
       → IsMadeOf input output files made
@@ -85,21 +83,20 @@ module _ (input output : List ℕ) (files : Contents) (made : List ℕ) where
 module _ (input output : List ℕ) (files : Contents) (best : List ℕ)
     (m : IsMadeOf input output files best) where
   right : IsRight m.by.chosen m.survey
-  right = all_right m.file m.survey m.by.chosen m.by.chose
+  right = all_right m.file m.by.chose
 
   well : IsPlacedSurvey m.survey
-  well = survey_fields-placed m.file most_frames
-      m.survey (survey_of-parts m.file most_frames m.survey m.surveyed).1
+  well = survey_fields-placed m.file most_frames (survey_of-parts m.file most_frames m.surveyed).1
 
   abbrev window : ℕ
   window = window_of m.survey.class.version
 
   fitting : IsFittingPlan window (chosen_needs m.by.chosen m.survey) m.by.placed
   fitting = (best-fitting m.by.chosen m.survey well
-      right.some right.within m.by.placed m.by.planned).fitting
+      right.some right.within m.by.planned).fitting
 
   best_plan : IsBestPlan window any_choice (chosen_needs m.by.chosen m.survey) m.by.placed
-  best_plan = best-is m.by.chosen m.survey well right.some right.within m.by.placed m.by.planned
+  best_plan = best-is m.by.chosen m.survey well right.some right.within m.by.planned
 
   by-other : (other : List Placed) → IsFittingPlan window (chosen_needs m.by.chosen m.survey) other
       → HasNoMoreLeadIns m.by.placed other
@@ -107,15 +104,15 @@ module _ (input output : List ℕ) (files : Contents) (best : List ℕ)
   by-other other fits more =
       subst (λ (l : List ℕ). length l
       ≤ length (file_laid (placed_part m.by.chosen other) m.file m.survey)) m.by.is
-      (no-longer (placed_part m.by.chosen m.by.placed) other m.file m.survey (survey-had m.file
-      most_frames m.survey m.surveyed) right.some right.within right.extension fitting fits
+      (no-longer (placed_part m.by.chosen m.by.placed) other m.file m.survey (survey-had
+      most_frames m.surveyed) right.some right.within right.extension fitting fits
       (best-least window m.survey.class (chosen_needs m.by.chosen m.survey)
       (rows-sound m.by.chosen m.survey well right.some right.within) (rows-same m.by.chosen m.survey
-      well right.some right.within) m.by.placed other best_plan fitting.slots fits more))
+      well right.some right.within) best_plan fitting.slots fits more))
 
   fewest-is : IsFewestBytes m.file best
   fewest-is =
-      let whole = all-whole m.file m.survey m.by.chosen m.by.chose in
+      let whole = all-whole m.file m.survey {chosen = m.by.chosen} m.by.chose in
       record {
         survey = m.survey;
         surveyed = m.surveyed;
@@ -141,13 +138,13 @@ module _ (input output : List ℕ) (files : Contents) (best : List ℕ)
       ∙ ap (input_result make) m.there
       ∙ ap (surveyed_result make m.file) m.surveyed
       ∙ laying-is all_choice
-      (first_planning any_choice) m.file m.survey m.by.chosen (Ok plain) m.by.chose refl
+      (first_planning any_choice) m.by.chose refl
 
   plain-longer : length best ≤ length (file_laid (placed_part m.by.chosen plain) m.file m.survey)
   plain-longer =
       by-other plain
-      (mode-fitting m.by.chosen m.survey well right.some right.within Least plain refl).fitting
-      (plan-no_more window m.by.placed plain (chosen_needs m.by.chosen m.survey) best_plan
+      (mode-fitting m.by.chosen m.survey well right.some right.within Least refl).fitting
+      (plan-no_more window m.by.placed plain best_plan
       (plain-plan m.by.chosen m.survey well right.some right.within))
 
 -- ---- the laws
@@ -170,11 +167,12 @@ bytes-fewest = λ input output files best e.
 -- ---- what is written
 
 -- the one output holds what is made
-one-held : (output made : List ℕ) (f : Contents) (r : Result (List ℕ) EditFault) (all : Made)
-    (new : Files) → command_result output r ≡ Ok all → new ≡ Told (written_files all.outputs f)
+one-held : (output : List ℕ) {made : List ℕ} (f : Contents) (r : Result (List ℕ) EditFault)
+    {all : Made}
+    {new : Files} → command_result output r ≡ Ok all → new ≡ Told (written_files all.outputs f)
     → Holds new output made → r ≡ Ok made
-one-held output made f (Err fault) all new e told holds = absurd cc
-one-held output made f (Ok bytes) all new e told holds =
+one-held output f (Err fault) e told holds = absurd cc
+one-held output {made} f (Ok bytes) {all} e told holds =
     let same : record { outputs = record { name = output; bytes = bytes } ∷ []; text = [] } ≡ all =
     cc in
     let now : Holds (Told (with_file f output bytes)) output made =
@@ -183,32 +181,32 @@ one-held output made f (Ok bytes) all new e told holds =
     let is : Some bytes ≡ Some made = sym (with_file_here f output bytes) ∙ now in
     cc
 
-written-fewest : (input output file made : List ℕ) (old new : Files)
+written-fewest : (input output : List ℕ) {file made : List ℕ} (old new : Files)
     → IfTold old (λ f. (all : Made) × ((pack_mode_command Best input output).makes f ≡ Ok all)
     × (new ≡ Told (written_files all.outputs f))) → Holds old input file → Holds new output made
     → IsFewestBytes file made
-written-fewest input output file made (Untold touched) new done there holds = absurd there
-written-fewest input output file made (Told f) new done there holds =
-    let is = one-held output made f
-    (task_result (pack_task Best input) output f) done.0 new done.1 done.2 holds in
+written-fewest input output (Untold touched) new done there holds = absurd there
+written-fewest input output {file} {made} (Told f) new done there holds =
+    let is = one-held output f
+    (task_result (pack_task Best input) output f) done.1 done.2 holds in
     let least = bytes-fewest input output f made is in
     let same : least.0 ≡ file = let both : Some least.0 ≡ Some file = sym least.1 ∙ there in cc in
     subst (λ (l : List ℕ). IsFewestBytes l made) same least.2
 
 -- what the command wrote has the fewest bytes
-pub done-fewest : (mode : PackMode) (input output : List ℕ) (old new : Seen)
+pub done-fewest : (mode : PackMode) {input output : List ℕ} {old new : Seen}
     → IsCommandDone (pack_mode_command mode input output) old new
     → WritesFewest mode input output old.files new.files
-done-fewest Best input output old new done = λ file made there holds. written-fewest input output
-    file made old.files new.files done.made there holds
-done-fewest (Constant rate) input output old new done = tt
-done-fewest _ input output old new done = tt
+done-fewest Best {input} {output} {old} {new} done =
+    λ file made there holds. written-fewest input output old.files new.files done.made there holds
+done-fewest (Constant rate) done = tt
+done-fewest _ done = tt
 
 -- a run that was done wrote the fewest bytes
 pub run-fewest : (keeps : Bool) (mode : PackMode) (input output : List ℕ) {old new : Seen}
     (answer : Result (Unit {0}) EditFault)
     → IsRunOf (asked_of keeps (pack_mode_command mode input output)) old new answer
     → OnOk answer (WritesFewest mode input output old.files new.files)
-run-fewest keeps mode input output {old} {new} (Ok none) run = done-fewest mode input output old new
+run-fewest keeps mode input output {old} {new} (Ok none) run = done-fewest mode
     (asked_done (pack_mode_command mode input output) keeps run.done)
 run-fewest keeps mode input output (Err fault) run = tt

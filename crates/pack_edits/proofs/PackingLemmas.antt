@@ -14,10 +14,10 @@ use Rattle.slot_plan.specs.declared.needs.Need.{Need}
 use Rattle.sync_survey.specs.{Faults.SurveyFields, Survey.survey_of}
 
 -- a fault that was met in a state equal to the old one is one of the old one
-pub input_moved : (make : Making) (name : List ℕ) (before old new : Seen) (fault : EditFault)
-    → before ≡ old → IsInputFault make name before new fault → IsInputFault make name old new fault
-input_moved make name before old new fault same is =
-    subst (λ o. IsInputFault make name o new fault) same is
+pub input_moved : (make : Making) (name : List ℕ) {before old : Seen} (new : Seen)
+    (fault : EditFault) → before ≡ old → IsInputFault make name before new fault
+    → IsInputFault make name old new fault
+input_moved make name new fault same is = subst (λ o. IsInputFault make name o new fault) same is
 
 -- the input was surveyed, its frames were chosen, and they have no plan
 module _ (plan : Planning) (refuses : Refusal → Bool) (name : List ℕ) (old new : Seen)
@@ -25,10 +25,10 @@ module _ (plan : Planning) (refuses : Refusal → Bool) (name : List ℕ) (old n
     (surveyed : (bytes : List ℕ) → Holds old.files name bytes → survey_of bytes most_frames ≡ Ok s)
     (chose : (bytes : List ℕ) → Holds old.files name bytes → all_choice bytes s ≡ Ok chosen)
     (stays : new ≡ old) where
-  unplanned : (file : List ℕ) (fault : EditFault) → all_choice file s ≡ Ok chosen
+  unplanned : (file : List ℕ) {fault : EditFault} → all_choice file s ≡ Ok chosen
       → plan s.class (chosen_needs chosen s) ≡ Err fault
       → laying_making all_choice plan file s ≡ Err fault
-  unplanned file fault is none = laying-is all_choice plan file s chosen (Err fault) is none
+  unplanned file {fault} is none = laying-is all_choice plan is none
 
   -- a fault of the plan is a fault of the input
   pub plan_is_input : (fault : EditFault)
@@ -36,8 +36,8 @@ module _ (plan : Planning) (refuses : Refusal → Bool) (name : List ℕ) (old n
       → IsInputFault (laying_making all_choice plan) name old new fault
   plan_is_input (Refused refusal) is =
       refused_is_input (laying_making all_choice plan) name old new s
-      refuses (Refused refusal) is.1 there surveyed
-      (λ bytes holds. unplanned bytes (Refused refusal) (chose bytes holds) is.0) stays
+      refuses is.1 there surveyed
+      (λ bytes holds. unplanned bytes (chose bytes holds) is.0) stays
   plan_is_input Memory is =
       memory_is_input (laying_making all_choice plan) name old new s there surveyed stays
   plan_is_input _ is = absurd is

@@ -59,15 +59,16 @@ pub record IsFittingFew (window : ℕ) (needs : List Need) (placed : List Placed
   pub few : length placed ≤ length needs + 1
 
 -- these items are for these frames, and were laid as early as they may be
-pub items-fitting : (window : ℕ) (lead_in : Bool) (menu : List SlotFields) (needs : List Need)
-    (items : List PlanItem) → menu_items lead_in menu needs ≡ items
-    → ((slot : SlotFields) → Contains menu slot → IsSlot slot) → (placed : List Placed)
+pub items-fitting : {window : ℕ} (lead_in : Bool) (menu : List SlotFields) {needs : List Need}
+    {items : List PlanItem} → menu_items lead_in menu needs ≡ items
+    → ((slot : SlotFields) → Contains menu slot → IsSlot slot) → {placed : List Placed}
     → AreItemSlots items placed
     → HasLayout window 0 (frames_with_areas (map open_frame items) (item_areas items placed))
     → map (λ (p : Placed). p.begin) placed
     ≡ begins_of window 0 0 (frames_with_areas (map open_frame items) (item_areas items placed))
     → IsFittingFew window needs placed
-items-fitting window lead_in menu needs items same slots placed for_items feasible begins =
+items-fitting lead_in menu {needs} {items} same slots
+    {placed} for_items feasible begins =
     let most =
     subst (λ (l : List PlanItem). length l ≤ length needs + 1) same
     (from-length lead_in menu needs) in
@@ -90,7 +91,7 @@ menu-fitting : (window : ℕ) (menu : List SlotFields) (needs : List Need) (plac
     → IsFittingFew window needs placed
 menu-fitting window menu needs placed slots is =
     let whole = is.whole in
-    items-fitting window is.lead_in menu needs (menu_items is.lead_in menu needs) refl slots placed
+    items-fitting is.lead_in menu refl slots
     whole.slots whole.least.feasible whole.begins
 
 -- ---- with the slots of some bit rates
@@ -114,9 +115,9 @@ pub rates-fitting : (mode : PackMode) (class : ClassFields) (needs : List Need)
     → rates_plan mode class needs ≡ Ok placed → IsFittingFew (window_of class.version) needs placed
 rates-fitting mode class needs placed sound same some planned =
     let window = window_of class.version in
-    let made = then_ok (refusal_or (no_rate mode class) (menu_in mode class))
-    (λ menu. fitted_plan (least_menu_plan window menu needs)) placed planned in
-    let ok = refusal_or-ok (no_rate mode class) (menu_in mode class) made.0 made.1 in
+    let made = then_ok {r = refusal_or (no_rate mode class) (menu_in mode class)}
+    {make = λ menu. fitted_plan (least_menu_plan window menu needs)} {b = placed} planned in
+    let ok = refusal_or-ok {o = no_rate mode class} {a = menu_in mode class} {b = made.0} made.1 in
     let is : least_menu_plan window (menu_in mode class) needs ≡ Ok placed =
     grind (arith, fitted_plan-ok) in
     menu-fitting window (menu_in mode class) needs placed (menu-slots mode class)
@@ -143,9 +144,9 @@ unfolding needs_of_parts
 needs-one rows = append-nil (map need_of rows)
 
 -- what the planner is given for one part
-pub given-needs : (rows : List Row) (parts : PlanInput) (needs : List Need)
+pub given-needs : (rows : List Row) {parts : PlanInput} {needs : List Need}
     → parts ≡ plan_input (rows ∷ []) → needs ≡ parts.needs → needs ≡ map need_of rows
-given-needs rows parts needs same is = is ∙ ap (λ (a : PlanInput). a.needs) same ∙ needs-one rows
+given-needs rows same is = is ∙ ap (λ (a : PlanInput). a.needs) same ∙ needs-one rows
 
 -- what the planner returns for this menu
 abbrev Says : ℕ → List SlotFields → List Need → Result Plan RateFault → Type 0
@@ -201,10 +202,10 @@ module _ (chosen : Chosen) (s : SurveyFields) (placed : IsPlacedSurvey s)
   needs-some = omega (arith, rows-some, length-map (chosen_rows chosen s) need_of)
 
   -- the frames can be laid by the plan of a menu
-  pub chosen-fitting : (mode : PackMode) (plan : List Placed)
+  pub chosen-fitting : (mode : PackMode) {plan : List Placed}
       → rates_plan mode s.class (chosen_needs chosen s) ≡ Ok plan
       → IsFittingFew (window_of s.class.version) (chosen_needs chosen s) plan
-  chosen-fitting mode plan planned =
+  chosen-fitting mode {plan} planned =
       rates-fitting mode s.class (chosen_needs chosen s) plan rows-sound rows-same needs-some
       planned
 
@@ -216,9 +217,9 @@ module _ (chosen : Chosen) (s : SurveyFields) (placed : IsPlacedSurvey s)
       least_menu_plan (window_of s.class.version) (menu_in mode s.class) (chosen_needs chosen s)
 
   -- if the largest slot is allowed, no frame is unfit
-  never-unfit : (mode : PackMode) (i : ℕ) → no_rate mode s.class ≡ None
+  never-unfit : (mode : PackMode) {i : ℕ} → no_rate mode s.class ≡ None
       → Contains (menu_in mode s.class) largest_slot → menu_answer mode ≡ Err i → ⊥
-  never-unfit mode i none largest is =
+  never-unfit mode {i} none largest is =
       let menu = menu_in mode s.class in
       let unfit =
       ((least_menu_plan-is (window_of s.class.version) s.class menu
@@ -229,14 +230,14 @@ module _ (chosen : Chosen) (s : SurveyFields) (placed : IsPlacedSurvey s)
       (part-fits s chosen.from chosen.to placed).1 unfit
 
   -- with all bit rates from one on, no frame is unfit
-  pub floor-unfit : (rate i : ℕ) → no_rate (Floor rate) s.class ≡ None
+  pub floor-unfit : (rate : ℕ) {i : ℕ} → no_rate (Floor rate) s.class ≡ None
       → menu_answer (Floor rate) ≡ Err i → ⊥
-  floor-unfit rate i none is = never-unfit (Floor rate) i none (floor-largest rate s.class none) is
+  floor-unfit rate {i} none is = never-unfit (Floor rate) none (floor-largest rate s.class none) is
 
   -- the plan is what the menu gives
-  pub plan-is : (mode : PackMode) (r : Result (List Placed) ℕ) → no_rate mode s.class ≡ None
+  pub plan-is : (mode : PackMode) {r : Result (List Placed) ℕ} → no_rate mode s.class ≡ None
       → menu_answer mode ≡ r → rates_plan mode s.class (chosen_needs chosen s) ≡ fitted_plan r
-  plan-is mode r none is = grind arith
+  plan-is mode none is = grind arith
 
   abbrev IsFaultIn : PackMode → EditFault → Type 0
   IsFaultIn mode fault =
@@ -248,7 +249,7 @@ module _ (chosen : Chosen) (s : SurveyFields) (placed : IsPlacedSurvey s)
   menu-fault mode fault named none is = grind (arith, plan-is, floor-unfit)
 
   -- the plan of a mode that names a bit rate is what the menu gives
-  pub menu-plan : (mode : PackMode) (plan : List Placed) → IsNamed mode → no_rate mode s.class
+  pub menu-plan : (mode : PackMode) {plan : List Placed} → IsNamed mode → no_rate mode s.class
       ≡ None → menu_answer mode ≡ Ok plan
       → mode_planning mode s.class (chosen_needs chosen s) ≡ Ok plan
-  menu-plan mode plan named none is = grind arith
+  menu-plan mode named none is = grind arith

@@ -17,8 +17,8 @@ use Rattle.pack_edits.specs.Fewest.{HasNoMoreLeadIns, lead_ins}
 use Rattle.slot_plan.{proofs.ReserveLemmas.AllFit, specs.Lists.{CanBeLaid, frames_with_areas}}
 use Rattle.slot_plan.specs.Parts.{all_items, AreLeadIns, AreNeedsOfClass, IsLeadIn, item_area}
 use Rattle.slot_plan.specs.Parts.{need_item, open_frame, part_items, PlanItem}
-use Rattle.slot_plan.specs.{Plans.{AreItemSlots, IsPlan, item_areas}, Reserve.free_bytes_behind}
-use Rattle.slot_plan.specs.declared.needs.{Need.Need, Placed.Placed}
+use Rattle.slot_plan.specs.{Plans.{AreItemSlots, IsPlan, item_areas}, declared.needs.Need.Need}
+use Rattle.slot_plan.specs.declared.needs.Placed.{Placed}
 
 -- ---- places of lead-ins
 
@@ -81,25 +81,26 @@ for-flagged (item ∷ items) (p ∷ placed) wide flagged slots = (
 for-flagged _ _ wide flagged slots = absurd flagged
 
 -- in the areas of the plan there is room for the main data, whatever main_data_begin it gives them
-fits-room : (window reach free : ℕ) (items : List PlanItem) (needs : List Need)
+fits-room : (window reach : ℕ) {free : ℕ} (items : List PlanItem) (needs : List Need)
     (placed : List Placed) → Asks items needs → Flagged items placed
     → FitsFromReach window reach needs placed → reach ≤ free
     → AllFit window free (frames_with_areas (map open_frame items) (item_areas items placed))
 unfolding FitsFromReach AllFit frames_with_areas item_areas
-fits-room window reach free [] [] [] asks flagged fits within = tt
-fits-room window reach free [] (need ∷ needs) placed asks flagged fits within = absurd asks
-fits-room window reach free (item ∷ items) [] placed asks flagged fits within = absurd asks
-fits-room window reach free (item ∷ items) (need ∷ needs) (p ∷ placed) asks flagged fits within =
+fits-room window reach [] [] [] asks flagged fits within = tt
+fits-room window reach [] (need ∷ needs) placed asks flagged fits within = absurd asks
+fits-room window reach (item ∷ items) [] placed asks flagged fits within = absurd asks
+fits-room window reach {free} (item ∷ items) (need ∷ needs)
+    (p ∷ placed) asks flagged fits within =
     let is : IsAsked p.lead_in item need = grind arith in
     let follow : Asks items (rest_behind p.lead_in need needs) = grind arith in
     let area = asked-area p.lead_in item need p.slot is in
     let bytes = asked-bytes p.lead_in item need is in (
       omega (arith, area, bytes, fits.0, fits.1, within),
-      fits-room window (reach_behind window p need) (free_bytes_behind window free
-          item.bytes (item_area item p.slot)) items (rest_behind p.lead_in need needs) placed follow
+      fits-room window (reach_behind window p need) items
+          (rest_behind p.lead_in need needs) placed follow
           flagged.1 fits.2 (omega (arith, area, bytes, fits.0, fits.1, within)),
     )
-fits-room window reach free _ _ _ asks flagged fits within = absurd flagged
+fits-room window reach _ _ _ asks flagged fits within = absurd flagged
 
 -- ---- the lengths of the slots
 
@@ -144,12 +145,12 @@ size-is c _ _ class all slots for_items = absurd for_items
 
 module _ (window : ℕ) (c : ClassFields) (needs : List Need) (class : IsClass c)
     (same : AreNeedsOfClass c needs) where
-  behind-least : (lead_in : Bool) (best other : List Placed)
+  behind-least : (lead_in : Bool) {best other : List Placed}
       → IsBestPlanFor window 0 (items_with_lead_in lead_in any_choice needs) best → AreInSlots best
       → IsFittingPlan window needs other
       → Flagged (items_with_lead_in lead_in any_choice needs) other
       → size_of c best ≤ size_of c other
-  behind-least lead_in best other is slots fitting flagged =
+  behind-least lead_in is slots fitting flagged =
       grind (
         arith,
         all-behind,
@@ -163,43 +164,43 @@ module _ (window : ℕ) (c : ClassFields) (needs : List Need) (class : IsClass c
       )
 
   -- frames that can be laid without a lead-in have none
-  without-lead : (other : List Placed) → IsFittingPlan window needs other
+  without-lead : {other : List Placed} → IsFittingPlan window needs other
       → Flagged (items_with_lead_in false any_choice needs) other
       → CanBeLaid window (map open_frame (items_with_lead_in false any_choice needs))
   unfolding CanBeLaid
-  without-lead other fitting flagged =
+  without-lead {other} fitting flagged =
       let items = items_with_lead_in false any_choice needs in
       let for_items = for-flagged items other (wide-behind false needs) flagged fitting.slots in
-      let room = fits-room window 0 0 items needs other
+      let room = fits-room window 0 items needs other
       (asks-behind false needs) flagged fitting.fits (omega arith) in (
         item_areas items other,
         chosen-for items other for_items,
-        laid-fits window 0 (frames_with_areas (map open_frame items) (item_areas items other))
+        laid-fits (frames_with_areas (map open_frame items) (item_areas items other))
             (omega arith) room,
       )
 
-  none-flagged : (other : List Placed) → IsFittingPlan window needs other
+  none-flagged : {other : List Placed} → IsFittingPlan window needs other
       → All (λ p. p.lead_in ≡ false) other
       → Flagged (items_with_lead_in false any_choice needs) other
   unfolding items_with_lead_in
-  none-flagged other fitting none = flagged-none window 0 needs other fitting.fits none
+  none-flagged {other} fitting none = flagged-none window 0 needs other fitting.fits none
 
-  lead-none : (lead_in : Bool)
+  lead-none : {lead_in : Bool}
       → (lead_in ≡ false) ↔ CanBeLaid window (map open_frame (map (need_item any_choice) needs))
       → CanBeLaid window (map open_frame (items_with_lead_in false any_choice needs))
       → false ≡ lead_in
   unfolding items_with_lead_in
-  lead-none lead_in without can = sym (without.1 can)
+  lead-none without can = sym (without.1 can)
 
   -- the slots of the best plan are together the shortest of all plans with no other lead-ins
-  pub best-least : (best other : List Placed) → IsBestPlan window any_choice needs best
+  pub best-least : {best other : List Placed} → IsBestPlan window any_choice needs best
       → AreInSlots best → IsFittingPlan window needs other → HasNoMoreLeadIns best other
       → size_of c best ≤ size_of c other
-  best-least best other is slots fitting (inl places) = grind (arith, behind-least, flagged-same)
-  best-least best other is slots fitting (inr none) =
-      let flagged = none-flagged other fitting none in
-      let without = lead-none is.lead_in is.without (without-lead other fitting flagged) in
-      behind-least is.lead_in best other is.whole slots fitting
+  best-least is slots fitting (inl places) = grind (arith, behind-least, flagged-same)
+  best-least {best} {other} is slots fitting (inr none) =
+      let flagged = none-flagged fitting none in
+      let without = lead-none is.without (without-lead fitting flagged) in
+      behind-least is.lead_in is.whole slots fitting
       (subst (λ b. Flagged (items_with_lead_in b any_choice needs) other) without flagged)
 
 -- ---- the plain plan has no lead-ins other than the best plan's
@@ -232,19 +233,18 @@ module _ (window : ℕ) (best placed : List Placed) where
   by-lead (first ∷ needs) true (Some slot) without for_best alone for_items =
       inl (flags-for _ placed for_items ∙ sym (flags-for _ best for_best))
 
-  by-leads : (needs : List Need) (lead_in : Bool) (others : List (Option SlotFields))
+  by-leads : (needs : List Need) {lead_in : Bool} (others : List (Option SlotFields))
       → (lead_in ≡ false) ↔ CanBeLaid window (map open_frame (map (need_item any_choice) needs))
       → AreItemSlots (items_with_lead_in lead_in any_choice needs) best
       → AreLeadIns window any_choice (needs ∷ []) others
       → AreItemSlots (all_items any_choice (needs ∷ []) others) placed
       → HasNoMoreLeadIns best placed
   unfolding AreLeadIns
-  by-leads needs lead_in [] without for_best alone for_items = absurd alone
-  by-leads needs lead_in (other ∷ another ∷ others) without for_best alone for_items = grind arith
-  by-leads needs lead_in (other ∷ []) without for_best alone for_items =
-      grind (arith, by-lead, whole-one)
+  by-leads needs [] without for_best alone for_items = absurd alone
+  by-leads needs (other ∷ another ∷ others) without for_best alone for_items = grind arith
+  by-leads needs (other ∷ []) without for_best alone for_items = grind (arith, by-lead, whole-one)
 
   -- the plain plan has its lead-ins where the best plan has them, or none
-  pub plan-no_more : (needs : List Need) → IsBestPlan window any_choice needs best
+  pub plan-no_more : {needs : List Need} → IsBestPlan window any_choice needs best
       → IsPlan window any_choice (needs ∷ []) placed → HasNoMoreLeadIns best placed
-  plan-no_more needs is plan = grind (arith, by-leads)
+  plan-no_more is plan = grind (arith, by-leads)

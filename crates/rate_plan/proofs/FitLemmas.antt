@@ -4,7 +4,7 @@ use Rattle.std.proofs.Common.{refl, subst, sym, take, true, ℕ, [], ◌++◌, �
 use Rattle.std.proofs.Common.{◌≤◌}
 use Rattle.std.proofs.lemmas.List.{length-take-le, map-append, map_more, take-append-drop}
 use Rattle.std.proofs.lemmas.List.{take-take, take_all}
-use Rattle.frame_header.specs.{Fields.{ClassFields, SlotFields}, Tables.{area_of, class_of}}
+use Rattle.frame_header.specs.{Fields.{ClassFields, SlotFields}, Tables.class_of}
 use Rattle.rate_plan.specs.Menus.{CanBeLaidFromMenu, IsFirstUnfitFrame, menu_choices, menu_items}
 use Rattle.slot_plan.proofs.{AreaLemmas.Contains-area, PartLemmas.{class-at, class-take}}
 use Rattle.slot_plan.proofs.ReserveLemmas.{AllFit, Contains-greatest_number, fit-layout}
@@ -31,26 +31,26 @@ tops_of [] = []
 tops_of (o ∷ opens) = greatest_number o.areas ∷ tops_of opens
 
 -- no other choice leaves more free bytes
-fit-tops : (window free more : ℕ) (opens : List OpenFrame) (areas : List ℕ) → free ≤ more
+fit-tops : (window free : ℕ) {more : ℕ} (opens : List OpenFrame) (areas : List ℕ) → free ≤ more
     → AreChosenAreas opens areas → AllFit window free (frames_with_areas opens areas)
     → AllFit window more (frames_with_areas opens (tops_of opens))
 unfolding AreChosenAreas AllFit frames_with_areas tops_of
-fit-tops window free more [] areas less chosen fit = tt
-fit-tops window free more (o ∷ opens) [] less chosen fit = absurd chosen
-fit-tops window free more (o ∷ opens) (area ∷ areas) less chosen fit =
-    let most = greatest_number-most o.areas area chosen.0 in
+fit-tops window free [] areas less chosen fit = tt
+fit-tops window free (o ∷ opens) [] less chosen fit = absurd chosen
+fit-tops window free {more} (o ∷ opens) (area ∷ areas) less chosen fit =
+    let most = greatest_number-most o.areas chosen.0 in
     let room : o.bytes ≤ free + area = fit.0 in (
       omega (arith, most, room, less),
-      fit-tops window (free_bytes_behind window free o.bytes area) (free_bytes_behind window more
-          o.bytes (greatest_number o.areas)) opens areas (omega (arith, most, less)) chosen.1 fit.1,
+      fit-tops window (free_bytes_behind window free o.bytes area) opens areas
+          (omega (arith, most, less)) chosen.1 fit.1,
     )
 
 can-tops : (window more : ℕ) (opens : List OpenFrame) → CanBeLaid window opens
     → AllFit window more (frames_with_areas opens (tops_of opens))
 unfolding CanBeLaid HasLayout
 can-tops window more opens can =
-    fit-tops window 0 more opens can.0 (omega arith)
-    can.1 (fit-layout window 0 0 0 (frames_with_areas opens can.0) can.2.0 (omega arith) can.2.1)
+    fit-tops window 0 opens can.0 (omega arith)
+    can.1 (fit-layout window 0 0 (frames_with_areas opens can.0) can.2.0 (omega arith) can.2.1)
 
 tops-can : (window : ℕ) (opens : List OpenFrame) → AreChosenAreas opens (tops_of opens)
     → AllFit window 0 (frames_with_areas opens (tops_of opens)) → CanBeLaid window opens
@@ -59,7 +59,7 @@ tops-can window opens chosen fit =
     let frames : List FrameLengths = frames_with_areas opens (tops_of opens) in (
       tops_of opens,
       chosen,
-      (starts_of window 0 0 frames, layout-fit window 0 0 0 frames (omega arith) (omega arith) fit),
+      (starts_of window 0 0 frames, layout-fit window 0 frames (omega arith) (omega arith) fit),
     )
 
 -- ---- the frames of a menu
@@ -81,8 +81,7 @@ pub has-greatest_number : (class : ClassFields) (menu : List SlotFields) (protec
 has-greatest_number class [] protected some = absurd (omega (arith, some))
 has-greatest_number class (slot ∷ slots) protected some =
     Contains-greatest_number (slot_areas class protected (slot ∷ slots))
-    (area_of class slot protected)
-    (Contains-area class protected (slot ∷ slots) slot (0, omega arith, refl))
+    (Contains-area class protected (slot ∷ slots) (0, omega arith, refl))
 
 -- the largest areas are a choice
 pub tops-chosen : (menu : List SlotFields) (needs : List Need) → 1 ≤ length menu → AreChosenAreas
@@ -158,7 +157,7 @@ laid-feasible window class menu needs same some can =
     let before : ℕ = greatest_number (slot_areas class false menu) in
     let frames : List FrameLengths = map (top_frame menu) needs in (
       starts_of window 0 before frames,
-      layout-fit window 0 before (start_of window class menu) frames (omega arith) (omega arith)
+      layout-fit window 0 frames (omega arith) (omega arith)
           (laid-fit window class menu needs same some can),
     )
 
@@ -228,10 +227,10 @@ fit-take window free menu needs k fit =
     )
 
 -- the largest area for the class is the largest area for the frame
-pub area-at : (class : ClassFields) (menu : List SlotFields) (needs : List Need) (i : ℕ)
-    (need : Need) → AreNeedsOfClass class needs → i < length needs → need ≡ get_or needs i need
+pub area-at : (class : ClassFields) (menu : List SlotFields) (needs : List Need) {i : ℕ}
+    {need : Need} → AreNeedsOfClass class needs → i < length needs → need ≡ get_or needs i need
     → greatest_number (slot_areas class need.header.protected menu) ≡ most_area menu need
-area-at class menu needs i need same within is = grind (arith, class-at)
+area-at class menu needs same within is = grind (arith, class-at)
 
 -- ---- the frames before i fit
 
@@ -243,28 +242,28 @@ pub record FitTo (window : ℕ) (class : ClassFields) (menu : List SlotFields) (
       ≡ left_of window (start_of window class menu) (map (top_frame menu) (take i needs))
 
 -- before the first frame the bytes of the largest lead-in are free
-pub to-begun : (window : ℕ) (class : ClassFields) (menu : List SlotFields) (needs : List Need)
-    (free : ℕ) → free ≡ start_of window class menu → FitTo window class menu needs 0 free
+pub to-begun : {window : ℕ} {class : ClassFields} {menu : List SlotFields} (needs : List Need)
+    {free : ℕ} → free ≡ start_of window class menu → FitTo window class menu needs 0 free
 unfolding AllFit left_of
-to-begun window class menu needs free is = record { fit = tt; left = is }
+to-begun needs is = record { fit = tt; left = is }
 
-next_frame : (menu : List SlotFields) (needs : List Need) (i : ℕ) (need : Need) → i < length needs
+next_frame : (menu : List SlotFields) (needs : List Need) {i : ℕ} {need : Need} → i < length needs
     → need ≡ get_or needs i need → map (top_frame menu) (take (i + 1) needs)
     ≡ map (top_frame menu) (take i needs) ++ top_frame menu need ∷ []
-next_frame menu needs i need within is =
+next_frame menu needs {i} {need} within is =
     grind (arith, map_more (top_frame menu) needs i need within)
 
 module _ (window : ℕ) (class : ClassFields) (menu : List SlotFields) (needs : List Need)
     (i : ℕ) where
   -- a frame that fits in the free bytes and its largest area is one more that fits
-  pub to-more : (need : Need) (free next : ℕ) → i < length needs → need ≡ get_or needs i need
+  pub to-more : {need : Need} {free next : ℕ} → i < length needs → need ≡ get_or needs i need
       → need.bytes ≤ free + most_area menu need
       → next ≡ free_bytes_behind window free need.bytes (most_area menu need)
       → FitTo window class menu needs i free → FitTo window class menu needs (i + 1) next
-  to-more need free next within is room gives to =
+  to-more {need} within is room gives to =
       let start : ℕ = start_of window class menu in
       let frames : List FrameLengths = map (top_frame menu) (take i needs) in
-      let more = next_frame menu needs i need within is in
+      let more = next_frame menu needs within is in
       record {
         fit = subst (AllFit window start) (sym more) (fit-more window start frames
             (top_frame menu need) to.fit (omega (arith, room, to.left)));
@@ -274,16 +273,16 @@ module _ (window : ℕ) (class : ClassFields) (menu : List SlotFields) (needs : 
       }
 
   -- if all of them fit, they have a layout
-  pub to-all : (free : ℕ) → length needs ≤ i → AreNeedsOfClass class needs → 1 ≤ length needs → 1
+  pub to-all : {free : ℕ} → length needs ≤ i → AreNeedsOfClass class needs → 1 ≤ length needs → 1
       ≤ length menu → FitTo window class menu needs i free
       → CanBeLaidFromMenu window true menu needs
-  to-all free all same some slots to = grind (arith, fit-laid, take_all)
+  to-all all same some slots to = grind (arith, fit-laid, take_all)
 
   -- a frame that doesn't fit is the first up to which no list has a layout
-  pub to-unfit : (need : Need) (free : ℕ) → i < length needs → need ≡ get_or needs i need
+  pub to-unfit : {need : Need} {free : ℕ} → i < length needs → need ≡ get_or needs i need
       → free + most_area menu need < need.bytes → AreNeedsOfClass class needs → 1 ≤ length menu
       → FitTo window class menu needs i free → IsFirstUnfitFrame window menu needs i
-  to-unfit need free within is small same slots to =
+  to-unfit {need} within is small same slots to =
       let start : ℕ = start_of window class menu in
       let frames : List FrameLengths = map (top_frame menu) (take i needs) in
       let some : 1 ≤ length needs = omega (arith, within) in
@@ -295,7 +294,7 @@ module _ (window : ℕ) (class : ClassFields) (menu : List SlotFields) (needs : 
         small,
         to.left,
         fit-last window start frames (top_frame menu need)
-            (subst (AllFit window start) (next_frame menu needs i need within is) fit),
+            (subst (AllFit window start) (next_frame menu needs within is) fit),
       ) in
       let whole : AllFit window start (map (top_frame menu) needs) → ⊥ =
       λ fit. never (fit-take window start menu needs (i + 1) fit) in

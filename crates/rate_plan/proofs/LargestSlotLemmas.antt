@@ -20,28 +20,27 @@ most-is class menu slot protected sound is has =
       arith,
       area-largest class slot protected sound is,
       greatest_number-most (slot_areas class
-          protected menu) (area_of class largest_slot protected) (Contains-area class protected menu
-          largest_slot has),
-      Contains-area class protected menu largest_slot has,
+          protected menu) (Contains-area class protected menu has),
+      Contains-area class protected menu has,
     )
 
-own-most : (class : ClassFields) (menu : List SlotFields) (need : Need) → IsClass class
+own-most : {class : ClassFields} (menu : List SlotFields) (need : Need) → IsClass class
     → class_of need.header ≡ class → IsSlot need.header.slot → Contains menu largest_slot
     → own_slot_area need ≤ most_area menu need
-own-most class menu need sound same is has = grind (arith, most-is)
+own-most menu need sound same is has = grind (arith, most-is)
 
-fit-own : (window free more : ℕ) (class : ClassFields) (menu : List SlotFields) (needs : List Need)
-    → free ≤ more → IsClass class → AreNeedsOfClass class needs
+fit-own : (window free : ℕ) {more : ℕ} (class : ClassFields) (menu : List SlotFields)
+    (needs : List Need) → free ≤ more → IsClass class → AreNeedsOfClass class needs
     → All (λ need. IsSlot need.header.slot) needs → Contains menu largest_slot
     → AllFit window free (map own_frame needs) → AllFit window more (map (top_frame menu) needs)
 unfolding AllFit AreNeedsOfClass
-fit-own window free more class menu [] less sound same are has fit = tt
-fit-own window free more class menu (need ∷ needs) less sound same are has fit =
-    let most = own-most class menu need sound same.0 (are 0 need (omega arith)) has in
+fit-own window free class menu [] less sound same are has fit = tt
+fit-own window free {more} class menu (need ∷ needs) less sound same are has fit =
+    let most = own-most menu need sound same.0 (are 0 need (omega arith)) has in
     let room : need.bytes ≤ free + own_slot_area need = fit.0 in (
       omega (arith, most, room, less),
-      fit-own window (free_bytes_behind window free need.bytes (own_slot_area need))
-          (free_bytes_behind window more need.bytes (most_area menu need)) class menu needs
+      fit-own window
+          (free_bytes_behind window free need.bytes (own_slot_area need)) class menu needs
           (omega (arith, most, less)) sound same.1
           (λ k d lt. are (suc k) d (omega (arith, lt))) has fit.1,
     )
@@ -53,11 +52,11 @@ some-slot menu has = omega (arith, has.1)
 pub largest-fits : LargestSlotFits
 largest-fits = λ class menu needs i sound same are has feasible unfit.
     let window : ℕ = window_of class.version in
-    let most = greatest_number-most (slot_areas class false menu) (area_of class largest_slot false)
-    (Contains-area class false menu largest_slot has) in
+    let most = greatest_number-most (slot_areas class false menu)
+    (Contains-area class false menu has) in
     let all : window ≤ start_of window class menu =
     omega (arith, most, window-spanned class sound) in
-    let fit = fit-own window window (start_of window class menu) class menu needs all sound same are
+    let fit = fit-own window window class menu needs all sound same are
     has (fit-from window 0 (map own_frame needs) feasible) in
     unfit.never true
     (fit-laid window class menu needs same (omega (arith, unfit.within)) (some-slot menu has) fit)

@@ -6,8 +6,7 @@ use Rattle.std.proofs.{Common.{◌<◌, ◌↔◌, ◌∙◌, ◌∷◌, ◌≡�
 use Rattle.std.{proofs.lemmas.List.take_all, specs.{List.range_with_len, Option.option_or}}
 use Rattle.frame_header.specs.{Fields.{ClassFields, SlotFields}, Tables.{class_of, window_of}}
 use Rattle.rate_plan.specs.Laws.{LeastMenuPlanIsThePlan}
-use Rattle.rate_plan.specs.LeastMenuPlan.{first_unfit_frame, is_unfit_frame, least_menu_placement}
-use Rattle.rate_plan.specs.LeastMenuPlan.{least_menu_plan}
+use Rattle.rate_plan.specs.LeastMenuPlan.{is_unfit_frame, least_menu_placement, least_menu_plan}
 use Rattle.rate_plan.specs.Menus.{CanBeLaidFromMenu, HasAscendingAreas, IsFirstUnfitFrame, IsMenu}
 use Rattle.rate_plan.specs.Menus.{IsMenuPlan, menu_choices, menu_items}
 use Rattle.slot_plan.proofs.LeastPlanLemmas.{can-found, found-plan, list-can, never-list}
@@ -16,9 +15,8 @@ use Rattle.slot_plan.proofs.OnePlanLemmas.{AreOrdered}
 use Rattle.slot_plan.proofs.PartLemmas.{class-take, one-class, window-first}
 use Rattle.slot_plan.specs.LeastPlan.{first_list, least_placement}
 use Rattle.slot_plan.specs.Lists.{CanBeLaid, IsLeastList, OpenFrame}
-use Rattle.slot_plan.specs.Parts.{AreNeedsOfClass, AreNeedsOfOneClass, need_item, open_frame}
-use Rattle.slot_plan.specs.{Parts.window_in, Plans.{IsPlanFor, item_areas}}
-use Rattle.slot_plan.specs.declared.needs.{Need.Need, Placed.Placed}
+use Rattle.slot_plan.specs.Parts.{AreNeedsOfClass, AreNeedsOfOneClass, need_item, window_in}
+use Rattle.slot_plan.specs.{Plans.IsPlanFor, declared.needs.{Need.Need, Placed.Placed}}
 
 -- ---- the areas of a menu ascend
 
@@ -38,10 +36,10 @@ ordered-items false class menu needs same ascend = ordered-frames class menu nee
 ordered-items true class menu [] same ascend = tt
 ordered-items true class menu (first ∷ needs) same ascend = grind (arith, ordered-frames)
 
-can-of : (window : ℕ) (opens : List OpenFrame) (areas : List ℕ) → IsLeastList window opens areas
+can-of : {window : ℕ} {opens : List OpenFrame} {areas : List ℕ} → IsLeastList window opens areas
     → CanBeLaid window opens
 unfolding CanBeLaid
-can-of window opens areas least = (areas, least.chosen, least.feasible)
+can-of {areas = areas} least = (areas, least.chosen, least.feasible)
 
 -- ---- the numbers of a range
 
@@ -77,18 +75,17 @@ first-of test (suc n) from =
 
 module _ (window : ℕ) (class : ClassFields) (menu : List SlotFields) (needs : List Need)
     (same : AreNeedsOfClass class needs) (ascend : HasAscendingAreas class menu) where
-  lead-by : (lead_in : Bool) (placed : List Placed)
+  lead-by : (lead_in : Bool) {placed : List Placed}
       → (lead_in ≡ false) ↔ CanBeLaidFromMenu window false menu needs
       → IsPlanFor window (menu_items lead_in menu needs) placed
       → least_menu_placement window menu needs ≡ Some placed
-  lead-by false placed without whole = grind (arith, plan-found, ordered-items)
-  lead-by true placed without whole =
-      grind (arith, none-found, ordered-items, true≢false, plan-found)
+  lead-by false without whole = grind (arith, plan-found, ordered-items)
+  lead-by true without whole = grind (arith, none-found, ordered-items, true≢false, plan-found)
 
-  plan-least : (placed : List Placed) → IsMenuPlan window menu needs placed
+  plan-least : {placed : List Placed} → IsMenuPlan window menu needs placed
       → least_menu_plan window menu needs ≡ Ok placed
   unfolding least_menu_plan
-  plan-least placed plan = grind (arith, ok_or, lead-by)
+  plan-least plan = grind (arith, ok_or, lead-by)
 
   -- ---- the first unfit frame
 
@@ -109,46 +106,45 @@ module _ (window : ℕ) (class : ClassFields) (menu : List SlotFields) (needs : 
       → CanBeLaidFromMenu window lead_in menu needs → ⊥
   none-can lead_in none can = grind (arith, can-found, ordered-items)
 
-  found-for : (lead_in : Bool) (placed : List Placed)
+  found-for : (lead_in : Bool) {placed : List Placed}
       → least_placement window (menu_items lead_in menu needs) ≡ Some placed
       → IsPlanFor window (menu_items lead_in menu needs) placed
-  found-for lead_in placed found = search (arith, found-plan, ordered-items)
+  found-for lead_in found = search (arith, found-plan, ordered-items)
 
-  least-by : (placed : List Placed) (i : ℕ) (without behind : Option (List Placed))
+  least-by : {placed : List Placed} (i : ℕ) (without behind : Option (List Placed))
       → least_placement window (menu_items false menu needs) ≡ without
       → least_placement window (menu_items true menu needs) ≡ behind
       → ok_or (option_or without behind) i ≡ Ok placed → IsMenuPlan window menu needs placed
-  least-by placed i (Some made) behind first second is =
-      let plan = found-for false placed (first ∙ ap (λ (r : Result (List Placed) ℕ).
+  least-by {placed} i (Some made) behind first second is =
+      let plan = found-for false (first ∙ ap (λ (r : Result (List Placed) ℕ).
       elim r as (λ _. Option (List Placed)) [ Ok p ↦ Some p | Err j ↦ Some made ]) is) in
       record {
         lead_in = false;
         without = (
-          (λ _. can-of window (map open_frame (menu_items false menu needs))
-              (item_areas (menu_items false menu needs) placed) plan.least),
+          (λ _. can-of plan.least),
           (λ _. refl),
         );
         whole = plan;
       }
-  least-by placed i None (Some made) first second is = record {
+  least-by {placed} i None (Some made) first second is = record {
     lead_in = true;
     without = ((λ e. absurd (true≢false e)), (λ can. absurd (none-can false first can)));
-    whole = found-for true placed (second ∙ ap (λ (r : Result (List Placed) ℕ).
+    whole = found-for true (second ∙ ap (λ (r : Result (List Placed) ℕ).
         elim r as (λ _. Option (List Placed)) [ Ok p ↦ Some p | Err j ↦ Some made ]) is);
   }
-  least-by placed i None None first second is = absurd cc
+  least-by i None None first second is = absurd cc
 
-  least-plan : (placed : List Placed) → least_menu_plan window menu needs ≡ Ok placed
+  least-plan : {placed : List Placed} → least_menu_plan window menu needs ≡ Ok placed
       → IsMenuPlan window menu needs placed
   unfolding least_menu_plan
-  least-plan placed is = grind (arith, least-by)
+  least-plan is = grind (arith, least-by)
 
-  unfit-none : (i : ℕ) (without behind : Option (List Placed)) (first : ℕ)
+  unfit-none : {i : ℕ} (without behind : Option (List Placed)) {first : ℕ}
       → ok_or (option_or without behind) first ≡ Err i
       → (without ≡ None) × (behind ≡ None) × (first ≡ i)
-  unfit-none i (Some made) behind first is = absurd cc
-  unfit-none i None (Some made) first is = absurd cc
-  unfit-none i None None first is = grind arith
+  unfit-none (Some made) behind is = absurd cc
+  unfit-none None (Some made) is = absurd cc
+  unfit-none None None is = grind arith
 
   front-can : (k : ℕ) → is_unfit_frame window menu needs k ≡ false
       → CanBeLaidFromMenu window true menu (take (k + 1) needs)
@@ -159,19 +155,18 @@ module _ (window : ℕ) (class : ClassFields) (menu : List SlotFields) (needs : 
           → is_none found ≡ false → CanBeLaidFromMenu window true menu (take (k + 1) needs)
       at None is fit = absurd (true≢false fit)
       at (Some slots) is fit =
-          list-can window (menu_items true menu (take (k + 1) needs)) (ordered-front k) slots is
+          list-can window (menu_items true menu (take (k + 1) needs)) (ordered-front k) is
 
   front-never : (k : ℕ) → is_unfit_frame window menu needs k ≡ true
       → CanBeLaidFromMenu window true menu (take (k + 1) needs) → ⊥
   front-never k unfit can = true≢false (sym unfit ∙ fit-before k can)
 
-  least-unfit : (i : ℕ) → 1 ≤ length needs → least_menu_plan window menu needs ≡ Err i
+  least-unfit : {i : ℕ} → 1 ≤ length needs → least_menu_plan window menu needs ≡ Err i
       → IsFirstUnfitFrame window menu needs i
   unfolding least_menu_plan
-  least-unfit i some is =
-      let none = unfit-none i (least_placement window (menu_items false menu needs))
-      (least_placement window (menu_items true menu needs))
-      (first_unfit_frame window menu needs) is in
+  least-unfit {i} some is =
+      let none = unfit-none (least_placement window (menu_items false menu needs))
+      (least_placement window (menu_items true menu needs)) is in
       let last : length needs ≤ length needs - 1 + 1 = omega (arith, some) in
       let whole : is_unfit_frame window menu needs (length needs - 1) ≡ true =
       unfit-here (length needs - 1) (λ can. none-can true none.1 (subst
@@ -202,23 +197,22 @@ module _ (window : ℕ) (class : ClassFields) (menu : List SlotFields) (needs : 
           })
 
   -- there is at most one first unfit frame
-  one-unfit : (i j : ℕ) → IsFirstUnfitFrame window menu needs i
+  one-unfit : {i j : ℕ} → IsFirstUnfitFrame window menu needs i
       → IsFirstUnfitFrame window menu needs j → i ≡ j
-  one-unfit i j first second = grind (arith, cases_lt)
+  one-unfit first second = grind (arith, cases_lt)
 
-  unfit-least : (i : ℕ) → IsFirstUnfitFrame window menu needs i
+  unfit-least : {i : ℕ} → IsFirstUnfitFrame window menu needs i
       → least_menu_plan window menu needs ≡ Err i
-  unfit-least i unfit = at (least_menu_plan window menu needs) refl
+  unfit-least {i} unfit = at (least_menu_plan window menu needs) refl
     where
       at : (answer : Result (List Placed) ℕ) → least_menu_plan window menu needs ≡ answer
           → answer ≡ Err i
       at (Ok placed) is =
-          let plan = least-plan placed is in
+          let plan = least-plan is in
           absurd
-          (unfit.never plan.lead_in (can-of window (map open_frame (menu_items plan.lead_in menu
-          needs)) (item_areas (menu_items plan.lead_in menu needs) placed) plan.whole.least))
+          (unfit.never plan.lead_in (can-of plan.whole.least))
       at (Err j) is =
-          ap (λ n. Err n) (one-unfit j i (least-unfit j (omega (arith, unfit.within)) is) unfit)
+          ap (λ n. Err n) (one-unfit (least-unfit (omega (arith, unfit.within)) is) unfit)
 
 -- a plan from a menu, or the first unfit frame, is what the first of all lists gives
 pub least_menu_plan-is : LeastMenuPlanIsThePlan
@@ -229,7 +223,7 @@ module _ (class : ClassFields) (menu : List SlotFields) (needs : List Need) (d :
     (all : AreNeedsOfOneClass needs) (some : 1 ≤ length needs)
     (is : class ≡ class_of (get_or needs 0 d).header) (is_menu : IsMenu menu needs) where
   window-is : window_of class.version ≡ window_in needs
-  window-is = window-first needs d class (window_of class.version) all some is refl
+  window-is = window-first needs d all some is refl
 
   ascends : (needs : List Need) → class ≡ class_of (get_or needs 0 d).header → 1 ≤ length needs
       → IsMenu menu needs → HasAscendingAreas class menu
@@ -237,18 +231,18 @@ module _ (class : ClassFields) (menu : List SlotFields) (needs : List Need) (d :
   ascends (first ∷ needs) same some ascend = subst (λ c. HasAscendingAreas c menu) (sym same) ascend
 
   -- a plan is what the first of all lists gives
-  pub plan-answered : (placed : List Placed)
+  pub plan-answered : {placed : List Placed}
       → IsMenuPlan (window_of class.version) menu needs placed
       → least_menu_plan (window_in needs) menu needs ≡ Ok placed
-  plan-answered placed plan =
+  plan-answered {placed} plan =
       subst (λ w. least_menu_plan w menu needs ≡ Ok placed) window-is
-      (plan-least (window_of class.version) class menu needs (one-class class needs d all is)
-      (ascends needs is some is_menu) placed plan)
+      (plan-least (window_of class.version) class menu needs (one-class needs d all is)
+      (ascends needs is some is_menu) plan)
 
   -- if there is no list, the value is the first unfit frame
-  pub unfit-answered : (i : ℕ) → IsFirstUnfitFrame (window_of class.version) menu needs i
+  pub unfit-answered : {i : ℕ} → IsFirstUnfitFrame (window_of class.version) menu needs i
       → least_menu_plan (window_in needs) menu needs ≡ Err i
-  unfit-answered i unfit =
+  unfit-answered {i} unfit =
       subst (λ w. least_menu_plan w menu needs ≡ Err i) window-is
-      (unfit-least (window_of class.version) class menu needs (one-class class needs d all is)
-      (ascends needs is some is_menu) i unfit)
+      (unfit-least (window_of class.version) class menu needs (one-class needs d all is)
+      (ascends needs is some is_menu) unfit)

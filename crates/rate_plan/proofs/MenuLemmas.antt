@@ -10,14 +10,14 @@ use Rattle.rate_plan.specs.Laws.{SlicesAreMenus}
 use Rattle.slot_plan.specs.Parts.{slot_areas}
 
 -- a slice of the slots has as many slots as its bounds are apart
-pub slice-many : (from to : ℕ) → from < to → to ≤ 28
+pub slice-many : {from to : ℕ} → from < to → to ≤ 28
     → length (slice_range all_slots from to) ≡ to - from
-slice-many from to some within = grind (arith, length-take-le, length-drop, length-all_slots)
+slice-many some within = grind (arith, length-take-le, length-drop, length-all_slots)
 
 -- an element of a slice is the element of the list that is `from` places further on
-pub slice-at : {X : Type 0} (xs : List X) (from to i : ℕ) (d : X) → i < to - from
+pub slice-at : {X : Type 0} (xs : List X) (from to : ℕ) {i : ℕ} (d : X) → i < to - from
     → get_or (slice_range xs from to) i d ≡ get_or xs (from + i) d
-slice-at xs from to i d before = grind (arith, get_or-take, get_or-drop)
+slice-at xs from to d before = grind (arith, get_or-take, get_or-drop)
 
 areas-slice : (class : ClassFields) (protected : Bool) (from to : ℕ)
     → slot_areas class protected (slice_range all_slots from to)
@@ -25,20 +25,20 @@ areas-slice : (class : ClassFields) (protected : Bool) (from to : ℕ)
 unfolding areas_of
 areas-slice class protected from to = grind (arith, take-map, drop-map)
 
-slice-ascends : (class : ClassFields) (protected : Bool) (from to : ℕ) → IsClass class → from < to
+slice-ascends : (class : ClassFields) (protected : Bool) {from to : ℕ} → IsClass class → from < to
     → to ≤ 28 → AllPairs (λ m n. m < n) (slice_range (areas_of class protected) from to)
-slice-ascends class protected from to sound some within =
+slice-ascends class protected sound some within =
     grind (arith, length-areas_of, slice_range, length-take-le, length-drop, areas-ascend, slice-at)
 
-ends-largest : (from to : ℕ) → from < to → to ≡ 28
+ends-largest : {from to : ℕ} → from < to → to ≡ 28
     → Contains (slice_range all_slots from to) largest_slot
-ends-largest from to some last =
+ends-largest {from} {to} some last =
     let at : from + (27 - from) ≡ 27 = omega (arith, some, last) in (
       27 - from,
-      omega (arith, slice-many from to some (omega (arith, last)), some, last),
-      slice-at all_slots from to (27 - from) largest_slot (omega (arith, some, last))
+      omega (arith, slice-many some (omega (arith, last)), some, last),
+      slice-at all_slots from to largest_slot (omega (arith, some, last))
           ∙ ap (λ k. get_or all_slots k largest_slot) at
-          ∙ get_or-place_of largest_slot largest_slot (lit≤ tt, lit≤ tt),
+          ∙ get_or-place_of largest_slot (lit≤ tt, lit≤ tt),
     )
 
 -- slots next to each other among all slots are a menu

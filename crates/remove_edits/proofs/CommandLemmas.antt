@@ -25,10 +25,10 @@ use Rattle.sync_survey.specs.declared.survey_fault.SurveyFault.{SurveyFault}
 -- ---- the parts
 
 -- parts that aren't refused are those that stay
-pub ok-parts : (frames : ℕ) (r : Result (List Part) (ℕ × ℕ)) (parts : List Part)
+pub ok-parts : (frames : ℕ) (r : Result (List Part) (ℕ × ℕ)) {parts : List Part}
     → parts_or_range frames r ≡ Ok parts → r ≡ Ok parts
-ok-parts frames (Ok ps) parts e = cc
-ok-parts frames (Err pair) parts e = absurd cc
+ok-parts frames (Ok ps) e = cc
+ok-parts frames (Err pair) e = absurd cc
 
 late-parts : (frames : ℕ) (r : Result (List Part) (ℕ × ℕ))
     → IfErr (parts_or_range frames r) IsLateFault
@@ -37,26 +37,26 @@ late-parts frames (Err pair) = grind arith
 
 module _ (stretches : List (ExactPlace × ExactPlace)) where
   -- parts that aren't refused are at least one, in order
-  pub left-order : (s : SurveyFields) (parts : List Part) → parts_left stretches s ≡ Ok parts
+  pub left-order : (s : SurveyFields) {parts : List Part} → parts_left stretches s ≡ Ok parts
       → (1 ≤ length parts) × AreInOrder 0 (length s.frames) parts
   unfolding parts_left
-  left-order s parts e =
+  left-order s {parts} e =
       let frames = length s.frames in
       let numbers = all_stretch_frames s.class frames stretches in
-      staying-order frames numbers parts
-      (ok-parts frames (staying_parts frames numbers) parts e)
+      staying-order frames numbers
+      (ok-parts frames (staying_parts frames numbers) e)
 
   -- they can be laid as one run, once the head is set apart
-  pub left-parts : (file : List ℕ) (s : SurveyFields) (parts : List Part)
+  pub left-parts : (file : List ℕ) {s : SurveyFields} {parts : List Part}
       → survey_of file most_frames ≡ Ok s → parts_left stretches s ≡ Ok parts
       → ArePartsLeft (survey_without_head s) parts
-  left-parts file s parts is e =
-      let order = left-order s parts e in
+  left-parts file {s} {parts} is e =
+      let order = left-order s e in
       let same = survey_without_head-length s in
       record {
         some = order.0;
         order = subst (λ n. AreInOrder 0 n parts) (sym same) order.1;
-        placed = (survey_without_head-relaid file s is).placed;
+        placed = (survey_without_head-relaid is).placed;
       }
 
   -- ---- the command
@@ -66,32 +66,31 @@ module _ (stretches : List (ExactPlace × ExactPlace)) where
   late file s = grind (arith, then_late, late-parts)
 
   -- the parts that were found are what is left
-  pub remove-is : (file : List ℕ) (s : SurveyFields) (parts : List Part)
+  pub remove-is : (file : List ℕ) (s : SurveyFields) {parts : List Part}
       → parts_left stretches s ≡ Ok parts → remove_making stretches file s
       ≡ Ok (removal_file parts (fields_of_head file s.head) file (survey_without_head s))
   unfolding remove_making
-  remove-is file s parts e = rw e refl
+  remove-is file s e = rw e refl
 
   -- if none was found, nothing is made
-  pub remove-refused : (file : List ℕ) (s : SurveyFields) (fault : EditFault)
+  pub remove-refused : (file : List ℕ) (s : SurveyFields) {fault : EditFault}
       → parts_left stretches s ≡ Err fault → remove_making stretches file s ≡ Err fault
   unfolding remove_making
-  remove-refused file s fault e = rw e refl
+  remove-refused file s e = rw e refl
 
-  made_stream : (file : List ℕ) (s : SurveyFields) (made : List ℕ)
+  made_stream : (file : List ℕ) {s : SurveyFields} {made : List ℕ}
       → survey_of file most_frames ≡ Ok s → remove_making stretches file s ≡ Ok made
       → HoldsStream made (stream_of_parts file s (parts_left stretches s))
   unfolding remove_making
-  made_stream file s made is e =
+  made_stream file {s} {made} is e =
       let head = fields_of_head file s.head in
-      let by = then_ok (parts_left stretches s)
-      (λ parts. Ok (removal_file parts head file (survey_without_head s))) made e in
+      let by = then_ok e in
       let same : removal_file by.0 head file (survey_without_head s) ≡ made = cc in
       subst (λ (r : Result (List Part) EditFault). HoldsStream made (stream_of_parts file s r))
       (sym by.1)
       (subst (λ (n : List ℕ). HoldsStream n (removal_stream by.0 file (survey_without_head s))) same
-      (removal-holds (survey_without_head s) by.0 (left-parts file s by.0 is by.1) file
-      (survey_without_head-relaid file s is) head (head_long file s.head)))
+      (removal-holds (survey_without_head s) by.0 (left-parts file is by.1) file
+      (survey_without_head-relaid is) head (head_long file s.head)))
 
   proper : IsProperMaking (remove_making stretches) (remove_stream stretches)
   proper = record {
@@ -99,7 +98,7 @@ module _ (stretches : List (ExactPlace × ExactPlace)) where
     streams = λ file s new all is made.
         subst (λ (r : Result SurveyFields SurveyFault). HoldsStream new
         (remove_surveyed_stream stretches file r))
-        (sym is) (made_stream file s new is made);
+        (sym is) (made_stream file is made);
   }
 
   -- the command is proper
@@ -107,15 +106,16 @@ module _ (stretches : List (ExactPlace × ExactPlace)) where
   remove-proper input = search (arith, file_proper, proper)
 
   -- the file of the parts that were found is what the command makes
-  pub remove-makes : (input : List ℕ) (s : SurveyFields) (parts : List Part)
-      (made : List ℕ → List ℕ) (files : Files) → IsFileThere files input
+  pub remove-makes : {input : List ℕ} {s : SurveyFields} {parts : List Part}
+      {made : List ℕ → List ℕ} {files : Files} → IsFileThere files input
       → ((bytes : List ℕ) → Holds files input bytes → survey_of bytes most_frames ≡ Ok s)
       → ((bytes : List ℕ) → Holds files input bytes → AreBytes bytes)
       → parts_left stretches s ≡ Ok parts
       → ((bytes : List ℕ) → Holds files input bytes → made bytes
       ≡ removal_file parts (fields_of_head bytes s.head) bytes (survey_without_head s))
       → IsMaking (remove_task stretches input) made files
-  remove-makes input s parts made files there surveyed octets left is =
-      file_makes (remove_making stretches) (remove_stream stretches) cut_refuses input files made
-      s there surveyed octets
-      (λ bytes holds. remove-is bytes s parts left ∙ ap Ok (sym (is bytes holds)))
+  remove-makes {input} {s} {parts} {made} {files} there surveyed
+      octets left is =
+      file_makes (remove_making stretches)
+      (remove_stream stretches) cut_refuses input there surveyed octets
+      (λ bytes holds. remove-is bytes s left ∙ ap Ok (sym (is bytes holds)))

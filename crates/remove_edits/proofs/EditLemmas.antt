@@ -42,27 +42,27 @@ few-from frames before (stretch ∷ stretches) = omega (
 )
 
 -- there is at most one part more than stretches
-staying-few : (frames : ℕ) (stretches : List (ℕ × ℕ)) (parts : List Part)
+staying-few : (frames : ℕ) (stretches : List (ℕ × ℕ)) {parts : List Part}
     → staying_parts frames stretches ≡ Ok parts → length parts ≤ length stretches + 1
 unfolding staying_parts
-staying-few frames stretches parts is = grind (arith, few-from)
+staying-few frames stretches is = grind (arith, few-from)
 
 ok-few : (frames : ℕ) (stretches : List (ℕ × ℕ)) (r : Result (List Part) (ℕ × ℕ))
-    (parts : List Part) → staying_parts frames stretches ≡ r → parts_or_range frames r ≡ Ok parts
+    {parts : List Part} → staying_parts frames stretches ≡ r → parts_or_range frames r ≡ Ok parts
     → length parts ≤ length stretches + 1
-ok-few frames stretches (Ok ps) parts is e = staying-few frames stretches parts (is ∙ cc)
-ok-few frames stretches (Err pair) parts is e = absurd cc
+ok-few frames stretches (Ok ps) {parts} is e = staying-few frames stretches (is ∙ cc)
+ok-few frames stretches (Err pair) is e = absurd cc
 
 -- at most 51 parts stay if there are at most 50 stretches
-pub left-few : (stretches : List (ExactPlace × ExactPlace)) (s : SurveyFields) (parts : List Part)
+pub left-few : (stretches : List (ExactPlace × ExactPlace)) (s : SurveyFields) {parts : List Part}
     → parts_left stretches s ≡ Ok parts → length stretches ≤ 50 → length parts ≤ 51
 unfolding parts_left
-left-few stretches s parts e few =
+left-few stretches s {parts} e few =
     let frames = length s.frames in
     let numbers = all_stretch_frames s.class frames stretches in
     omega (
       arith,
-      ok-few frames numbers (staying_parts frames numbers) parts refl e,
+      ok-few frames numbers (staying_parts frames numbers) refl e,
       length-map stretches (stretch_frames s.class frames),
       few,
     )
@@ -70,10 +70,10 @@ left-few stretches s parts e few =
 -- ---- the run
 
 -- the parts that stay can be laid as one run, once the head is set apart
-pub parts-run : (s t : SurveyFields) (parts : List Part) → t ≡ survey_without_head s
-    → IsSurveyLaidOut t → (1 ≤ length parts) × AreInOrder 0 (length s.frames) parts
-    → ArePartsLeft t parts
-parts-run s t parts is laid there =
+pub parts-run : (s : SurveyFields) {t : SurveyFields} {parts : List Part}
+    → t ≡ survey_without_head s → IsSurveyLaidOut t
+    → (1 ≤ length parts) × AreInOrder 0 (length s.frames) parts → ArePartsLeft t parts
+parts-run s {t} {parts} is laid there =
     let same : length t.frames ≡ length s.frames =
     ap (λ (u : SurveyFields). length u.frames) is ∙ survey_without_head-length s in
     record {
@@ -107,10 +107,10 @@ module _ (s : SurveyFields) (parts : List Part) (head : Option Info) (work : Rem
       (sym (needs-as s parts)) (removal-fitting s parts can).fits)
 
   -- the work is prepared for the pass over the file that was read
-  pub planned-ready : (input : List ℕ) (files : Files) → IsFileThere files input
+  pub planned-ready : {input : List ℕ} {files : Files} → IsFileThere files input
       → IsSurveyLaidOut s → ((bytes : List ℕ) → Holds files input bytes → CanBeRelaid bytes s)
       → length parts ≤ 51 → IsRemovalReady input work files
-  planned-ready input files there laid has few =
+  planned-ready {input} there laid has few =
       let own = sym of.survey_is in
       let left = sym of.parts_are in
       record {
@@ -132,11 +132,11 @@ module _ (s : SurveyFields) (parts : List Part) (head : Option Info) (work : Rem
       }
 
   -- the work makes the file of the parts that stay
-  pub planned-file : (file : List ℕ) → CanBeRelaid file s
+  pub planned-file : {file : List ℕ} → CanBeRelaid file s
       → IfSome head (λ (i : Info). length i.extension ≡ 36)
       → removal_work_file work file ≡ removal_file parts head file s
   unfolding laid_file
-  planned-file file has long =
+  planned-file {file} has long =
       let row = found s parts can file has in
       ap (λ (t : SurveyFields). parts_file t work.parts.items work.work file) of.survey_is
       ∙ ap (λ (ps : List Part). parts_file s ps work.work file) of.parts_are

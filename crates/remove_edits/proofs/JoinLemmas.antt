@@ -46,5 +46,4 @@ module _ (s : SurveyFields) (parts : List Part) (number : ℕ) (none : Part)
   -- it begins after a frame behind the end of those before it, and is within the file
   pub part-order : (0 ≤ here.from) × (1 ≤ number → end_of_parts (take number parts) + 1 ≤ here.from)
       × (here.from < here.to) × (here.to ≤ length s.frames)
-  part-order =
-      order-at 0 (length s.frames) number parts here (drop (suc number) parts) are.order part-here
+  part-order = order-at 0 number parts are.order part-here

@@ -23,15 +23,15 @@ at-front (suc k) [] p placed long = absurd (omega (arith, long))
 at-front (suc k) (q ∷ front) p placed long =
     ap (λ l. q ∷ l) (at-front k front p placed (omega (arith, long)))
 
-with-next : (b : Bool) (k : ℕ) (front : List Placed) (p : Placed) (placed : List Placed)
+with-next : (b : Bool) {k : ℕ} (front : List Placed) (p : Placed) (placed : List Placed)
     (ats : List ℕ) → length front ≡ k
     → with_lead_ins (cond b (k ∷ ats) ats) (front ++ p ∷ placed)
     ≡ with_lead_ins ats ((front ++ place_as b p ∷ []) ++ placed)
-with-next true k front p placed ats long =
+with-next true {k} front p placed ats long =
     ap (with_lead_ins ats)
     (at-front k front p placed long
     ∙ sym (append_assoc front (place_as true p ∷ []) placed))
-with-next false k front p placed ats long =
+with-next false front p placed ats long =
     ap (with_lead_ins ats) (sym (append_assoc front (p ∷ []) placed))
 
 with-all : (k : ℕ) (front : List Placed) (items : List RunItem) (placed : List Placed)
@@ -44,7 +44,7 @@ with-all k front (item ∷ items) [] long many = absurd (omega (arith, many))
 with-all k front (item ∷ items) (p ∷ placed) long many =
     let here = place_as item.lead_in p in
     let next : length (front ++ here ∷ []) ≡ k + 1 = grind (arith, length-append) in
-    with-next item.lead_in k front p placed (lead_in_places (k + 1) items) long
+    with-next item.lead_in front p placed (lead_in_places (k + 1) items) long
     ∙ with-all (k + 1) (front ++ here ∷ []) items placed next (omega (arith, many))
     ∙ append_assoc front (here ∷ []) (item_places items placed)
 
@@ -54,12 +54,12 @@ pub marks-are : (items : List RunItem) (placed : List Placed) → length placed 
 marks-are items placed many = with-all 0 [] items placed refl many
 
 -- the lead-ins are among the items
-pub places-within : (at : ℕ) (items : List RunItem) (count : ℕ) → at + length items ≤ count
+pub places-within : (at : ℕ) (items : List RunItem) {count : ℕ} → at + length items ≤ count
     → All (λ place. place < count) (lead_in_places at items)
 unfolding lead_in_places
-places-within at [] count within = All-nil (λ place. place < count)
-places-within at (item ∷ items) count within =
-    by item.lead_in (places-within (at + 1) items count (omega (arith, within)))
+places-within at [] {count} within = All-nil (λ place. place < count)
+places-within at (item ∷ items) {count} within =
+    by item.lead_in (places-within (at + 1) items (omega (arith, within)))
   where
     by : (b : Bool) → All (λ place. place < count) (lead_in_places (at + 1) items)
         → All (λ place. place < count)
@@ -81,16 +81,16 @@ record TakesAsMuch (p q : Placed) (item need : Need) : Type 0 where
   bytes : placed_bytes q.lead_in need ≡ placed_bytes p.lead_in item
   area : placed_area q need ≡ placed_area p item
 
-area-by : (b : Bool) (p : Placed) (item need : Need) → b ≡ false
+area-by : {b : Bool} (p : Placed) (item need : Need) → b ≡ false
     → class_of item.header ≡ class_of need.header
     → item.header.protected ≡ need.header.protected
     → area_of (class_of need.header) p.slot (cond b false need.header.protected)
     ≡ area_of (class_of item.header) p.slot (cond b false item.header.protected)
-area-by b p item need frame class word = grind arith
+area-by p item need frame class word = grind arith
 
-frame-takes : (p : Placed) (item : RunItem) (need : Need) → p.lead_in ≡ false
+frame-takes : {p : Placed} {item : RunItem} {need : Need} → p.lead_in ≡ false
     → IsItemOf item need → TakesAsMuch p p item.need need
-frame-takes p item need frame is =
+frame-takes {p} {item} {need} frame is =
     let moved = is.moved in
     let class : class_of item.need.header ≡ class_of need.header =
     ap (λ (n : Need). class_of n.header) moved in
@@ -99,12 +99,12 @@ frame-takes p item need frame is =
     let same : item.need.bytes ≡ need.bytes = ap (λ (n : Need). n.bytes) moved in
     record {
       bytes = rw (frame, same) refl;
-      area = area-by p.lead_in p item.need need frame class word;
+      area = area-by p item.need need frame class word;
     }
 
-lead-takes : (p : Placed) (item : RunItem) (need : Need) → p.lead_in ≡ false
+lead-takes : {p : Placed} {item : RunItem} {need : Need} → p.lead_in ≡ false
     → IsLeadInOf item need → TakesAsMuch p (place_as true p) item.need need
-lead-takes p item need frame is =
+lead-takes {item = item} {need = need} frame is =
     let header = is.before.0 in
     let class : class_of item.need.header ≡ class_of need.header = ap class_of header in
     let word : item.need.header.protected ≡ false = ap (λ h. h.protected) header in
@@ -113,24 +113,26 @@ lead-takes p item need frame is =
       area = rw (frame, class, word) refl;
     }
 
-takes-reach : (window : ℕ) (p q : Placed) (item need : Need) → q.begin ≡ p.begin
+takes-reach : (window : ℕ) {p q : Placed} {item need : Need} → q.begin ≡ p.begin
     → TakesAsMuch p q item need → reach_behind window q need ≡ reach_behind window p item
-takes-reach window p q item need begin takes = rw (begin, takes.bytes, takes.area) refl
+takes-reach window begin takes = rw (begin, takes.bytes, takes.area) refl
 
-next-fits : (window reach : ℕ) (p q : Placed) (item m : Need) (needs left : List Need)
+next-fits : (window : ℕ) {reach : ℕ} {p q : Placed} {item m : Need} (needs : List Need)
+    {left : List Need}
     (places : List Placed) → q.begin ≡ p.begin → TakesAsMuch p q item m
     → rest_behind q.lead_in m needs ≡ left → p.begin ≤ reach
     → placed_bytes p.lead_in item ≤ p.begin + placed_area p item
     → FitsFromReach window (reach_behind window p item) left places
     → FitsFromReach window reach (m ∷ needs) (q ∷ places)
 unfolding FitsFromReach
-next-fits window reach p q item m needs left places begin takes behind near fits later = (
-  omega (arith, begin, near),
-  omega (arith, begin, takes.bytes, takes.area, fits),
-  subst (λ l. FitsFromReach window (reach_behind window q m) l places) (sym behind)
-      (subst (λ r. FitsFromReach window r left places)
-      (sym (takes-reach window p q item m begin takes)) later),
-)
+next-fits window {p = p} {q = q} {item = item} {m = m} needs
+    {left} places begin takes behind near fits later = (
+      omega (arith, begin, near),
+      omega (arith, begin, takes.bytes, takes.area, fits),
+      subst (λ l. FitsFromReach window (reach_behind window q m) l places) (sym behind)
+          (subst (λ r. FitsFromReach window r left places)
+          (sym (takes-reach window begin takes)) later),
+    )
 
 frame-behind : (p : Placed) (m : Need) (needs : List Need) → p.lead_in ≡ false
     → rest_behind p.lead_in m needs ≡ needs
@@ -159,16 +161,16 @@ fits-marked window reach (item ∷ items) (m ∷ needs) (p ∷ placed) (inl own)
     let later = fits-marked window (reach_behind window p item.need) items needs placed own.1
     frames.1 rest in
     rw own.0.frame
-    (next-fits window reach p p item.need m needs needs (item_places items placed) refl
-    (frame-takes p item m frames.0 own.0) (frame-behind p m needs frames.0) fits.0 fits.1 later)
+    (next-fits window needs (item_places items placed) refl
+    (frame-takes frames.0 own.0) (frame-behind p m needs frames.0) fits.0 fits.1 later)
 fits-marked window reach (item ∷ items) (m ∷ needs) (p ∷ placed) (inr lead) frames fits =
     let rest = rest-fits window (reach_behind window p item.need) p item.need (item_needs items)
     placed frames.0 fits.2 in
     let later = fits-marked window (reach_behind window p item.need) items (m ∷ needs) placed
     lead.2 frames.1 rest in
     rw lead.0.lead_in
-    (next-fits window reach p (place_as true p) item.need m needs (m ∷ needs)
-    (item_places items placed) refl (lead-takes p item m frames.0 lead.0) refl fits.0 fits.1 later)
+    (next-fits window needs
+    (item_places items placed) refl (lead-takes frames.0 lead.0) refl fits.0 fits.1 later)
 
 -- the places stay in their slots
 pub marked-slots : (items : List RunItem) (placed : List Placed) → AreInSlots placed

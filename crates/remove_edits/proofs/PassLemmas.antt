@@ -8,12 +8,12 @@ use Rattle.outside.specs.Pass.{HasPassCause, route, route_of, WritesMadeBytes}
 use Rattle.outside.specs.declared.pass.{Pass.Pass, PassFault.PassFault}
 
 -- after bytes were passed on, all is ready for the next step, with any feed of the input
-pub ready-behind : (relay : Relay) {made : List ℕ → List ℕ} {before after : List ℕ}
+pub ready-behind : {relay : Relay} {made : List ℕ → List ℕ} {before after : List ℕ}
     {old new : Files} {fed now : Fed} → WritesMadeBytes relay.pass made before after old new
     → IsFedFrom now new relay.pass.input.now → IsRelayReady relay old fed
     → IsRelayReady relay new now
-ready-behind relay step fed_from ready =
-    let later = ready-passed relay step.passed ready in
+ready-behind {relay} step fed_from ready =
+    let later = ready-passed step.passed ready in
     record {
       pass = record {
         apart = later.pass.apart;

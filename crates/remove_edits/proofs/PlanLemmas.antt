@@ -77,12 +77,12 @@ shape-by (n ∷ needs) (Some slot) (p ∷ placed) are =
     }
 
 plan-shape-by : (window : ℕ) (needs : List Need) (leads : List (Option SlotFields))
-    (placed : List Placed) → AreLeadIns window own_choice (needs ∷ []) leads
+    {placed : List Placed} → AreLeadIns window own_choice (needs ∷ []) leads
     → AreItemSlots (all_items own_choice (needs ∷ []) leads) placed
     → HasShape (length needs) placed
 unfolding AreLeadIns all_items
-plan-shape-by window needs [] placed leads are = absurd leads
-plan-shape-by window needs (lead ∷ leads) placed both are = shape-by needs lead placed are
+plan-shape-by window needs [] leads are = absurd leads
+plan-shape-by window needs (lead ∷ leads) {placed} both are = shape-by needs lead placed are
 
 -- what is known of the needs of a run: their class, their headers, and that they fit
 pub record IsRunNeeds (class : ClassFields) (needs : List Need) : Type 0 where
@@ -102,39 +102,39 @@ module _ (class : ClassFields) (needs : List Need) (is : IsRunNeeds class needs)
   -- the plan of a run has a place for each item, behind at most one lead-in
   pub plan-shape : HasShape (length needs) (plan_of_run_needs window needs)
   plan-shape =
-      plan-shape-by window needs planned.lead_ins (plan_of_run_needs window needs) planned.alone
+      plan-shape-by window needs planned.lead_ins planned.alone
       planned.whole.slots
 
   own_slots : AreSlots own_choice
-  own_slots h slot known has = subst IsSlot (only_one h.slot slot has) known.slot
+  own_slots h slot known has = subst IsSlot (only_one has) known.slot
 
   -- the items fit in the slots of the plan
   pub plan-fitting : IsFittingPlan window needs (plan_of_run_needs window needs)
   plan-fitting =
       subst (λ (l : List Need). IsFittingPlan window l (plan_of_run_needs window needs))
       (append-nil needs)
-      (parts-fitting window own_choice own_slots (needs ∷ []) (plan_of_run_needs window needs)
+      (parts-fitting window own_choice own_slots
       (is.headers, tt) planned)
 
 -- ---- the headers of items
 
-slot-by : (item : RunItem) (need : Need) → IsItemOf item need → IsHeader need.header
+slot-by : {item : RunItem} {need : Need} → IsItemOf item need → IsHeader need.header
     → IsSlot item.need.header.slot
-slot-by item need is known = at is.slot
+slot-by {item} {need} is known = at is.slot
   where
     at : (item.need.header.slot ≡ need.header.slot)
         ⊎ Contains all_slots item.need.header.slot → IsSlot item.need.header.slot
     at (inl own) = subst IsSlot (sym own) known.slot
-    at (inr other) = slot_among item.need.header.slot other
+    at (inr other) = slot_among other
 
-frame-header : (item : RunItem) (need : Need) → IsItemOf item need → IsHeader need.header
+frame-header : {item : RunItem} {need : Need} → IsItemOf item need → IsHeader need.header
     → IsHeader item.need.header
-frame-header item need is known = grind (arith, slot-by item need is known, known)
+frame-header {item} {need} is known = grind (arith, slot-by is known, known)
 
-lead-header : (item : RunItem) (need : Need) → IsLeadInOf item need → IsHeader need.header
+lead-header : {item : RunItem} {need : Need} → IsLeadInOf item need → IsHeader need.header
     → IsHeader item.need.header
-lead-header item need is known =
-    let slot = slot_among item.need.header.slot is.before.1 in
+lead-header {item} is known =
+    let slot = slot_among is.before.1 in
     subst IsHeader (sym is.before.0) (grind (arith, slot, known))
 
 -- the headers of items are headers of the standard if those of the frames are
@@ -145,9 +145,9 @@ items-headers [] [] are known = tt
 items-headers [] (m ∷ needs) are known = absurd are
 items-headers (item ∷ items) [] are known = absurd are
 items-headers (item ∷ items) (m ∷ needs) (inl own) known =
-    (frame-header item m own.0 known.0, items-headers items needs own.1 known.1)
+    (frame-header own.0 known.0, items-headers items needs own.1 known.1)
 items-headers (item ∷ items) (m ∷ needs) (inr lead) known =
-    (lead-header item m lead.0 known.0, items-headers items (m ∷ needs) lead.2 known)
+    (lead-header lead.0 known.0, items-headers items (m ∷ needs) lead.2 known)
 
 -- ---- the frames in the marked places
 

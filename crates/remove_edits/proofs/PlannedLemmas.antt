@@ -22,13 +22,13 @@ use Rattle.sync_survey.specs.Faults.{SurveyFields}
 -- ---- the parts
 
 -- parts in order end within the file
-end-within : (least frames : ℕ) (parts : List Part) → 1 ≤ length parts
+end-within : (least : ℕ) {frames : ℕ} (parts : List Part) → 1 ≤ length parts
     → AreInOrder least frames parts → end_of_parts parts ≤ frames
 unfolding AreInOrder
-end-within least frames [] some order = absurd (omega (arith, some))
-end-within least frames (p ∷ []) some order = order.2
-end-within least frames (p ∷ q ∷ parts) some order =
-    end-within (p.to + 1) frames (q ∷ parts) (omega arith) order.3
+end-within least [] some order = absurd (omega (arith, some))
+end-within least (p ∷ []) some order = order.2
+end-within least {frames} (p ∷ q ∷ parts) some order =
+    end-within (p.to + 1) (q ∷ parts) (omega arith) order.3
 
 -- the first of parts is the first that stays
 pub first-is : (parts : List Part) (none : Part) → 1 ≤ length parts
@@ -53,17 +53,17 @@ shifted (p ∷ parts) before at items =
     ∙ ap (λ n. parts_written n (drop count items) parts) behind)
 
 -- no part is written behind the last item
-written-most : (parts : List Part) (at : ℕ) (items : List RunItem) (most : ℕ)
+written-most : (parts : List Part) (at : ℕ) (items : List RunItem) {most : ℕ}
     → AreItemsOfParts items parts → at + length items ≤ most
     → All (λ (w : WrittenFrames). w.at ≤ most) (parts_written at items parts)
 unfolding parts_written AreItemsOfParts
-written-most [] at items most are within = All-nil (λ (w : WrittenFrames). w.at ≤ most)
-written-most (p ∷ parts) at items most are within =
+written-most [] at items {most} are within = All-nil (λ (w : WrittenFrames). w.at ≤ most)
+written-most (p ∷ parts) at items {most} are within =
     let count = lead_in_count items + (p.to - p.from) in
     All-cons (λ (w : WrittenFrames). w.at ≤ most)
     (record { from = p.from; to = p.to; at = at + lead_in_count items })
     (parts_written (at + count) (drop count items) parts) (omega (arith, are.1, within))
-    (written-most parts (at + count) (drop count items) most are.2
+    (written-most parts (at + count) (drop count items) are.2
     (omega (arith, length-drop count items, are.1, within)))
 
 -- ---- the plan
@@ -95,17 +95,17 @@ module _ (s : SurveyFields) (parts : List Part) (can : CanBeRun s parts) (d : De
   -- no more of them than frames can be noted
   pub needs-few : length d.needs.items ≤ most_frames
   needs-few =
-      let ends = end-within 0 (length s.frames) parts can.are.some can.are.order in
+      let ends = end-within 0 parts can.are.some can.are.order in
       omega (arith, run.few, ends, can.few)
 
   -- they can be planned
   pub needs-run : IsRunNeeds s.class d.needs.items
   needs-run = subst (IsRunNeeds s.class) (sym run.needs) (run-needs s parts can.are)
 
-  front-most : (front : List Placed)
+  front-most : {front : List Placed}
       → (front ≡ []) ⊎ ((p : Placed) × (front ≡ p ∷ []) × (p.lead_in ≡ true)) → length front ≤ 1
-  front-most front (inl none) = omega (arith, ap (λ (l : List Placed). length l) none)
-  front-most front (inr lead) = omega (arith, ap (λ (l : List Placed). length l) lead.1)
+  front-most (inl none) = omega (arith, ap (λ (l : List Placed). length l) none)
+  front-most (inr lead) = omega (arith, ap (λ (l : List Placed). length l) lead.1)
 
   -- the plan has a place for each item, and at most one more
   pub plan-long : (length items ≤ length plan) × (length plan ≤ length items + 1)
@@ -116,7 +116,7 @@ module _ (s : SurveyFields) (parts : List Part) (can : CanBeRun s parts) (d : De
         length-append shape.front shape.frames,
         shape.count,
       ) in
-      let most = front-most shape.front shape.lead in
+      let most = front-most shape.lead in
       (omega (arith, long), omega (arith, long, most))
 
   -- where parts are written can be noted
@@ -126,7 +126,7 @@ module _ (s : SurveyFields) (parts : List Part) (can : CanBeRun s parts) (d : De
       w.at + (length plan - length items) ≤ 4294967295)) (sym run.written)
       (λ k none within. omega (
         arith,
-        written-most parts 0 items (length items) run.consumed (omega arith) k none within,
+        written-most parts 0 items {most = length items} run.consumed (omega arith) k none within,
         plan-long.1,
         needs-many,
         needs-few,
@@ -136,7 +136,7 @@ module _ (s : SurveyFields) (parts : List Part) (can : CanBeRun s parts) (d : De
   pub places-fit : All (λ at. at < length plan - (length plan - length items)) d.lead_ins.items
   places-fit =
       subst (All (λ at. at < length plan - (length plan - length items))) (sym run.lead_ins)
-      (places-within 0 items (length plan - (length plan - length items))
+      (places-within 0 items
       (omega (arith, plan-long.0)))
 
   -- with the lead-ins among its places it is the plan of the removal

@@ -33,10 +33,10 @@ module _ (name : List ℕ) (s : SurveyFields) where
   ranges-within least (p ∷ parts) order =
       (omega (arith, order.1), order.2, ranges-within (p.to + 1) parts order.3)
 
-told-is : (files : Files) (name file : List ℕ) → Holds files name file
+told-is : (files : Files) (name : List ℕ) {file : List ℕ} → Holds files name file
     → unwrap_or (told_contents files name) [] ≡ file
-told-is (Told f) name file holds = rw holds refl
-told-is (Untold touched) name file holds = absurd holds
+told-is (Told f) name holds = rw holds refl
+told-is (Untold touched) name holds = absurd holds
 
 -- where the input's content is known, they are parts of it
 pub ranges-told : (files : Files) (name file : List ℕ) (s : SurveyFields) (parts : List Part)
@@ -44,15 +44,15 @@ pub ranges-told : (files : Files) (name file : List ℕ) (s : SurveyFields) (par
     → ranges_in files (map (part_range name s) parts) ≡ file_parts file s parts
 ranges-told files name file s [] holds = refl
 ranges-told files name file s (p ∷ parts) holds =
-    rw (told-is files name file holds, ranges-told files name file s parts holds) refl
+    rw (told-is files name holds, ranges-told files name file s parts holds) refl
 
 -- a pass over the input is one over the ranges
-pub ranges-pass : (relay : Relay) (files : Files) (fed : Fed) (parts : List Part)
+pub ranges-pass : {relay : Relay} {files : Files} {fed : Fed} (parts : List Part)
     → IsRelayReady relay files fed → 1 ≤ length parts
     → IsRangePass relay (map (part_range relay.pass.input.now (survey_view relay.survey.now)) parts)
     files
-ranges-pass relay files fed [] ready some = absurd (omega (arith, some))
-ranges-pass relay files fed (p ∷ parts) ready some = record {
+ranges-pass [] ready some = absurd (omega (arith, some))
+ranges-pass {relay} {files} (p ∷ parts) ready some = record {
   begins = part_range relay.pass.input.now (survey_view relay.survey.now) p;
   later = map (part_range relay.pass.input.now (survey_view relay.survey.now)) parts;
   are = refl;

@@ -45,9 +45,9 @@ headers-append (x ∷ xs) ys first second = (first.0, headers-append xs ys first
 
 module _ (s : SurveyFields) (placed : IsPlacedSurvey s) where
   -- the frames of a part can join a run
-  pub part-needs-are : (part : Part) → part.from < part.to → part.to ≤ length s.frames
+  pub part-needs-are : {part : Part} → part.from < part.to → part.to ≤ length s.frames
       → IsPartNeeds s.class (part_needs_of s part)
-  part-needs-are part some within =
+  part-needs-are {part} some within =
       let fits = part-fits s part.from part.to placed in
       record {
         some = omega (arith, own-length s part within, some);
@@ -62,7 +62,7 @@ module _ (s : SurveyFields) (placed : IsPlacedSurvey s) where
   all-needs least [] order = All-nil (IsPartNeeds s.class)
   all-needs least (p ∷ parts) order =
       All-cons (IsPartNeeds s.class) (part_needs_of s p) (map (part_needs_of s) parts)
-      (part-needs-are p order.1 order.2) (all-needs (p.to + 1) parts order.3)
+      (part-needs-are order.1 order.2) (all-needs (p.to + 1) parts order.3)
 
   all-headers : (parts : List Part) → AreHeaders (flat_needs s parts)
   all-headers [] = tt
@@ -75,17 +75,17 @@ module _ (s : SurveyFields) (placed : IsPlacedSurvey s) where
   class-known some =
       let found = first-there s.frames 0 some in
       let row = placed 0 found.0 found.1 in
-      subst IsClass row.class_is (IsClass-class_of found.0.header row.known)
+      subst IsClass row.class_is (IsClass-class_of row.known)
 
 -- the parts as parts of a file
-pub are-parts : (file : List ℕ) (s : SurveyFields) (least : ℕ) (parts : List Part)
+pub are-parts : {file : List ℕ} {s : SurveyFields} (least : ℕ) (parts : List Part)
     → CanBeRelaid file s → AreInOrder least (length s.frames) parts
     → AreParts s.class (file_parts file s parts)
 unfolding AreInOrder
-are-parts file s least [] has order = tt
-are-parts file s least (p ∷ parts) has order = (
+are-parts least [] has order = tt
+are-parts {file} {s} least (p ∷ parts) has order = (
   record { has = has; class = refl; some = order.1; within = order.2 },
-  are-parts file s (p.to + 1) parts has order.3,
+  are-parts (p.to + 1) parts has order.3,
 )
 
 -- the needs of the parts of a file are those of its parts
@@ -94,11 +94,11 @@ pub parts-as : (file : List ℕ) (s : SurveyFields) (parts : List Part)
 parts-as file s [] = refl
 parts-as file s (p ∷ parts) = ap (λ l. part_needs_of s p ∷ l) (parts-as file s parts)
 
-first-within : (least frames : ℕ) (parts : List Part) → 1 ≤ length parts
+first-within : (least : ℕ) {frames : ℕ} (parts : List Part) → 1 ≤ length parts
     → AreInOrder least frames parts → first_left parts < frames
 unfolding AreInOrder
-first-within least frames [] some order = absurd (omega (arith, some))
-first-within least frames (p ∷ parts) some order = omega (arith, order.1, order.2)
+first-within least [] some order = absurd (omega (arith, some))
+first-within least (p ∷ parts) some order = omega (arith, order.1, order.2)
 
 -- ---- the run
 
@@ -114,7 +114,7 @@ module _ (s : SurveyFields) (parts : List Part) (can : ArePartsLeft s parts) whe
 
   -- the first of the frames that stay is within the file
   pub first-there-is : first_left parts < length s.frames
-  first-there-is = first-within 0 (length s.frames) parts can.some can.order
+  first-there-is = first-within 0 parts can.some can.order
 
   known : IsClass s.class
   known = class-known s can.placed (omega (arith, first-there-is))
@@ -123,7 +123,7 @@ module _ (s : SurveyFields) (parts : List Part) (can : ArePartsLeft s parts) whe
   needs-are = all-needs s can.placed 0 parts can.order
 
   own : AreRunItemsOf items (flat_needs s parts)
-  own = items-are-parts s.class (map (part_needs_of s) parts) known needs-are
+  own = items-are-parts (map (part_needs_of s) parts) known needs-are
 
   flat-some : (ps : List Part) → 1 ≤ length ps → AreInOrder 0 (length s.frames) ps
       → 0 < length (flat_needs s ps)
@@ -150,7 +150,7 @@ module _ (s : SurveyFields) (parts : List Part) (can : ArePartsLeft s parts) whe
   -- the needs of the run can be planned
   pub run-needs : IsRunNeeds s.class (item_needs items)
   run-needs =
-      let fits = run-items-fit s.class (map (part_needs_of s) parts) known needs-are in
+      let fits = run-items-fit (map (part_needs_of s) parts) known needs-are in
       record {
         known = known;
         same = fits.1;
@@ -185,7 +185,7 @@ module _ (s : SurveyFields) (parts : List Part) (can : ArePartsLeft s parts) whe
     filed = file_parts file s parts
 
     filed-are : AreParts s.class filed
-    filed-are = are-parts file s 0 parts has can.order
+    filed-are = are-parts 0 parts has can.order
 
     filed-some : 1 ≤ length filed
     filed-some = omega (arith, length-map parts (file_part file s), can.some)
@@ -211,8 +211,8 @@ module _ (s : SurveyFields) (parts : List Part) (can : ArePartsLeft s parts) whe
         → HasInfoSizes (info_kept k h s.class frames)
     kept-sizes None h frames long = grind (arith, length-map, length-range_with_len)
     kept-sizes (Some kept) h frames long =
-        let whole = for-whole s.class frames kept.quality kept.extension long in
-        let sealed = sealed-whole h _ whole in
+        let whole = for-whole s.class frames kept.quality long in
+        let sealed = sealed-whole h whole in
         record { table = sealed.table; extension = sealed.extension }
 
     -- the first row of the frames that stay

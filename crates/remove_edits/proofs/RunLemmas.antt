@@ -41,11 +41,11 @@ one-written : (at : ℕ) (items : List RunItem) (part : Part) → parts_written 
 unfolding parts_written
 one-written at items part = refl
 
-one-consumed : (items : List RunItem) (part : Part)
+one-consumed : (items : List RunItem) {part : Part}
     → length items ≡ lead_in_count items + (part.to - part.from) → part.from < part.to
     → AreItemsOfParts items (part ∷ [])
 unfolding AreItemsOfParts
-one-consumed items part long some = (
+one-consumed items {part} long some = (
   omega (arith, long, some),
   omega (arith, long),
   drop_all (lead_in_count items + (part.to - part.from)) items (omega (arith, long)),
@@ -59,21 +59,21 @@ end-last (p ∷ []) part = refl
 end-last (p ∷ q ∷ parts) part = end-last (q ∷ parts) part
 
 -- a part behind others begins after a frame behind their end, and is within the file
-pub order-at : (least frames number : ℕ) (parts : List Part) (part : Part) (rest : List Part)
-    → AreInOrder least frames parts → drop number parts ≡ part ∷ rest
+pub order-at : (least : ℕ) {frames : ℕ} (number : ℕ) (parts : List Part) {part : Part}
+    {rest : List Part} → AreInOrder least frames parts → drop number parts ≡ part ∷ rest
     → (least ≤ part.from) × (1 ≤ number → end_of_parts (take number parts) + 1 ≤ part.from)
     × (part.from < part.to) × (part.to ≤ frames)
 unfolding AreInOrder
-order-at least frames zero [] part rest order is = absurd (omega (arith, ap length is))
-order-at least frames (suc n) [] part rest order is = absurd (omega (arith, ap length is))
-order-at least frames zero (p ∷ parts) part rest order is = grind arith
-order-at least frames (suc zero) (p ∷ parts) part rest order is =
-    let more = order-at (p.to + 1) frames zero parts part rest order.3 is in
+order-at least zero [] order is = absurd (omega (arith, ap length is))
+order-at least (suc n) [] order is = absurd (omega (arith, ap length is))
+order-at least zero (p ∷ parts) order is = grind arith
+order-at least {frames} (suc zero) (p ∷ parts) {part} {rest} order is =
+    let more = order-at (p.to + 1) zero parts order.3 is in
     grind (arith, more)
-order-at least frames (suc (suc n)) (p ∷ []) part rest order is =
-    absurd (omega (arith, ap length is))
-order-at least frames (suc (suc n)) (p ∷ q ∷ parts) part rest order is =
-    let more = order-at (p.to + 1) frames (suc n) (q ∷ parts) part rest order.3 is in
+order-at least (suc (suc n)) (p ∷ []) order is = absurd (omega (arith, ap length is))
+order-at least {frames} (suc (suc n)) (p ∷ q ∷ parts)
+    {part} {rest} order is =
+    let more = order-at (p.to + 1) (suc n) (q ∷ parts) order.3 is in
     grind (arith, more)
 
 -- ---- one more part
@@ -136,7 +136,7 @@ module _ (s : SurveyFields) (parts : List Part) (part : Part) (joint : PartJoint
         ∙ ap (λ l. lead_in_places 0 old ++ l)
         (joint-places (0 + length old) joint (part_needs_of s part)
         ∙ ap (λ n. joint_places n joint) (omega (arith, old-many))) in
-        let own = one-consumed more part size frames in
+        let own = one-consumed more size frames in
         record {
           needs = needs ∙ ap (λ l. l ++ item_needs more) run.needs ∙ sym needs-next;
           lead_ins = lead_ins
@@ -173,11 +173,11 @@ module _ (s : SurveyFields) (parts : List Part) (part : Part) (joint : PartJoint
 -- ---- the first part
 
 -- the run of one part is its frames
-pub run-one : (s : SurveyFields) (part : Part) (d : DecidedRun) → part.from < part.to
+pub run-one : {s : SurveyFields} {part : Part} {d : DecidedRun} → part.from < part.to
     → part.to ≤ length s.frames → d.needs.items ≡ part_needs_of s part → d.lead_ins.items ≡ []
     → d.written.items ≡ written_last (length d.needs.items) part ∷ []
     → IsRunOfParts s (part ∷ []) d
-run-one s part d frames within needs lead_ins written =
+run-one {s} {part} {d} frames within needs lead_ins written =
     let own = part_needs_of s part in
     let long : length d.needs.items ≡ part.to - part.from =
     ap (λ (l : List Need). length l) needs ∙ own-length s part within in
@@ -185,7 +185,7 @@ run-one s part d frames within needs lead_ins written =
     let many : length (map frame_item own) ≡ part.to - part.from =
     length-map own frame_item ∙ own-length s part within in
     let none : lead_in_count (map frame_item own) ≡ 0 = frames-lead own in
-    let consumed = one-consumed (map frame_item own) part (omega (arith, many, none)) frames in
+    let consumed = one-consumed (map frame_item own) (omega (arith, many, none)) frames in
     let at : 0 + lead_in_count (map frame_item own)
     ≡ length d.needs.items - (part.to - part.from) = omega (arith, none, long) in
     record {

@@ -89,20 +89,20 @@ module _ (s : SurveyFields) (part : Part) where
           (info_kept k row.header s.class frames) frames (back_blocks file s)) none (one-laid file)
 
 -- the cut chooses the part
-cut-chooses : (file : List ℕ) (s : SurveyFields) (part : Part) (from to : Place)
+cut-chooses : (file : List ℕ) {s : SurveyFields} {part : Part} {from to : Place}
     → NamePart s part from to → part.from < part.to → part.to ≤ length s.frames
     → cut_choice from to file s ≡ Ok (chosen_part part)
 unfolding cut_choice
-cut-chooses file s part from to names some within =
+cut-chooses file {s} names some within =
     ap₂ (λ a b. chosen_range None (replicate 36 0) a b (length s.frames)) names.first names.end
     ∙ grind (arith, lt-ltb, le-leb, some, within)
 
-cut-made : (file : List ℕ) (s : SurveyFields) (part : Part) (from to : Place)
+cut-made : (file : List ℕ) (s : SurveyFields) {part : Part} (from to : Place)
     → cut_choice from to file s ≡ Ok (chosen_part part)
     → laying_making (cut_choice from to) (first_planning own_choice) file s
     ≡ Ok (file_laid (own_slots_part (chosen_part part) s) file s)
 unfolding laying_part
-cut-made file s part from to is = rw is refl
+cut-made file s from to is = rw is refl
 
 module _ (stretches : List (ExactPlace × ExactPlace)) (file : List ℕ) (s : SurveyFields)
     (part : Part) (left : parts_left stretches s ≡ Ok (part ∷ []))
@@ -121,8 +121,8 @@ module _ (stretches : List (ExactPlace × ExactPlace)) (file : List ℕ) (s : Su
 pub remove-is-cut : RemoveToTheEndIsCut
 unfolding AreInOrder
 remove-is-cut stretches file s part from to is left apart names =
-    let order = (left-order stretches s (part ∷ []) left).1 in
-    let chosen = cut-chooses file s part from to names order.1 order.2 in
+    let order = (left-order stretches s left).1 in
+    let chosen = cut-chooses file names order.1 order.2 in
     record {
       part_is = record {
         chosen = chosen;
@@ -131,5 +131,5 @@ remove-is-cut stretches file s part from to is left apart names =
         stream = one-stream s part file;
       };
       same = λ none. remove-made stretches file s part left apart none
-          ∙ sym (cut-made file s part from to chosen);
+          ∙ sym (cut-made file s from to chosen);
     }

@@ -27,13 +27,13 @@ record HasSamples (samples n : ℕ) (w : WrittenFrames) : Type 0 where
       ≡ (w.at + (w.to - w.from)) * samples
   some : w.from * samples ≤ w.to * samples
 
-samples-are : (v : Version) (n : ℕ) (w : WrittenFrames) → n ≤ w.at → w.from < w.to
+samples-are : (v : Version) {n : ℕ} {w : WrittenFrames} → n ≤ w.at → w.from < w.to
     → HasSamples (samples_of v) n w
-samples-are One n w least some =
+samples-are One least some =
     record { before = omega (arith, least); long = omega (arith, some); some = omega (arith, some) }
-samples-are Two n w least some =
+samples-are Two least some =
     record { before = omega (arith, least); long = omega (arith, some); some = omega (arith, some) }
-samples-are TwoFive n w least some =
+samples-are TwoFive least some =
     record { before = omega (arith, least); long = omega (arith, some); some = omega (arith, some) }
 
 module _ (class : ClassFields) (played : Played) where
@@ -57,12 +57,12 @@ module _ (class : ClassFields) (played : Played) where
       abbrev here : Heard
       here = record { first = place_in samples w first; end = place_in samples w end }
 
-      not-here : end ≤ first → (position place : ℕ) → IsHeardIn class played w position place → ⊥
-      not-here none position place is = omega (arith, none, is.from, is.to, is.start, is.end)
+      not-here : end ≤ first → {position place : ℕ} → IsHeardIn class played w position place → ⊥
+      not-here none is = omega (arith, none, is.from, is.to, is.start, is.end)
 
-      within : (position place : ℕ) → IsHeardIn class played w position place
+      within : {position place : ℕ} → IsHeardIn class played w position place
           → (here.first ≤ place) × (place < here.end)
-      within position place is =
+      within is =
           (omega (arith, is.is, is.from, is.start), omega (arith, is.is, is.from, is.to, is.end))
 
       module _ (some : first < end) where
@@ -106,7 +106,7 @@ module _ (class : ClassFields) (played : Played) where
           where
             all : (position place : ℕ) → IsHeardAt class played (w ∷ written) position place
                 → (here.first ≤ place) × (place < here.end)
-            all position place (inl is) = within position place is
+            all position place (inl is) = within is
             all position place (inr later) = absurd (none position place later)
 
         and-later : (heard : Heard)
@@ -128,11 +128,11 @@ module _ (class : ClassFields) (played : Played) where
             all : (position place : ℕ) → IsHeardAt class played (w ∷ written) position place
                 → (here.first ≤ place) × (place < heard.end)
             all position place (inl is) =
-                let own = within position place is in
+                let own = within is in
                 (own.0, omega (arith, own.1, most, later.0, rises))
             all position place (inr is) =
                 let other = later.1.all position place is in
-                (omega (arith, within first here.first first-is, most, later.0, other.0), other.1)
+                (omega (arith, within first-is, most, later.0, other.0), other.1)
 
       skips : end ≤ first → (heard : Heard)
           → HeardFrom (w.at + (w.to - w.from)) written (Some heard)
@@ -148,12 +148,12 @@ module _ (class : ClassFields) (played : Played) where
         where
           all : (position place : ℕ) → IsHeardAt class played (w ∷ written) position place
               → (heard.first ≤ place) × (place < heard.end)
-          all position place (inl is) = absurd (not-here none position place is)
+          all position place (inl is) = absurd (not-here none is)
           all position place (inr is) = later.1.all position place is
 
       none-heard : end ≤ first → AreHeard class played written None
           → (position place : ℕ) → IsHeardAt class played (w ∷ written) position place → ⊥
-      none-heard none later position place (inl is) = not-here none position place is
+      none-heard none later position place (inl is) = not-here none is
       none-heard none later position place (inr is) = later position place is
 
       here-and : (o : Option Heard) → HeardFrom (w.at + (w.to - w.from)) written o
@@ -176,7 +176,7 @@ module _ (class : ClassFields) (played : Played) where
       subst (HeardFrom n []) (sym (heard-nil class played)) (λ position place is. is)
   heard-from n (w ∷ written) from =
       subst (HeardFrom n (w ∷ written)) (sym (heard-cons class played w written))
-      (here-and n w written (samples-are class.version n w from.0 from.1)
+      (here-and n w written (samples-are class.version from.0 from.1)
       (heard_of class played written)
       (heard-from (w.at + (w.to - w.from)) written from.2))
 
@@ -188,11 +188,11 @@ module _ (class : ClassFields) (played : Played) where
 -- the law of the parts that `remove` leaves
 pub first-to-last : HeardIsFirstToLast
 first-to-last stretches file s [] played is left =
-    absurd (omega (arith, (left-parts stretches file s [] is left).some))
+    absurd (omega (arith, (left-parts stretches file is left).some))
 first-to-last stretches file s (first ∷ later) played is left =
     let apart : SurveyFields = survey_without_head s in
     let parts : List Part = first ∷ later in
-    let can = left-parts stretches file s (first ∷ later) is left in
+    let can = left-parts stretches file is left in
     let items = items_left apart parts in
     let at = places_before items (plan_of_items apart items) in
     let written = all_parts_written apart parts in

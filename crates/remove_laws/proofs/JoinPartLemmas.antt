@@ -57,7 +57,7 @@ module _ {file : List ℕ} {s : SurveyFields} (r : Recording file s) where
     part-needs : IsPartNeeds s.class (needs_of frames)
     part-needs =
         subst (IsPartNeeds s.class) (sym part-need)
-        (part-needs-are s r.has.placed part is.piece.right.some is.piece.right.within)
+        (part-needs-are s r.has.placed is.piece.right.some is.piece.right.within)
 
     -- the input is a piece of the frames of the part
     pub part-piece : IsPartPiece s.class frames (part_brought p)
@@ -101,22 +101,24 @@ module _ {file : List ℕ} {s : SurveyFields} (r : Recording file s) where
         ∙ length-map (part_rows_of s part) need_of
         ∙ sym (same-many r.has part.from part.to)
 
-    without-streamed : (items more : List RunItem) (rest : List StreamFrame) (out : ℕ)
+    without-streamed : {items : List RunItem} (more : List RunItem) (rest : List StreamFrame)
+        {out : ℕ}
         → IsWithoutLeadIn (fits_behind window 0 (needs_of frames)) (needs_of frames) items out
         → item_stream (items ++ more) (own_part ++ rest)
         ≡ part_stream (part_from out p) ++ item_stream more rest
-    without-streamed items more rest out alone =
+    without-streamed more rest alone =
         ap (λ l. item_stream (l ++ more) (own_part ++ rest)) alone.are
         ∙ frames-streamed alone.needs more own_part rest (alone.many ∙ own-many)
         ∙ ap (λ l. l ++ item_stream more rest)
         (sym (ap (λ n. part_stream (part_from n p)) (alone.out_is ∙ leads-are)
         ∙ left-own is.piece))
 
-    behind-streamed : (items more : List RunItem) (rest : List StreamFrame) (out : ℕ)
+    behind-streamed : {items : List RunItem} (more : List RunItem) (rest : List StreamFrame)
+        {out : ℕ}
         → IsBehindLeadIn (fits_behind window 0 (needs_of frames)) (needs_of frames) items out
         → item_stream (items ++ more) (own_part ++ rest)
         ≡ part_stream (part_from out p) ++ item_stream more rest
-    behind-streamed items more rest out behind =
+    behind-streamed more rest {out} behind =
         elim (ways is.piece) [
           | inl alone ↦
               absurd (both_ways (fits_behind window 0 (needs_of frames)) behind.lacks
@@ -129,19 +131,19 @@ module _ {file : List ℕ} {s : SurveyFields} (r : Recording file s) where
               let own_is = led.brings.own_is in
               ap₂ (λ (l : List RunItem) (st : List StreamFrame). item_stream (l ++ more)
               (st ++ rest)) behind.are own_is
-              ∙ lead-streamed behind.header (needs_of frames) more first led.brings.rest rest
+              ∙ lead-streamed behind.header (needs_of frames) more led.brings.rest rest
               (own-many ∙ ap length own_is)
               ∙ ap (λ l. l ++ item_stream more rest)
               (sym (left ∙ ap (silent_lead_in first ∷◌) own_is))
         ]
 
     -- what is left of the input is the stream of the items as which the part joins
-    pub part-streamed : (items more : List RunItem) (rest : List StreamFrame) (out : ℕ)
-        → JoinsAs (fits_behind window 0 (needs_of frames)) (needs_of frames) items out
+    pub part-streamed : {items : List RunItem} (more : List RunItem) (rest : List StreamFrame)
+        {out : ℕ} → JoinsAs (fits_behind window 0 (needs_of frames)) (needs_of frames) items out
         → item_stream (items ++ more) (own_part ++ rest)
         ≡ part_stream (part_from out p) ++ item_stream more rest
-    part-streamed items more rest out (inl alone) = without-streamed items more rest out alone
-    part-streamed items more rest out (inr behind) = behind-streamed items more rest out behind
+    part-streamed {items} more rest {out} (inl alone) = without-streamed more rest alone
+    part-streamed {items} more rest {out} (inr behind) = behind-streamed more rest behind
 
   -- ---- all inputs
 
@@ -181,12 +183,12 @@ module _ {file : List ℕ} {s : SurveyFields} (r : Recording file s) where
       let items = run_part_items window own (needs_of frames) in
       let more = items_behind window (own ++ item_needs items)
       (map needs_of (map (frames_in file s) parts)) in
-      let here = piece-joint s.class r.known run own fit.0 fit.1 before input frames piece headers
+      let here = piece-joint s.class r.known run own fit.0 fit.1 before input piece headers
       in
-      let added = part-added s.class r.known own (needs_of frames) piece.needs fit.1 in
+      let added = part-added s.class r.known (needs_of frames) piece.needs fit.1 in
       let rest = flat_map part_stream (file_parts file s parts) in
       ap (λ l. part_stream (part_from (left_out_count joint.seam) p) ++ l)
       (later-streamed (run ++ joint.frames) (own ++ item_needs items) input parts inputs
       (alike-next s.class r.known run joint.frames own items fit.0 here, added.fits) are.1)
-      ∙ sym (part-streamed are.0 items more rest (left_out_count joint.seam)
-      (joins-as s.class r.known run own fit.0 fit.1 before input frames piece headers))
+      ∙ sym (part-streamed are.0 more rest
+      (joins-as s.class r.known run own fit.0 fit.1 before input piece headers))

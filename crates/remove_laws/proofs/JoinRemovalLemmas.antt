@@ -148,7 +148,7 @@ module _ {file : List ℕ} {s : SurveyFields} (r : Recording file s) (part : Par
     stream-is =
         let shape = items-shape s (part ∷ parts) can in
         ap₂ stream_with_lead_ins (plan-is ∙ shape.are) run-stream
-        ∙ items-streamed items shape.frames shape.plain shape.count shape.front stream shape.lead
+        ∙ items-streamed items shape.frames shape.plain shape.count stream shape.lead
         begins
         ∙ ap (λ p. stream_with_lead_ins p stream) (sym (removal-places s (part ∷ parts) can))
 
@@ -202,8 +202,7 @@ module _ {file : List ℕ} {s : SurveyFields} (r : Recording file s) (part : Par
       -- the join has the frames that stay, in the same places
       frames-are : seamless_frames first others ≡ removal_frames (part ∷ parts) file s
       frames-are =
-          stream-placed s.class r.known (seamless_frames first others)
-          (removal_frames (part ∷ parts) file s) laid.entries left.entries (
+          stream-placed s.class r.known laid.entries left.entries (
             same-entries,
             relaid-places (flat_map part_frames (run_parts first others))
                 (run_plan first others) laid-many
@@ -245,12 +244,12 @@ module _ {file : List ℕ} {s : SurveyFields} (r : Recording file s) (part : Par
 -- ---- its inputs
 
 module _ {file : List ℕ} {s : SurveyFields} (r : Recording file s) where
-  piece-for : {c : ClassFields} (part : Part) (p : FilePart) → part.from < part.to
+  piece-for : {c : ClassFields} {part : Part} {p : FilePart} → part.from < part.to
       → part.to ≤ length s.frames → IsInput c p → p.file ≡ file_laid (part_laid s part) file s
       → IsPiece false (chosen_part part) file s c p
-  piece-for part p some within is same = record {
+  piece-for {part = part} some within is same = record {
     has = r.has;
-    right = right-between s part.from part.to some within;
+    right = right-between some within;
     made = subst (IsFileOf (part_laid s part) file s) (sym same)
         (laid-whole (part_laid s part) r.has (omega (arith, some, within)));
     is = is;
@@ -276,10 +275,10 @@ module _ {file : List ℕ} {s : SurveyFields} (r : Recording file s) where
       let more : files_of inputs ≡ laid_files parts = cc in
       let both = and_parts (not (is_look_alike (part_laid s part) p))
       (has_no_look_alike (all_parts_laid s parts) inputs) same.1 in
-      let piece = piece-for part p order.1 order.2 are.0 here in (
+      let piece = piece-for order.1 order.2 are.0 here in (
         record {
           piece = piece;
-          plain = plain-by piece (not-true (is_look_alike (part_laid s part) p) both.0);
+          plain = plain-by piece (not-true both.0);
         },
         inputs-of (part.to + 1) parts inputs order.3 are.1 (more, both.1),
       )
@@ -290,17 +289,17 @@ module _ {file : List ℕ} {s : SurveyFields} (r : Recording file s) where
 pub parts-join : PartsJoinAsRemoved
 unfolding AreInOrder
 parts-join stretches file s [] first others read apart left inputs none =
-    absurd (omega (arith, (left-parts stretches file s [] read left).some))
+    absurd (omega (arith, (left-parts stretches file read left).some))
 parts-join stretches file s (part ∷ parts) first others read apart left inputs none =
-    let r = recording file s read in
+    let r = recording read in
     let can = subst (λ t. ArePartsLeft t (part ∷ parts)) apart
-    (left-parts stretches file s (part ∷ parts) read left) in
-    let joins = inputs-are inputs.files inputs.inputs first others inputs.taken in
-    let same = sym (parts-files inputs.files 0 None most_frames inputs.inputs (first ∷ others)
+    (left-parts stretches file read left) in
+    let joins = inputs-are inputs.files inputs.inputs inputs.taken in
+    let same = sym (parts-files inputs.files 0 None most_frames inputs.inputs
     inputs.taken)
     ∙ inputs.are in
     let here : first.file ≡ file_laid (part_laid s part) file s = cc in
-    let piece = piece-for r part first can.order.1 can.order.2 joins.head here in
+    let piece = piece-for r can.order.1 can.order.2 joins.head here in
     let all = subst (λ c. Joins c first others) (class-same (laid-input piece)) joins in
     let are = inputs-of r 0 (part ∷ parts) (first ∷ others) can.order (all.head, all.others)
     (same, none) in

@@ -85,7 +85,7 @@ module _ (s : SurveyFields) (first : Part) (later : List Part)
   plan = plan_of_items s items
 
   has_places : HasPlaces items plan
-  has_places = shape-places items plan (items-shape s parts can)
+  has_places = shape-places (items-shape s parts can)
 
   abbrev before : ℕ
   before = places_before items plan

@@ -73,10 +73,10 @@ module _ (class : ClassFields) (played : Played) where
       first = λ started. omega (arith, started, has.late);
     }
 
-    and-later : first < end → (heard : Heard)
+    and-later : first < end → {heard : Heard}
         → HasLength w.to (w.at + (w.to - w.from)) many heard
         → HasLength least w.at all (record { first = here.first; end = heard.end })
-    and-later some heard later =
+    and-later some {heard} later =
         let next : heard.first ≡ (w.at + (w.to - w.from)) * samples =
         later.first (omega (arith, some)) in
         record {
@@ -85,9 +85,9 @@ module _ (class : ClassFields) (played : Played) where
           first = λ started. omega (arith, started, has.late);
         }
 
-    skips : end ≤ first → (heard : Heard) → HasLength w.to (w.at + (w.to - w.from)) many heard
+    skips : end ≤ first → {heard : Heard} → HasLength w.to (w.at + (w.to - w.from)) many heard
         → HasLength least w.at all heard
-    skips none heard later = record {
+    skips none later = record {
       long = omega (arith, none, later.long);
       late = omega (arith, later.late, has.late, has.some);
       first = λ started. absurd (omega (arith, none, started, later.late, has.late, has.some));
@@ -102,9 +102,9 @@ module _ (class : ClassFields) (played : Played) where
             → HasLengthIf w.to (w.at + (w.to - w.from)) many r
             → HasLengthIf least w.at all (joined_heard (first_to_last (cond b (here ∷ []) [])) r)
         by true some None rest = only-here (ltb-true first end some) rest
-        by true some (Some heard) rest = and-later (ltb-true first end some) heard rest
+        by true some (Some heard) rest = and-later (ltb-true first end some) rest
         by false none None rest = omega (arith, ltb-false first end none, rest)
-        by false none (Some heard) rest = skips (ltb-false first end none) heard rest
+        by false none (Some heard) rest = skips (ltb-false first end none) rest
 
   heard-long : (least n : ℕ) (written : List WrittenFrames) → AreInFile least written
       → AreRightBehind n written
@@ -119,7 +119,7 @@ module _ (class : ClassFields) (played : Played) where
       (subst (λ at. HasLengthIf least at (in_written (w ∷ written))
       (joined_heard (first_to_last (heard_in samples played w)) later)) behind.0
       (here-and least (in_written written) w
-      (positions-are class.version least w.at w file.0 file.1 (omega arith)) later
+      (positions-are class.version file.0 file.1 (omega arith)) later
       (subst (λ at. HasLengthIf w.to (at + (w.to - w.from)) (in_written written) later)
       (sym behind.0) rest)))
 
@@ -134,38 +134,39 @@ module _ (class : ClassFields) (played : Played) where
 
 -- ---- what is played of the parts and of all other frames is all that is played
 
-in-two : (start end a b c : ℕ) → a ≤ b → b ≤ c
+in-two : (start end : ℕ) {a b c : ℕ} → a ≤ b → b ≤ c
     → (min end b - max start a) + (min end c - max start b) ≡ min end c - max start a
-in-two start end a b c first second = omega (arith, first, second)
+in-two start end first second = omega (arith, first, second)
 
 module _ (v : Version) (played : Played) (frames : ℕ) where
   abbrev between : ℕ → ℕ → ℕ
   between from to = played_between (samples_of v) played from to
 
-  two : (a b c : ℕ) → a ≤ b → b ≤ c → between a b + between b c ≡ between a c
-  two a b c first second =
-      in-two played.start played.end (a * samples_of v) (b * samples_of v) (c * samples_of v)
-      (frame-times v a b first) (frame-times v b c second)
+  two : {a b c : ℕ} → a ≤ b → b ≤ c → between a b + between b c ≡ between a c
+  two {a} {b} {c} first second =
+      in-two played.start played.end
+      (frame-times v first) (frame-times v second)
 
-  outside-and-in : (from least : ℕ) (parts : List Part) → from ≤ least → from ≤ frames
+  outside-and-in : {from least : ℕ} (parts : List Part) → from ≤ least → from ≤ frames
       → AreInOrder least frames parts
       → played_in_parts (samples_of v) played parts
       + played_outside (samples_of v) played from frames parts ≡ between from frames
   unfolding AreInOrder
-  outside-and-in from least [] low within order = omega arith
-  outside-and-in from least (part ∷ parts) low within order =
+  outside-and-in [] low within order = omega arith
+  outside-and-in {from} (part ∷ parts) low within order =
       omega (
         arith,
-        outside-and-in part.to (part.to + 1) parts (omega arith) order.2 order.3,
-        two from part.from part.to (omega (arith, low, order.0)) (omega (arith, order.1)),
-        two from part.to frames (omega (arith, low, order.0, order.1)) order.2,
+        outside-and-in {from = part.to} {least = part.to + 1} parts (omega arith) order.2 order.3,
+        two {a = from} {b = part.from} {c = part.to} (omega (arith, low, order.0))
+            (omega (arith, order.1)),
+        two {a = from} {b = part.to} {c = frames} (omega (arith, low, order.0, order.1)) order.2,
       )
 
 -- what a head counts is within the frames
-counted-within : (head : Option Info) (class : ClassFields) (frames : ℕ) (played : Played)
+counted-within : (head : Option Info) (class : ClassFields) (frames : ℕ) {played : Played}
     → counted_positions head class frames ≡ Some played → played.end ≤ frames * samples_in class
 unfolding counted_positions played_of
-counted-within head class frames played is =
+counted-within head class frames {played} is =
     by (counts_of head) is (played-within head class frames)
   where
     by : (o : Option HeadCounts)
@@ -203,7 +204,7 @@ module _ (s : SurveyFields) (first : Part) (later : List Part)
           (heard_of s.class played (all_parts_written s parts)))
           (in-parts s.class played before items parts)
           (heard-long s.class played 0 before (all_parts_written s parts)
-          (parts-in_file before items 0 0 (length s.frames) parts (omega arith) can.order)
+          (parts-in_file before items (length s.frames) parts (omega arith) can.order)
           (parts-right_behind before items parts (frames-left s first later can none))))
 
       left : length_of_played (played_as heard) ≡ played_in_parts (samples_in s.class) played parts
@@ -217,7 +218,8 @@ module _ (s : SurveyFields) (first : Part) (later : List Part)
           arith,
           left,
           within,
-          outside-and-in s.class.version played (length s.frames) 0 0 parts (omega arith)
+          outside-and-in s.class.version played (length s.frames) {from = 0} {least = 0} parts
+              (omega arith)
               (omega arith) can.order,
         );
       }
@@ -225,14 +227,14 @@ module _ (s : SurveyFields) (first : Part) (later : List Part)
 -- the law of the length that is played
 pub plays-left : LengthIsLeft
 plays-left stretches file s [] kept allowed o is left keeps e =
-    absurd (omega (arith, (left-parts stretches file s [] is left).some))
+    absurd (omega (arith, (left-parts stretches file is left).some))
 plays-left stretches file s (first ∷ later) kept allowed o is left keeps e =
-    let read = read-as file s (first ∷ later) o stretches kept allowed is left keeps e in
+    let read = read-as file s (first ∷ later) o stretches allowed is left keeps e in
     let apart : SurveyFields = survey_without_head s in
-    let can = left-parts stretches file s (first ∷ later) is left in
+    let can = left-parts stretches file is left in
     let most : read.before.end ≤ length apart.frames * samples_in s.class =
     subst (λ n. read.before.end ≤ n * samples_in s.class) (sym (survey_without_head-length s))
-    (counted-within (fields_of_head file s.head) s.class (length s.frames) read.before read.was) in
+    (counted-within (fields_of_head file s.head) s.class (length s.frames) read.was) in
     of-played file s (first ∷ later) o PlaysAllThatIsLeft read (λ heard are named none.
     let same : heard ≡ read.heard = (let both = sym are ∙ read.are in cc) in
     subst (λ h. PlaysWhatIsLeft apart (first ∷ later) read.before (played_as h)) same

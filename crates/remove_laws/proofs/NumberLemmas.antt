@@ -53,14 +53,14 @@ record HasNumbers (head : Option Info) (class : ClassFields) (heard_is : Option 
   short : heard_delay heard ≤ 4095
   small : heard_padding class places heard ≤ 4095
 
-kept-numbers : (head : Option Info) (class : ClassFields) (o : Option Heard) (places : ℕ)
-    (kept : Kept)
+kept-numbers : {head : Option Info} {class : ClassFields} (o : Option Heard) {places : ℕ}
+    {kept : Kept}
     → option_map (kept_with_numbers head) (option_and_then (heard_numbers class places) o)
     ≡ Some kept
     → HasNumbers head class o places kept
 unfolding heard_numbers
-kept-numbers head class None places kept none = absurd cc
-kept-numbers head class (Some heard) places kept some =
+kept-numbers None none = absurd cc
+kept-numbers {head} {class} (Some heard) {places} {kept} some =
     by (nat_le delay 4095 && nat_le padding 4095) refl some
   where
     delay : ℕ
@@ -86,10 +86,10 @@ kept-numbers head class (Some heard) places kept some =
 
 -- what is heard of frames that are written is within them
 heard-below : (head : Option Info) (class : ClassFields) (frames n : ℕ)
-    (written : List WrittenFrames) (heard : Heard) → AreWrittenBefore n written
+    (written : List WrittenFrames) {heard : Heard} → AreWrittenBefore n written
     → heard_of_written head class frames written ≡ Some heard
     → heard.end ≤ n * samples_in class
-heard-below head class frames n written heard before is =
+heard-below head class frames n written {heard} before is =
     by (counted_positions head class frames) is
   where
     by : (o : Option Played)
@@ -101,18 +101,18 @@ heard-below head class frames n written heard before is =
         (heard-within class n played written before)
 
 -- by these numbers players play what is heard
-numbers-play : (class : ClassFields) (n : ℕ) (heard : Heard) (info : Info) → 1 ≤ n
+numbers-play : (class : ClassFields) {n : ℕ} (heard : Heard) (info : Info) → 1 ≤ n
     → heard.end ≤ n * samples_in class → info.frames ≡ Some n
     → heard_numbers class n heard ≡ Some (heard_delay heard, heard_padding class n heard)
     → SaysNumbers (heard_delay heard) (heard_padding class n heard) info.extension
     → counted_positions (Some info) class n
     ≡ Some (record { start = max decoder_delay heard.first; end = heard.end })
-numbers-play class n heard info some within frames are says =
+numbers-play class {n} heard info some within frames are says =
     let total = n * samples_in class in
     let padding = heard_padding class n heard in
     let start = numbers-first class n heard (heard_delay heard) padding are in
     let end = numbers-end class n heard (heard_delay heard) padding are within in
-    counted-by class info n (heard_delay heard) padding frames some (omega arith) says
+    counted-by class info frames some (omega arith) says
     ∙ ap₂ (λ a b. Some (record { start = a; end = b })) start end
 
 -- ---- how many places there are
@@ -130,9 +130,9 @@ pub record HasPlaces (items : List RunItem) (placed : List Placed) : Type 0 wher
   pub one : places_before items placed ≤ 1
 
 -- a plan of such a shape has them
-pub shape-places : (items : List RunItem) (placed : List Placed) → HasShape (length items) placed
+pub shape-places : {items : List RunItem} {placed : List Placed} → HasShape (length items) placed
     → HasPlaces items placed
-shape-places items placed shape =
+shape-places shape =
     let long = length-append shape.front shape.frames in
     let all = ap (λ (l : List Placed). length l) shape.are in
     record {
@@ -163,7 +163,7 @@ module _ (s : SurveyFields) (first : Part) (later : List Part)
   all = all-needs s can.placed 0 parts can.order
 
   has_places : HasPlaces items plan
-  has_places = shape-places items plan (items-shape s parts can)
+  has_places = shape-places (items-shape s parts can)
 
   places-many : length (removal_plan s parts) ≡ places_before items plan + length items
   places-many =
@@ -200,7 +200,7 @@ module _ (s : SurveyFields) (first : Part) (later : List Part)
     n = length (removal_plan s parts)
 
     numbers : HasNumbers head s.class (heard_of_parts head s parts) n kept
-    numbers = kept-numbers head s.class (heard_of_parts head s parts) n kept keeps
+    numbers = kept-numbers (heard_of_parts head s parts) keeps
 
     abbrev heard : Heard
     heard = numbers.heard
@@ -236,30 +236,30 @@ module _ (s : SurveyFields) (first : Part) (later : List Part)
         subst (λ i. IsLaidFile s.class (front_blocks file s) header i frames (back_blocks file s))
         info-is (file-is s parts can file has head long)
 
-    read : (allowed : ℕ) (o : SurveyFields)
+    read : (allowed : ℕ) {o : SurveyFields}
         → survey_of (removal_file parts head file s) allowed ≡ Ok o
         → IsHeadRead frames (heard_delay heard) (heard_padding s.class n heard) s.class
         (removal_file parts head file s) o
-    read allowed o e =
+    read allowed {o} e =
         subst (λ l. IsHeadRead frames (heard_delay heard) (heard_padding s.class n heard) s.class
         l o) (sym made-is)
         (head-read s.class (front_blocks file s) header frames (back_blocks file s)
         (quality_of head) head (heard_delay heard) (heard_padding s.class n heard) long
         (omega (arith, numbers.short)) (omega (arith, numbers.small)) laid-is
-        (omega (arith, frames-many, places-few, few)) allowed o
+        (omega (arith, frames-many, places-few, few)) allowed
         (subst (λ l. survey_of l allowed ≡ Ok o) made-is e))
 
     within : heard.end ≤ n * samples_in s.class
     within =
-        heard-below head s.class (length s.frames) n (all_parts_written s parts) heard
+        heard-below head s.class (length s.frames) n (all_parts_written s parts)
         written-before numbers.is
 
-    counts-read : (file : List ℕ) (o : SurveyFields)
+    counts-read : {file : List ℕ} {o : SurveyFields}
         → IsHeadRead frames (heard_delay heard) (heard_padding s.class n heard) s.class file o
         → CountsWhatIsHeard heard file o
-    counts-read file o is =
+    counts-read {o = o} is =
         let many : length o.frames ≡ n = is.frames_are ∙ frames-many in
-        let played = numbers-play s.class n heard is.fields
+        let played = numbers-play s.class heard is.fields
         (omega (arith, laid-is.some, frames-many)) within
         (is.count ∙ ap Some frames-many) numbers.are is.says in
         record {
@@ -278,17 +278,17 @@ module _ (s : SurveyFields) (first : Part) (later : List Part)
       heard = heard;
       is = numbers.is;
       sound = (removal-holds s parts can file has head long).well_formed;
-      frames = λ allowed o e. (read allowed o e).frames_are ∙ frames-many;
-      counts = λ allowed o e. counts-read (removal_file parts head file s) o (read allowed o e);
+      frames = λ allowed o e. (read allowed e).frames_are ∙ frames-many;
+      counts = λ allowed o e. counts-read (read allowed e);
     }
 
 -- the law of what `remove` writes
 pub keep-numbers : NumbersAreKept
 keep-numbers stretches file s [] kept is left keeps =
-    absurd (omega (arith, (left-parts stretches file s [] is left).some))
+    absurd (omega (arith, (left-parts stretches file is left).some))
 keep-numbers stretches file s (first ∷ later) kept is left keeps =
-    let few = frames-few file most_frames s (survey_of-parts file most_frames s is).1 in
+    let few = frames-few file (survey_of-parts file most_frames is).1 in
     parts-keep (survey_without_head s) first later
-    (left-parts stretches file s (first ∷ later) is left) file
-    (survey_without_head-relaid file s is) (fields_of_head file s.head) (head_long file s.head)
+    (left-parts stretches file is left) file
+    (survey_without_head-relaid is) (fields_of_head file s.head) (head_long file s.head)
     (omega (arith, few, survey_without_head-length s)) kept keeps

@@ -8,10 +8,10 @@ use Rattle.remove_edits.specs.Removed.{lead_in_count, parts_written}
 use Rattle.seam_plan.specs.{PartRuns.RunItem, Stretches.AreInOrder, declared.stretches.Part.Part}
 
 -- the samples of a frame begin no earlier than those of a frame before it
-pub frame-times : (v : Version) (a b : ℕ) → a ≤ b → a * samples_of v ≤ b * samples_of v
-frame-times One a b le = omega (arith, le)
-frame-times Two a b le = omega (arith, le)
-frame-times TwoFive a b le = omega (arith, le)
+pub frame-times : (v : Version) {a b : ℕ} → a ≤ b → a * samples_of v ≤ b * samples_of v
+frame-times One le = omega (arith, le)
+frame-times Two le = omega (arith, le)
+frame-times TwoFive le = omega (arith, le)
 
 -- the positions of some frames, in the file and where they are written
 pub record HasPositions (samples least n : ℕ) (w : WrittenFrames) : Type 0 where
@@ -22,21 +22,21 @@ pub record HasPositions (samples least n : ℕ) (w : WrittenFrames) : Type 0 whe
       ≡ w.at * samples + (w.to * samples - w.from * samples)
 
 -- frames of the file from number `least` on that are written from frame n on
-pub positions-are : (v : Version) (least n : ℕ) (w : WrittenFrames) → least ≤ w.from → w.from < w.to
+pub positions-are : (v : Version) {least n : ℕ} {w : WrittenFrames} → least ≤ w.from → w.from < w.to
     → n ≤ w.at → HasPositions (samples_of v) least n w
-positions-are One least n w late some at = record {
+positions-are One late some at = record {
   late = omega (arith, late);
   some = omega (arith, some);
   at = omega (arith, at);
   next = omega (arith, some);
 }
-positions-are Two least n w late some at = record {
+positions-are Two late some at = record {
   late = omega (arith, late);
   some = omega (arith, some);
   at = omega (arith, at);
   next = omega (arith, some);
 }
-positions-are TwoFive least n w late some at = record {
+positions-are TwoFive late some at = record {
   late = omega (arith, late);
   some = omega (arith, some);
   at = omega (arith, at);
@@ -60,15 +60,15 @@ AreFrames [] = Unit {0}
 AreFrames (item ∷ items) = (item.lead_in ≡ false) × AreFrames items
 
 -- parts in order stay so where they are written
-pub parts-in_file : (at : ℕ) (items : List RunItem) (least low frames : ℕ) (parts : List Part)
+pub parts-in_file : (at : ℕ) (items : List RunItem) {least low : ℕ} (frames : ℕ) (parts : List Part)
     → low ≤ least → AreInOrder least frames parts → AreInFile low (parts_written at items parts)
 unfolding parts_written AreInOrder
-parts-in_file at items least low frames [] within order = tt
-parts-in_file at items least low frames (part ∷ parts) within order =
+parts-in_file at items frames [] within order = tt
+parts-in_file at items frames (part ∷ parts) within order =
     let count = lead_in_count items + (part.to - part.from) in (
       omega (arith, within, order.0),
       order.1,
-      parts-in_file (at + count) (drop count items) (part.to + 1) part.to frames parts
+      parts-in_file (at + count) (drop count items) frames parts
           (omega arith) order.3,
     )
 

@@ -30,10 +30,10 @@ pub record AreInTwo (xs ys : List PlanItem) (placed : List Placed) : Type 0 wher
   pub seconds : AreItemSlots ys second
 
 -- the places of two lists of items are two lists of places
-pub in-two : (xs ys : List PlanItem) (placed : List Placed) → AreItemSlots (xs ++ ys) placed
-    → AreInTwo xs ys placed
+pub in-two : (xs : List PlanItem) {ys : List PlanItem} (placed : List Placed)
+    → AreItemSlots (xs ++ ys) placed → AreInTwo xs ys placed
 unfolding AreItemSlots
-in-two [] ys placed are = record {
+in-two [] placed are = record {
   first = [];
   second = placed;
   are = refl;
@@ -41,9 +41,9 @@ in-two [] ys placed are = record {
   firsts = tt;
   seconds = are;
 }
-in-two (x ∷ xs) ys [] are = absurd are
-in-two (x ∷ xs) ys (p ∷ placed) are =
-    let rest = in-two xs ys placed are.2 in
+in-two (x ∷ xs) [] are = absurd are
+in-two (x ∷ xs) {ys} (p ∷ placed) are =
+    let rest = in-two xs placed are.2 in
     record {
       first = p ∷ rest.first;
       second = rest.second;
@@ -75,23 +75,23 @@ own-marked [] [] are = tt
 own-marked [] (p ∷ placed) are = absurd are
 own-marked (n ∷ needs) [] are = absurd are
 own-marked (n ∷ needs) (p ∷ placed) are =
-    (are.0, sym (only_one n.header.slot p.slot are.1), own-marked needs placed are.2)
+    (are.0, sym (only_one are.1), own-marked needs placed are.2)
 
 -- ---- one part
 
 module _ (window : ℕ) (run : List Need) (first : Need) (needs : List Need) where
-  joined-marked : (slot : SlotFields) (placed : List Placed)
+  joined-marked : {slot : SlotFields} (placed : List Placed)
       → join_slot window run first needs ≡ Some slot
       → AreItemSlots (map (need_item own_choice)
       (item_needs (map frame_item (need_in_slot slot first ∷ needs)))) placed
       → AreJoinedPlaces (first ∷ needs)
       (item_places (map frame_item (need_in_slot slot first ∷ needs)) placed)
   unfolding AreItemSlots item_places
-  joined-marked slot [] is are = absurd are
-  joined-marked slot (p ∷ placed) is are =
+  joined-marked [] is are = absurd are
+  joined-marked {slot} (p ∷ placed) is are =
       let found = found-passes (λ s. is_area_no_less first s
-      && fits_behind window window (run ++ need_in_slot s first ∷ needs)) all_slots slot is in
-      let same : slot ≡ p.slot = only_one slot p.slot are.1 in
+      && fits_behind window window (run ++ need_in_slot s first ∷ needs)) all_slots is in
+      let same : slot ≡ p.slot = only_one are.1 in
       let more : own_slot_area first ≤ own_slot_area (need_in_slot slot first) =
       leb-true (own_slot_area first) (own_slot_area (need_in_slot slot first))
       (and_parts (is_area_no_less first slot)
@@ -108,7 +108,7 @@ module _ (window : ℕ) (run : List Need) (first : Need) (needs : List Need) whe
       (le-leb (own_slot_area first) (own_slot_area (need_in_slot slot first)) more)
       ((fits-tested window window all).1 fits) in
       let fails = none-passes (λ s. is_area_no_less first s
-      && fits_behind window window (run ++ need_in_slot s first ∷ needs)) all_slots none slot has in
+      && fits_behind window window (run ++ need_in_slot s first ∷ needs)) all_slots none has in
       absurd cc
 
   led-marked : (header : HeaderFields) (placed : List Placed)
@@ -124,14 +124,14 @@ module _ (window : ℕ) (run : List Need) (first : Need) (needs : List Need) whe
 
 -- the places of a part behind a run are those of frames that join it, or of frames behind a lead-in
 -- which can't
-pub part-marked : (class : ClassFields) (run needs : List Need) (placed : List Placed)
+pub part-marked : {class : ClassFields} (run needs : List Need) (placed : List Placed)
     → IsClass class → IsPartNeeds class needs →
     let items = run_part_items (window_of class.version) run needs in
     AreItemSlots (map (need_item own_choice) (item_needs items)) placed
     → AreJoinedPlaces needs (item_places items placed)
     ⊎ AreLedPlaces (window_of class.version) run needs (item_places items placed)
-part-marked class run [] placed known part are = absurd (omega (arith, part.some))
-part-marked class run (first ∷ needs) placed known part are =
+part-marked run [] placed known part are = absurd (omega (arith, part.some))
+part-marked {class} run (first ∷ needs) placed known part are =
     subst Stands (sym (run_part_items-is window run first needs))
     (at (join_slot window run first needs) refl)
     are
@@ -147,9 +147,9 @@ part-marked class run (first ∷ needs) placed known part are =
     at : (o : Option SlotFields) → join_slot window run first needs ≡ o
         → Stands (joined_in window first needs o)
     at None is =
-        let lead = has-lead-in class first needs known part in
+        let lead = has-lead-in known part in
         subst (λ o. Stands (option_to_list (option_map lead_in_run_item o)
         ++ map frame_item (first ∷ needs)))
         (sym lead.is)
         (λ slots. inr (led-marked window run first needs lead.header placed is slots))
-    at (Some slot) is = λ slots. inl (joined-marked window run first needs slot placed is slots)
+    at (Some slot) is = λ slots. inl (joined-marked window run first needs placed is slots)

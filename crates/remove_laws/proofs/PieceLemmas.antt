@@ -49,7 +49,7 @@ empty-alike window need run empty more =
         → fits_behind window window (need ∷ (run ++ more)) ≡ true
     with-empty is =
         (fits-tested window window (need ∷ (run ++ more))).1
-        (cons-fits window window need (run ++ more) (omega arith) (omega (arith, empty))
+        (cons-fits need (run ++ more) (omega arith) (omega (arith, empty))
         (subst (λ n. FitsBehind window n (run ++ more)) (sym (empty-behind window need empty))
         ((fits-tested window window (run ++ more)).0 is)))
 
@@ -58,24 +58,20 @@ empty-alike window need run empty more =
     without-empty is =
         (fits-tested window window (run ++ more)).1
         (subst (λ n. FitsBehind window n (run ++ more)) (empty-behind window need empty)
-        (fits-cons window window need (run ++ more) (omega arith)
+        (fits-cons need (run ++ more) (omega arith)
         ((fits-tested window window (need ∷ (run ++ more))).0 is)).1)
 
-find-same : (test other : SlotFields → Bool) (slots : List SlotFields)
+find-same : {test other : SlotFields → Bool} (slots : List SlotFields)
     → ((slot : SlotFields) → test slot ≡ other slot) → find test slots ≡ find other slots
-find-same test other [] same = refl
-find-same test other (s ∷ slots) same =
-    rw (same s) (ap (λ o. if other s then Some s else o) (find-same test other slots same))
+find-same [] same = refl
+find-same {test} {other} (s ∷ slots) same =
+    rw (same s) (ap (λ o. if other s then Some s else o) (find-same slots same))
 
 slot-alike : (window : ℕ) (run other : List Need) (first : Need) (needs : List Need)
     → FitAlike window run other → join_slot window run first needs
     ≡ join_slot window other first needs
 slot-alike window run other first needs alike =
-    find-same
-    (λ s. is_area_no_less first s
-    && fits_behind window window (run ++ need_in_slot s first ∷ needs))
-    (λ s. is_area_no_less first s
-    && fits_behind window window (other ++ need_in_slot s first ∷ needs)) all_slots
+    find-same all_slots
     (λ s. ap (λ b. is_area_no_less first s && b) (alike (need_in_slot s first ∷ needs)))
 
 -- ---- how a piece and its part join
@@ -115,9 +111,9 @@ module _ (class : ClassFields) (known : IsClass class) where
     frames-fit needs fit = grind (arith, own-left, then-fits, more-behind, fits-tested)
 
     -- a piece that fits after no bytes joins with all its frames
-    unled-whole : (frames : List RunFrame) → IsUnledPiece window frames input
+    unled-whole : {frames : List RunFrame} → IsUnledPiece window frames input
         → input.played ≡ None → joint_of class run before input ≡ joint_with Whole input.frames
-    unled-whole frames unled uncounted = grind (arith, none-follows, unled-without)
+    unled-whole unled uncounted = grind (arith, none-follows, unled-without)
 
     -- the items of its part are its frames
     unled-items : (frames : List RunFrame) → fits_behind window 0 (needs_of frames) ≡ true
@@ -128,34 +124,34 @@ module _ (class : ClassFields) (known : IsClass class) where
         let both : needs_of (bare_frames own ++ bare_frames needs) ≡ own ++ needs =
         map-append (λ (f : RunFrame). f.need) (bare_frames own) (bare_frames needs)
         ∙ ap₂ (λ (x y : List Need). x ++ y) (needs-bare own) (needs-bare needs) in
-        let joined = joining_frames-own window (bare_frames own) (bare_frames needs) headers
+        let joined = joining_frames-own window (bare_frames own) headers
         (ap (fits_behind window window) both
         ∙ (fits-tested window window (own ++ needs)).1 (frames-fit needs fit)) in
         ap (joined_items window needs) joined ∙ ap (map frame_item) (needs-bare needs)
 
-    unled-joint : (frames : List RunFrame) → IsUnledPiece window frames input
+    unled-joint : {frames : List RunFrame} → IsUnledPiece window frames input
         → input.played ≡ None → fits_behind window 0 (needs_of frames) ≡ true
         → AreHeadersKnown (bare_frames (needs_of frames))
         → needs_of (joint_of class run before input).frames
         ≡ item_needs (run_part_items window own (needs_of frames))
-    unled-joint frames unled uncounted fit headers =
-        ap (λ (j : JointFrames). needs_of j.frames) (unled-whole frames unled uncounted)
+    unled-joint {frames} unled uncounted fit headers =
+        ap (λ (j : JointFrames). needs_of j.frames) (unled-whole unled uncounted)
         ∙ ap needs_of unled.frames_are
         ∙ sym (ap item_needs (unled-items frames fit headers) ∙ needs-items (needs_of frames))
 
-    led-without : (frames : List RunFrame) → IsLedPart window frames input
+    led-without : {frames : List RunFrame} → IsLedPart window frames input
         → fits_behind window 0 (needs_of frames) ≡ false
         → joint_without_lead_in class run input
         ≡ option_map (joint_with LeadIn) (joining_frames window run frames)
     unfolding joint_without_lead_in
-    led-without frames led lacks = grind (arith, and_from, led.has, led.frames_are)
+    led-without led lacks = grind (arith, and_from, led.has, led.frames_are)
 
-    led-by : (f : RunFrame) (fs : List RunFrame) → IsLedPart window (f ∷ fs) input
+    led-by : {f : RunFrame} {fs : List RunFrame} → IsLedPart window (f ∷ fs) input
         → (o : Option SlotFields)
         → needs_of (unwrap_or (option_map (joint_with LeadIn)
         (option_map (λ slot. frame_in_slot slot f ∷ fs) o)) (whole_joint input)).frames
         ≡ item_needs (joined_in window f.need (needs_of fs) o)
-    led-by f fs led None =
+    led-by {f} {fs} led None =
         let needs = needs_of (f ∷ fs) in
         ap needs_of led.frames_are
         ∙ ap (λ (n : Need). n ∷ needs) led.need
@@ -163,18 +159,18 @@ module _ (class : ClassFields) (known : IsClass class) where
         ++ map frame_item needs)) led.is
         ∙ ap (λ (l : List Need). record { header = led.header; bytes = 0 } ∷ l)
         (needs-items needs))
-    led-by f fs led (Some slot) = sym (needs-items (need_in_slot slot f.need ∷ needs_of fs))
+    led-by {f} {fs} led (Some slot) = sym (needs-items (need_in_slot slot f.need ∷ needs_of fs))
 
     -- a piece that doesn't fit after no bytes joins in the slot in which its part does
-    led-is : (f : RunFrame) (fs : List RunFrame) → IsLedPart window (f ∷ fs) input
+    led-is : {f : RunFrame} {fs : List RunFrame} → IsLedPart window (f ∷ fs) input
         → input.played ≡ None → fits_behind window 0 (needs_of (f ∷ fs)) ≡ false
         → joint_of class run before input
         ≡ unwrap_or (option_map (joint_with LeadIn) (option_map (λ slot. frame_in_slot slot f ∷ fs)
         (join_slot window own f.need (needs_of fs)))) (whole_joint input)
     unfolding joining_frames
-    led-is f fs led uncounted lacks =
+    led-is {f} {fs} led uncounted lacks =
         ap₂ (λ a b. unwrap_or (option_or a b) (whole_joint input))
-        (none-follows class run before input uncounted) (led-without (f ∷ fs) led lacks)
+        (none-follows class run before input uncounted) (led-without led lacks)
         ∙ ap (λ s. unwrap_or (option_map (joint_with LeadIn)
         (option_map (λ slot. frame_in_slot slot f ∷ fs) s)) (whole_joint input))
         (slot-alike window (needs_of run) own f.need (needs_of fs) alike)
@@ -186,31 +182,31 @@ module _ (class : ClassFields) (known : IsClass class) where
         ≡ item_needs (run_part_items window own (needs_of frames))
     led-joint [] led uncounted lacks part = absurd (omega (arith, part.some))
     led-joint (f ∷ fs) led uncounted lacks part =
-        ap (λ (j : JointFrames). needs_of j.frames) (led-is f fs led uncounted lacks)
-        ∙ led-by f fs led (join_slot window own f.need (needs_of fs))
+        ap (λ (j : JointFrames). needs_of j.frames) (led-is led uncounted lacks)
+        ∙ led-by led (join_slot window own f.need (needs_of fs))
         ∙ sym (ap item_needs (run_part_items-is window own f.need (needs_of fs)))
 
     -- a piece joins as the part does
-    pub piece-joint : (frames : List RunFrame) → IsPartPiece class frames input
+    pub piece-joint : {frames : List RunFrame} → IsPartPiece class frames input
         → AreHeadersKnown (bare_frames (needs_of frames))
         → needs_of (joint_of class run before input).frames
         ≡ item_needs (run_part_items window own (needs_of frames))
-    piece-joint frames piece headers = by (fits_behind window 0 (needs_of frames)) refl
+    piece-joint {frames} piece headers = by (fits_behind window 0 (needs_of frames)) refl
       where
         by : (b : Bool) → fits_behind window 0 (needs_of frames) ≡ b
             → needs_of (joint_of class run before input).frames
             ≡ item_needs (run_part_items window own (needs_of frames))
-        by true fit = unled-joint frames (piece.unled fit) piece.uncounted fit headers
+        by true fit = unled-joint (piece.unled fit) piece.uncounted fit headers
         by false lacks = led-joint frames (piece.led lacks) piece.uncounted lacks piece.needs
 
     -- ---- how its lead-in and the items belong together
 
-    led-way : (f : RunFrame) (fs : List RunFrame) → IsLedPart window (f ∷ fs) input
+    led-way : {f : RunFrame} {fs : List RunFrame} → IsLedPart window (f ∷ fs) input
         → (o : Option SlotFields)
         → JoinsAs false (needs_of (f ∷ fs)) (joined_in window f.need (needs_of fs) o)
         (left_out_count (unwrap_or (option_map (joint_with LeadIn)
         (option_map (λ slot. frame_in_slot slot f ∷ fs) o)) (whole_joint input)).seam)
-    led-way f fs led None =
+    led-way {f} {fs} led None =
         inr (record {
           header = led.header;
           are = ap (λ o. option_to_list (option_map lead_in_run_item o)
@@ -218,7 +214,7 @@ module _ (class : ClassFields) (known : IsClass class) where
           lacks = refl;
           out_is = refl;
         })
-    led-way f fs led (Some slot) =
+    led-way {f} {fs} led (Some slot) =
         inl (record {
           needs = need_in_slot slot f.need ∷ needs_of fs;
           many = refl;
@@ -237,16 +233,16 @@ module _ (class : ClassFields) (known : IsClass class) where
         (sym (run_part_items-is window own f.need (needs_of fs)))
         (subst (λ (j : JointFrames). JoinsAs false (needs_of (f ∷ fs))
         (joined_in window f.need (needs_of fs) (join_slot window own f.need (needs_of fs)))
-        (left_out_count j.seam)) (sym (led-is f fs led uncounted lacks))
-        (led-way f fs led (join_slot window own f.need (needs_of fs))))
+        (left_out_count j.seam)) (sym (led-is led uncounted lacks))
+        (led-way led (join_slot window own f.need (needs_of fs))))
 
     -- a piece joins without its lead-in exactly if its part joins without one
-    pub joins-as : (frames : List RunFrame) → IsPartPiece class frames input
+    pub joins-as : {frames : List RunFrame} → IsPartPiece class frames input
         → AreHeadersKnown (bare_frames (needs_of frames))
         → JoinsAs (fits_behind window 0 (needs_of frames)) (needs_of frames)
         (run_part_items window own (needs_of frames))
         (left_out_count (joint_of class run before input).seam)
-    joins-as frames piece headers = by (fits_behind window 0 (needs_of frames)) refl
+    joins-as {frames} piece headers = by (fits_behind window 0 (needs_of frames)) refl
       where
         by : (b : Bool) → fits_behind window 0 (needs_of frames) ≡ b
             → JoinsAs (fits_behind window 0 (needs_of frames)) (needs_of frames)
@@ -258,7 +254,7 @@ module _ (class : ClassFields) (known : IsClass class) where
               many = refl;
               are = unled-items frames fit headers;
               out_is = ap (λ (j : JointFrames). left_out_count j.seam)
-                  (unled-whole frames (piece.unled fit) piece.uncounted)
+                  (unled-whole (piece.unled fit) piece.uncounted)
                   ∙ sym (ap (λ b. if b then 0 else 1) fit);
             })
         by false lacks =
@@ -302,10 +298,10 @@ module _ (class : ClassFields) (known : IsClass class) where
       let joint = joint_of class run before input in
       let items = run_part_items window own (needs_of frames) in
       let later = items_behind window (own ++ item_needs items) (map needs_of more) in
-      let here = piece-joint run own alike fits before input frames are.0
+      let here = piece-joint run own alike fits before input are.0
       (bare-known frames are.0.known) in
       let next = alike-next run joint.frames own items alike here in
-      let added = part-added class known own (needs_of frames) are.0.needs fits in
+      let added = part-added class known (needs_of frames) are.0.needs fits in
       frames-append joint.frames (flat_map (λ (j : JointFrames). j.frames)
       (joints_from class (run ++ joint.frames) input inputs))
       ∙ ap₂ (λ (x y : List Need). x ++ y) here
@@ -335,13 +331,13 @@ module _ (class : ClassFields) (known : IsClass class) where
         (items_behind window (needs_of frames) (map needs_of more))
         ∙ ap (λ (l : List Need). l ++ behind) (needs-items (needs_of frames))
 
-    run-by : (begin : List RunFrame) (count : ℕ) → first.frames ≡ begin
+    run-by : {begin : List RunFrame} {count : ℕ} → first.frames ≡ begin
         → front_left_out_count class first (begin ++ rest) ≡ count
         → drop count (begin ++ rest) ≡ frames ++ rest → needs_of rest ≡ behind
         → needs_of (run_of first (seamless_join class first inputs))
         ≡ item_needs (run_items window (map needs_of (frames ∷ more)))
     unfolding seamless_join
-    run-by begin count is front dropped same =
+    run-by {begin} is front dropped same =
         ap (λ (l : List RunFrame). needs_of (drop (front_left_out_count class first (l ++ rest))
         (l ++ rest))) is
         ∙ ap (λ n. needs_of (drop n (begin ++ rest))) front
@@ -363,8 +359,7 @@ module _ (class : ClassFields) (known : IsClass class) where
     unled-run : IsUnledPiece window frames first
         → needs_of (run_of first (seamless_join class first inputs))
         ≡ item_needs (run_items window (map needs_of (frames ∷ more)))
-    unled-run unled =
-        run-by frames 0 unled.frames_are (unled-front unled) refl (rest-is (unled-alike unled))
+    unled-run unled = run-by unled.frames_are (unled-front unled) refl (rest-is (unled-alike unled))
 
     led-front : fits_behind window 0 (needs_of frames) ≡ false
         → (led : IsLedPart window frames first)
@@ -386,7 +381,7 @@ module _ (class : ClassFields) (known : IsClass class) where
         → needs_of (run_of first (seamless_join class first inputs))
         ≡ item_needs (run_items window (map needs_of (frames ∷ more)))
     led-run lacks led =
-        run-by (led.lead_in ∷ frames) 1 led.frames_are (led-front lacks led) refl
+        run-by led.frames_are (led-front lacks led) refl
         (rest-is (led-alike led))
 
     -- the same frames fit behind the first piece and behind its part

@@ -42,9 +42,9 @@ get-drop (suc m) n (item ∷ items) =
     let next : suc m + n ≡ suc (m + n) = omega arith in
     get-drop m n items ∙ sym (ap (slice_get (item ∷ items)) next)
 
-lead-first : (items : List RunItem) (n : ℕ) → n < lead_in_count items → IsLeadIn items n
-lead-first [] n lead = absurd (omega (arith, lead))
-lead-first (item ∷ items) n lead = by item.lead_in refl n lead
+lead-first : (items : List RunItem) {n : ℕ} → n < lead_in_count items → IsLeadIn items n
+lead-first [] lead = absurd (omega (arith, lead))
+lead-first (item ∷ items) {n} lead = by item.lead_in refl n lead
   where
     by : (b : Bool) → item.lead_in ≡ b → (m : ℕ) → m < cond b 1 0 → IsLeadIn (item ∷ items) m
     by true is zero one = (item, refl, is)
@@ -90,8 +90,7 @@ module _ (at : ℕ) (items : List RunItem) (part : Part) (parts : List Part) (n 
   here-or least before rest = by (nat_lt n (at + lead)) refl (nat_lt n (at + count)) refl
     where
       by : (b : Bool) → nat_lt n (at + lead) ≡ b → (c : Bool) → nat_lt n (at + count) ≡ c → IsHereOr
-      by true led c is =
-          inr (lead-first items (n - at) (omega (arith, least, ltb-true n (at + lead) led)))
+      by true led c is = inr (lead-first items (omega (arith, least, ltb-true n (at + lead) led)))
       by false own true within = inl (inl (
         ltb-false n (at + lead) own,
         omega (arith, ltb-true n (at + count) within),
@@ -101,15 +100,15 @@ module _ (at : ℕ) (items : List RunItem) (part : Part) (parts : List Part) (n 
           from-later le (rest le (later le before))
 
 -- each frame before the end of the parts is one of a part, or a lead-in among their items
-frame-or-lead : (at : ℕ) (items : List RunItem) (parts : List Part) (n : ℕ) → at ≤ n
+frame-or-lead : (at : ℕ) (items : List RunItem) (parts : List Part) {n : ℕ} → at ≤ n
     → IsBeforeEnd n (parts_written at items parts)
     → IsFrameOf n (parts_written at items parts) ⊎ IsLeadIn items (n - at)
 unfolding parts_written
-frame-or-lead at items [] n least before = absurd before
-frame-or-lead at items (part ∷ parts) n least before =
+frame-or-lead at items [] least before = absurd before
+frame-or-lead at items (part ∷ parts) {n} least before =
     let count = lead_in_count items + (part.to - part.from) in
     here-or at items part parts n least before
-    (λ behind rest. frame-or-lead (at + count) (drop count items) parts n behind rest)
+    (λ behind rest. frame-or-lead (at + count) (drop count items) parts behind rest)
 
 -- ---- positions and places
 
@@ -121,10 +120,10 @@ frame-of Two position = (position / 576, omega arith, omega arith)
 frame-of TwoFive position = (position / 576, omega arith, omega arith)
 
 -- a frame whose samples are all before those of another is before it
-times-frame : (v : Version) (a b : ℕ) → a * samples_of v < b * samples_of v → a < b
-times-frame One a b lt = omega (arith, lt)
-times-frame Two a b lt = omega (arith, lt)
-times-frame TwoFive a b lt = omega (arith, lt)
+times-frame : (v : Version) {a b : ℕ} → a * samples_of v < b * samples_of v → a < b
+times-frame One lt = omega (arith, lt)
+times-frame Two lt = omega (arith, lt)
+times-frame TwoFive lt = omega (arith, lt)
 
 module _ (class : ClassFields) where
   abbrev samples : ℕ
@@ -149,53 +148,51 @@ module _ (class : ClassFields) where
   module _ (least n : ℕ) (w : WrittenFrames) (written : List WrittenFrames)
       (both : AreInBoth least n (w ∷ written)) where
     has : HasPositions samples least n w
-    has = positions-are class.version least n w both.file.0 both.file.1 both.own.0
+    has = positions-are class.version both.file.0 both.file.1 both.own.0
 
     both-later : AreInBoth w.to (w.at + (w.to - w.from)) written
     both-later = record { file = both.file.2; own = both.own.2 }
 
-  lowest : (least n : ℕ) (written : List WrittenFrames) → AreInBoth least n written
-      → (position place : ℕ) → IsAt written position place
+  lowest : (least : ℕ) {n : ℕ} (written : List WrittenFrames) → AreInBoth least n written
+      → {position place : ℕ} → IsAt written position place
       → (least * samples ≤ position) × (n * samples ≤ place)
-  lowest least n [] both position place at = absurd at
-  lowest least n (w ∷ written) both position place (inl is) =
+  lowest least [] both at = absurd at
+  lowest least {n} (w ∷ written) both (inl is) =
       let has = has least n w written both in
       (omega (arith, has.late, is.from), omega (arith, has.at, is.is))
-  lowest least n (w ∷ written) both position place (inr at) =
+  lowest least {n} (w ∷ written) both {position} {place} (inr at) =
       let has = has least n w written both in
-      let rest = lowest w.to (w.at + (w.to - w.from)) written (both-later least n w written both)
-      position place at in
+      let rest = lowest w.to written (both-later least n w written both) at in
       (omega (arith, has.late, has.some, rest.0), omega (arith, has.at, has.next, rest.1))
 
   -- a later place is that of a later position
-  rises : (least n : ℕ) (written : List WrittenFrames) → AreInBoth least n written
-      → (p q place other : ℕ) → IsAt written p place → IsAt written q other → place ≤ other → p ≤ q
-  rises least n [] both p q place other first second le = absurd first
-  rises least n (w ∷ written) both p q place other (inl first) (inl second) le =
+  rises : (least : ℕ) {n : ℕ} (written : List WrittenFrames) → AreInBoth least n written
+      → {p q place other : ℕ} → IsAt written p place → IsAt written q other → place ≤ other → p ≤ q
+  rises least [] both first second le = absurd first
+  rises least (w ∷ written) both (inl first) (inl second) le =
       omega (arith, first.from, first.is, second.from, second.is, le)
-  rises least n (w ∷ written) both p q place other (inl first) (inr second) le =
-      let rest = lowest w.to (w.at + (w.to - w.from)) written (both-later least n w written both)
-      q other second in
+  rises least {n} (w ∷ written) both {q = q} {other = other} (inl first) (inr second) le =
+      let rest = lowest w.to written (both-later least n w written both) second in
       omega (arith, first.to, rest.0)
-  rises least n (w ∷ written) both p q place other (inr first) (inl second) le =
+  rises least {n} (w ∷ written) both {p} {place = place} (inr first) (inl second) le =
       let has = has least n w written both in
-      let rest = lowest w.to (w.at + (w.to - w.from)) written (both-later least n w written both)
-      p place first in
+      let rest = lowest w.to written (both-later least n w written both) first in
       absurd (omega (arith, has.next, rest.1, second.from, second.to, second.is, le))
-  rises least n (w ∷ written) both p q place other (inr first) (inr second) le =
-      rises w.to (w.at + (w.to - w.from)) written
-      (both-later least n w written both) p q place other
+  rises least {n} (w ∷ written) both {p} {q} {place} {other} (inr first)
+      (inr second) le =
+      rises w.to written
+      (both-later least n w written both)
       first second le
 
   -- a place in a frame of these is that of a position
-  place-at : (least n : ℕ) (written : List WrittenFrames) → AreInBoth least n written
-      → (frame place : ℕ) → frame * samples ≤ place → place < (frame + 1) * samples
+  place-at : {least n : ℕ} (written : List WrittenFrames) → AreInBoth least n written
+      → (frame : ℕ) {place : ℕ} → frame * samples ≤ place → place < (frame + 1) * samples
       → IsFrameOf frame written → (position : ℕ) × IsAt written position place
-  place-at least n [] both frame place from to is = absurd is
-  place-at least n (w ∷ written) both frame place from to (inl is) =
+  place-at [] both frame from to is = absurd is
+  place-at {least} {n} (w ∷ written) both frame {place} from to (inl is) =
       let has = has least n w written both in
-      let low = frame-times class.version w.at frame is.0 in
-      let high = frame-times class.version (frame + 1) (w.at + (w.to - w.from))
+      let low = frame-times class.version {a = w.at} {b = frame} is.0 in
+      let high = frame-times class.version {a = frame + 1} {b = w.at + (w.to - w.from)}
       (omega (arith, is.1)) in (
         w.from * samples + (place - w.at * samples),
         inl (record {
@@ -204,23 +201,24 @@ module _ (class : ClassFields) where
           is = omega (arith, low, from);
         }),
       )
-  place-at least n (w ∷ written) both frame place from to (inr is) =
-      let at = place-at w.to (w.at + (w.to - w.from)) written (both-later least n w written both)
-      frame place from to is in
+  place-at {least} {n} (w ∷ written) both frame {place} from to (inr is) =
+      let at = place-at {least = w.to} {n = w.at + (w.to - w.from)} written
+      (both-later least n w written both)
+      frame {place = place} from to is in
       (at.0, inr at.1)
 
   -- a frame that begins at the place of a position or before it is before the end of these
-  at-before : (least n : ℕ) (written : List WrittenFrames) → AreInBoth least n written
-      → (frame position place : ℕ) → frame * samples ≤ place → IsAt written position place
+  at-before : (least : ℕ) {n : ℕ} (written : List WrittenFrames) → AreInBoth least n written
+      → (frame position : ℕ) {place : ℕ} → frame * samples ≤ place → IsAt written position place
       → IsBeforeEnd frame written
-  at-before least n [] both frame position place from at = absurd at
-  at-before least n (w ∷ written) both frame position place from (inl is) =
+  at-before least [] both frame position from at = absurd at
+  at-before least {n} (w ∷ written) both frame position from (inl is) =
       let has = has least n w written both in
-      inl (times-frame class.version frame (w.at + (w.to - w.from))
+      inl (times-frame class.version
       (omega (arith, has.next, is.from, is.to, is.is, from)))
-  at-before least n (w ∷ written) both frame position place from (inr at) =
-      inr (at-before w.to (w.at + (w.to - w.from)) written (both-later least n w written both) frame
-      position place from at)
+  at-before least {n} (w ∷ written) both frame position {place} from (inr at) =
+      inr (at-before w.to written (both-later least n w written both) frame
+      position from at)
 
   -- ---- heard positions
 
@@ -232,22 +230,21 @@ module _ (class : ClassFields) where
         inl (record { from = is.from; to = is.to; is = is.is })
     heard-at (w ∷ written) position place (inr heard) = inr (heard-at written position place heard)
 
-    heard-played : (written : List WrittenFrames) (position place : ℕ)
+    heard-played : (written : List WrittenFrames) {position : ℕ} (place : ℕ)
         → IsHeardAt class played written position place
         → (played.start ≤ position) × (position < played.end)
-    heard-played [] position place heard = absurd heard
-    heard-played (w ∷ written) position place (inl is) = (is.start, is.end)
-    heard-played (w ∷ written) position place (inr heard) =
-        heard-played written position place heard
+    heard-played [] place heard = absurd heard
+    heard-played (w ∷ written) place (inl is) = (is.start, is.end)
+    heard-played (w ∷ written) {position} place (inr heard) = heard-played written place heard
 
-    at-heard : (written : List WrittenFrames) (position place : ℕ) → played.start ≤ position
+    at-heard : (written : List WrittenFrames) {position : ℕ} (place : ℕ) → played.start ≤ position
         → position < played.end → IsAt written position place
         → IsHeardAt class played written position place
-    at-heard [] position place start end at = absurd at
-    at-heard (w ∷ written) position place start end (inl is) =
+    at-heard [] place start end at = absurd at
+    at-heard (w ∷ written) place start end (inl is) =
         inl (record { from = is.from; to = is.to; start = start; end = end; is = is.is })
-    at-heard (w ∷ written) position place start end (inr at) =
-        inr (at-heard written position place start end at)
+    at-heard (w ∷ written) {position} place start end (inr at) =
+        inr (at-heard written place start end at)
 
 -- ---- the parts
 
@@ -267,7 +264,7 @@ module _ (s : SurveyFields) (first : Part) (later : List Part)
 
   both : AreInBoth s.class 0 before written
   both = record {
-    file = parts-in_file before items 0 0 (length s.frames) parts (omega arith) can.order;
+    file = parts-in_file before items (length s.frames) parts (omega arith) can.order;
     own = parts-from parts before items 0 (length s.frames) can.order;
   }
 
@@ -292,23 +289,24 @@ module _ (s : SurveyFields) (first : Part) (later : List Part)
 
     from : before ≤ frame.0
     from =
-        let least = (lowest s.class 0 before written both is.first.0 heard.first first-at).1 in
-        let next = times-frame s.class.version before (frame.0 + 1)
+        let least = (lowest s.class 0 {n = before} written both
+        {position = is.first.0} {place = heard.first} first-at).1 in
+        let next = times-frame s.class.version {a = before} {b = frame.0 + 1}
         (omega (arith, least, low, frame.2)) in
         omega (arith, next)
 
     of-frame : IsFrameOf frame.0 written → IsHeardPlace
     of-frame in_part =
-        let at = place-at s.class 0 before written both frame.0 place frame.1 frame.2 in_part in
-        let start = rises s.class 0 before written both is.first.0 at.0 heard.first place first-at
+        let at = place-at s.class written both frame.0 frame.1 frame.2 in_part in
+        let start = rises s.class 0 written both first-at
         at.1 low in
-        let end = rises s.class 0 before written both at.0 is.last.0 place is.last.1 at.1 last-at
+        let end = rises s.class 0 written both at.1 last-at
         (omega (arith, is.last.3, high)) in
         let first_played =
-        heard-played s.class played written is.first.0 heard.first is.first.1 in
-        let last_played = heard-played s.class played written is.last.0 is.last.1 is.last.2 in (
+        heard-played s.class played written heard.first is.first.1 in
+        let last_played = heard-played s.class played written is.last.1 is.last.2 in (
           at.0,
-          at-heard s.class played written at.0 place (omega (arith, start, first_played.0))
+          at-heard s.class played written place (omega (arith, start, first_played.0))
               (omega (arith, end, last_played.1)) at.1,
         )
 
@@ -326,9 +324,9 @@ module _ (s : SurveyFields) (first : Part) (later : List Part)
           to = frame.2;
         }
 
-    heard-as : (position other : ℕ) → other ≡ place
+    heard-as : (position : ℕ) {other : ℕ} → other ≡ place
         → IsHeardAt s.class played written position other → IsHeardPlace
-    heard-as position other same at =
+    heard-as position same at =
         (position, subst (IsHeardAt s.class played written position) same at)
 
     lead-between : IsInLeadIn (samples_in s.class) (removal_plan s parts) place
@@ -338,10 +336,10 @@ module _ (s : SurveyFields) (first : Part) (later : List Part)
         by : (b : Bool) → nat_lt heard.first place ≡ b → (c : Bool) → nat_lt place is.last.1 ≡ c
             → IsHeardPlace ⊎ IsLeadBetween
         by false none c e =
-            inl (heard-as is.first.0 heard.first
+            inl (heard-as is.first.0
             (omega (arith, low, ltb-false heard.first place none)) is.first.1)
         by true behind false none =
-            inl (heard-as is.last.0 is.last.1
+            inl (heard-as is.last.0
             (omega (arith, is.last.3, high, ltb-false place is.last.1 none)) is.last.2)
         by true behind true ahead = inr (
           lead,
@@ -355,8 +353,8 @@ module _ (s : SurveyFields) (first : Part) (later : List Part)
     -- between two of them
     pub nothing-else : IsHeardPlace ⊎ IsLeadBetween
     nothing-else =
-        by (frame-or-lead before items parts frame.0 from
-        (at-before s.class 0 before written both frame.0 is.last.0 is.last.1
+        by (frame-or-lead before items parts from
+        (at-before s.class 0 written both frame.0 is.last.0
         (omega (arith, frame.1, is.last.3, high)) last-at))
       where
         by : IsFrameOf frame.0 written ⊎ IsLeadIn items (frame.0 - before)
@@ -367,10 +365,10 @@ module _ (s : SurveyFields) (first : Part) (later : List Part)
 -- the law of what else is played
 pub plays-nothing_else : NothingElseIsPlayed
 plays-nothing_else stretches file s [] kept allowed o is left keeps e =
-    absurd (omega (arith, (left-parts stretches file s [] is left).some))
+    absurd (omega (arith, (left-parts stretches file is left).some))
 plays-nothing_else stretches file s (first ∷ later) kept allowed o is left keeps e =
-    let read = read-as file s (first ∷ later) o stretches kept allowed is left keeps e in
+    let read = read-as file s (first ∷ later) o stretches allowed is left keeps e in
     of-played file s (first ∷ later) o PlaysNothingElse read (λ place at.
     nothing-else (survey_without_head s) first later
-    (left-parts stretches file s (first ∷ later) is left) read.before read.heard read.at place
+    (left-parts stretches file is left) read.before read.heard read.at place
     (omega (arith, at.0)) at.1)

@@ -34,12 +34,12 @@ pub record IsReadAs (file : List ℕ) (s : SurveyFields) (parts : List Part)
       ≡ Some (played_as heard)
 
 -- something is played of a file of which something is heard
-heard-counted : (class : ClassFields) (written : List WrittenFrames) (heard : Heard)
+heard-counted : (class : ClassFields) (written : List WrittenFrames) {heard : Heard}
     (o : Option Played)
     → option_and_then (λ (p : Played). heard_of class p written) o ≡ Some heard
     → (p : Played) × (o ≡ Some p) × (heard_of class p written ≡ Some heard)
-heard-counted class written heard None none = absurd cc
-heard-counted class written heard (Some p) some = (p, refl, some)
+heard-counted class written None none = absurd cc
+heard-counted class written (Some p) some = (p, refl, some)
 
 module _ (file : List ℕ) (s : SurveyFields) (parts : List Part) (o : SurveyFields) where
   abbrev apart : SurveyFields
@@ -49,15 +49,15 @@ module _ (file : List ℕ) (s : SurveyFields) (parts : List Part) (o : SurveyFie
   head = fields_of_head file s.head
 
   -- where numbers are written, what is played of both files is known
-  pub read-as : (stretches : List (ExactPlace × ExactPlace)) (kept : Kept) (allowed : ℕ)
+  pub read-as : (stretches : List (ExactPlace × ExactPlace)) {kept : Kept} (allowed : ℕ)
       → survey_of file most_frames ≡ Ok s → parts_left stretches s ≡ Ok parts
       → removal_kept head apart parts ≡ Some kept
       → survey_of (removal_file parts head file apart) allowed ≡ Ok o → IsReadAs file s parts o
-  read-as stretches kept allowed is left keeps e =
+  read-as stretches {kept} allowed is left keeps e =
       let written = all_parts_written apart parts in
       let numbers = keep-numbers stretches file s parts kept is left keeps in
       let counts = numbers.counts allowed o e in
-      let was = heard-counted apart.class written numbers.heard
+      let was = heard-counted apart.class written
       (counted_positions head apart.class (length apart.frames)) numbers.is in
       record {
         before = was.0;
@@ -83,7 +83,7 @@ module _ (file : List ℕ) (s : SurveyFields) (parts : List Part) (o : SurveyFie
 -- the law of what is heard
 pub plays-heard : HeardIsPlayed
 plays-heard stretches file s parts kept allowed o is left keeps e =
-    let read = read-as file s parts o stretches kept allowed is left keeps e in
+    let read = read-as file s parts o stretches allowed is left keeps e in
     of-played file s parts o PlaysTheHeard read (λ position place at least.
     let within = read.at.all position place at in
     (omega (arith, within.0, least), within.1))

@@ -22,7 +22,7 @@ use Rattle.sync_survey.{proofs.SurveyedFileLemmas.survey_of-parts, specs.Faults.
 use Rattle.sync_survey.specs.Survey.{survey_of}
 
 -- the positions that a head with these numbers counts
-pub counted-by : (class : ClassFields) (info : Info) (frames delay padding : ℕ)
+pub counted-by : (class : ClassFields) (info : Info) {frames delay padding : ℕ}
     → info.frames ≡ Some frames → 1 ≤ frames → 529 ≤ padding
     → SaysNumbers delay padding info.extension
     → counted_positions (Some info) class frames ≡ Some (record {
@@ -30,8 +30,7 @@ pub counted-by : (class : ClassFields) (info : Info) (frames delay padding : ℕ
       end = frames * samples_in class + decoder_delay - padding;
     })
 unfolding counted_positions
-counted-by class info frames delay padding is some enough says =
-    grind (arith, le-leb, le-ltb, min-eq_right)
+counted-by class info is some enough says = grind (arith, le-leb, le-ltb, min-eq_right)
 
 -- the head of a written file, as it is read: it has the number of the frames, and these numbers
 pub record IsHeadRead (frames : List Frame) (delay padding : ℕ) (class : ClassFields)
@@ -57,11 +56,11 @@ module _ (class : ClassFields) (front : List (List ℕ)) (first : HeaderFields)
 
     unsealed-whole : AreInfoFields unsealed
     unsealed-whole =
-        for-whole class frames quality (extension_of head delay padding)
+        for-whole class frames quality
         (extension-length head delay padding long)
 
     whole : AreInfoFields written_info
-    whole = sealed-whole first unsealed unsealed-whole
+    whole = sealed-whole first unsealed-whole
 
     abbrev file : List ℕ
     file = laid_file front first written_info frames back
@@ -75,18 +74,18 @@ module _ (class : ClassFields) (front : List (List ℕ)) (first : HeaderFields)
       read-says =
           subst (SaysNumbers delay padding)
           (sym (laid-extension first written_info is.header whole front frames back))
-          ((frames-sealed first unsealed unsealed-whole).says delay padding
-          (made-says head delay padding long short small))
+          ((frames-sealed first unsealed-whole).says delay padding
+          (made-says head long short small))
 
       -- the head is read as it was written
-      pub head-read : (allowed : ℕ) (s : SurveyFields) → survey_of file allowed ≡ Ok s
+      pub head-read : (allowed : ℕ) {s : SurveyFields} → survey_of file allowed ≡ Ok s
           → IsHeadRead frames delay padding class file s
       unfolding laid_fields
-      head-read allowed s e =
+      head-read allowed {s} e =
           let most = length file + length frames + 1 in
           let told : laid_fields front first written_info frames back ≡ s =
-          (let both = sym (survey_fields-allowed file allowed most s (omega arith)
-          (survey_of-parts file allowed s e).1)
+          (let both = sym (survey_fields-allowed file allowed (omega arith)
+          (survey_of-parts file allowed e).1)
           ∙ laid-survey class front first written_info frames back most is (omega arith) in
           cc) in
           record {
@@ -96,7 +95,7 @@ module _ (class : ClassFields) (front : List (List ℕ)) (first : HeaderFields)
                 ∙ rows-length (frames_offset front first written_info) frames;
             class_is = ap (λ (t : SurveyFields). t.class) (sym told) ∙ is.class;
             count =
-                laid-count first written_info is.header whole front frames back (length frames) refl
+                laid-count first written_info is.header whole front frames back refl
                 few;
             says = read-says;
           }

@@ -46,10 +46,10 @@ bare-placed (f ∷ fs) (g ∷ gs) same places =
     ap₂ ◌∷◌ (ap₂ frame_at_place here place) (bare-placed fs gs more rest)
 
 -- frames that are the same in a stream and in their places are the same
-pub stream-placed : (c : ClassFields) → IsClass c → (fs gs : List Frame) → AreStreamEntries c fs
+pub stream-placed : (c : ClassFields) → IsClass c → {fs gs : List Frame} → AreStreamEntries c fs
     → AreStreamEntries c gs → (map stream_entry fs ≡ map stream_entry gs)
     × (map frame_place fs ≡ map frame_place gs) → fs ≡ gs
-stream-placed c known fs gs first second same =
+stream-placed c known {fs} {gs} first second same =
     bare-placed fs gs (bare-same c known fs gs first second same.0) same.1
 
 one-place : (b : Bool) (p : Placed) (f : Frame) → frame_place (one b p f) ≡ place_of p
@@ -105,11 +105,11 @@ frames-streamed (n ∷ needs) items (f ∷ own) rest many =
 
 -- a lead-in first, and then its part and other items
 pub lead-streamed : (header : HeaderFields) (needs : List Need) (items : List RunItem)
-    (f : StreamFrame) (own rest : List StreamFrame) → length needs ≡ length (f ∷ own)
+    {f : StreamFrame} (own rest : List StreamFrame) → length needs ≡ length (f ∷ own)
     → item_stream ((lead_in_run_item header ∷ map frame_item needs) ++ items) ((f ∷ own) ++ rest)
     ≡ (silent_lead_in f ∷ f ∷ own) ++ item_stream items rest
 unfolding item_stream
-lead-streamed header needs items f own rest many =
+lead-streamed header needs items {f} own rest many =
     ap (silent_lead_in f ∷◌) (frames-streamed needs items (f ∷ own) rest many)
 
 -- ---- the stream in the places of a plan
@@ -200,11 +200,10 @@ module _ (items : List RunItem) (frames : List Placed) (plain : AreFramePlaces f
 
   -- the frames of a plan whose lead-ins are marked are
   -- those of the same plan with frames in their place
-  pub items-streamed : (front : List Placed) (stream : List StreamFrame)
+  pub items-streamed : {front : List Placed} (stream : List StreamFrame)
       → (front ≡ []) ⊎ ((p : Placed) × (front ≡ p ∷ []) × (p.lead_in ≡ true))
       → IsFrameFirst items
       → stream_with_lead_ins (front ++ frames) (item_stream items stream)
       ≡ stream_with_lead_ins (front ++ item_places items frames) stream
-  items-streamed front stream (inl none) begins = rw none (both stream)
-  items-streamed front stream (inr lead) begins =
-      rw lead.1 (led-streamed lead.0 stream lead.2 begins)
+  items-streamed stream (inl none) begins = rw none (both stream)
+  items-streamed stream (inr lead) begins = rw lead.1 (led-streamed lead.0 stream lead.2 begins)

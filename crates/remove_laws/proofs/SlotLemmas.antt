@@ -36,10 +36,10 @@ record HasOwnPlaces (needs : List Need) (placed : List Placed) (at : ℕ) : Type
 abbrev before_needs : List Need → List Placed → ℕ
 before_needs needs placed = length placed - length needs
 
-own-alone : (needs : List Need) (placed : List Placed)
+own-alone : {needs : List Need} {placed : List Placed}
     → AreItemSlots (map (need_item own_choice) needs) placed
     → HasOwnPlaces needs placed (before_needs needs placed)
-own-alone needs placed are =
+own-alone {needs} {placed} are =
     let none : before_needs needs placed ≡ 0 = omega (
       arith,
       for_length (map (need_item own_choice) needs) placed are,
@@ -47,10 +47,10 @@ own-alone needs placed are =
     ) in
     subst (HasOwnPlaces needs placed) (sym none) (record { lead_in = tt; own = are })
 
-own-led : (needs : List Need) (p : Placed) (placed : List Placed) → p.lead_in ≡ true
+own-led : {needs : List Need} {p : Placed} {placed : List Placed} → p.lead_in ≡ true
     → AreItemSlots (map (need_item own_choice) needs) placed
     → HasOwnPlaces needs (p ∷ placed) (before_needs needs (p ∷ placed))
-own-led needs p placed lead are =
+own-led {needs} {p} {placed} lead are =
     let one : before_needs needs (p ∷ placed) ≡ 1 = omega (
       arith,
       for_length (map (need_item own_choice) needs) placed are,
@@ -63,22 +63,22 @@ own-by : (needs : List Need) (lead : Option SlotFields) (placed : List Placed)
     → HasOwnPlaces needs placed (before_needs needs placed)
 unfolding planned_items AreItemSlots
 own-by needs None placed some are =
-    own-alone needs placed
+    own-alone
     (subst (λ l. AreItemSlots l placed) (append-nil (map (need_item own_choice) needs)) are)
 own-by [] (Some slot) placed some are = absurd (omega (arith, some))
 own-by (n ∷ needs) (Some slot) [] some are = absurd are
 own-by (n ∷ needs) (Some slot) (p ∷ placed) some are =
-    own-led (n ∷ needs) p placed are.0
+    own-led are.0
     (subst (λ l. AreItemSlots l placed) (append-nil (map (need_item own_choice) (n ∷ needs)))
     are.2)
 
-own-places : (window : ℕ) (needs : List Need) (leads : List (Option SlotFields))
-    (placed : List Placed) → 0 < length needs → AreLeadIns window own_choice (needs ∷ []) leads
+own-places : (window : ℕ) {needs : List Need} (leads : List (Option SlotFields))
+    {placed : List Placed} → 0 < length needs → AreLeadIns window own_choice (needs ∷ []) leads
     → AreItemSlots (all_items own_choice (needs ∷ []) leads) placed
     → HasOwnPlaces needs placed (before_needs needs placed)
 unfolding AreLeadIns all_items
-own-places window needs [] placed some leads are = absurd leads
-own-places window needs (lead ∷ leads) placed some both are = own-by needs lead placed some are
+own-places window [] some leads are = absurd leads
+own-places window {needs} (lead ∷ leads) {placed} some both are = own-by needs lead placed some are
 
 -- ---- the parts
 
@@ -106,24 +106,24 @@ module _ (s : SurveyFields) (known : IsClass s.class) where
   no-places [] are = refl
   no-places (p ∷ placed) are = absurd are
 
-  later-marked : (before parts : List Part) (run : List Need) (placed : List Placed)
+  later-marked : (before parts : List Part) {run : List Need} (placed : List Placed)
       → 1 ≤ length before → needs_written s before ≡ run
       → All (IsPartNeeds s.class) (needs_in parts)
       → slots (items_behind window run (needs_in parts)) placed
       → AreLaterPlaces s before parts
       (item_places (items_behind window run (needs_in parts)) placed)
   unfolding items_behind item_places
-  later-marked before [] run placed some is all are = no-places placed are
-  later-marked before (part ∷ parts) run placed some is all are =
+  later-marked before [] placed some is all are = no-places placed are
+  later-marked before (part ∷ parts) {run} placed some is all are =
       let needs = part_needs_of s part in
       let items = run_part_items window run needs in
       let later = items_behind window (run ++ item_needs items) (needs_in parts) in
-      let two = in-two (map (need_item own_choice) (item_needs items))
-      (map (need_item own_choice) (item_needs later)) placed (two-slots items later placed are) in
+      let two = in-two (map (need_item own_choice) (item_needs items)) placed
+      (two-slots items later placed are) in
       let long : length two.first ≡ length items =
       two.long ∙ length-map (item_needs items) (need_item own_choice)
       ∙ length-map items (λ (i : RunItem). i.need) in
-      let here = part-marked s.class run needs two.first known (all 0 needs (omega arith))
+      let here = part-marked run needs two.first known (all 0 needs (omega arith))
       two.firsts in
       let next : needs_written s (before ++ part ∷ []) ≡ run ++ item_needs items =
       ap item_needs (left-more s before part some)
@@ -138,7 +138,7 @@ module _ (s : SurveyFields) (known : IsClass s.class) where
           stand = subst (λ r. AreJoinedPlaces needs (item_places items two.first)
               ⊎ AreLedPlaces window r needs (item_places items two.first)) (sym is) here;
         },
-        later-marked (before ++ part ∷ []) parts (run ++ item_needs items) two.second
+        later-marked (before ++ part ∷ []) parts two.second
             (omega (arith, length-append before (part ∷ []))) next
             (λ k d within. all (suc k) d (omega (arith, within))) two.seconds,
       )
@@ -167,7 +167,7 @@ module _ (s : SurveyFields) (first : Part) (later : List Part)
       let long : before_needs (item_needs items) plan ≡ places_before items plan =
       ap (λ n. length plan - n) (length-map items (λ (i : RunItem). i.need)) in
       subst (HasOwnPlaces (item_needs items) plan) long
-      (own-places (window_of s.class.version) (item_needs items) planned.lead_ins plan
+      (own-places (window_of s.class.version) planned.lead_ins
       (run-needs s (first ∷ later) can).some planned.alone planned.whole.slots)
 
   abbrev needs : List Need
@@ -185,8 +185,7 @@ module _ (s : SurveyFields) (first : Part) (later : List Part)
 
   two : AreInTwo (map (need_item own_choice) (item_needs (map frame_item needs)))
       (map (need_item own_choice) (item_needs behind)) frames
-  two = in-two (map (need_item own_choice) (item_needs (map frame_item needs)))
-      (map (need_item own_choice) (item_needs behind)) frames
+  two = in-two (map (need_item own_choice) (item_needs (map frame_item needs))) frames
       (two-slots s known (map frame_item needs) behind frames
       (subst (λ l. AreItemSlots (map (need_item own_choice) (item_needs l)) frames) items-are
       own.own))
@@ -210,7 +209,7 @@ module _ (s : SurveyFields) (first : Part) (later : List Part)
             (item_places (map frame_item needs) two.first) (item_places behind two.second));
         lead_in = own.lead_in;
         frames = own-marked needs two.first two.firsts;
-        others = later-marked s known (first ∷ []) later needs two.second (omega arith)
+        others = later-marked s known (first ∷ []) later two.second (omega arith)
             (ap item_needs (left-one s first) ∙ needs-items needs)
             (λ k d within. all (suc k) d (omega (arith, within))) two.seconds;
       }
@@ -219,4 +218,4 @@ module _ (s : SurveyFields) (first : Part) (later : List Part)
 pub keep-slots : FramesKeepTheirSlots
 keep-slots stretches file s first later is left =
     parts-keep (survey_without_head s) first later
-    (left-parts stretches file s (first ∷ later) is left)
+    (left-parts stretches file is left)

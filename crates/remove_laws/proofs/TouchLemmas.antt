@@ -53,11 +53,11 @@ module _ (frames : ℕ) (a b c : ℕ) (behind : List (ℕ × ℕ)) where
   none-touch at (s ∷ before) none = grind (arith, none-touch s.1 before)
 
   -- accepted stretches have frames of the file
-  pub accepted-touch : (before : List (ℕ × ℕ)) (parts : List Part)
+  pub accepted-touch : (before : List (ℕ × ℕ)) {parts : List Part}
       → staying_parts frames (before ++ (a, b) ∷ (b, c) ∷ behind) ≡ Ok parts
       → (a < b) × (b < c) × (c ≤ frames)
   unfolding staying_parts
-  accepted-touch before parts is =
+  accepted-touch before {parts} is =
       none-touch 0 before (ordered (disorder_from frames 0 _) (staying_from frames 0 _) is)
     where
       ordered : (o : Option (ℕ × ℕ)) (all : List Part) → parts_in_order frames o all ≡ Ok parts
@@ -104,14 +104,14 @@ module _ (pair : Neighbours) where
         (numbers pair.before))
         ∙ sym (ap (λ l. parts_or_range frames (staying_parts frames l)) as-one)
 
-    do-touch : (parts : List Part) → frame_named s pair.first.1 ≡ frame_named s pair.second.0
+    do-touch : {parts : List Part} → frame_named s pair.first.1 ≡ frame_named s pair.second.0
         → parts_left (stretches_as_two pair) s ≡ Ok parts → DoTouch s pair
     unfolding parts_left
-    do-touch parts meet is =
+    do-touch {parts} meet is =
         let found =
-        ok-parts frames (staying_parts frames (numbers (stretches_as_two pair))) parts is in
+        ok-parts frames (staying_parts frames (numbers (stretches_as_two pair))) is in
         let order = accepted-touch frames (frame_named s pair.first.0) (frame_named s pair.first.1)
-        (frame_named s pair.second.1) (numbers pair.behind) (numbers pair.before) parts
+        (frame_named s pair.second.1) (numbers pair.behind) (numbers pair.before)
         (subst (λ l. staying_parts frames l ≡ Ok parts) (as-two meet) found) in
         record {
           meet = meet;
@@ -122,11 +122,11 @@ module _ (pair : Neighbours) where
 
   -- ---- the commands
 
-  same-made : (s : SurveyFields) (file : List ℕ) → DoTouch s pair
+  same-made : {s : SurveyFields} (file : List ℕ) → DoTouch s pair
       → remove_making (stretches_as_two pair) file s
       ≡ remove_making (stretches_as_one pair) file s
   unfolding remove_making
-  same-made s file touch =
+  same-made {s} file touch =
       ap (λ r. then_made r (λ parts. Ok (removal_file parts (fields_of_head file s.head) file
       (survey_without_head s)))) (same-left s touch)
 
@@ -137,7 +137,7 @@ module _ (pair : Neighbours) where
         → ((s : SurveyFields) → r ≡ Ok s → DoTouch s pair)
         → surveyed_result (remove_making (stretches_as_two pair)) file r
         ≡ surveyed_result (remove_making (stretches_as_one pair)) file r
-    surveyed file (Ok s) all = same-made s file (all s refl)
+    surveyed file (Ok s) all = same-made file (all s refl)
     surveyed file (Err fault) all = refl
 
     made-of : (o : Option (List ℕ)) → files input ≡ o
@@ -159,6 +159,6 @@ module _ (pair : Neighbours) where
 pub touching-one : TouchingStretchesAreOne
 touching-one pair = record {
   parts = λ s touch. same-left pair s touch;
-  accepted = λ s parts meet is. do-touch pair s parts meet is;
+  accepted = λ s parts meet is. do-touch pair s meet is;
   commands = λ input output files touch. same-commands pair input output files touch;
 }

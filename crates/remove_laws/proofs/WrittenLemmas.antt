@@ -46,15 +46,15 @@ ends-append n [] ys first second = second
 ends-append n (x ∷ xs) ys first second = (first.0, ends-append n xs ys first.1 second)
 
 -- a position of frames is within them
-place-within : (v : Version) (n end from to at : ℕ) → at + (to - from) ≤ n
+place-within : (v : Version) {n : ℕ} (end from to at : ℕ) → at + (to - from) ≤ n
     → at * samples_of v + (min end (to * samples_of v) - from * samples_of v) ≤ n * samples_of v
-place-within One n end from to at within = grind arith
-place-within Two n end from to at within = grind arith
-place-within TwoFive n end from to at within = grind arith
+place-within One end from to at within = grind arith
+place-within Two end from to at within = grind arith
+place-within TwoFive end from to at within = grind arith
 
-one-ends : (v : Version) (n : ℕ) (played : Played) (w : WrittenFrames)
+one-ends : (v : Version) {n : ℕ} (played : Played) (w : WrittenFrames)
     → w.at + (w.to - w.from) ≤ n → EndBefore (n * samples_of v) (heard_in (samples_of v) played w)
-one-ends v n played w within =
+one-ends v {n} played w within =
     by (nat_lt (first_in (samples_of v) played w) (end_in (samples_of v) played w))
   where
     some : List Heard
@@ -64,7 +64,7 @@ one-ends v n played w within =
     } ∷ []
 
     by : (b : Bool) → EndBefore (n * samples_of v) (cond b some [])
-    by true = (place-within v n played.end w.from w.to w.at within, tt)
+    by true = (place-within v played.end w.from w.to w.at within, tt)
     by false = tt
 
 all-end : (v : Version) (n : ℕ) (played : Played) (written : List WrittenFrames)
@@ -73,19 +73,19 @@ all-end : (v : Version) (n : ℕ) (played : Played) (written : List WrittenFrame
 all-end v n played [] before = tt
 all-end v n played (w ∷ written) before =
     ends-append (n * samples_of v) (heard_in (samples_of v) played w)
-    (flat_map (heard_in (samples_of v) played) written) (one-ends v n played w before.0)
+    (flat_map (heard_in (samples_of v) played) written) (one-ends v played w before.0)
     (all-end v n played written before.1)
 
-last-ends : (n end : ℕ) (heard : List Heard) → end ≤ n → EndBefore n heard
+last-ends : {n end : ℕ} (heard : List Heard) → end ≤ n → EndBefore n heard
     → end_of_last end heard ≤ n
-last-ends n end [] least before = least
-last-ends n end (h ∷ heard) least before = last-ends n h.end heard before.0 before.1
+last-ends [] least before = least
+last-ends {n} (h ∷ heard) least before = last-ends heard before.0 before.1
 
 last-within : (n : ℕ) (heard : List Heard) → EndBefore n heard
     → IfSome (first_to_last heard) (λ (h : Heard). h.end ≤ n)
 unfolding first_to_last
 last-within n [] before = tt
-last-within n (h ∷ heard) before = last-ends n h.end heard before.0 before.1
+last-within n (h ∷ heard) before = last-ends heard before.0 before.1
 
 -- what is heard of frames ends where they do or earlier
 pub heard-within : (class : ClassFields) (n : ℕ) (played : Played) (written : List WrittenFrames)
@@ -103,10 +103,10 @@ record HasItems (needs : List Need) (items : List RunItem) : Type 0 where
   some : 0 < length items
   many : length items ≡ lead_in_count items + length needs
 
-part-many : (class : ClassFields) (run needs : List Need) → IsClass class
+part-many : {class : ClassFields} (run needs : List Need) → IsClass class
     → IsPartNeeds class needs → HasItems needs (run_part_items (window_of class.version) run needs)
-part-many class run [] known part = absurd (omega (arith, part.some))
-part-many class run (first ∷ needs) known part =
+part-many run [] known part = absurd (omega (arith, part.some))
+part-many {class} run (first ∷ needs) known part =
     subst (HasItems (first ∷ needs)) (sym (run_part_items-is window run first needs))
     (at (join_slot window run first needs))
   where
@@ -115,7 +115,7 @@ part-many class run (first ∷ needs) known part =
 
     at : (o : Option SlotFields) → HasItems (first ∷ needs) (joined_in window first needs o)
     at None =
-        let lead = has-lead-in class first needs known part in
+        let lead = has-lead-in known part in
         subst (λ o. HasItems (first ∷ needs)
         (option_to_list (option_map lead_in_run_item o) ++ map frame_item (first ∷ needs)))
         (sym lead.is)
@@ -138,15 +138,15 @@ parts-from (part ∷ parts) at items least frames order =
     )
 
 -- they are written before the end of their items
-items-before : (parts : List Part) (at most : ℕ) (items : List RunItem)
+items-before : (parts : List Part) (at : ℕ) {most : ℕ} (items : List RunItem)
     → AreItemsOfParts items parts → at + length items ≤ most
     → AreWrittenBefore most (parts_written at items parts)
 unfolding parts_written AreItemsOfParts
-items-before [] at most items are within = tt
-items-before (part ∷ parts) at most items are within =
+items-before [] at items are within = tt
+items-before (part ∷ parts) at {most} items are within =
     let count = lead_in_count items + (part.to - part.from) in (
       omega (arith, are.1, within),
-      items-before parts (at + count) most (drop count items) are.2
+      items-before parts (at + count) (drop count items) are.2
           (omega (arith, length-drop count items, are.1, within)),
     )
 
@@ -185,7 +185,7 @@ module _ (s : SurveyFields) (known : IsClass s.class) where
       let needs = part_needs_of s part in
       let items = run_part_items window run needs in
       let later = items_behind window (run ++ item_needs items) (needs_in parts) in
-      let has = part-many s.class run needs known (all 0 needs (omega arith)) in
+      let has = part-many run needs known (all 0 needs (omega arith)) in
       part-and items later part parts has.some
       (has.many ∙ ap (λ n. lead_in_count items + n) (own-length s part order.2))
       (later-items (part.to + 1) (run ++ item_needs items) parts order.3
@@ -199,7 +199,7 @@ module _ (s : SurveyFields) (known : IsClass s.class) where
   later-few least run (part ∷ parts) within order all =
       let items = run_part_items window run (part_needs_of s part) in
       let later = items_behind window (run ++ item_needs items) (needs_in parts) in
-      let has = part-many s.class run (part_needs_of s part) known
+      let has = part-many run (part_needs_of s part) known
       (all 0 (part_needs_of s part) (omega arith)) in
       omega (
         arith,
@@ -256,5 +256,5 @@ module _ (s : SurveyFields) (known : IsClass s.class) where
       → AreWrittenBefore (at + length (items_left s (first ∷ later)))
       (parts_written at (items_left s (first ∷ later)) (first ∷ later))
   parts-before at first later order all =
-      items-before (first ∷ later) at (at + length (items_left s (first ∷ later)))
+      items-before (first ∷ later) at
       (items_left s (first ∷ later)) (parts-items first later order all) (omega arith)

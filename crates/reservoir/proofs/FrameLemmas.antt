@@ -1,7 +1,6 @@
 -- How far back the main data of a frame reach.
 use Rattle.std.proofs.Common.{append-nil, append_assoc, arith, cond, eqb, false, List, lit≤, refl}
 use Rattle.std.proofs.Common.{slice_index, subst, sym, true, ℕ, [], ◌++◌, ◌^◌, ◌∷◌, ◌≤◌}
-use Rattle.circular_buffer.specs.Buffer.{keep_last}
 use Rattle.frame_header.proofs.{HeaderLemmas.IsClass-class_of, SlotLemmas.area-most}
 use Rattle.frame_header.specs.{Tables.class_of, declared.version.Version.Version}
 use Rattle.frame_header.specs.declared.version.Version.TheVariants.{One, Two, TwoFive}
@@ -28,20 +27,20 @@ pub frames-held : FramesAreHeld
 frames-held h s is fits =
     omega (
       arith,
-      area-most (class_of h) h.slot h.protected (IsClass-class_of h is) is.slot,
+      area-most (class_of h) h.slot h.protected (IsClass-class_of is) is.slot,
       begin_width (class_of h).version (class_of h).channels,
       fits.main_data_begin,
     )
 
 -- a window over some main data is over these and all areas pushed after them
-held_on : (areas : List (List ℕ)) (held main : List ℕ) → IsWindowOver held main
+held_on : (areas : List (List ℕ)) {held : List ℕ} (main : List ℕ) → IsWindowOver held main
     → IsWindowOver (held_after_areas held areas) (main ++ joined_areas areas)
-held_on [] held main is = subst (IsWindowOver held) (sym (append-nil main)) is
-held_on (area ∷ areas) held main is =
+held_on [] {held} main is = subst (IsWindowOver held) (sym (append-nil main)) is
+held_on (area ∷ areas) {held} main is =
     subst (IsWindowOver (held_after_areas held (area ∷ areas)))
     (append_assoc main area (joined_areas areas))
-    (held_on areas (keep_last 2048 (held ++ area)) (main ++ area) (window-more held main area is))
+    (held_on areas (main ++ area) (window-more main area is))
 
 -- areas pushed in order leave the window over all of them
 pub areas-held : AreasAreHeld
-areas-held areas = held_on areas [] [] refl
+areas-held areas = held_on areas [] refl

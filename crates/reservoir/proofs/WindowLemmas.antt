@@ -35,14 +35,14 @@ last_more n main area =
     (omega (arith, held, length-append (drop (length main - n) main) area, length-append main area))
 
 -- after an area is pushed, a window over main data is over these and the area
-pub window-more : (held main area : List ℕ) → IsWindowOver held main
+pub window-more : {held : List ℕ} (main area : List ℕ) → IsWindowOver held main
     → IsWindowOver (keep_last 2048 (held ++ area)) (main ++ area)
-window-more held main area is =
+window-more main area is =
     ap (λ bytes. keep_last 2048 (bytes ++ area)) is ∙ last_more 2048 main area
 
 -- what a window over main data holds is the end of them
-pub window-last : (held main : List ℕ) → IsWindowOver held main → AreLastOf held main
-window-last held main is =
+pub window-last : {held main : List ℕ} → IsWindowOver held main → AreLastOf held main
+window-last {main = main} is =
     let least = length main - 2048 in (
       take least main,
       sym (take-append-drop least main) ∙ ap (λ (xs : List ℕ). take least main ++ xs) (sym is),
@@ -62,7 +62,7 @@ cleared n unused byte all =
     bits-one (byte / 2 ^ unused * 2 ^ unused % 256)
     ∙ bits_of-mod 8 (byte / 2 ^ unused * 2 ^ unused)
     ∙ ap₂ bits_of (sym all) (omega arith)
-    ∙ bits_of-cat n unused (byte / 2 ^ unused) 0 (pow_pos unused)
+    ∙ bits_of-cat n unused (byte / 2 ^ unused) (pow_pos unused)
     ∙ ap₂ (λ (xs ys : List ℕ). xs ++ ys) (sym (take-bits_of n unused byte)
     ∙ ap (λ k. take n (bits_of k byte)) all) (bits_of-zeros unused)
   where
@@ -71,21 +71,21 @@ cleared n unused byte all =
     pow_pos (suc k) = omega (arith, pow_pos k)
 
 -- the first bits of a list are the first bits of its first byte
-take_first : (n byte : ℕ) (bytes : List ℕ) → n ≤ 8
+take_first : {n : ℕ} (byte : ℕ) (bytes : List ℕ) → n ≤ 8
     → take n (bits (byte ∷ bytes)) ≡ take n (bits_of 8 byte)
-take_first n byte bytes few =
+take_first {n} byte bytes few =
     ap (take n) (bits-cons byte bytes)
     ∙ take-append-le n (bits_of 8 byte) (bits bytes) (omega (arith, few, length-bits_of 8 byte))
 
 -- the last bits of main data are packed in a byte whose other bits are cleared
-pub last-packed : (held : List ℕ) (at n unused byte : ℕ) → at < length held
+pub last-packed : (held : List ℕ) {at n : ℕ} (unused : ℕ) {byte : ℕ} → at < length held
     → byte ≡ get_or held at 0 → n + unused ≡ 8 → 0 < n →
     AreBitsPacked (byte / 2 ^ unused * 2 ^ unused % 256 ∷ []) n (main_bits held at n)
-last-packed held at n unused byte within is all some =
+last-packed held {at} {n} unused {byte} within is all some =
     let first : main_bits held at n ≡ take n (bits_of 8 byte) =
     ap (take n) (drop-bits at held
     ∙ ap bits (drop-cons held at 0 within ∙ ap (λ b. b ∷ drop (suc at) held) (sym is)))
-    ∙ take_first n byte (drop (suc at) held) (omega (arith, all)) in
+    ∙ take_first byte (drop (suc at) held) (omega (arith, all)) in
     record {
       few = omega (arith, all, some);
       same = cleared n unused byte all
@@ -93,8 +93,9 @@ last-packed held at n unused byte within is all some =
     }
 
 -- no bits are packed into no bytes
-pub none-packed : (held : List ℕ) (at n : ℕ) → n ≡ 0 → AreBitsPacked [] n (main_bits held at n)
-none-packed held at n none = record {
+pub none-packed : (held : List ℕ) (at : ℕ) {n : ℕ} → n ≡ 0
+    → AreBitsPacked [] n (main_bits held at n)
+none-packed held at none = record {
   few = omega (arith, none);
   same =
       bits-nil ∙ ap (λ k. take k (drop (8 * at) (bits held)) ++ replicate (8 * 0 - k) 0) (sym none);
@@ -161,21 +162,22 @@ packed held main more whole last from at count rest n is place all fits same las
 -- ---- two joined lists
 
 -- of n items of two lists the first list has as many as it can, and the second has the rest
-of_both : (n most : ℕ) (P : ℕ → ℕ → Type 0) → (n < most → P n 0) → (most ≤ n → P most (n - most))
+of_both : {n most : ℕ} (P : ℕ → ℕ → Type 0) → (n < most → P n 0) → (most ≤ n → P most (n - most))
     → P (min n most) (n - min n most)
-of_both n most P within past = elim (cases_lt n most) as (λ _. P (min n most) (n - min n most)) [
-  | inl less ↦
-      let least : min n most ≡ n = min-eq_left (omega arith) in
-      let none : n - min n most ≡ 0 = omega (arith, least) in
-      rw (none, least) (within less)
-  | inr more ↦ let least : min n most ≡ most = min-eq_right more in rw least (past more)
-]
+of_both {n} {most} P within past =
+    elim (cases_lt n most) as (λ _. P (min n most) (n - min n most)) [
+      | inl less ↦
+          let least : min n most ≡ n = min-eq_left (omega arith) in
+          let none : n - min n most ≡ 0 = omega (arith, least) in
+          rw (none, least) (within less)
+      | inr more ↦ let least : min n most ≡ most = min-eq_right more in rw least (past more)
+    ]
 
 -- dropping items from two joined lists drops them from the first, and what remains from the second
 pub drop_two : (from : ℕ) (xs ys : List ℕ)
     → drop from (xs ++ ys) ≡ drop (min from (length xs)) xs ++ drop (from - min from (length xs)) ys
 drop_two from xs ys =
-    of_both from (length xs) (λ m k. drop from (xs ++ ys) ≡ drop m xs ++ drop k ys)
+    of_both (λ m k. drop from (xs ++ ys) ≡ drop m xs ++ drop k ys)
     (λ within. drop-append-le from xs ys (omega arith))
     (λ past. let split : from ≡ length xs + (from - length xs) = omega arith in rw (drop-length xs)
     (ap (λ k. drop k (xs ++ ys)) split ∙ drop-append-add xs ys (from - length xs)))
@@ -184,28 +186,29 @@ drop_two from xs ys =
 pub take_two : (count : ℕ) (xs ys : List ℕ) → take count (xs ++ ys)
     ≡ take (min count (length xs)) xs ++ take (count - min count (length xs)) ys
 take_two count xs ys =
-    of_both count (length xs) (λ m k. take count (xs ++ ys) ≡ take m xs ++ take k ys)
+    of_both (λ m k. take count (xs ++ ys) ≡ take m xs ++ take k ys)
     (λ within. take-append-le count xs ys (omega arith) ∙ sym (append-nil (take count xs)))
     (λ past. let split : count ≡ length xs + (count - length xs) = omega arith in rw (take-length
     xs) (ap (λ k. take k (xs ++ ys)) split ∙ take-append-add xs ys (count - length xs)))
 
 -- a part of two joined lists is a part of the first, and as much of the second as remains
-pub part_of_two : (from count passed first : ℕ) (xs ys front back : List ℕ) → front ≡ drop passed xs
+pub part_of_two : (from count : ℕ) {passed first : ℕ} (xs ys : List ℕ) {front back : List ℕ}
+    → front ≡ drop passed xs
     →
     back ≡ drop (from - passed) ys → passed ≡ min from (length xs)
     → first ≡ min count (length front) →
     take first front ++ take (count - first) back ≡ take count (drop from (xs ++ ys))
-part_of_two from count passed first xs ys front back fronts backs passes firsts =
+part_of_two from count xs ys fronts backs passes firsts =
     rw (firsts, fronts, backs, passes)
     (sym (ap (take count) (drop_two from xs ys)
     ∙ take_two count (drop (min from (length xs)) xs) (drop (from - min from (length xs)) ys)))
 
 -- the same for given parts, with the place by the lengths
-pub part_past : (from passed first count : ℕ) (xs ys part more : List ℕ)
+pub part_past : (from : ℕ) {passed first : ℕ} (count : ℕ) (xs ys : List ℕ) {part more : List ℕ}
     → passed ≡ min from (length xs) → first ≡ min count (length xs - passed)
     → part ≡ take first (drop passed xs) → more ≡ take (count - first) (drop (from - passed) ys)
     → part ++ more ≡ take count (drop from (xs ++ ys))
-part_past from passed first count xs ys part more passes firsts parts mores =
+part_past from {passed} {first} count xs ys passes firsts parts mores =
     ap₂ (λ (ps qs : List ℕ). ps ++ qs) parts mores
-    ∙ part_of_two from count passed first xs ys (drop passed xs) (drop (from - passed) ys) refl refl
+    ∙ part_of_two from count xs ys refl refl
     passes (firsts ∙ ap (min count) (sym (length-drop passed xs)))

@@ -15,12 +15,12 @@ use Rattle.sync_survey.specs.declared.rows.ReservoirState.{ReservoirState}
 -- ---- a sound frame, by numbers
 
 -- the main data of a sound frame begin after those before them, and end within its own area
-pub sound_within : (place ended : ℕ) (r : Row) → is_sound place ended r ≡ true
+pub sound_within : {place ended : ℕ} {r : Row} → is_sound place ended r ≡ true
     → Stands place ended r
-sound_within place ended r is = grind (arith, and_parts, ltb-false, not-true)
+sound_within is = grind (arith, and_parts, ltb-false, not-true)
 
-within_sound : (place ended : ℕ) (r : Row) → Stands place ended r → is_sound place ended r ≡ true
-within_sound place ended r is = grind (arith, le-ltb)
+within_sound : {place ended : ℕ} {r : Row} → Stands place ended r → is_sound place ended r ≡ true
+within_sound is = grind (arith, le-ltb)
 
 -- ---- one more frame
 
@@ -35,9 +35,9 @@ module _ (head : Option Head) where
   kept_none = grind (arith, place-none)
 
   -- after a gap the frames kept so far are the same, and the next run begins without areas
-  pub kept_gap : (rows : List Row) (b : ReservoirState) → AreKeptTo head rows b
+  pub kept_gap : {rows : List Row} {b : ReservoirState} → AreKeptTo head rows b
       → AreKeptTo head rows empty_state
-  kept_gap rows b kept = record {
+  kept_gap {rows} kept = record {
     frames = kept.frames;
     base = place head rows (length rows);
     place_is = omega arith;
@@ -46,12 +46,12 @@ module _ (head : Option Head) where
   }
 
   -- where the main data end after a frame
-  end_by : (base now ended : ℕ) (b : ReservoirState) (r : Row) (sound silent : Bool)
+  end_by : (base : ℕ) {now ended : ℕ} (b : ReservoirState) (r : Row) {sound silent : Bool}
       → is_sound b.place b.ended r ≡ sound → is_silent r ≡ silent → now ≡ base + b.place
       → ended ≤ base + b.ended → ended ≤ now → (cond (not sound || silent) ended (end_of_data now r)
       ≤ base + cond (sound && not silent) (end_of_data b.place r) b.ended)
       × (cond (not sound || silent) ended (end_of_data now r) ≤ now + own_area r.header)
-  end_by base now ended b r sound silent is other at low high = grind arith
+  end_by base b r is other at low high = grind arith
 
   module _ (rows : List Row) (b : ReservoirState) (kept : AreKeptTo head rows b) (r : Row) where
     abbrev marked_one : Row
@@ -64,14 +64,14 @@ module _ (head : Option Head) where
     last_kept : marked_one.lost ≡ false → is_sound (place head (rows ++ marked_one ∷ [])
         (length rows)) (end_of_kept head (rows ++ marked_one ∷ []) (length rows)) marked_one ≡ true
     last_kept mark =
-        ap₂ (λ m n. is_sound m n r) (place-more head rows (marked_one ∷ []) (length rows)
+        ap₂ (λ m n. is_sound m n r) (place-more head rows (marked_one ∷ [])
         (omega arith)) (kept_ends.more rows (marked_one ∷ []) (length rows) (omega arith))
         ∙ sound_by mark
 
     each_kept : AreKeptWell head (rows ++ marked_one ∷ [])
     each_kept =
         each_push (IsKeptWell head (rows ++ marked_one ∷ [])) rows marked_one (λ i q before found.
-        let place_is = place-more head rows (marked_one ∷ []) i (omega (arith, before)) in
+        let place_is = place-more head rows (marked_one ∷ []) {i = i} (omega (arith, before)) in
         let end_is = kept_ends.more rows (marked_one ∷ []) i (omega (arith, before)) in
         let is = kept.frames i q found in
         record {
@@ -81,7 +81,7 @@ module _ (head : Option Head) where
         (record {
           before = omega (
             arith,
-            place-more head rows (marked_one ∷ []) (length rows) (omega arith),
+            place-more head rows (marked_one ∷ []) {i = length rows} (omega arith),
             kept_ends.more rows (marked_one ∷ []) (length rows) (omega arith),
             kept.within,
           );
@@ -91,9 +91,7 @@ module _ (head : Option Head) where
     -- the next frame is added to the frames kept so far
     pub kept_frame : AreKeptTo head (rows ++ marked_one ∷ []) (state_after_frame b r)
     kept_frame =
-        let ends = end_by kept.base (place head rows (length rows))
-        (end_of_kept head rows (length rows)) b r (is_sound b.place b.ended r)
-        (is_silent r) refl refl kept.place_is kept.ended_is kept.within in
+        let ends = end_by kept.base b r refl refl kept.place_is kept.ended_is kept.within in
         record {
           frames = each_kept;
           base = kept.base;

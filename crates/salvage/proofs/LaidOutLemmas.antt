@@ -41,37 +41,37 @@ use Rattle.sync_survey.specs.declared.survey_fault.SurveyFault.{SurveyFault, The
 
 -- ---- things in order from an earlier offset too
 
-rows-earlier : (from later : ℕ) (rows : List Row) (to : ℕ) → from ≤ later
+rows-earlier : {from later : ℕ} (rows : List Row) (to : ℕ) → from ≤ later
     → FramesAreLaid later rows to → FramesAreLaid from rows to
-rows-earlier from later [] to low laid = omega (arith, low, laid)
-rows-earlier from later (r ∷ rows) to low laid = (omega (arith, low, laid.0), laid.1, laid.2)
+rows-earlier [] to low laid = omega (arith, low, laid)
+rows-earlier (r ∷ rows) to low laid = (omega (arith, low, laid.0), laid.1, laid.2)
 
-blocks-earlier : (from later : ℕ) (blocks : List Piece) (to : ℕ) → from ≤ later
+blocks-earlier : {from later : ℕ} (blocks : List Piece) (to : ℕ) → from ≤ later
     → BlocksAreLaid later blocks to → BlocksAreLaid from blocks to
-blocks-earlier from later [] to low laid = omega (arith, low, laid)
-blocks-earlier from later (b ∷ blocks) to low laid = (omega (arith, low, laid.0), laid.1)
+blocks-earlier [] to low laid = omega (arith, low, laid)
+blocks-earlier (b ∷ blocks) to low laid = (omega (arith, low, laid.0), laid.1)
 
-gaps-earlier : (from later : ℕ) (gaps : List Gap) (to : ℕ) → from ≤ later
+gaps-earlier : {from later : ℕ} (gaps : List Gap) (to : ℕ) → from ≤ later
     → GapsAreLaid later gaps to → GapsAreLaid from gaps to
-gaps-earlier from later [] to low laid = omega (arith, low, laid)
-gaps-earlier from later (g ∷ gaps) to low laid = (omega (arith, low, laid.0), laid.1, laid.2)
+gaps-earlier [] to low laid = omega (arith, low, laid)
+gaps-earlier (g ∷ gaps) to low laid = (omega (arith, low, laid.0), laid.1, laid.2)
 
 -- ---- a thing that is met
 
 -- an item that is read passes the test of what is read
-read-by : (file : List ℕ) (role : Role) (at : ℕ) (o : Option Item) (item : Item)
+read-by : (file : List ℕ) (role : Role) (at : ℕ) (o : Option Item) {item : Item}
     → item_if_read file role at o ≡ Some item → is_item_read file role at item ≡ true
-read-by file role at o item e = grind arith
+read-by file role at o e = grind arith
 
-frame-class : (file : List ℕ) (class : ClassFields) (at : ℕ) (h : HeaderFields)
+frame-class : (file : List ℕ) {class : ClassFields} (at : ℕ) {h : HeaderFields}
     → item_read file (Later class) at ≡ Some (Frame h) → class_of h ≡ class
 unfolding item_read
-frame-class file class at h e =
-    same_class-is (class_of h) class (and_parts _ _ (read-by file (Later class) at _ (Frame h) e)).0
+frame-class file {class} at {h} e =
+    same_class-is (and_parts _ _ (read-by file (Later class) at _ e)).0
 
-frame-known : (file : List ℕ) (class : ClassFields) (at : ℕ) (h : HeaderFields)
+frame-known : (file : List ℕ) (class : ClassFields) (at : ℕ) {h : HeaderFields}
     → item_read file (Later class) at ≡ Some (Frame h) → IsHeader h
-frame-known file class at h e = header_front-in_range (drop at file) h
+frame-known file class at {h} e = header_front-in_range (drop at file)
     (stands-at file at (Frame h) (item_read-is file (Later class) at (Frame h) e).is)
 
 module _ (file : List ℕ) (class : ClassFields) where
@@ -80,13 +80,13 @@ module _ (file : List ℕ) (class : ClassFields) where
   IsMet at (IsItem item) = item_read file (Later class) at ≡ Some item
   IsMet at (IsGap n) = IsGapTo file at (at + n)
 
-  met-by : (at : ℕ) (o : Option Item) → at < length file → item_read file (Later class) at ≡ o
+  met-by : {at : ℕ} {o : Option Item} → at < length file → item_read file (Later class) at ≡ o
       → IsMet at (thing_or_gap file class at o)
-  met-by at o before is = grind (arith, gap_end-is)
+  met-by before is = grind (arith, gap_end-is)
 
-  thing-met : (at : ℕ) → at < length file → IsMet at (thing_at file class at)
+  thing-met : {at : ℕ} → at < length file → IsMet at (thing_at file class at)
   unfolding thing_at
-  thing-met at before = met-by at (item_read file (Later class) at) before refl
+  thing-met {at} before = met-by before refl
 
   met-within : (at : ℕ) (thing : ItemOrGap) → IsMet at thing
       → at + size_of_thing thing ≤ length file
@@ -117,20 +117,20 @@ module _ (file : List ℕ) (class : ClassFields) where
     abbrev with_thing : ItemOrGap → List PlacedThing
     with_thing thing = record { offset = at; thing = thing } ∷ ts
 
-    order-gap : (n : ℕ) → IsGapTo file at (at + n) → AreInOrder (at + n) ts
+    order-gap : {n : ℕ} → IsGapTo file at (at + n) → AreInOrder (at + n) ts
         → AreInOrder at (with_thing (IsGap n))
-    order-gap n ends order = record {
+    order-gap ends order = record {
       rows = grind (arith, rows-earlier);
       same = λ b. order.same empty_state;
       blocks = grind (arith, blocks-earlier);
       gaps = (omega arith, omega (arith, ends.some), order.gaps);
-      kept = λ head rows b kept. order.kept head rows empty_state (kept_gap head rows b kept);
+      kept = λ head rows b kept. order.kept head rows empty_state (kept_gap head kept);
     }
 
-    order-frame : (h : HeaderFields) → item_read file (Later class) at ≡ Some (Frame h)
+    order-frame : {h : HeaderFields} → item_read file (Later class) at ≡ Some (Frame h)
         → AreInOrder (at + size_of (Frame h)) ts → AreInOrder at (with_thing (IsItem (Frame h)))
-    order-frame h met order =
-        let known = frame-known file class at h met in
+    order-frame {h} met order =
+        let known = frame-known file class at met in
         let row = row_in at h (drop at file) in
         record {
           rows = grind (arith, fits-side_in, IsClass-class_of);
@@ -146,26 +146,26 @@ module _ (file : List ℕ) (class : ClassFields) where
         }
 
     -- an item that is neither a frame nor a block
-    order-other : (item : Item)
+    order-other : {item : Item}
         → ((b : ReservoirState) → rows_left file b (with_thing (IsItem item)) ≡ rows_left file b ts)
         → blocks_of_things (with_thing (IsItem item)) ≡ blocks_of_things ts
         → AreInOrder (at + size_of item) ts → AreInOrder at (with_thing (IsItem item))
-    order-other item rows_are blocks_are order =
+    order-other {item} rows_are blocks_are order =
         let later = at + size_of item in
         record {
           rows = grind (arith, rows-earlier);
           same = λ b. subst (RowsAreOfClass class) (sym (rows_are b)) (order.same b);
           blocks = grind (arith, blocks-earlier);
-          gaps = gaps-earlier at later (gaps_of ts) (length file) (omega arith) order.gaps;
+          gaps = gaps-earlier (gaps_of ts) (length file) (omega arith) order.gaps;
           kept = λ head rows b kept. subst (λ l. AreKeptWell head (rows ++ l)) (sym (rows_are b))
               (order.kept head rows b kept);
         }
 
     order-more : (thing : ItemOrGap) → IsMet at thing → AreInOrder (at + size_of_thing thing) ts
         → AreInOrder at (with_thing thing)
-    order-more (IsGap n) met order = order-gap n met order
-    order-more (IsItem (Frame h)) met order = order-frame h met order
-    order-more (IsItem Free) met order = order-other Free (λ b. refl) refl order
+    order-more (IsGap n) met order = order-gap met order
+    order-more (IsItem (Frame h)) met order = order-frame met order
+    order-more (IsItem Free) met order = order-other (λ b. refl) refl order
     order-more (IsItem (Block block)) met order = record {
       rows = grind (arith, rows-earlier);
       same = order.same;
@@ -173,7 +173,7 @@ module _ (file : List ℕ) (class : ClassFields) where
       gaps = grind (arith, gaps-earlier);
       kept = order.kept;
     }
-    order-more (IsItem item) met order = order-other item (λ b. refl) refl order
+    order-more (IsItem item) met order = order-other (λ b. refl) refl order
 
   order-by : (n at : ℕ) (b : Bool) → ltb at (length file) ≡ b → at ≤ length file
       → ((later : ℕ) → later ≤ length file → AreInOrder later (things_up_to n file class later))
@@ -183,7 +183,7 @@ module _ (file : List ℕ) (class : ClassFields) where
       } ∷ things_up_to n file class (at + size_of_thing (thing_at file class at))) [])
   order-by n at false is within next = order-none at within
   order-by n at true is within next =
-      let met = thing-met at (ltb-true at (length file) is) in
+      let met = thing-met (ltb-true at (length file) is) in
       let later = at + size_of_thing (thing_at file class at) in
       order-more at (things_up_to n file class later) (thing_at file class at) met
       (next later (met-within at (thing_at file class at) met))
@@ -193,33 +193,33 @@ module _ (file : List ℕ) (class : ClassFields) where
   order-up-to zero at within = order-none at within
   order-up-to (suc n) at within = order-by n at (ltb at (length file)) refl within (order-up-to n)
 
-  things-order : (at : ℕ) → at ≤ length file → AreInOrder at (things file class at)
+  things-order : {at : ℕ} → at ≤ length file → AreInOrder at (things file class at)
   unfolding things
-  things-order at within = order-up-to (length file) at within
+  things-order {at} within = order-up-to (length file) at within
 
 -- ---- the front, and the first frame
 
-block-first : (from at : ℕ) (item : Item) (blocks : List Piece) (to : ℕ) → from ≤ at
+block-first : {from at : ℕ} (item : Item) (blocks : List Piece) (to : ℕ) → from ≤ at
     → BlocksAreLaid (at + size_of item) blocks to
     → BlocksAreLaid from (cons_option (block_of_item at item) blocks) to
-block-first from at item blocks to low laid = grind (arith, blocks-earlier)
+block-first item blocks to low laid = grind (arith, blocks-earlier)
 
 ends-order : (part : Region) (file : List ℕ) (from : ℕ) (ps : List PlacedItem) (to : ℕ)
     → AreEndToEnd part file from ps to → BlocksAreLaid from (blocks_of ps) to
 ends-order part file from [] to ends = omega (arith, ends)
-ends-order part file from (p ∷ ps) to ends = block-first from p.offset p.item (blocks_of ps) to
+ends-order part file from (p ∷ ps) to ends = block-first p.item (blocks_of ps) to
     (omega (arith, ends.0)) (ends-order part file (p.offset + size_of p.item) ps to ends.2)
 
 blocks-behind : (from : ℕ) (xs ys : List Piece) (mid to : ℕ) → BlocksAreLaid from xs mid
     → BlocksAreLaid mid ys to → BlocksAreLaid from (xs ++ ys) to
-blocks-behind from [] ys mid to front back = blocks-earlier from mid ys to front back
+blocks-behind from [] ys mid to front back = blocks-earlier ys to front back
 blocks-behind from (b ∷ xs) ys mid to front back =
     (front.0, blocks-behind (b.offset + b.block.length) xs ys mid to front.1 back)
 
-gaps-behind : (from first : ℕ) (gaps : List Gap) (to : ℕ) (some : Bool) → ltb from first ≡ some
+gaps-behind : {from first : ℕ} (gaps : List Gap) (to : ℕ) {some : Bool} → ltb from first ≡ some
     → from ≤ first → GapsAreLaid first gaps to
     → GapsAreLaid 0 (cond some (record { offset = from; length = first - from } ∷ []) [] ++ gaps) to
-gaps-behind from first gaps to some is low laid = grind (arith, ltb-true, gaps-earlier)
+gaps-behind gaps to is low laid = grind (arith, ltb-true, gaps-earlier)
 
 first-by : (file : List ℕ) (at : ℕ) (o : Option Item) (next : Option PlacedFrame)
     (first : PlacedFrame) → ((item : Item) → o ≡ Some item → IsItemOf Stream file at item)
@@ -245,16 +245,16 @@ record IsBehindHead (file : List ℕ) (first : PlacedFrame) (head : Option Head)
   low : first.offset ≤ numbered_offset first head
   high : numbered_offset first head ≤ length file
 
-head-by : (file : List ℕ) (first : PlacedFrame) (o : Option ℕ)
+head-by : {file : List ℕ} {first : PlacedFrame} (o : Option ℕ)
     → IsItemOf Stream file first.offset (Frame first.header) → IsBehindHead file first
     (option_map (λ at. record { offset = first.offset; header = first.header; text_at = at }) o)
-head-by file first o is = grind arith
+head-by o is = grind arith
 
-head-behind : (file : List ℕ) (first : PlacedFrame)
+head-behind : {file : List ℕ} {first : PlacedFrame}
     → IsItemOf Stream file first.offset (Frame first.header)
     → IsBehindHead file first (head_of file first)
 unfolding head_of
-head-behind file first is = head-by file first _ is
+head-behind {file} {first} is = head-by _ is
 
 -- ---- all that is read
 
@@ -266,11 +266,11 @@ pub record IsFromFirst (file : List ℕ) (d : DamagedFields) : Type 0 where
   pub some : 0 < length d.survey.frames
   pub few : length d.survey.frames ≤ most_frames
 
-no_frame_or_damaged-is : (front_end : ℕ) (rows : List Row) (d e : DamagedFields)
+no_frame_or_damaged-is : (front_end : ℕ) (rows : List Row) {d e : DamagedFields}
     → no_frame_or_damaged front_end rows d ≡ Ok e
     → (d ≡ e) × (0 < length rows) × (length rows ≤ most_frames)
-no_frame_or_damaged-is front_end [] d e is = absurd cc
-no_frame_or_damaged-is front_end (r ∷ rows) d e is =
+no_frame_or_damaged-is front_end [] is = absurd cc
+no_frame_or_damaged-is front_end (r ∷ rows) {d} {e} is =
     elim (slice_get_cases (r ∷ rows) most_frames).1 as (λ _. (d ≡ e) × (0 < length (r ∷ rows))
     × (length (r ∷ rows) ≤ most_frames)) [
       | inl found ↦ absurd (not-ok found.0 (sym (ap (λ o. excess_or_damaged o d) found.2) ∙ is))
@@ -283,13 +283,13 @@ no_frame_or_damaged-is front_end (r ∷ rows) d e is =
     same : excess_or_damaged None d ≡ Ok e → d ≡ e
     same is = cc
 
-from-first : (file : List ℕ) (o : Option PlacedFrame) (d : DamagedFields)
+from-first : {file : List ℕ} (o : Option PlacedFrame) {d : DamagedFields}
     → first_frame file (front_end_of file) ≡ o → damaged_by file (front_end_of file) o ≡ Ok d
     → IsFromFirst file d
-from-first file None d is e = absurd cc
-from-first file (Some first) d is e =
+from-first None is e = absurd cc
+from-first {file} (Some first) {d} is e =
     let all = damaged_from file (front_end_of file) first in
-    let found = no_frame_or_damaged-is (front_end_of file) all.survey.frames all d e in
+    let found = no_frame_or_damaged-is (front_end_of file) all.survey.frames e in
     record {
       first = first;
       first_is = is;
@@ -299,10 +299,10 @@ from-first file (Some first) d is e =
     }
 
 -- what is read of a file is read from its first frame on
-pub damaged_fields-from : (file : List ℕ) (d : DamagedFields) → damaged_fields file ≡ Ok d
+pub damaged_fields-from : {file : List ℕ} {d : DamagedFields} → damaged_fields file ≡ Ok d
     → IsFromFirst file d
 unfolding damaged_fields
-damaged_fields-from file d e = from-first file (first_frame file (front_end_of file)) d refl e
+damaged_fields-from {file} {d} e = from-first (first_frame file (front_end_of file)) refl e
 
 front-order : (file : List ℕ)
     → BlocksAreLaid 0 (blocks_of (item_run Front file 0).items) (front_end_of file)
@@ -320,11 +320,11 @@ module _ (file : List ℕ) (first : PlacedFrame)
   head = head_of file first
 
   behind : IsBehindHead file first head
-  behind = head-behind file first next.frame
+  behind = head-behind next.frame
 
   order : AreInOrder file (class_of first.header) (numbered_offset first head)
       (things_from file first)
-  order = things-order file (class_of first.header) (numbered_offset first head) behind.high
+  order = things-order file (class_of first.header) behind.high
 
   -- before the first frame there is nothing, or the head's area
   abbrev begin : ReservoirState
@@ -344,19 +344,19 @@ module _ (file : List ℕ) (first : PlacedFrame)
     first = omega (arith, next.frame.within);
     head = behind.whole;
     frames = subst (λ l. FramesAreLaid first.offset l (length file)) (sym rows-are)
-        (rows-earlier first.offset (numbered_offset first head) (rows_left file begin
+        (rows-earlier (rows_left file begin
         (things_from file first)) (length file) behind.low (order.rows begin));
     class = subst (RowsAreOfClass (class_of first.header)) (sym rows-are) (order.same begin);
     blocks =
         blocks-behind 0 (blocks_of (item_run Front file 0).items)
         (blocks_of_things (things_from file first))
         (front_end_of file) (length file) (front-order file)
-        (blocks-earlier (front_end_of file) (numbered_offset first head) (blocks_of_things
+        (blocks-earlier (blocks_of_things
         (things_from file first)) (length file) (omega (arith, next.low, behind.low)) order.blocks);
     gaps =
-        gaps-behind (front_end_of file) first.offset (gaps_of (things_from file first))
-        (length file) (ltb (front_end_of file) first.offset) refl next.low
-        (gaps-earlier first.offset (numbered_offset first head) (gaps_of (things_from file first))
+        gaps-behind (gaps_of (things_from file first))
+        (length file) refl next.low
+        (gaps-earlier (gaps_of (things_from file first))
         (length file) behind.low order.gaps);
     some = some;
     few = few;
@@ -365,10 +365,10 @@ module _ (file : List ℕ) (first : PlacedFrame)
   }
 
 -- what is read of a file that isn't too long is in order within it
-pub damaged_fields-laid : (file : List ℕ) (d : DamagedFields) → damaged_fields file ≡ Ok d
+pub damaged_fields-laid : (file : List ℕ) {d : DamagedFields} → damaged_fields file ≡ Ok d
     → length file ≤ longest_file → IsDamagedLaidOut d
-damaged_fields-laid file d e long =
-    let is = damaged_fields-from file d e in
+damaged_fields-laid file {d} e long =
+    let is = damaged_fields-from e in
     subst IsDamagedLaidOut is.same
     (from-laid file is.first is.first_is long
     (subst (λ (c : DamagedFields). 0 < length c.survey.frames) (sym is.same) is.some)
@@ -376,21 +376,21 @@ damaged_fields-laid file d e long =
 
 -- ---- files by length
 
-length-by : (b : Bool) (n : ℕ) (r : Result DamagedFields SurveyFault) (d : DamagedFields)
+length-by : {b : Bool} (n : ℕ) {r : Result DamagedFields SurveyFault} {d : DamagedFields}
     → cond b (Err (TooLong n)) r ≡ Ok d → (b ≡ false) × (r ≡ Ok d)
-length-by b n r d e = grind arith
+length-by n e = grind arith
 
 -- a file of which something is read is no longer than allowed
-pub damaged_of-is : (file : List ℕ) (d : DamagedFields) → damaged_of file ≡ Ok d
+pub damaged_of-is : (file : List ℕ) {d : DamagedFields} → damaged_of file ≡ Ok d
     → (length file ≤ longest_file) × (damaged_fields file ≡ Ok d)
 unfolding damaged_of
-damaged_of-is file d e =
-    let read = length-by (ltb longest_file (length file)) (length file) (damaged_fields file) d e in
+damaged_of-is file {d} e =
+    let read = length-by (length file) e in
     (ltb-false longest_file (length file) read.0, read.1)
 
 -- what is read of any file is in order within it
-pub read-laid : (file : List ℕ) (d : DamagedFields) → damaged_of file ≡ Ok d → IsDamagedLaidOut d
-read-laid file d e = let read = damaged_of-is file d e in damaged_fields-laid file d read.1 read.0
+pub read-laid : (file : List ℕ) {d : DamagedFields} → damaged_of file ≡ Ok d → IsDamagedLaidOut d
+read-laid file {d} e = let read = damaged_of-is file e in damaged_fields-laid file read.1 read.0
 
 -- ---- when something is read
 
@@ -424,10 +424,10 @@ pub record HasFrames (file : List ℕ) : Type 0 where
   pub few : length (frames_of_things (things_from file first)) ≤ most_frames
 
 -- if something is read, there is a first frame, and there are frames from it on, but not too many
-pub read-frames : (file : List ℕ) (d : DamagedFields) → damaged_of file ≡ Ok d → HasFrames file
-read-frames file d e =
-    let read = damaged_of-is file d e in
-    let is = damaged_fields-from file d read.1 in
+pub read-frames : {file : List ℕ} {d : DamagedFields} → damaged_of file ≡ Ok d → HasFrames file
+read-frames {file} {d} e =
+    let read = damaged_of-is file e in
+    let is = damaged_fields-from read.1 in
     let many : length d.survey.frames ≡ length (frames_of_things (things_from file is.first)) =
     grind (arith, frames-many) in
     record {
@@ -438,19 +438,19 @@ read-frames file d e =
       few = omega (arith, many, is.few);
     }
 
-first-read : (file : List ℕ) (first : PlacedFrame) → first_frame file (front_end_of file)
+first-read : (file : List ℕ) {first : PlacedFrame} → first_frame file (front_end_of file)
     ≡ Some first → damaged_fields file ≡ no_frame_or_damaged (front_end_of file) (damaged_from file
     (front_end_of file) first).survey.frames (damaged_from file (front_end_of file) first)
 unfolding damaged_fields
-first-read file first is = ap (damaged_by file (front_end_of file)) is
+first-read file is = ap (damaged_by file (front_end_of file)) is
 
 -- if there are such frames, they are what is read
-pub frames-read : (file : List ℕ) (is : HasFrames file)
+pub frames-read : {file : List ℕ} (is : HasFrames file)
     → damaged_of file ≡ Ok (damaged_from file (front_end_of file) is.first)
-frames-read file is =
+frames-read {file} is =
     let all = damaged_from file (front_end_of file) is.first in
     let many = frames-many file (front_end_of file) is.first in
     damaged_of-short file is.long
-    ∙ first-read file is.first is.begins
-    ∙ no_frame_or_damaged-few (front_end_of file) all.survey.frames all
+    ∙ first-read file {first = is.first} is.begins
+    ∙ no_frame_or_damaged-few (front_end_of file) {rows = all.survey.frames} all
     (λ none. absurd (omega (arith, ap length none, many, is.some))) (omega (arith, many, is.few))

@@ -42,10 +42,10 @@ module _ (a b c d : ℕ) (a_few : a < 256) (b_few : b < 256) (c_few : c < 256) (
 
   number_four : number (bits four) ≡ ((a * 256 + b) * 256 + c) * 256 + d
   number_four =
-      number-bits-push (a ∷ b ∷ c ∷ []) d d_few
-      ∙ ap (λ n. n * 256 + d) (number-bits-push (a ∷ b ∷ []) c c_few)
-      ∙ ap (λ n. (n * 256 + c) * 256 + d) (number-bits-push (a ∷ []) b b_few)
-      ∙ ap (λ n. ((n * 256 + b) * 256 + c) * 256 + d) (number-bits-push [] a a_few
+      number-bits-push (a ∷ b ∷ c ∷ []) d_few
+      ∙ ap (λ n. n * 256 + d) (number-bits-push (a ∷ b ∷ []) c_few)
+      ∙ ap (λ n. (n * 256 + c) * 256 + d) (number-bits-push (a ∷ []) b_few)
+      ∙ ap (λ n. ((n * 256 + b) * 256 + c) * 256 + d) (number-bits-push [] a_few
       ∙ ap (λ n. n * 256 + a) (ap number bits-nil ∙ number-nil) ∙ nothing_more)
     where
       nothing_more : 0 * 256 + a ≡ a
@@ -101,19 +101,19 @@ record Read (h : List ℕ) (fields : HeaderFields) : Type 0 where
   pub some : rate_bits h ≢ 0
   pub is : header_fields h ≡ fields
 
-read_cases : (h : List ℕ) (r z : Bool) (fields : HeaderFields) → is_readable h ≡ r
+read_cases : {h : List ℕ} {r z : Bool} {fields : HeaderFields} → is_readable h ≡ r
     → eqb (rate_bits h) 0 ≡ z
     → cond r (cond z (Err FreeHeader) (Ok (header_fields h))) (Err No) ≡ Ok fields → Read h fields
-read_cases h r z fields is none e = grind arith
+read_cases is none e = grind arith
 
-read_in : (h : List ℕ) (fields : HeaderFields) → header_in h ≡ Ok fields → Read h fields
+read_in : {h : List ℕ} {fields : HeaderFields} → header_in h ≡ Ok fields → Read h fields
 unfolding header_in
-read_in h fields e = read_cases h (is_readable h) (eqb (rate_bits h) 0) fields refl refl e
+read_in {h} {fields} e = read_cases refl refl e
 
-read_at : (four : List ℕ) (fields : HeaderFields) → header_at four ≡ Ok fields
+read_at : (four : List ℕ) {fields : HeaderFields} → header_at four ≡ Ok fields
     → Read (bits four) fields
 unfolding header_at
-read_at four fields e = read_in (bits four) fields e
+read_at four {fields} e = read_in e
 
 module _ (a b c d : ℕ) (rest : List ℕ) (a_few : a < 256) (b_few : b < 256) (c_few : c < 256)
     (d_few : d < 256) (h : HeaderFields) (read : Read (bits (a ∷ b ∷ c ∷ d ∷ [])) h) where
@@ -148,22 +148,22 @@ AreFew bytes = (i : ℕ) → get_or bytes i 0 < 256
 pub few_behind : (xs : List ℕ) (k : ℕ) → AreFew xs → AreFew (drop k xs)
 few_behind xs k few = λ i. subst (λ n. n < 256) (sym (get_or-drop k xs i 0)) (few (k + i))
 
-says : (bytes : List ℕ) (h : HeaderFields) → AreFew bytes → 4 ≤ length bytes
+says : (bytes : List ℕ) {h : HeaderFields} → AreFew bytes → 4 ≤ length bytes
     → header_at (take 4 bytes) ≡ Ok h → Says bytes h
-says (a ∷ b ∷ c ∷ d ∷ rest) h few many e =
-    says_four a b c d rest (few 0) (few 1) (few 2) (few 3) h (read_at (a ∷ b ∷ c ∷ d ∷ []) h e)
-says _ h few many e = absurd (omega (arith, many))
+says (a ∷ b ∷ c ∷ d ∷ rest) {h} few many e =
+    says_four a b c d rest (few 0) (few 1) (few 2) (few 3) h (read_at (a ∷ b ∷ c ∷ d ∷ []) e)
+says _ few many e = absurd (omega (arith, many))
 
-header_says : (bytes : List ℕ) (h : HeaderFields) → AreFew bytes → header_front bytes ≡ Ok h
+header_says : {bytes : List ℕ} {h : HeaderFields} → AreFew bytes → header_front bytes ≡ Ok h
     → Says bytes h
-header_says bytes h few e =
-    let read = header_four bytes h e in
-    says bytes h few read.0 read.1
+header_says {bytes} {h} few e =
+    let read = header_four bytes e in
+    says bytes few read.0 read.1
 
 -- where there is a header, one may begin
-pub header_begins : (bytes : List ℕ) (h : HeaderFields) → AreFew bytes → header_front bytes ≡ Ok h
+pub header_begins : (bytes : List ℕ) {h : HeaderFields} → AreFew bytes → header_front bytes ≡ Ok h
     → may_begin_header (get_or bytes 0 0) (get_or bytes 1 0) ≡ true
-header_begins bytes h few e = grind (arith, header_says, eq-eqb)
+header_begins bytes few e = grind (arith, header_says, eq-eqb)
 
 -- ---- the length of the frame
 
@@ -182,10 +182,10 @@ length_of_header : (h : HeaderFields) → length_of (class_of h) h.slot
 length_of_header h = grind (arith, any_channels)
 
 -- the length that the second and third bytes of a header give is the frame's
-pub length_is : (bytes : List ℕ) (h : HeaderFields) → AreFew bytes → header_front bytes ≡ Ok h
+pub length_is : (bytes : List ℕ) {h : HeaderFields} → AreFew bytes → header_front bytes ≡ Ok h
     → length_of (class_of h) h.slot ≡ raw_frame_length (get_or bytes 1 0) (get_or bytes 2 0)
 unfolding raw_frame_length
-length_is bytes h few e = grind (arith, header_says bytes h few e, length_of_header h)
+length_is bytes {h} few e = grind (arith, header_says few e, length_of_header h)
 
 -- the table has the lengths without padding
 abbrev bare_length : ℕ → ℕ → ℕ
@@ -196,39 +196,41 @@ tabled : all_below 4
 unfolding length_of rate_of frequency_of
 tabled = refl
 
-entry : (v t : ℕ) → v < 4 → t < 64 → get_or LENGTHS (v * 64 + t) 0 ≡ bare_length v t
-entry v t v_few t_few =
-    eqb-true _ _ (all_below-pass 64 (λ t. eqb (get_or LENGTHS (v * 64 + t) 0) (bare_length v t)) t
+entry : {v t : ℕ} → v < 4 → t < 64 → get_or LENGTHS (v * 64 + t) 0 ≡ bare_length v t
+entry {v} {t} v_few t_few =
+    eqb-true _ _ (all_below-pass 64 (λ t. eqb (get_or LENGTHS (v * 64 + t) 0) (bare_length v t))
     (all_below-pass 4 (λ v. all_below 64
-    (λ t. eqb (get_or LENGTHS (v * 64 + t) 0) (bare_length v t))) v tabled v_few) t_few)
+    (λ t. eqb (get_or LENGTHS (v * 64 + t) 0) (bare_length v t))) tabled v_few) t_few)
 
-padded : (v : Version) (f r n : ℕ) → n < 2 → length_by v f r (eqb n 1) ≡ length_by v f r false + n
+padded : (v : Version) (f r : ℕ) {n : ℕ} → n < 2
+    → length_by v f r (eqb n 1) ≡ length_by v f r false + n
 unfolding length_of rate_of frequency_of
-padded v f r n few = grind arith
+padded v f r few = grind arith
 
 -- the table of 256 lengths gives this length
-pub length_told : (second third : ℕ) → second < 256 → third < 256
+pub length_told : {second third : ℕ} → second < 256 → third < 256
     → get_or LENGTHS (second / 8 % 4 * 64 + third / 4) 0 + third / 2 % 2
     ≡ raw_frame_length second third
 unfolding raw_frame_length
-length_told second third second_few third_few =
+length_told {second} {third} second_few third_few =
     let v : ℕ = second / 8 % 4 in
     let rate : third / 4 / 4 ≡ third / 16 = omega arith in
-    ap (λ n. n + third / 2 % 2) (entry v (third / 4) (omega arith) (omega (arith, third_few))
+    ap (λ n. n + third / 2 % 2)
+    (entry {v = v} {t = third / 4} (omega arith) (omega (arith, third_few))
     ∙ ap (λ r. length_by (raw_version v) (third / 4 % 4) r false) rate)
-    ∙ sym (padded (raw_version v) (third / 4 % 4) (third / 16) (third / 2 % 2) (omega arith))
+    ∙ sym (padded (raw_version v) (third / 4 % 4) (third / 16) {n = third / 2 % 2} (omega arith))
 
 -- ---- what may be an anchor
 
-numbered : (n : ℕ) → n < 4 → n ≢ 1 → version_number (raw_version n) ≡ n
-numbered n few not_one = grind arith
+numbered : {n : ℕ} → n < 4 → n ≢ 1 → version_number (raw_version n) ≡ n
+numbered few not_one = grind arith
 
-version_number_said : (bytes : List ℕ) (h : HeaderFields) → Says bytes h
+version_number_said : {bytes : List ℕ} {h : HeaderFields} → Says bytes h
     → version_number h.version ≡ get_or bytes 1 0 / 8 % 4
-version_number_said bytes h s = grind (arith, numbered)
+version_number_said s = grind (arith, numbered)
 
-not_zero : (m n : ℕ) → m ≢ n → not (eqb m n) ≡ true
-not_zero m n e = ap not (ne_eqb m n e)
+not_zero : {m n : ℕ} → m ≢ n → not (eqb m n) ≡ true
+not_zero {m} {n} e = ap not (ne_eqb m n e)
 
 same_parts : (c d : ClassFields) → same_class c d ≡ true
     → (version_number c.version ≡ version_number d.version)
@@ -236,16 +238,15 @@ same_parts : (c d : ClassFields) → same_class c d ≡ true
 unfolding same_class
 same_parts c d e = grind (arith, and_parts, eqb-true)
 
-follows : (own next : List ℕ) (h g : HeaderFields) → Says own h → Says next g
+follows : {own next : List ℕ} {h g : HeaderFields} → Says own h → Says next g
     → same_class (class_of g) (class_of h) ≡ true → may_follow_header own next ≡ true
 unfolding may_follow_header
-follows own next h g o n e =
-    grind (arith, same_parts, version_number_said, and_from, eq-eqb, not_zero)
+follows o n e = grind (arith, same_parts, version_number_said, and_from, eq-eqb, not_zero)
 
 -- a byte of a text that the bytes begin with
-byte_of : (text bytes : List ℕ) (i : ℕ) → i < length text → begins_with text bytes ≡ true
+byte_of : (text bytes : List ℕ) {i : ℕ} → i < length text → begins_with text bytes ≡ true
     → get_or bytes i 0 ≡ get_or text i 0
-byte_of text bytes i within is = grind (arith, bytes_eq-Decides, is, get_or-take)
+byte_of text bytes within is = grind (arith, bytes_eq-Decides, is, get_or-take)
 
 named : (bytes text : List ℕ) → 2 < length text → begins_with text bytes ≡ true
     → may_begin_block (get_or text 0 0) (get_or text 1 0) (get_or text 2 0) ≡ true
@@ -270,26 +271,26 @@ block_named Id3v2 bytes is = named bytes (codes "ID3") (lit< tt) (id3v2_named by
 block_named Id3v1 bytes is = named bytes (codes "TAG") (lit< tt) (id3v1_named bytes is) refl
 block_named Ape bytes is = named bytes (codes "APETAGEX") (lit< tt) (ape_named bytes is) refl
 
-not_same : (own next : List ℕ) (h g : HeaderFields) → Says own h → Says next g
+not_same : {own next : List ℕ} {h g : HeaderFields} → Says own h → Says next g
     → may_follow_header own next
-    ≡ false → (b : Bool) → same_class (class_of g) (class_of h) ≡ b → b ≡ false
-not_same own next h g o n bare b e = grind (arith, false≢true, follows)
+    ≡ false → {b : Bool} → same_class (class_of g) (class_of h) ≡ b → b ≡ false
+not_same o n bare e = grind (arith, false≢true, follows)
 
 -- there is no anchor if neither a header of the class nor a block begins with these bytes, and
 -- there are some
-pub not_anchor : (own next : List ℕ) (h : HeaderFields) → AreFew own → AreFew next → 4 ≤ length next
+pub not_anchor : (own next : List ℕ) {h : HeaderFields} → AreFew own → AreFew next → 4 ≤ length next
     → header_front own ≡ Ok h → may_follow_header own next ≡ false
     → may_begin_block (get_or next 0 0) (get_or next 1 0) (get_or next 2 0) ≡ false
     → is_anchor (class_of h) (item_front next) ≡ false
-not_anchor own next h own_few next_few many is bare letters =
+not_anchor own next {h} own_few next_few many is bare letters =
     by_item (item_front next) refl (stands next)
   where
     by_item : (item : Item) → item_front next ≡ item → IsItemFront next item
         → is_anchor (class_of h) item ≡ false
-    by_item (Frame g) at here = not_same own next h g (header_says own h own_few is)
-        (header_says next g next_few here) bare (same_class (class_of g) (class_of h)) refl
+    by_item (Frame g) at here = not_same (header_says own_few is)
+        (header_says next_few here) bare refl
     by_item (Block b) at here = absurd
-        (false≢true (sym letters ∙ block_named b.kind next (block_front-begins next b here).0))
+        (false≢true (sym letters ∙ block_named b.kind next (block_front-begins next here).0))
     by_item End at here = absurd (omega (arith, ap length here, many))
     by_item _ at here = refl
 
@@ -300,10 +301,10 @@ side_cases : (first lower : Bool) (channels : ℕ)
     ≡ cond first (cond (eqb channels 1) 17 32) (cond (eqb channels 1) 9 17)
 side_cases first lower channels = grind arith
 
-side_is : (bytes : List ℕ) (h : HeaderFields) → Says bytes h
+side_is : {bytes : List ℕ} {h : HeaderFields} → Says bytes h
     → side_size_of (class_of h) ≡ raw_side_size (get_or bytes 1 0) (get_or bytes 3 0)
 unfolding side_size_of
-side_is bytes h s = grind (arith, side_cases)
+side_is s = grind (arith, side_cases)
 
 letter_of : (at : ℕ) (frame text : List ℕ) → 0 < length text
     → bytes_eq (take 4 (drop at frame)) text ≡ true → get_or frame at 0 ≡ get_or text 0 0
@@ -324,22 +325,22 @@ text_begins : (at : ℕ) (frame : List ℕ) → has_text at frame ≡ true
 unfolding has_text
 text_begins at frame is = letter_by at frame (or_cases _ _ is)
 
-text_cases : (at size : ℕ) (own : List ℕ) → may_begin_text (get_or own at 0) ≡ false → (b : Bool)
+text_cases : (at size : ℕ) (own : List ℕ) → may_begin_text (get_or own at 0) ≡ false → {b : Bool}
     → has_text at (take size own) ≡ b → b ≡ false
-text_cases at size own none b is =
+text_cases at size own none is =
     grind (arith, has_text-within, get_or-take, length-take, false≢true, text_begins)
 
 no_text : (at size : ℕ) (own : List ℕ) → may_begin_text (get_or own at 0) ≡ false
     → has_text at (take size own) ≡ false
-no_text at size own none = text_cases at size own none (has_text at (take size own)) refl
+no_text at size own none = text_cases at size own none refl
 
-low_is : (side : ℕ) (h : HeaderFields) → side_size_of (class_of h) ≡ side → low_place h ≡ 4 + side
+low_is : {side : ℕ} (h : HeaderFields) → side_size_of (class_of h) ≡ side → low_place h ≡ 4 + side
 unfolding low_place
-low_is side h same = ap (λ n. 4 + n) same
+low_is h same = ap (λ n. 4 + n) same
 
-high_is : (side : ℕ) (h : HeaderFields) → side_size_of (class_of h) ≡ side → high_place h ≡ 6 + side
+high_is : {side : ℕ} (h : HeaderFields) → side_size_of (class_of h) ≡ side → high_place h ≡ 6 + side
 unfolding high_place
-high_is side h same = ap (λ n. 6 + n) same
+high_is h same = ap (λ n. 6 + n) same
 
 module _ (own : List ℕ) (few : AreFew own) (side right : ℕ) (side_said_is : side
     ≡ raw_side_size (get_or own 1 0) (get_or own 3 0)) (even : get_or own 1 0 % 2 ≡ 0)
@@ -349,24 +350,24 @@ module _ (own : List ℕ) (few : AreFew own) (side right : ℕ) (side_said_is : 
     → side ≡ side_size_of (class_of h)
     → right ≡ check_word_of h (side_at (class_of h) (bits (take side (drop 6 own)))))
     (wrong : stored_crc own ≢ right) where
-  is_protected : (h : HeaderFields) → Says own h → h.protected ≡ true
-  is_protected h s = s.protected ∙ ap (λ n. eqb n 0) even
+  is_protected : {h : HeaderFields} → Says own h → h.protected ≡ true
+  is_protected s = s.protected ∙ ap (λ n. eqb n 0) even
 
-  wrong_word : (h : HeaderFields) → header_front own ≡ Ok h → Says own h
+  wrong_word : {h : HeaderFields} → header_front own ≡ Ok h → Says own h
       → has_right_crc h own ≡ false
-  wrong_word h e s =
+  wrong_word {h} e s =
       grind (
         arith,
-        side_is own h s,
-        header_four own h e,
-        side_protected h own (is_protected h s),
-        is_protected h s,
+        side_is s,
+        header_four own e,
+        side_protected h own (is_protected s),
+        is_protected s,
         ne_eqb (stored_crc own) right wrong,
       )
 
-  no_head : (offset : ℕ) (h : HeaderFields) → Says own h
+  no_head : (offset : ℕ) {h : HeaderFields} → Says own h
       → is_head (record { offset = offset; header = h }) own ≡ false
-  no_head offset h s =
+  no_head offset s =
       grind (
         arith,
         side_is,
@@ -381,7 +382,7 @@ module _ (own : List ℕ) (few : AreFew own) (side right : ℕ) (side_said_is : 
 
   -- a frame with a wrong check word, and no text of a head, isn't usable
   pub unusable_word : IsUnusable own
-  unusable_word First offset h e = grind (arith, header_says own h few e, wrong_word, no_head)
+  unusable_word First offset h e = grind (arith, header_says few e, wrong_word, no_head)
   unusable_word (Later class) offset h e = search (arith, and_right, wrong_word, header_says)
 
 -- ---- a frame that has no anchor, or isn't usable
@@ -395,7 +396,7 @@ module _ (front : List ℕ) (k size : ℕ) (few : AreFew (drop k front))
 
   same : (h : HeaderFields) → item_front (drop k front) ≡ Frame h
       → size ≡ length_of (class_of h) h.slot
-  same h is = said ∙ sym (length_is (drop k front) h few (here h is))
+  same h is = said ∙ sym (length_is (drop k front) few (here h is))
 
   -- a place where no frame has an anchor at its end is ruled out
   pub plain_unanchored : ((h : HeaderFields) → header_front (drop k front) ≡ Ok h

@@ -34,21 +34,22 @@ module _ (name : List ℕ) (files : Files) (before after : Counts) (fault : Surv
   }
 
   -- the file is refused if its bytes are
-  pub bytes_refusal : (size : ℕ) → HasLength files name size → after ≡ before → RefusesRightly fault
+  pub bytes_refusal : {size : ℕ} → HasLength files name size → after ≡ before → RefusesRightly fault
       → ((bytes : List ℕ) → Holds files name bytes → damaged_of bytes ≡ Err fault)
       → IsDamagedRefusal name files before after fault
-  bytes_refusal size known same rightly refused = record {
+  bytes_refusal known same rightly refused = record {
     cause = subst ReadCause (sym rightly.0)
         (record { there = known.there; bytes = refused; counts = same });
     numbers = rightly.1;
   }
 
 -- any file may be refused when out of memory
-pub memory_refusal : (name : List ℕ) (files : Files) (before after : Counts) (size : ℕ)
+pub memory_refusal : {name : List ℕ} {files : Files} {before after : Counts} {size : ℕ}
     → HasLength files name size → after ≡ before → IsDamagedRefusal name files before after Memory
-memory_refusal name files before after size known same =
+memory_refusal {name} {files} {before} {after} {size} known
+    same =
     outside_refusal name files before after Memory
-    (survey_memory name files 0 before after size known same) (λ e. cc)
+    (survey_memory name files 0 before after known same) (λ e. cc)
 
 -- a look that failed refuses the file, with its cause
 pub look_refusal : {feed : Fed} {name : List ℕ} {files mid : Files} {before between after : Counts}
@@ -77,23 +78,23 @@ unfolding damaged_of
 damaged_of-short file few = let short : ltb longest_file (length file) ≡ false =
     le-ltb longest_file (length file) few in rw short refl
 
-refused_long : (file : List ℕ) (fault : SurveyFault) → fault ≡ TooLong (length file)
+refused_long : (file : List ℕ) {fault : SurveyFault} → fault ≡ TooLong (length file)
     → HasRightNumbers fault → damaged_of file ≡ Err fault
-refused_long file fault is numbers =
-    long-too file (subst HasRightNumbers is numbers) ∙ ap Err (sym is)
+refused_long file is numbers = long-too file (subst HasRightNumbers is numbers) ∙ ap Err (sym is)
 
 -- the file is refused if it isn't found or is too long
-pub find_refusal : (name : List ℕ) (files : Files) (before after : Counts) (fault : SurveyFault)
+pub find_refusal : {name : List ℕ} {files : Files} {before after : Counts} {fault : SurveyFault}
     → IsSurveyRefusal name files 0 before after fault → IsLengthFault name files fault
     → IsDamagedRefusal name files before after fault
-find_refusal name files before after fault is length = record {
-  cause = cause_by name files before after fault (kind_of fault) is.cause (λ e.
-      let refuses : RefusesBytes name files 0 before after fault =
-      subst (SurveyCause name files before after fault) e is.cause in
-      record {
-        there = refuses.there;
-        bytes = λ bytes holds. refused_long bytes fault (length e bytes holds) is.numbers;
-        counts = refuses.counts;
-      });
-  numbers = is.numbers;
-}
+find_refusal {name} {files} {before} {after} {fault} is
+    length = record {
+      cause = cause_by name files before after fault (kind_of fault) is.cause (λ e.
+          let refuses : RefusesBytes name files 0 before after fault =
+          subst (SurveyCause name files before after fault) e is.cause in
+          record {
+            there = refuses.there;
+            bytes = λ bytes holds. refused_long bytes (length e bytes holds) is.numbers;
+            counts = refuses.counts;
+          });
+      numbers = is.numbers;
+    }

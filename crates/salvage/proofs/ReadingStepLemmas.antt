@@ -48,16 +48,16 @@ module _ (was now : Seen) (name : List ℕ) (begun : Begun) (old : DamagedSoFar)
       (read bytes (shows bytes holds))
 
   -- the file is refused if memory ran out, or if the item is a frame too many
-  keep_refused : now.counts ≡ was.counts → (fault : SurveyFault) → (fault ≡ Memory)
+  keep_refused : now.counts ≡ was.counts → {fault : SurveyFault} → (fault ≡ Memory)
       ⊎ IsPastMost item old fault → IsDamagedRefusal name was.files was.counts now.counts fault
-  keep_refused same fault is =
+  keep_refused same {fault} is =
       elim is as (λ _. IsDamagedRefusal name was.files was.counts now.counts fault) [
         | inl memory ↦ grind (arith, memory_refusal)
         | inr past ↦ grind (arith, bytes_refusal, past_rightly, past_most, read_there)
       ]
 
   -- the item is kept, or is refused
-  pub keeps_on : (result : Result (Unit {0}) SurveyFault) (new : DamagedSoFar) (fed : Fed)
+  pub keeps_on : {result : Result (Unit {0}) SurveyFault} {new : DamagedSoFar} {fed : Fed}
       → admits_item role old.at item front ≡ true
       → PassesFront front left (record { item = item; size = size }) → old.at + size ≤ begun.size
       → MatchResult result (λ _. AddsItem item size front old new)
@@ -65,14 +65,14 @@ module _ (was now : Seen) (name : List ℕ) (begun : Begun) (old : DamagedSoFar)
       → OnOk result (length old.rows.items ≤ most_frames → length new.rows.items ≤ most_frames)
       → now.counts ≡ was.counts → ReadsBy fed name result was now
       → ThingAnswer name begun old new fed was now result
-  keeps_on result new fed usable passes within kept few same reads = record {
+  keeps_on {result} {new} usable passes within kept few same reads = record {
     reading = on_both result (λ _. AddsItem item size front old new) _ _ _ kept few
         (λ _ adds fewer. record {
           reading = record {
-            told = λ bytes holds. item_more bytes begun old new item size front left
+            told = λ bytes holds. item_more bytes begun old new
                 (reading.told bytes holds) (shows bytes holds)
                 (read_there bytes holds) passes.zeros passes.own adds;
-            laid = item_laid begun old new reading.laid item size front fewer passes.item
+            laid = item_laid begun old new reading.laid item front fewer passes.item
                 (subst (λ (role : Role). admits_item role old.at item front ≡ true) later usable)
                 passes.least within adds;
           };

@@ -36,7 +36,8 @@ module _ (head : Option Head) where
   row-next : (rows rest : List Row) (r : Row)
       → judged_row head (rows ++ r ∷ rest) (length rows) r ≡ row_judged_in (behind rows) r
   row-next rows rest r =
-      grind (arith, place-more head rows (r ∷ rest) (length rows) (omega arith), sound_ends.more)
+      grind
+      (arith, place-more head rows (r ∷ rest) {i = length rows} (omega arith), sound_ends.more)
 
   judged_rest : (rows rest : List Row) → map (λ (p : ℕ × Row). judged_row head
       (rows ++ rest) p.0 p.1) (enumerate_from (length rows) rest) ≡ judged_from (behind rows) rest

@@ -51,7 +51,7 @@ frames_rest main head rows (r ∷ rest) =
     let one : length rows + 1 ≡ length (rows ++ r ∷ []) =
     omega (arith, length-append rows (r ∷ [])) in
     ap₂ (λ (f : StreamFrame) (l : List StreamFrame). f ∷ l)
-    (ap (λ n. frame_at main n r) (place-more head rows (r ∷ rest) (length rows) (omega arith)))
+    (ap (λ n. frame_at main n r) (place-more head rows (r ∷ rest) (omega arith)))
     (ap₂ (λ (l : List Row) n. map (λ (p : ℕ × Row). stream_frame main head l p.0 p.1)
     (enumerate_from n rest)) (sym (append_assoc rows (r ∷ []) rest)) one
     ∙ frames_rest main head (rows ++ r ∷ []) rest
@@ -111,10 +111,10 @@ AllFit size place (r ∷ rows) =
 pub payload_none : (main : List ℕ) (start : ℕ) → payload_at main start no_side ≡ []
 payload_none main start = ap (λ n. take n (drop (8 * start) (bits main))) no_bits
 
-frame_among : (before main behind : List ℕ) (place : ℕ) (r : Row) (lost : Bool) → r.lost ≡ lost
+frame_among : (before main behind : List ℕ) {place : ℕ} (r : Row) (lost : Bool) → r.lost ≡ lost
     → (lost ≡ false → Fits (length main) place r)
     → frame_at (before ++ (main ++ behind)) (length before + place) r ≡ frame_at main place r
-frame_among before main behind place r true is fits =
+frame_among before main behind {place} r true is fits =
     let none : row_side r ≡ no_side = ap (λ b. cond b no_side r.side) is in
     ap (λ l. record {
       header = record r.header { slot = no_slot };
@@ -126,7 +126,7 @@ frame_among before main behind place r true is fits =
     ∙ payload_none (before ++ (main ++ behind)) (start_of_data (length before + place) r)
     ∙ sym (payload_none main (start_of_data place r))
     ∙ sym (ap (λ s. payload_at main (start_of_data place r) s) none))
-frame_among before main behind place r false is fits =
+frame_among before main behind {place} r false is fits =
     let own : row_side r ≡ r.side = ap (λ b. cond b no_side r.side) is in
     let fit = fits refl in
     let start : start_of_data (length before + place) r ≡ length before + start_of_data place r =
@@ -159,16 +159,17 @@ areas_judged : (b : ReservoirState) (rows : List Row) → areas (judged_from b r
 areas_judged b [] = refl
 areas_judged b (r ∷ rows) = grind (arith, areas_judged (state_after_frame b r) rows)
 
-fits_by : (size : ℕ) (b : ReservoirState) (r : Row) → not (is_sound b.place b.ended r) ≡ false
+fits_by : {size : ℕ} (b : ReservoirState) (r : Row) → not (is_sound b.place b.ended r) ≡ false
     → b.place + own_area r.header ≤ size → Fits size b.place r
 unfolding payload_bytes
-fits_by size b r mark room = grind (arith, sound_within, not-false)
+fits_by b r mark room = grind (arith, sound_within, not-false)
 
-judged_fit : (size : ℕ) (b : ReservoirState) (rows : List Row) → b.place + areas rows ≤ size
+judged_fit : {size : ℕ} (b : ReservoirState) (rows : List Row) → b.place + areas rows ≤ size
     → AllFit size b.place (judged_from b rows)
-judged_fit size b [] room = tt
-judged_fit size b (r ∷ rows) room =
-    grind (arith, fits_by, judged_fit size (state_after_frame b r) rows (omega (arith, room)))
+judged_fit b [] room = tt
+judged_fit {size} b (r ∷ rows) room =
+    grind
+    (arith, fits_by, judged_fit {size = size} (state_after_frame b r) rows (omega (arith, room)))
 
 -- ---- the areas of whole frames
 
@@ -177,15 +178,15 @@ AreWhole file [] = Unit {0}
 AreWhole file (r ∷ rows) =
     (r.offset + length_of (class_of r.header) r.header.slot ≤ length file) × AreWhole file rows
 
-laid_whole : (file : List ℕ) (from : ℕ) (rows : List Row) (to : ℕ) → to ≤ length file
+laid_whole : (file : List ℕ) (from : ℕ) (rows : List Row) {to : ℕ} → to ≤ length file
     → FramesAreLaid from rows to → AreWhole file rows
-laid_whole file from [] to within laid = tt
-laid_whole file from (r ∷ rows) to within laid =
+laid_whole file from [] within laid = tt
+laid_whole file from (r ∷ rows) {to} within laid =
     grind (
       arith,
       laid_end,
       laid_whole file (r.offset + length_of (class_of r.header) r.header.slot)
-          rows to within laid.2,
+          rows within laid.2,
     )
 
 whole_parts : (file : List ℕ) (xs ys : List Row) → AreWhole file (xs ++ ys)
@@ -219,10 +220,10 @@ module _ (file : List ℕ) where
   abbrev of_run : List PlacedFrame → List Row
   of_run run = judged_rows None (rows_of file run)
 
-  run_fits : (head : Option Head) (rows : List Row) (size : ℕ)
+  run_fits : (head : Option Head) (rows : List Row) {size : ℕ}
       → head_area head + areas (judged_rows head rows) ≤ size
       → AllFit size (head_area head) (judged_rows head rows)
-  run_fits head rows size room = grind (arith, judged_rows-from, judged_fit, areas_judged)
+  run_fits head rows room = grind (arith, judged_rows-from, judged_fit, areas_judged)
 
   later_stream : (before : List ℕ) (later : List (List PlacedFrame))
       → AreWhole file (flat_map of_run later)
@@ -246,16 +247,16 @@ module _ (file : List ℕ) where
       ∙ ap₂ (λ (a b : List StreamFrame). a ++ b)
       (ap (λ n. frames_at (before ++ (main ++ behind)) n own) none
       ∙ frames_among before main behind 0 own
-      (run_fits None (rows_of file run) (length main) (omega (arith, size)))
+      (run_fits None (rows_of file run) (omega (arith, size)))
       ∙ ap (λ l. frames_at l 0 own) (sym (main-is None own))
       ∙ sym (frames-at (main_bytes file None own) None own))
       (ap₂ (λ l n. frames_at l n others) (sym (append_assoc before main behind)) start
       ∙ later_stream (before ++ main) later parts.1)
 
-  length_head : (head : Option Head) (first size : ℕ) (class : ClassFields)
+  length_head : (head : Option Head) (first : ℕ) {size : ℕ} (class : ClassFields)
       → IfSome head (IsWholeHead first class size) → size ≤ length file
       → length (head_bytes file head) ≡ head_area head
-  length_head head first size class whole few = grind (arith, length_area)
+  length_head head first class whole few = grind (arith, length_area)
 
   all_stream : (head : Option Head) (runs : FrameRuns)
       → length (head_bytes file head) ≡ head_area head → AreWhole file (judged_runs file head runs)
@@ -282,7 +283,7 @@ module _ (file : List ℕ) where
       ∙ ap₂ (λ (a b : List StreamFrame). a ++ b)
       (ap (λ n. frames_at (main ++ behind) n own) none
       ∙ frames_among [] main behind (head_area head) own
-      (run_fits head (rows_of file runs.first) (length main) (omega (arith, size)))
+      (run_fits head (rows_of file runs.first) (omega (arith, size)))
       ∙ ap (λ l. frames_at l (head_area head) own) (sym (main-is head own))
       ∙ sym (frames-at (main_bytes file head own) head own))
       (ap (λ n. frames_at (main ++ behind) n others) (sym size)
@@ -290,11 +291,11 @@ module _ (file : List ℕ) where
 
 -- ---- the stream of a file
 
-from_first : (file : List ℕ) (first : PlacedFrame) → first_frame file (front_end_of file)
+from_first : (file : List ℕ) {first : PlacedFrame} → first_frame file (front_end_of file)
     ≡ Some first → runs_stream file (head_of file first) (runs_of (things_from file first))
     ≡ salvaged_stream file
 unfolding salvaged_stream
-from_first file first is = sym (ap (stream_from file) is)
+from_first file is = sym (ap (stream_from file) is)
 
 told_stream : (file : List ℕ) (front_end : ℕ) (first : PlacedFrame)
     → IsDamagedLaidOut (damaged_from file front_end first)
@@ -304,10 +305,10 @@ unfolding damaged_from stream_of_survey
 told_stream file front_end first laid = grind (arith, all_stream, length_head, laid_whole)
 
 -- the stream of a file is the stream of its runs of frames
-pub stream-told : (file : List ℕ) (d : DamagedFields) → damaged_fields file ≡ Ok d
+pub stream-told : (file : List ℕ) {d : DamagedFields} → damaged_fields file ≡ Ok d
     → IsDamagedLaidOut d → stream_of_survey file d.survey ≡ salvaged_stream file
-stream-told file d e laid =
-    let is = damaged_fields-from file d e in
+stream-told file {d} e laid =
+    let is = damaged_fields-from e in
     ap (λ (c : DamagedFields). stream_of_survey file c.survey) (sym is.same)
     ∙ told_stream file (front_end_of file) is.first (subst IsDamagedLaidOut (sym is.same) laid)
-    ∙ from_first file is.first is.first_is
+    ∙ from_first file is.first_is

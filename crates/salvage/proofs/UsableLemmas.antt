@@ -35,15 +35,15 @@ later_role class = Later class
 
 -- ---- the check word of the bytes
 
-header_cases : (b : Bool) (r : Result HeaderFields NotHeader) (h : HeaderFields)
+header_cases : {b : Bool} {r : Result HeaderFields NotHeader} {h : HeaderFields}
     → cond b r (Err No) ≡ Ok h → (b ≡ true) × (r ≡ Ok h)
-header_cases b r h e = grind arith
+header_cases e = grind arith
 
 -- a header with which bytes begin is read from four bytes
-pub header_four : (bytes : List ℕ) (h : HeaderFields) → header_front bytes ≡ Ok h
+pub header_four : (bytes : List ℕ) {h : HeaderFields} → header_front bytes ≡ Ok h
     → (4 ≤ length bytes) × (header_at (take 4 bytes) ≡ Ok h)
 unfolding header_front
-header_four bytes h e = grind (arith, header_cases, leb-true)
+header_four bytes e = grind (arith, header_cases, leb-true)
 
 -- the side information of a protected frame is after its check word
 pub side_protected : (h : HeaderFields) (bytes : List ℕ) → h.protected ≡ true → side_in h bytes
@@ -53,14 +53,14 @@ side_protected h bytes is = grind arith
 
 -- ---- fewer bytes show what is judged, too
 
-word-take : (h : HeaderFields) (n : ℕ) (bytes : List ℕ) → 6 ≤ n
+word-take : (h : HeaderFields) {n : ℕ} (bytes : List ℕ) → 6 ≤ n
     → overhead_of (class_of h) h.protected ≤ n
     → has_right_crc h (take n bytes) ≡ has_right_crc h bytes
-word-take h n bytes six room = grind (arith, stored_crc-take, side_in-take)
+word-take h bytes six room = grind (arith, stored_crc-take, side_in-take)
 
-head-take : (p : PlacedFrame) (n : ℕ) (bytes : List ℕ)
+head-take : (p : PlacedFrame) {n : ℕ} (bytes : List ℕ)
     → length_of (class_of p.header) p.header.slot ≤ n → is_head p (take n bytes) ≡ is_head p bytes
-head-take p n bytes few = grind (arith, is_some, take-take)
+head-take p bytes few = grind (arith, is_some, take-take)
 
 usable-take : (role : Role) (p : PlacedFrame) (n : ℕ) (bytes : List ℕ) → 6 ≤ n
     → overhead_of (class_of p.header) p.header.protected ≤ n
@@ -71,9 +71,9 @@ usable-take role p n bytes six room few = grind (arith, word-take, head-take)
 module _ (file : List ℕ) (at : ℕ) (front : List ℕ) (left : ℕ)
     (shows : Shows file at front left) where
   -- the look shows whether a frame is usable
-  pub usable_shown : (role : Role) (p : PlacedFrame) → p.offset ≡ at → item_front front
+  pub usable_shown : (role : Role) {p : PlacedFrame} → p.offset ≡ at → item_front front
       ≡ Frame p.header → is_usable role p front ≡ is_usable role p (drop p.offset file)
-  usable_shown role p here is =
+  usable_shown role {p} here is =
       grind (
         arith,
         usable-take role p look_size (drop at file) (omega arith) (omega (
@@ -81,23 +81,22 @@ module _ (file : List ℕ) (at : ℕ) (front : List ℕ) (left : ℕ)
           overhead-few (class_of p.header) p.header.protected,
         )) (omega (
           arith,
-          length_few front
-              p.header is,
+          length_few front is,
         )),
         overhead-few (class_of p.header) p.header.protected,
-        length_few front p.header
+        length_few front
             is,
       )
 
   -- the look shows whether a frame that is at a later place of it, and ends within it, is usable
-  pub usable_behind : (role : Role) (k : ℕ) (h : HeaderFields)
+  pub usable_behind : (role : Role) (k : ℕ) {h : HeaderFields}
       → k + length_of (class_of h) h.slot ≤ 4064 → item_front (drop k front) ≡ Frame h
       → is_usable role (record { offset = at + k; header = h }) (drop k front)
       ≡ is_usable role (record { offset = at + k; header = h }) (drop (at + k) file)
-  usable_behind role k h near is =
+  usable_behind role k {h} near is =
       let n = look_size - k in
       let split : look_size ≡ k + n = omega (arith, near) in
-      let room = overhead_few (drop k front) (Frame h) h (sym is) refl in
+      let room = overhead_few (drop k front) (sym is) refl in
       let seen : drop k front ≡ take n (drop (at + k) file) =
       ap (drop k) shows.front_is ∙ ap (λ m. drop k (take m (drop at file))) split
       ∙ drop-take k n (drop at file) ∙ ap (take n) (drop-drop k at file) in
@@ -107,63 +106,62 @@ module _ (file : List ℕ) (at : ℕ) (front : List ℕ) (left : ℕ)
 
   -- ---- an anchored frame
 
-  usable_by : (role : Role) (o : Option PlacedFrame) → o ≡ anchored_frame file at
+  usable_by : (role : Role) {o : Option PlacedFrame} → o ≡ anchored_frame file at
       → frame_if_usable file role o ≡ usable_frame_at file role at
   unfolding usable_frame_at
-  usable_by role o is = ap (frame_if_usable file role) is
+  usable_by role is = ap (frame_if_usable file role) is
 
   -- if no frame is anchored, none is usable
   pub none_anchored : (role : Role) → None ≡ anchored_frame file at
       → None ≡ usable_frame_at file role at
-  none_anchored role is = usable_by role None is
+  none_anchored role is = usable_by role is
 
   -- an anchored frame is usable if it passes the test
-  pub frame_judged : (role : Role) (p : PlacedFrame) → Some p ≡ anchored_frame file at
-      → p.offset ≡ at → item_front front ≡ Frame p.header → (b : Bool) → is_usable role p front ≡ b
+  pub frame_judged : (role : Role) {p : PlacedFrame} → Some p ≡ anchored_frame file at
+      → p.offset ≡ at → item_front front ≡ Frame p.header → {b : Bool} → is_usable role p front ≡ b
       → cond b (Some p) None ≡ usable_frame_at file role at
-  frame_judged role p anchored here is b usable =
-      grind (arith, usable_shown role p here is, usable_by role (Some p) anchored)
+  frame_judged role {p} anchored here is usable =
+      grind (arith, usable_shown role here is, usable_by role anchored)
 
   -- ---- an item that is read
 
-  read_by : (role : Role) (o : Option Item) → whole_item_at Stream file at ≡ o
+  read_by : (role : Role) {o : Option Item} → whole_item_at Stream file at ≡ o
       → item_read file role at ≡ item_if_read file role at o
   unfolding item_read
-  read_by role o is = ap (item_if_read file role at) is
+  read_by role is = ap (item_if_read file role at) is
 
   -- if no whole item is there, none is read
   pub none_read : (role : Role) → whole_item_at Stream file at ≡ None
       → item_read file role at ≡ None
-  none_read role is = read_by role None is
+  none_read role is = read_by role is
 
-  read_shown : (role : Role) (item : Item) → item_front front ≡ item
+  read_shown : (role : Role) {item : Item} → item_front front ≡ item
       → admits_item role at item front ≡ is_item_read file role at item
-  read_shown role item is = grind (arith, usable_shown)
+  read_shown role is = grind (arith, usable_shown)
 
-  whole_by : (item : Item) (size : ℕ) → item ≡ item_front front → belongs Stream item ≡ true → 0
+  whole_by : {item : Item} {size : ℕ} → item ≡ item_front front → belongs Stream item ≡ true → 0
       < size_of item → size_of item ≤ size → size ≤ left → whole_item_at Stream file at ≡ Some item
-  whole_by item size is here some least within =
+  whole_by {item} is here some least within =
       whole_item_at-whole Stream file at item
       (sym (item_at-shown file at front left shows) ∙ sym is) here
       (omega (arith, some, least, within, shows.left_is))
 
-  step_whole : (item : Item) (size : ℕ) → item ≡ item_front front
+  step_whole : (item : Item) {size : ℕ} → item ≡ item_front front
       → ((item ≡ Zero → ⊥) → size ≡ size_of item) → 0 < size → size_of item ≤ size → size ≤ left
       → whole_item_at Stream file at ≡ Some item
-  step_whole (Frame h) size is own some least within =
-      whole_by (Frame h) size is refl (omega (arith, own (λ e. cc), some)) least within
-  step_whole (Block b) size is own some least within =
-      whole_by (Block b) size is refl (omega (arith, own (λ e. cc), some)) least within
-  step_whole Zero size is own some least within =
-      whole_by Zero size is refl (omega arith) least within
-  step_whole _ size is own some least within = absurd (omega (arith, own (λ e. cc), some))
+  step_whole (Frame h) {size} is own some least within =
+      whole_by is refl (omega (arith, own (λ e. cc), some)) least within
+  step_whole (Block b) {size} is own some least within =
+      whole_by is refl (omega (arith, own (λ e. cc), some)) least within
+  step_whole Zero {size} is own some least within = whole_by is refl (omega arith) least within
+  step_whole _ is own some least within = absurd (omega (arith, own (λ e. cc), some))
 
   -- the item that is passed is whole, so it is read if it is admitted
-  pub item_judged : (role : Role) (step : Step) → PassesFront front left step → (b : Bool)
+  pub item_judged : (role : Role) {step : Step} → PassesFront front left step → {b : Bool}
       → admits_item role at step.item front ≡ b
       → item_read file role at ≡ cond b (Some step.item) None
-  item_judged role step passes b admits =
-      read_by role (Some step.item) (step_whole
-      step.item step.size passes.item passes.own passes.some passes.least passes.within)
+  item_judged role {step} passes {b} admits =
+      read_by role (step_whole
+      step.item passes.item passes.own passes.some passes.least passes.within)
       ∙ ap (λ b. cond b (Some step.item) None)
-      (sym (read_shown role step.item (sym passes.item)) ∙ admits)
+      (sym (read_shown role (sym passes.item)) ∙ admits)

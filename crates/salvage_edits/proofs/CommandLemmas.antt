@@ -13,7 +13,7 @@ use Rattle.commands.specs.{SingleOutput.WritesOutput, declared.fault.EditFault.E
 use Rattle.commands.specs.declared.fault.EditFault.TheVariants.{Input, Memory}
 use Rattle.cut_edits.proofs.LaidPassLemmas.{file-is, work_layable}
 use Rattle.cut_edits.specs.{Chosen.{chosen_file, IsSelected}, Layable.{IsWorkOf, work_file}}
-use Rattle.laying.specs.{Laid.selected_part, NeedsFit.own_choice, Surveys.CanBeRelaid}
+use Rattle.laying.specs.{NeedsFit.own_choice, Surveys.CanBeRelaid}
 use Rattle.laying.specs.declared.selected.Selected.{Selected}
 use Rattle.outside.{proofs.FilesLemmas.there_holds, specs.Counts.{Counts, NoneFell}}
 use Rattle.outside.specs.Files.{Contents, Files, Holds, IfTold, IsFileMissing, IsFileThere, Told}
@@ -53,15 +53,15 @@ pub record IsReadAt (o : Option (List ℕ)) : Type 0 where
   pub left : DamagedFields
   pub read : damaged_of file ≡ Ok left
 
-read-by : (file bytes : List ℕ) (r : Result DamagedFields SurveyFault) → damaged_of file ≡ r
+read-by : {file bytes : List ℕ} (r : Result DamagedFields SurveyFault) → damaged_of file ≡ r
     → salvaged_or_fault file r ≡ Ok bytes → IsReadAt (Some file)
-read-by file bytes (Err fault) is e = absurd cc
-read-by file bytes (Ok d) is e = record { file = file; there = refl; left = d; read = is }
+read-by (Err fault) is e = absurd cc
+read-by {file} (Ok d) is e = record { file = file; there = refl; left = d; read = is }
 
 -- a file from which something is made was read
-pub read-where : (o : Option (List ℕ)) (bytes : List ℕ) → input_salvaged o ≡ Ok bytes → IsReadAt o
-read-where None bytes e = absurd cc
-read-where (Some file) bytes e = read-by file bytes (damaged_of file) refl e
+pub read-where : (o : Option (List ℕ)) {bytes : List ℕ} → input_salvaged o ≡ Ok bytes → IsReadAt o
+read-where None e = absurd cc
+read-where (Some file) {bytes} e = read-by (damaged_of file) refl e
 
 many-late : (file : List ℕ) (o : Option Row) (d : DamagedFields)
     → IfErr (salvaged_or_fault file (excess_or_damaged o d)) IsLateFault
@@ -81,46 +81,46 @@ unfolding damaged_fields
 damaged_fields-late file = read-late file (front_end_of file) (first_frame file (front_end_of file))
 
 -- the refusals of a file that isn't too long are late
-pub salvage-late : (input : List ℕ) (f : Contents) (bytes : List ℕ) → f input ≡ Some bytes
+pub salvage-late : {input : List ℕ} (f : Contents) {bytes : List ℕ} → f input ≡ Some bytes
     → length bytes ≤ longest_file → IfErr ((salvage_task input).makes f) IsLateFault
-salvage-late input f bytes held few =
-    rw (held, damaged_of-short bytes few) (damaged_fields-late bytes)
+salvage-late f {bytes} held few = rw (held, damaged_of-short bytes few) (damaged_fields-late bytes)
 
-made-holds : (bytes new : List ℕ) (r : Result DamagedFields SurveyFault) → damaged_of bytes ≡ r
-    → salvaged_or_fault bytes r ≡ Ok new → HoldsStream new (left_stream_or_none bytes r)
-made-holds bytes new (Err fault) is e = absurd cc
-made-holds bytes new (Ok d) is e =
+made-holds : (bytes : List ℕ) {new : List ℕ} (r : Result DamagedFields SurveyFault)
+    → damaged_of bytes ≡ r → salvaged_or_fault bytes r ≡ Ok new
+    → HoldsStream new (left_stream_or_none bytes r)
+made-holds bytes (Err fault) is e = absurd cc
+made-holds bytes {new} (Ok d) is e =
     let made : salvaged_file bytes d ≡ new = cc in
     rw (← made)
-    (salvaged-holds bytes d (damaged_of-is bytes d is).1 (read-laid bytes d is))
+    (salvaged-holds bytes d (damaged_of-is bytes is).1 (read-laid bytes is))
 
 -- the refusals are late, and what is made holds what is left
 pub salvage_proper : (input : List ℕ) → IsProperTask (salvage_task input)
 salvage_proper input = record {
   some = omega arith;
   first = refl;
-  late = salvage-late input;
+  late = salvage-late;
   streams = λ f bytes new held octets is.
-      (tt, rw held (made-holds bytes new (damaged_of bytes) refl (rw held at is)));
+      (tt, rw held (made-holds bytes (damaged_of bytes) refl (rw held at is)));
 }
 
 -- ---- a fault of the reading
 
 module _ (input : List ℕ) where
-  refuses-bytes : (files : Files) (fault : SurveyFault) → IsFileThere files input
+  refuses-bytes : (files : Files) {fault : SurveyFault} → IsFileThere files input
       → ((bytes : List ℕ) → Holds files input bytes → damaged_of bytes ≡ Err fault)
       → TaskRefuses (salvage_task input) files (Input 0 fault)
-  refuses-bytes files fault there is = grind (arith, there_holds)
+  refuses-bytes files there is = grind (arith, there_holds)
 
   refuses-absent : (files : Files) → IsFileMissing files input
       → TaskRefuses (salvage_task input) files (Input 0 Absent)
   refuses-absent files missing = grind arith
 
   module _ (files after : Files) (before counts : Counts) (same : after ≡ files) where
-    rejected : (fault : SurveyFault) → RefusesDamaged input files before counts fault
+    rejected : {fault : SurveyFault} → RefusesDamaged input files before counts fault
         → TaskRefuses (salvage_task input) files (Input 0 fault)
         × (seen_folder after counts ≡ seen_folder files before)
-    rejected fault h = (refuses-bytes files fault h.there h.bytes, ap₂ seen_folder same h.counts)
+    rejected {fault} h = (refuses-bytes files h.there h.bytes, ap₂ seen_folder same h.counts)
 
     -- a fault of reading is one met before the output is created
     pub early-fault : (fault : SurveyFault) → IsDamagedFault input files before counts fault
@@ -128,7 +128,7 @@ module _ (input : List ℕ) where
         (input_edit_fault fault)
     early-fault Absent h = record { defined = refuses-absent files h.0; rose = h.1; files = same }
     early-fault Read h = record {
-      before = before_first files (salvage_task input).makes (Input 0 Read) refl;
+      before = before_first files (salvage_task input).makes refl;
       rose = h;
       files = same;
     }
@@ -138,7 +138,7 @@ module _ (input : List ℕ) where
     }
     early-fault NoRoom h =
         record { there = h.there; few = h.few; stays = ap₂ seen_folder same h.counts }
-    early-fault x h = let r = rejected x h in record { defined = r.0; stays = r.1 }
+    early-fault x h = let r = rejected h in record { defined = r.0; stays = r.1 }
 
   -- a fault of reading has the right numbers
   pub early-numbers : (fault : SurveyFault) → HasRightNumbers fault
@@ -146,11 +146,11 @@ module _ (input : List ℕ) where
   early-numbers fault h = grind arith
 
   -- running out of memory, once the input was read
-  pub early-memory : (old new : Seen) (d : DamagedFields) → IsFileThere old.files input
+  pub early-memory : {old new : Seen} {d : DamagedFields} → IsFileThere old.files input
       → IsDamagedOf input old.files d → new ≡ old → NeedsMemory input old new
-  early-memory old new d there read stays = record {
+  early-memory {d = d} there read stays = record {
     there = there;
-    few = λ bytes holds. (damaged_of-is bytes d (read bytes holds)).0;
+    few = λ bytes holds. (damaged_of-is bytes (read bytes holds)).0;
     stays =
         stays;
   }
@@ -169,13 +169,13 @@ module _ (input : List ℕ) where
   }
 
   -- running out of memory once the input was read is a fault of the whole call
-  pub memory-on : {T U : Type 0} {x : T} {old new : Seen} (r : Result U EditFault)
-      → IsErrAnd r (λ y. y ≡ Memory) → (m : Mended) → IsFileThere old.files input
+  pub memory-on : {T U : Type 0} {x : T} {old new : Seen} {r : Result U EditFault}
+      → IsErrAnd r (λ y. y ≡ Memory) → {m : Mended} → IsFileThere old.files input
       → IsMended input old.files m → new ≡ old → ReadsDamaged input (Ok x) old new
       → ReadsDamaged input r old new
-  memory-on {U = U} {old = old} {new = new} r is m there mended stays reads =
+  memory-on {U = U} {old = old} {new = new} {r = r} is there mended stays reads =
       fault-on {T = U} r is (record {
-        refused = early-memory old new mended.of there mended.read stays;
+        refused = early-memory there mended.read stays;
         numbers = tt;
         done = tt;
         files = reads.files;
@@ -187,8 +187,8 @@ module _ (input : List ℕ) where
   -- the file can be relaid by the survey of what was read
   mended-has : (files : Files) (m : Mended) (is : IsMended input files m) → (bytes : List ℕ)
       → Holds files input bytes → CanBeRelaid bytes (survey_view m.survey)
-  mended-has files m is bytes holds = rw is.survey (damaged_fields-relaid bytes
-      is.of (damaged_of-is bytes is.of (is.read bytes holds)).1 is.laid)
+  mended-has files m is bytes holds =
+      rw is.survey (damaged_fields-relaid (damaged_of-is bytes (is.read bytes holds)).1 is.laid)
 
   -- the work that was made from what is left is prepared for the pass
   pub ready-of : (files : Files) (m : Mended) (selected : Selected) (work : SalvageWork)
@@ -202,7 +202,8 @@ module _ (input : List ℕ) where
     of = is.of;
     read = is.read;
     laid = is.laid;
-    layable = work_layable m.survey selected work.laid made input files there placed
+    layable =
+        work_layable m.survey selected work.laid made {input = input} {files = files} there placed
         (mended-has files m is) own.writable;
     survey = ap survey_view made.survey_is ∙ is.survey;
     selected = rw made.survey_is (rw made.selected_is own);
@@ -217,7 +218,7 @@ module _ (input : List ℕ) where
     salvaged-is : (bytes : List ℕ) → file_of bytes ≡ salvaged_file bytes ready.of
     unfolding salvaged_file
     salvaged-is bytes =
-        file-is (all_chosen (survey_view work.laid.survey)) (selected_part work.laid.selected) bytes
+        file-is bytes
         (survey_view work.laid.survey) ready.selected.laid
         ∙ ap (λ (s : SurveyFields). chosen_file (all_chosen s) bytes s) ready.survey
 
@@ -240,13 +241,14 @@ module _ (input : List ℕ) where
         ∙ length-map ready.of.survey.frames emptied_row
 
     -- the text is the text of what was read
-    pub ready-text : (output all : List ℕ) → IsCommandText (salvage_command input output) files all
+    pub ready-text : (output : List ℕ) {all : List ℕ}
+        → IsCommandText (salvage_command input output) files all
         → all ≡ report_text (length (survey_view work.laid.survey).frames) work.report
-    ready-text output all is =
+    ready-text output {all} is =
         let told = telling_command-text (λ f. input_salvage_text (f input))
-        (one_command (salvage_task input) output) files all is in
+        (one_command (salvage_task input) output) is in
         told.2 ∙ at files told.1 ready.layable.there ready.read
-        ∙ sym (report-text-same ready.of work.report ready.reports)
+        ∙ sym (report-text-same ready.reports)
         ∙ sym (ap (λ n. report_text n work.report) frames-same)
       where
         told-same : (f g : Contents) → Told f ≡ Told g → f ≡ g
@@ -256,13 +258,13 @@ module _ (input : List ℕ) where
             → IsDamagedOf input fs ready.of → input_salvage_text (f input) ≡ salvage_text ready.of
         at (Untold touched) e there read = absurd cc
         at (Told g) {f} e there read =
-            let held = there_holds g input there in
+            let held = there_holds g there in
             ap (λ (h : Contents). input_salvage_text (h input)) (sym (told-same g f e))
             ∙ ap input_salvage_text held.1 ∙ ap salvage_text_or_none (read held.0 held.1)
 
     -- the entries of its report are in order
     pub ready-order : IsReportInOrder work.report
-    ready-order = reports-order ready.of work.report ready.laid ready.reports
+    ready-order = reports-order ready.laid ready.reports
 
 -- ---- runs of the command
 
@@ -271,11 +273,12 @@ abbrev pub text_of : List ℕ → Contents → List ℕ
 text_of input f = input_salvage_text (f input)
 
 -- a call that wrote what is left, or a part of it, is a run of the command without a text
-pub written_run : (input output : List ℕ) (free : clash_in (salvage_task input) output ≡ None)
-    {old new : Seen} (work : SalvageWork) {r : Result (Unit {0}) EditFault}
+pub written_run : {input output : List ℕ} (free : clash_in (salvage_task input) output ≡ None)
+    {old new : Seen} {work : SalvageWork} {r : Result (Unit {0}) EditFault}
     → IsSalvageReady input old.files work → IfErr r HasPassNumbers
     → WritesOutput (work_file work.laid) (input ∷ []) output old new r
     → NoneFell old.counts new.counts → IsRunOf (one_command (salvage_task input) output) old new r
-written_run input output free {old} work ready numbers wrote fell =
+written_run {input} {output} free
+    {old} {work = work} ready numbers wrote fell =
     pass_run (salvage_task input) output free (work_file work.laid)
     (ready-makes input old.files work ready) (salvage_proper input) numbers wrote fell

@@ -19,7 +19,7 @@ use Rattle.salvage.specs.SoundFrames.{judged_runs, runs_of}
 use Rattle.salvage.specs.Walk.{block_of_thing, blocks_of_things, first_frame, IsItem, ItemOrGap}
 use Rattle.salvage.specs.Walk.{PlacedThing, size_of_thing, thing_at, thing_or_gap, things}
 use Rattle.salvage.specs.Walk.{things_up_to}
-use Rattle.side_info.{proofs.FrameLemmas.shaped-side_in, specs.Frame.side_in}
+use Rattle.side_info.proofs.FrameLemmas.{shaped-side_in}
 use Rattle.sync_survey.proofs.ItemsLemmas.{header_front-in_range, stands-at}
 use Rattle.sync_survey.{proofs.RunsLemmas.{IsItemOf, item_run-ends}, specs.HeadApart.emptied_survey}
 use Rattle.sync_survey.specs.{MainData.head_area, Row.Row, Runs.{blocks_of, item_run}}
@@ -32,12 +32,12 @@ use Rattle.sync_survey.specs.declared.runs.Region.TheVariants.{Front, Stream}
 -- ---- the first frame
 
 module _ (file : List ℕ) where
-  first-whole : (at : ℕ) (first : PlacedFrame) → first_frame file at ≡ Some first
+  first-whole : (at : ℕ) {first : PlacedFrame} → first_frame file at ≡ Some first
       → IsWholeFrameAt file first.offset first.header
-  first-whole at first e =
+  first-whole at {first} e =
       let here = (first_frame-is file at first e).frame in
       record {
-        header = header_front-in_range _ first.header
+        header = header_front-in_range _
             (stands-at file first.offset (Frame first.header) here.is);
         within = here.within;
       }
@@ -54,8 +54,7 @@ module _ (file : List ℕ) where
 
   here-paired : (b : ReservoirState) (at : ℕ) (thing : ItemOrGap)
       → ArePaired (thing_rows file b at thing)
-  here-paired b at (IsItem (Frame h)) =
-      (shaped_pairs (side_in h (drop at file)) (shaped-side_in h (drop at file)), tt)
+  here-paired b at (IsItem (Frame h)) = (shaped_pairs (shaped-side_in h (drop at file)), tt)
   here-paired b at _ = tt
 
   left-paired : (b : ReservoirState) (ts : List PlacedThing) → ArePaired (rows_left file b ts)
@@ -71,31 +70,31 @@ module _ (file : List ℕ) where
   runs-paired head ts =
       rw (runs-left file head ts) (left-paired (record { place = head_area head; ended = 0 }) ts)
 
-  rows-whole : (class : ClassFields) (from to : ℕ) (rows : List Row) → to ≤ length file
+  rows-whole : (class : ClassFields) (from : ℕ) {to : ℕ} (rows : List Row) → to ≤ length file
       → RowsAreOfClass class rows → FramesAreLaid from rows to → ArePaired rows
       → AreWholeRows file rows
-  rows-whole class from to [] within are laid pairs = tt
-  rows-whole class from to (r ∷ rows) within are laid pairs =
+  rows-whole class from [] within are laid pairs = tt
+  rows-whole class from {to} (r ∷ rows) within are laid pairs =
       let size = length_of (class_of r.header) r.header.slot in (
         record {
           frame = record {
             header = are.0;
-            within = omega (arith, within, laid-behind (r.offset + size) to rows laid.2);
+            within = omega (arith, within, laid-behind (r.offset + size) rows laid.2);
           };
           pairs = pairs.0;
         },
-        rows-whole class (r.offset + size) to rows within are.2 laid.2 pairs.1,
+        rows-whole class (r.offset + size) rows within are.2 laid.2 pairs.1,
       )
 
   -- ---- the blocks
 
   module _ (class : ClassFields) where
-    thing-blocks : (at : ℕ) (o : Option Item) (blocks : List Piece)
+    thing-blocks : {at : ℕ} (o : Option Item) (blocks : List Piece)
         → ((item : Item) → o ≡ Some item → IsItemOf Stream file at item)
         → AreBlocks (map (block_bytes file) blocks) → AreBlocks (map (block_bytes file)
         (cons_option (block_of_thing at (thing_or_gap file class at o)) blocks))
-    thing-blocks at None blocks is are = are
-    thing-blocks at (Some item) blocks is are = let here = is item refl in
+    thing-blocks None blocks is are = are
+    thing-blocks {at} (Some item) blocks is are = let here = is item refl in
         block_more file at item blocks here.is here.within are
 
     here-blocks : (at : ℕ) (blocks : List Piece) → AreBlocks (map (block_bytes file) blocks)
@@ -103,7 +102,7 @@ module _ (file : List ℕ) where
         (cons_option (block_of_thing at (thing_at file class at)) blocks))
     unfolding thing_at
     here-blocks at blocks are =
-        thing-blocks at _ blocks (λ item is. item_read-is file _ at item is) are
+        thing-blocks _ blocks (λ item is. item_read-is file _ at item is) are
 
     next-blocks : (at : ℕ) (ts : List PlacedThing) (b : Bool)
         → AreBlocks (map (block_bytes file) (blocks_of_things ts))
@@ -140,27 +139,27 @@ module _ (file : List ℕ) where
 
   -- ---- the whole file
 
-  begun-had : (front_end : ℕ) (first : PlacedFrame) → IsWholeFrameAt file first.offset first.header
+  begun-had : (front_end : ℕ) {first : PlacedFrame} → IsWholeFrameAt file first.offset first.header
       → IsDamagedLaidOut (damaged_from file front_end first)
       → CanBeRelaid file (emptied_survey (damaged_from file front_end first).survey)
   unfolding damaged_from
-  begun-had front_end first whole laid =
+  begun-had front_end {first} whole laid =
       let head = head_of file first in
       let rows = judged_runs file head (runs_of (things_from file first)) in
       record {
         long = refl;
-        head = head-whole file first whole;
-        rows = emptied_whole file rows (rows-whole (class_of first.header) first.offset
-            (length file) rows (omega arith) laid.class laid.frames
+        head = head-whole whole;
+        rows = emptied_whole file rows (rows-whole (class_of first.header) first.offset rows
+            (omega arith) laid.class laid.frames
             (runs-paired head (things_from file first)));
         placed = (survey-mended (damaged_from file front_end first) laid).placed;
         blocks = all-blocks first;
       }
 
 -- what is left of a damaged file is in the file as its survey says
-pub damaged_fields-relaid : (file : List ℕ) (d : DamagedFields) → damaged_fields file ≡ Ok d
+pub damaged_fields-relaid : {file : List ℕ} {d : DamagedFields} → damaged_fields file ≡ Ok d
     → IsDamagedLaidOut d → CanBeRelaid file (emptied_survey d.survey)
-damaged_fields-relaid file d e laid =
-    let is = damaged_fields-from file d e in
-    rw (← is.same) (begun-had file (front_end_of file) is.first (first-whole file
-    (front_end_of file) is.first is.first_is) (rw is.same laid))
+damaged_fields-relaid {file} {d} e laid =
+    let is = damaged_fields-from e in
+    rw (← is.same) (begun-had file (front_end_of file) (first-whole file
+    (front_end_of file) is.first_is) (rw is.same laid))

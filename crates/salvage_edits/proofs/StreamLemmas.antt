@@ -102,7 +102,7 @@ module _ (file : List ℕ) (d : DamagedFields) (is : damaged_fields file ≡ Ok 
   -- all frames that are laid are what is left of the file
   pub laid-left : slice_range (stream_of_survey file own) 0 (length own.frames)
       ≡ salvaged_stream file
-  laid-left = whole-stream file own ∙ stream-same file d.survey ∙ stream-told file d is laid
+  laid-left = whole-stream file own ∙ stream-same file d.survey ∙ stream-told file is laid
 
   left-is : left_stream file d ≡ chosen_stream (all_chosen own) file own
   unfolding left_stream chosen_stream
@@ -112,5 +112,5 @@ module _ (file : List ℕ) (d : DamagedFields) (is : damaged_fields file ≡ Ok 
   pub salvaged-holds : HoldsStream (salvaged_file file d) (left_stream file d)
   unfolding salvaged_file
   salvaged-holds =
-      rw left-is (chosen-holds (all_chosen own) file own (damaged_fields-relaid file d is laid)
+      rw left-is (chosen-holds (all_chosen own) file own (damaged_fields-relaid is laid)
       (survey-mended d laid).some (omega arith) refl)

@@ -52,14 +52,14 @@ pub record HasNoFault (file : List ℕ) (class : ClassFields) (r : Row) : Type 0
   pub same : not (same_class (class_of r.header) class) ≡ false
   pub word : has_wrong_crc (stored_crc (drop r.offset file)) r ≡ false
 
-word_by : (file : List ℕ) (class : ClassFields) (p : PlacedFrame)
+word_by : {file : List ℕ} {class : ClassFields} {p : PlacedFrame}
     → HasNoFault file class (row_of file p) → has_right_crc p.header (drop p.offset file) ≡ true
-word_by file class p sound = grind (arith, right_by)
+word_by sound = grind (arith, right_by)
 
-usable_by : (file : List ℕ) (class : ClassFields) (p : PlacedFrame)
+usable_by : {file : List ℕ} {class : ClassFields} {p : PlacedFrame}
     → HasNoFault file class (row_of file p)
     → is_usable (later_role class) p (drop p.offset file) ≡ true
-usable_by file class p sound = grind (arith, not-false, word_by)
+usable_by sound = grind (arith, not-false, word_by)
 
 abbrev AreUsable : List ℕ → ClassFields → List PlacedFrame → Type 0
 AreUsable file class [] = Unit {0}
@@ -71,7 +71,7 @@ usable_all : (file : List ℕ) (class : ClassFields) (ps : List PlacedFrame)
     → AreUsable file class ps
 usable_all file class [] sound = tt
 usable_all file class (p ∷ ps) sound = (
-  usable_by file class p (sound zero (row_of file p) refl),
+  usable_by (sound zero (row_of file p) refl),
   usable_all file class ps (λ i r is. sound (suc i) r is),
 )
 
@@ -80,11 +80,11 @@ usable_all file class (p ∷ ps) sound = (
 abbrev as_thing : PlacedItem → PlacedThing
 as_thing p = record { offset = p.offset; thing = IsItem p.item }
 
-read_by : (file : List ℕ) (class : ClassFields) (at : ℕ) (item : Item)
+read_by : (file : List ℕ) (class : ClassFields) (at : ℕ) {item : Item}
     → whole_item_at Stream file at ≡ Some item → is_item_read file (later_role class) at item ≡ true
     → item_read file (later_role class) at ≡ Some item
 unfolding item_read
-read_by file class at item here reads = grind arith
+read_by file class at here reads = grind arith
 
 item_reads : (file : List ℕ) (class : ClassFields) (at : ℕ) (item : Item) (ps : List PlacedFrame)
     → AreUsable file class (cons_option (frame_of_item at item) ps)
@@ -101,8 +101,8 @@ things_are : (file : List ℕ) (class : ClassFields) (from : ℕ) (ps : List Pla
 things_are file class from [] to ends usable past = grind (arith, things-past)
 things_are file class from (p ∷ ps) to ends usable past =
     ap (things file class) (sym ends.0)
-    ∙ things-item file class p.offset p.item (read_by file class
-    p.offset p.item ends.1 (item_reads file class p.offset p.item (frames_of ps) usable))
+    ∙ things-item file class (read_by file class
+    p.offset ends.1 (item_reads file class p.offset p.item (frames_of ps) usable))
     ∙ ap (λ l. as_thing p ∷ l) (things_are file class (p.offset + size_of p.item) ps to
     ends.2 (rest_usable file class (frame_of_item p.offset p.item) (frames_of ps) usable) past)
 
@@ -117,10 +117,10 @@ same_blocks (p ∷ ps) = ap (cons_option (block_of_item p.offset p.item)) (same_
 abbrev runs_as : List PlacedFrame → List (List PlacedFrame) → FrameRuns
 runs_as first later = record { first = first; later = later }
 
-frame_run : (o : Option PlacedFrame) (runs : FrameRuns) (ps : List PlacedFrame)
+frame_run : (o : Option PlacedFrame) {runs : FrameRuns} {ps : List PlacedFrame}
     → runs ≡ runs_as ps []
     → runs_as (option_to_list o ++ runs.first) runs.later ≡ runs_as (cons_option o ps) []
-frame_run o runs ps is = grind arith
+frame_run o is = grind arith
 
 one_run : (ps : List PlacedItem) → runs_of (map as_thing ps) ≡ runs_as (frames_of ps) []
 one_run [] = refl
@@ -128,29 +128,29 @@ one_run (p ∷ ps) = grind (arith, frame_run, one_run ps)
 
 -- ---- the marks of the survey are the same
 
-not_sound : (place ended : ℕ) (r : Row) (lost : Bool) → lacks_data place ended r ≡ lost
+not_sound : {place ended : ℕ} {r : Row} {lost : Bool} → lacks_data place ended r ≡ lost
     → (lost ≡ false → StandWell place ended r) → not (is_sound place ended r) ≡ lost
-not_sound h ended r lost is well = grind arith
+not_sound is well = grind arith
 
 module _ (file : List ℕ) (head : Option Head) (class : ClassFields) (allowed : ℕ) (rows : List Row)
     (sound : AreSound file head class allowed rows) where
-  one_same : (i : ℕ) (r : Row) → slice_get rows i ≡ Some r
+  one_same : (i : ℕ) {r : Row} → slice_get rows i ≡ Some r
       → not (is_sound (place head rows i) (data_end_before head rows i) r) ≡ is_lost head rows i r
-  one_same i r is = grind (arith, not_sound)
+  one_same i is = grind (arith, not_sound)
 
-  end_step : (i : ℕ) (o : Option Row) → slice_get rows i ≡ o → end_of_sound head rows i
+  end_step : (i : ℕ) {o : Option Row} → slice_get rows i ≡ o → end_of_sound head rows i
       ≡ data_end_before head rows i → sound_end (place head rows i) (end_of_sound head rows i) o
       ≡ data_end_after (place head rows i) (data_end_before head rows i) o
-  end_step i o is so_far = grind arith
+  end_step i is so_far = grind arith
 
   ends_same : (i : ℕ) → end_of_sound head rows i ≡ data_end_before head rows i
   unfolding end_of_sound data_end_before
   ends_same zero = refl
-  ends_same (suc i) = end_step i (slice_get rows i) refl (ends_same i)
+  ends_same (suc i) = end_step i refl (ends_same i)
 
-  row_same : (i : ℕ) (r : Row) → slice_get rows i ≡ Some r
+  row_same : (i : ℕ) {r : Row} → slice_get rows i ≡ Some r
       → judged_row head rows i r ≡ marked_row head rows i r
-  row_same i r is = grind (arith, ends_same, one_same)
+  row_same i is = grind (arith, ends_same, one_same)
 
 each_same : (f g : ℕ → Row → Row) (n : ℕ) (xs : List Row)
     → ((i : ℕ) (x : Row) → slice_get xs i ≡ Some x → f (n + i) x ≡ g (n + i) x)
@@ -170,14 +170,14 @@ unfolding judged_rows marked_rows
 judged_rows-marked_rows file head class allowed rows sound =
     each_same (judged_row head rows) (marked_row head rows) 0 rows
     (λ i r is. let same : i ≡ 0 + i = omega arith in subst (λ m. judged_row head rows m r
-    ≡ marked_row head rows m r) same (row_same file head class allowed rows sound i r is))
+    ≡ marked_row head rows m r) same (row_same file head class allowed rows sound i is))
 
 -- ---- the first frame of the survey is the first that is read
 
-head_seen : (file : List ℕ) (p : PlacedFrame) (head : Head) → head_of file p ≡ Some head
+head_seen : (file : List ℕ) (p : PlacedFrame) {head : Head} → head_of file p ≡ Some head
     → is_head p (drop p.offset file) ≡ true
 unfolding head_of
-head_seen file p head is = ap is_some is
+head_seen file p is = ap is_some is
 
 first_usable : (file : List ℕ) (class : ClassFields) (start : Start) (o : Option Head)
     → whole_item_at Stream file start.first.offset ≡ Some (Frame start.first.header)
@@ -186,46 +186,46 @@ first_usable : (file : List ℕ) (class : ClassFields) (start : Start) (o : Opti
     → is_usable first_role start.first (drop start.first.offset file) ≡ true
 first_usable file class start (Some head) here is sound = grind (arith, or_right, head_seen)
 first_usable file class start None here is sound =
-    let frames = frames-next Stream file start.first.offset (Frame start.first.header) here in
-    or_left _ _ (word_by file class start.first (sound zero (row_of file start.first)
+    let frames = frames-next Stream file start.first.offset here in
+    or_left _ _ (word_by (sound zero (row_of file start.first)
     (ap (λ ps. slice_get (rows_of file ps) zero) frames)))
 
-read_first : (file : List ℕ) (at : ℕ) (h : HeaderFields) → whole_item_at Stream file at
+read_first : (file : List ℕ) {at : ℕ} {h : HeaderFields} → whole_item_at Stream file at
     ≡ Some (Frame h) → is_usable first_role (record { offset = at; header = h }) (drop at file)
     ≡ true → option_and_then (frame_of_item at) (item_read file first_role at)
     ≡ Some (record { offset = at; header = h })
 unfolding item_read
-read_first file at h here usable = grind (arith, option_and_then)
+read_first file here usable = grind (arith, option_and_then)
 
-no_frame : (file : List ℕ) (at : ℕ) (item : Item) (b : Bool) → item_at file at ≡ item
+no_frame : (file : List ℕ) (at : ℕ) {item : Item} (b : Bool) → item_at file at ≡ item
     → ((h : HeaderFields) → item ≡ Frame h → ⊥)
     → option_and_then (frame_of_item at) (item_read file first_role at) ≡ None
 unfolding item_read whole_item_at
-no_frame file at item b is none = grind arith
+no_frame file at b is none = grind arith
 
-usable_here : (file : List ℕ) (at : ℕ) (p : PlacedFrame) → anchored_frame file at
+usable_here : (file : List ℕ) (at : ℕ) {p : PlacedFrame} → anchored_frame file at
     ≡ Some p → is_usable first_role p (drop p.offset file) ≡ true
     → usable_frame_at file first_role at ≡ Some p
 unfolding usable_frame_at
-usable_here file at p here usable = grind arith
+usable_here file at here usable = grind arith
 
 module _ (file : List ℕ) (at : ℕ) (start : Start)
     (within : start.first.offset + size_of (Frame start.first.header) ≤ length file)
     (usable : is_usable first_role start.first (drop start.first.offset file) ≡ true) where
-  junk_first : (item : Item) → item_at file at ≡ item → ((h : HeaderFields) → item ≡ Frame h → ⊥)
+  junk_first : {item : Item} → item_at file at ≡ item → ((h : HeaderFields) → item ≡ Frame h → ⊥)
       → first_anchored longest_junk file (at + 1) ≡ Some start.first
       → 0 < size_of (Frame start.first.header) → first_frame file at ≡ Some start.first
   unfolding first_anchored
-  junk_first item is none found some =
-      let first = first_of-is (anchored_frame file) longest_junk (at + 1) start.first found in
-      let place = (anchored_frame-is file first.0 start.first first.1.here).offset in
-      first_later file at (no_frame file at item true is none)
-      ∙ next_usable_frame-some file first_role (at + 1) first.0 start.first first.1.low (omega
-      (arith, place, within, some)) (usable_here file first.0 start.first first.1.here usable)
+  junk_first {item} is none found some =
+      let first = first_of-is longest_junk found in
+      let place = (anchored_frame-is first.1.here).offset in
+      first_later file at (no_frame file at true is none)
+      ∙ next_usable_frame-some file first_role first.1.low (omega
+      (arith, place, within, some)) (usable_here file first.0 first.1.here usable)
       (λ k low high. not_usable file first_role k (first.1.none k low high))
 
-  start_same : (o : Option PlacedFrame) → start_after_junk at o ≡ Ok start → o ≡ Some start.first
-  start_same o e = grind arith
+  start_same : {o : Option PlacedFrame} → start_after_junk at o ≡ Ok start → o ≡ Some start.first
+  start_same e = grind arith
 
   here_first : (h : HeaderFields) (b : Bool) (fault : SurveyFault)
       → whole_item_at Stream file start.first.offset ≡ Some (Frame start.first.header)
@@ -239,7 +239,7 @@ module _ (file : List ℕ) (at : ℕ) (start : Start)
   first_by (Frame h) is e here some = here_first h (item_fits file at (Frame h)) _ here e
   first_by Free is e here some = absurd cc
   first_by (Block b) is e here some = absurd cc
-  first_by item is e here some = junk_first item is (λ h e. absurd cc) (start_same _ e) some
+  first_by item is e here some = junk_first is (λ h e. absurd cc) (start_same e) some
 
 -- ---- all that is read
 
@@ -270,7 +270,7 @@ length_rows file (p ∷ ps) = ap suc (length_rows file ps)
 -- everything in the survey of a file without fault is read
 pub keeps_streams : SalvageKeepsStreams
 keeps_streams = λ file allowed s is few.
-    let parts = survey_fields-parts file allowed s is in
+    let parts = survey_fields-parts {file = file} {allowed = allowed} {s = s} is in
     let start = parts.0 in
     let read = parts.1 in
     let told = parts.2 in
@@ -280,7 +280,7 @@ keeps_streams = λ file allowed s is few.
     let fine : (i : ℕ) (r : Row) → slice_get rows i ≡ Some r
     → HasNoFault file (class_from start) r =
     λ i r is. record { same = (sound i r is).same; word = (sound i r is).word } in
-    let here = first_of_stream file start read.start_is in
+    let here = first_of_stream file {start = start} read.start_is in
     let item = whole_item_at-is Stream file start.first.offset (Frame start.first.header) here in
     let usable = first_usable file (class_from start) start head here refl fine in
     let at = front_end_of file in
@@ -290,7 +290,7 @@ keeps_streams = λ file allowed s is few.
     let items = (item_run Stream file from).items in
     let frames = numbered_frames-run file start head here in
     let nothing = nothing_left file
-    (stream_run file start).stop (no_fault file (frames_from file start) _ read.end) in
+    (stream_run file start).stop (no_fault file (frames_from file start) {o = _} read.end) in
     let past : length file ≤ (item_run Stream file from).stop = omega (
       arith,
       ap length nothing,
@@ -301,9 +301,10 @@ keeps_streams = λ file allowed s is few.
     (item_run-ends Stream file from) (subst (AreUsable file (class_from start)) (sym frames)
     (usable_all file (class_from start) (frames_from file start) fine)) past in
     let marks = judged_rows-marked_rows file head (class_from start) allowed rows sound in
-    let all_read = told_read file start items (start-front file start read.start_is) are frames
+    let all_read =
+    told_read file start items (start-front file {s = start} read.start_is) are frames
     (numbered-blocks file start head here) marks ∙ ap with_junk told in
     let some : s.frames ≡ [] → ⊥ =
     grind (arith, some_frames, frames_from, length_rows, length-marked_rows) in
     damaged_fields-first file start.first first ∙ ap (damaged_with_count at) all_read
-    ∙ no_frame_or_damaged-few at s.frames (with_junk s) some few
+    ∙ no_frame_or_damaged-few at {rows = s.frames} (with_junk s) some few

@@ -33,8 +33,8 @@ abbrev LacksOthers : ClassFields → Side → Type 0
 LacksOthers c s = (granule channel : ℕ) → has_granule c granule channel ≡ false
     → granule_in s granule channel ≡ no_granule
 
-lacks-others : (c : ClassFields) (s : Side) → SideFits c s → LacksOthers c s
-lacks-others c s fits granule channel lacks = grind arith
+lacks-others : {c : ClassFields} {s : Side} → SideFits c s → LacksOthers c s
+lacks-others fits granule channel lacks = grind arith
 
 -- the lengths of the granules add up to the length of the main data
 abbrev AreParts : ClassFields → Side → Type 0
@@ -91,11 +91,11 @@ module _ (c : ClassFields) (known : IsClass c) where
   abbrev own_bits : Frame → List ℕ
   own_bits f = take (payload_bits f.kept.side) (bits f.payload)
 
-  bits-long : (f : Frame) → IsStreamEntry c f → length (own_bits f) ≡ payload_bits f.kept.side
-  bits-long f is = grind (arith, length-take-le, bits_least, length-bits)
+  bits-long : {f : Frame} → IsStreamEntry c f → length (own_bits f) ≡ payload_bits f.kept.side
+  bits-long is = grind (arith, length-take-le, bits_least, length-bits)
 
-  entry-bits : (f : Frame) → IsStreamEntry c f → concat (stream_entry f).payload ≡ own_bits f
-  entry-bits f is = grind (arith, parts-sum, shaped, lacks-others, concat-parts, bits-long)
+  entry-bits : {f : Frame} → IsStreamEntry c f → concat (stream_entry f).payload ≡ own_bits f
+  entry-bits is = grind (arith, parts-sum, shaped, lacks-others, concat-parts, bits-long)
 
   -- the payload bits of side information don't depend on its main_data_begin
   begun-bits : (s : Side) → payload_bits (record s { main_data_begin = 0 }) ≡ payload_bits s
@@ -106,17 +106,17 @@ module _ (c : ClassFields) (known : IsClass c) where
   unfolding payload_bytes
   begun-bytes s = ap (λ n. (n + 7) / 8) (begun-bits s)
 
-  same-payload : (f g : Frame) → IsStreamEntry c f → IsStreamEntry c g
+  same-payload : {f g : Frame} → IsStreamEntry c f → IsStreamEntry c g
       → stream_entry f ≡ stream_entry g → f.payload ≡ g.payload
-  same-payload f g first second same =
+  same-payload {f} {g} first second same =
       grind (
         arith,
         begun-bits f.kept.side,
         begun-bits g.kept.side,
         begun-bytes f.kept.side,
         begun-bytes g.kept.side,
-        entry-bits f first,
-        entry-bits g second,
+        entry-bits first,
+        entry-bits second,
         take-append-drop
             (payload_bits f.kept.side) (bits f.payload),
         take-append-drop (payload_bits g.kept.side) (bits
@@ -124,9 +124,9 @@ module _ (c : ClassFields) (known : IsClass c) where
         bits-injective,
       )
 
-  same-bare : (f g : Frame) → IsStreamEntry c f → IsStreamEntry c g
+  same-bare : {f g : Frame} → IsStreamEntry c f → IsStreamEntry c g
       → stream_entry f ≡ stream_entry g → bare f ≡ bare g
-  same-bare f g first second same = grind (arith, same-payload)
+  same-bare first second same = grind (arith, same-payload)
 
   -- ---- all frames
 
@@ -139,7 +139,7 @@ module _ (c : ClassFields) (known : IsClass c) where
   bare-same (f ∷ fs) (g ∷ gs) first second same =
       let here : stream_entry f ≡ stream_entry g = cc in
       let more : map stream_entry fs ≡ map stream_entry gs = cc in
-      ap₂ ◌∷◌ (same-bare f g first.0 second.0 here)
+      ap₂ ◌∷◌ (same-bare first.0 second.0 here)
       (bare-same fs gs first.1 second.1 more)
 
 -- In the slots of a plan, bare frames are the same as the frames themselves.

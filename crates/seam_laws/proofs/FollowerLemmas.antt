@@ -37,9 +37,9 @@ pub record IsSoundOf (frames : List RunFrame) (i : ℕ) (sound : List ℕ) : Typ
   pub is : frame.sound ≡ sound
 
 -- a sound in the list of sounds is the sound of the frame at the same place
-pub sound-of : (frames : List RunFrame) (i : ℕ) (sound : List ℕ)
+pub sound-of : (frames : List RunFrame) (i : ℕ) {sound : List ℕ}
     → slice_get (sounds frames) i ≡ Some sound → IsSoundOf frames i sound
-sound-of frames i sound is =
+sound-of frames i {sound} is =
     at (slice_get frames i) refl (sym (slice_get-map (λ (f : RunFrame). f.sound) frames i) ∙ is)
   where
     at : (o : Option RunFrame) → slice_get frames i ≡ o
@@ -79,10 +79,10 @@ module _ (class : ClassFields) (rest start frames : ℕ) (overlap : Overlap) whe
   abbrev made : Overlap
   made = record { frames = whole_frames; first_alike = min (start / samples) (whole_frames - 1) }
 
-  shared-test : (b : Bool) → (eqb ((start + rest) % samples) 0 && nat_le whole_frames frames) ≡ b
+  shared-test : {b : Bool} → (eqb ((start + rest) % samples) 0 && nat_le whole_frames frames) ≡ b
       → (if b then Some made else None) ≡ Some overlap
       → IsShared class rest start frames overlap
-  shared-test b test none = grind arith
+  shared-test test none = grind arith
 
   is-shared : shared_overlap class rest start frames ≡ Some overlap
       → IsShared class rest start frames overlap
@@ -115,20 +115,20 @@ module _ (class : ClassFields) (run : List RunFrame) (before input : Brought) wh
       joining_frames (window_of class.version) run (drop overlap.frames input.frames)
 
   module _ (joint : JointFrames) where
-    by_joined : (overlap : Overlap) (o : Option (List RunFrame)) → joined_by overlap ≡ o
+    by_joined : (overlap : Overlap) {o : Option (List RunFrame)} → joined_by overlap ≡ o
         → option_map (joint_with (Follows overlap.frames)) o ≡ Some joint
         → (joined_by overlap ≡ Some joint.frames) × (joint.seam ≡ Follows overlap.frames)
-    by_joined overlap o found none = grind arith
+    by_joined overlap found none = grind arith
 
-    by_alike : (p q : Played) (overlap : Overlap) (b : Bool) → before.played ≡ Some p
+    by_alike : {p q : Played} {overlap : Overlap} (b : Bool) → before.played ≡ Some p
         → input.played ≡ Some q → shared_by p q ≡ Some overlap
         → ends_alike run (compared_frames overlap input) ≡ b
         → (if b then option_map (joint_with (Follows overlap.frames)) (joined_by overlap) else None)
         ≡ Some joint
         → IsFollowing class run before input joint
-    by_alike p q overlap false ended_is played_is shared test none = absurd cc
-    by_alike p q overlap true ended_is played_is shared test some =
-        let joined = by_joined overlap (joined_by overlap) refl some in
+    by_alike false ended_is played_is shared test none = absurd cc
+    by_alike {p} {q} {overlap} true ended_is played_is shared test some =
+        let joined = by_joined overlap refl some in
         record {
           ended = p;
           played = q;
@@ -142,33 +142,33 @@ module _ (class : ClassFields) (run : List RunFrame) (before input : Brought) wh
           seam = joined.1;
         }
 
-    by_shared : (p q : Played) (o : Option Overlap) → before.played ≡ Some p → input.played ≡ Some q
+    by_shared : {p q : Played} {o : Option Overlap} → before.played ≡ Some p → input.played ≡ Some q
         → shared_by p q ≡ o
         → option_and_then (overlap_joint class run input) o ≡ Some joint
         → IsFollowing class run before input joint
-    by_shared p q o ended_is played_is shared none = grind (arith, by_alike)
+    by_shared ended_is played_is shared none = grind (arith, by_alike)
 
-    by_played : (p : Played) (o : Option Played) → before.played ≡ Some p → input.played ≡ o
+    by_played : {p : Played} {o : Option Played} → before.played ≡ Some p → input.played ≡ o
         → option_and_then (overlap_joint class run input) (option_and_then (shared_by p) o)
         ≡ Some joint → IsFollowing class run before input joint
-    by_played p o ended_is played_is none = grind (arith, by_shared)
+    by_played ended_is played_is none = grind (arith, by_shared)
 
-    by_ended : (o : Option Played) → before.played ≡ o
+    by_ended : {o : Option Played} → before.played ≡ o
         → option_and_then (overlap_joint class run input)
         (option_and_then (λ p. option_and_then (shared_by p) input.played) o)
         ≡ Some joint
         → IsFollowing class run before input joint
-    by_ended o ended_is none = grind (arith, by_played)
+    by_ended ended_is none = grind (arith, by_played)
 
     following_joint-is : following_joint class run before input ≡ Some joint
         → IsFollowing class run before input joint
     unfolding following_joint
-    following_joint-is is = by_ended before.played refl is
+    following_joint-is is = by_ended refl is
 
   -- what becomes of an input that follows is the joint with which it can follow
-  joint-follows : (out : ℕ) → (joint_of class run before input).seam ≡ Follows out
+  joint-follows : {out : ℕ} → (joint_of class run before input).seam ≡ Follows out
       → following_joint class run before input ≡ Some (joint_of class run before input)
-  joint-follows out is =
+  joint-follows {out} is =
       at (following_joint class run before input)
       (joint_without_lead_in class run input) (without-led class run input) is
     where
@@ -248,7 +248,7 @@ module _ (class : ClassFields) (run : List RunFrame) (before input : Brought) wh
         let own : slice_get (sounds (drop first input.frames)) (i - first) ≡ Some f.sound =
         grind (arith, slice_get-map, get-drop, found) in
         let there =
-        sound-of (drop from_end new) (i - first) f.sound
+        sound-of (drop from_end new) (i - first)
         (ap (λ l. slice_get l (i - first)) new-sounds ∙ own) in (
           there.frame,
           sym (get-drop from_end new (i - first) ∙ ap (slice_get new) in_run)
@@ -278,26 +278,25 @@ module _ (class : ClassFields) (run : List RunFrame) (before input : Brought) wh
 
 -- ---- the joints of a run
 
-added-next : (joints : List JointFrames) (n : ℕ) (joint : JointFrames) → slice_get joints n
+added-next : (joints : List JointFrames) (n : ℕ) {joint : JointFrames} → slice_get joints n
     ≡ Some joint → added (take (suc n) joints) ≡ added (take n joints) ++ joint.frames
-added-next [] n joint is = absurd cc
-added-next (j ∷ joints) zero joint is = grind (arith, append-nil)
-added-next (j ∷ joints) (suc n) joint is =
-    grind (arith, is, append_assoc, added-next joints n joint is)
+added-next [] n is = absurd cc
+added-next (j ∷ joints) zero is = grind (arith, append-nil)
+added-next (j ∷ joints) (suc n) {joint} is = grind (arith, is, append_assoc, added-next joints n is)
 
 joint-at : (class : ClassFields) (run : List RunFrame) (first : Brought) (inputs : List Brought)
-    (n : ℕ) (before input : Brought) (joint : JointFrames)
+    (n : ℕ) {before input : Brought} {joint : JointFrames}
     → slice_get (first ∷ inputs) n ≡ Some before → slice_get inputs n ≡ Some input
     → slice_get (joints_from class run first inputs) n ≡ Some joint
     → joint ≡ joint_of class (run ++ added (take n (joints_from class run first inputs))) before
     input
 unfolding joints_from
-joint-at class run first [] n before input joint is_before is_input is_joint = absurd cc
-joint-at class run first (i ∷ inputs) zero before input joint is_before is_input is_joint =
-    grind (arith, append-nil)
-joint-at class run first (i ∷ inputs) (suc n) before input joint is_before is_input is_joint =
+joint-at class run first [] n is_before is_input is_joint = absurd cc
+joint-at class run first (i ∷ inputs) zero is_before is_input is_joint = grind (arith, append-nil)
+joint-at class run first (i ∷ inputs) (suc n)
+    {before} {input} {joint} is_before is_input is_joint =
     let here = joint_of class run first i in
-    joint-at class (run ++ here.frames) i inputs n before input joint is_before is_input is_joint
+    joint-at class (run ++ here.frames) i inputs n is_before is_input is_joint
     ∙ ap (λ l. joint_of class l before input)
     (append_assoc run here.frames
     (added (take n (joints_from class (run ++ here.frames) i inputs))))
@@ -309,7 +308,7 @@ followers-on class first inputs number before input joint out is_before is_input
     let run = run_after first joints number in
     let here : joint ≡ joint_of class run before input = grind (arith, joint-at) in
     let follows =
-    joint-follows class run before input out (sym (ap (λ (j : JointFrames). j.seam) here) ∙ seam) in
+    joint-follows class run before input (sym (ap (λ (j : JointFrames). j.seam) here) ∙ seam) in
     let is = following_joint-is class run before input joint
     (follows ∙ ap (λ j. Some j) (sym here)) in
     let next : number + 1 ≡ suc number = omega arith in

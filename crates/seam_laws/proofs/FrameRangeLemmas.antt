@@ -20,21 +20,21 @@ use Rattle.sync_survey.specs.Row.{Row}
 -- ---- lists
 
 -- a range and the one right after it are one range
-pub range-append : {X : Type 0} (xs : List X) (a b c : ℕ) → a ≤ b → b ≤ c
+pub range-append : {X : Type 0} (xs : List X) {a b c : ℕ} → a ≤ b → b ≤ c
     → slice_range xs a b ++ slice_range xs b c ≡ slice_range xs a c
-range-append xs a b c first second =
+range-append xs {a} {b} {c} first second =
     grind (arith, drop-drop (b - a) a xs, take-add (b - a) (c - b) (drop a xs))
 
 -- a range without its first items is the range from further on
-pub range-drop : {X : Type 0} (xs : List X) (from to k : ℕ) → k ≤ to - from
+pub range-drop : {X : Type 0} (xs : List X) (from to : ℕ) {k : ℕ} → k ≤ to - from
     → drop k (slice_range xs from to) ≡ slice_range xs (from + k) to
-range-drop xs from to k few =
+range-drop xs from to {k} few =
     grind (arith, drop-take k (to - (from + k)) (drop from xs), drop-drop k from xs)
 
 -- how many items a range has
-pub range-length : {X : Type 0} (xs : List X) (from to : ℕ) → to ≤ length xs
+pub range-length : {X : Type 0} (xs : List X) (from : ℕ) {to : ℕ} → to ≤ length xs
     → length (slice_range xs from to) ≡ to - from
-range-length xs from to within = grind (arith, length-take-le, length-drop)
+range-length xs from within = grind (arith, length-take-le, length-drop)
 
 -- nothing is between a place and itself
 pub range-none : {X : Type 0} (xs : List X) (a : ℕ) → slice_range xs a a ≡ []
@@ -65,7 +65,7 @@ module _ {file : List ℕ} {s : SurveyFields} (has : CanBeRelaid file s) where
   -- the stream has as many frames as there are rows
   pub stream-many : length st ≡ length s.frames
   stream-many =
-      let are = frames-of file s has in
+      let are = frames-of has in
       ap length (sym are.stream_is)
       ∙ length-map (all_frames file s) stream_entry ∙ all-length file s
 
@@ -85,19 +85,19 @@ module _ {file : List ℕ} {s : SurveyFields} (has : CanBeRelaid file s) where
   between-sounds a b = grind (arith, run-sounds, same-many)
 
   -- the frames of two neighbouring ranges are the frames from the first number to the last
-  pub between-append : (a b c : ℕ) → a ≤ b → b ≤ c
+  pub between-append : {a b c : ℕ} → a ≤ b → b ≤ c
       → run a b ++ run b c ≡ run a c
-  between-append a b c first second =
+  between-append {a} {b} {c} first second =
       frames-same (run a b ++ run b c) (run a c)
       (map-append (λ (f : RunFrame). f.need) (run a b) (run b c)
       ∙ ap₂ ◌++◌ (between-needs a b) (between-needs b c)
       ∙ sym (map-append need_of (slice_range s.frames a b) (slice_range s.frames b c))
-      ∙ ap (map need_of) (range-append s.frames a b c first second) ∙ sym (between-needs a c))
+      ∙ ap (map need_of) (range-append s.frames first second) ∙ sym (between-needs a c))
       (map-append (λ (f : RunFrame). f.sound) (run a b) (run b c)
       ∙ ap₂ ◌++◌ (between-sounds a b) (between-sounds b c)
       ∙ sym (map-append (sound_of s.class) (slice_range st a b)
       (slice_range st b c))
-      ∙ ap (map (sound_of s.class)) (range-append st a b c first second)
+      ∙ ap (map (sound_of s.class)) (range-append st first second)
       ∙ sym (between-sounds a c))
 
   -- there is nothing between a number and itself

@@ -33,12 +33,12 @@ abbrev AreOwn : List ℕ → List Piece → Type 0
 AreOwn file [] = Unit {0}
 AreOwn file (p ∷ ps) = IsOwn file p × AreOwn file ps
 
-whole-own : (file : List ℕ) (at : ℕ) (b : TagBlock) → block_front (drop at file) ≡ Some b
+whole-own : {file : List ℕ} {at : ℕ} {b : TagBlock} → block_front (drop at file) ≡ Some b
     → b.length ≤ length (drop at file)
     → IsOwn file (record { offset = at; block = b })
-whole-own file at b is within = record {
+whole-own {file} {at} {b} is within = record {
   block = ap block_front (sym (append-nil (take b.length (drop at file))))
-      ∙ block_front-bytes (drop at file) [] b is within;
+      ∙ block_front-bytes (drop at file) [] is within;
   long = sym (length-take-le b.length (drop at file) within);
 }
 
@@ -46,7 +46,7 @@ own-more : (file : List ℕ) (at : ℕ) (item : Item) (blocks : List Piece) → 
     → at + size_of item ≤ length file → AreOwn file blocks
     → AreOwn file (cons_option (block_of_item at item) blocks)
 own-more file at (Block b) blocks is within are = (
-  whole-own file at b (stands-at file at (Block b) is)
+  whole-own (stands-at file at (Block b) is)
       (omega (arith, within, length-drop at file)),
   are,
 )
@@ -74,9 +74,9 @@ all-own file start =
     (ends-own Stream file start.first.offset stream.items stream.stop
     (item_run-ends Stream file start.first.offset))
 
-survey_fields-own : (file : List ℕ) (allowed : ℕ) (s : SurveyFields)
+survey_fields-own : (file : List ℕ) (allowed : ℕ) {s : SurveyFields}
     → survey_fields file allowed ≡ Ok s → AreOwn file s.blocks
-survey_fields-own file allowed s e = grind (arith, survey_fields-parts, all-own)
+survey_fields-own file allowed e = grind (arith, survey_fields-parts, all-own)
 
 -- the blocks that go before the frames
 abbrev AreFront : List ℕ → List Piece → Type 0
@@ -105,7 +105,7 @@ module _ (file : List ℕ) (t : SurveyFields) (bytes rest : List ℕ) where
       let at = length before in
       let here : Piece = record { offset = at; block = p.block } in
       let later = blocks_from (at + length own) (blocks ps) in
-      let least = block_front-least own p.block are.0.block in
+      let least = block_front-least own are.0.block in
       let many = length-append own (concat (blocks ps)) in
       let goes : goes_in_front t here ≡ true = grind (arith, and_from, lt-ltb) in
       let bytes_are = is ∙ ap (before ++◌) (append_assoc own (concat (blocks ps)) rest) in
@@ -128,17 +128,17 @@ module _ (file : List ℕ) (t : SurveyFields) (bytes rest : List ℕ) where
       (omega (arith, early, many, moved)))
 
 -- blocks after the frames aren't front blocks
-one-behind : (t : SurveyFields) (at : ℕ) (o : Option TagBlock) (ps : List Piece) → t.first ≤ at
+one-behind : (t : SurveyFields) {at : ℕ} (o : Option TagBlock) (ps : List Piece) → t.first ≤ at
     → filter (goes_in_front t)
     (option_to_list (option_map (λ b. record { offset = at; block = b }) o) ++ ps)
     ≡ filter (goes_in_front t) ps
-one-behind t at o ps late = grind arith
+one-behind t o ps late = grind arith
 
-none-behind : (t : SurveyFields) (at : ℕ) (back : List (List ℕ)) → t.first ≤ at
+none-behind : (t : SurveyFields) {at : ℕ} (back : List (List ℕ)) → t.first ≤ at
     → filter (goes_in_front t) (blocks_from at back) ≡ []
-none-behind t at [] late = refl
-none-behind t at (b ∷ back) late =
-    grind (arith, one-behind, none-behind t (at + length b) back (omega (arith, late)))
+none-behind t [] late = refl
+none-behind t {at} (b ∷ back) late =
+    grind (arith, one-behind, none-behind t {at = at + length b} back (omega (arith, late)))
 
 filter-append : (t : SurveyFields) (xs ys : List Piece)
     → filter (goes_in_front t) (xs ++ ys)
@@ -166,9 +166,9 @@ module _ (file : List ℕ) (s : SurveyFields) (allowed : ℕ) (e : survey_fields
       ap (map (block_bytes made))
       (filter-append fields (blocks_from 0 front) (blocks_from at back)
       ∙ ap (filter (goes_in_front fields) (blocks_from 0 front) ++◌)
-      (none-behind fields at back (omega arith))
+      (none-behind fields back (omega arith))
       ∙ append-nil (filter (goes_in_front fields) (blocks_from 0 front)))
       ∙ front-again file fields made
       (info_frame first info ++ (bytes_of_frames frames ++ concat back))
       (filter (goes_in_front s) s.blocks) []
-      (front-of file s s.blocks (survey_fields-own file allowed s e)) refl (omega arith)
+      (front-of file s s.blocks (survey_fields-own file allowed e)) refl (omega arith)

@@ -21,7 +21,7 @@ use Rattle.exact_span.specs.declared.{extensions.HeadCounts.HeadCounts, played.P
 use Rattle.frame_header.specs.{Fields.ClassFields, Limits.most_frames, Tables.samples_of}
 use Rattle.frame_header.specs.declared.version.Version.{Version, TheVariants.{One, Two, TwoFive}}
 use Rattle.info_header.specs.{Info.{field_place, flags_in, info_in}, declared.fields.Info.Info}
-use Rattle.joined_inputs.{proofs.PartLemmas.part-is, specs.Parts.{join_part, join_parts_from}}
+use Rattle.joined_inputs.{proofs.PartLemmas.part-is, specs.Parts.join_parts_from}
 use Rattle.laying.specs.{KeptFields.fields_of_head, Relaid.{FilePart, part_stream}}
 use Rattle.laying.specs.Written.{head_info}
 use Rattle.outside.specs.Files.{AreOctets, Contents}
@@ -59,11 +59,11 @@ use Rattle.sync_survey.specs.declared.places.Head.{Head}
 -- ---- what heads count
 
 -- what a head counts is what is played by it, and begins after the decoder's delay
-counted-played : (head : Option Info) (class : ClassFields) (frames : ℕ) (p : Played)
+counted-played : (head : Option Info) (class : ClassFields) (frames : ℕ) {p : Played}
     → counted_positions head class frames ≡ Some p
     → (played_of head class frames ≡ p) × (decoder_delay ≤ p.start)
 unfolding counted_positions played_of
-counted-played head class frames p is = at (counts_of head) is
+counted-played head class frames {p} is = at (counts_of head) is
   where
     at : (o : Option HeadCounts) → option_map (counted_played (samples_in class) frames) o ≡ Some p
         → (played_or_all (samples_in class) frames o ≡ p) × (decoder_delay ≤ p.start)
@@ -75,18 +75,15 @@ counted-played head class frames p is = at (counts_of head) is
         )
 
 -- positions before the end of the frames that are counted
-rest-by : (v : Version) (frames counted padding : ℕ) → padding < 4096 → (b : Bool)
+rest-by : (v : Version) (frames counted : ℕ) {padding : ℕ} → padding < 4096 → (b : Bool)
     → nat_lt counted frames ≡ b
     → frames * samples_of v
     - cond b (frames * samples_of v) (min (frames * samples_of v)
     (counted * samples_of v + decoder_delay - padding)) ≤ 3566
-rest-by v frames counted padding small true is = omega arith
-rest-by One frames counted padding small false is =
-    omega (arith, small, ltb-false counted frames is)
-rest-by Two frames counted padding small false is =
-    omega (arith, small, ltb-false counted frames is)
-rest-by TwoFive frames counted padding small false is =
-    omega (arith, small, ltb-false counted frames is)
+rest-by v frames counted small true is = omega arith
+rest-by One frames counted small false is = omega (arith, small, ltb-false counted frames is)
+rest-by Two frames counted small false is = omega (arith, small, ltb-false counted frames is)
+rest-by TwoFive frames counted small false is = omega (arith, small, ltb-false counted frames is)
 
 zeros-small : (n : ℕ) → AreBytes (replicate n 0)
 zeros-small zero = tt
@@ -160,32 +157,31 @@ rest-small head class frames small = at (counts_of head) small
         → rest_of class frames (played_or_all (samples_in class) frames o) ≤ 3566
     at None small = omega arith
     at (Some counts) small =
-        rest-by class.version frames counts.frames counts.padding small
+        rest-by class.version frames counts.frames small
         (nat_lt counts.frames frames) refl
 
 -- what is played by a head with these numbers
-played-by : (class : ClassFields) (info : Info) (frames delay padding : ℕ)
+played-by : (class : ClassFields) (info : Info) {frames delay padding : ℕ}
     → info.frames ≡ Some frames → 1 ≤ frames → 529 ≤ padding
     → SaysNumbers delay padding info.extension → played_of (Some info) class frames ≡ record {
       start = delay + decoder_delay;
       end = frames * samples_in class + decoder_delay - padding;
     }
 unfolding played_of
-played-by class info frames delay padding is some enough says =
-    grind (arith, le-leb, le-ltb, min-eq_right)
+played-by class info is some enough says = grind (arith, le-leb, le-ltb, min-eq_right)
 
 -- ---- how many frames there are
 
 -- a survey has no more frames than are allowed
-pub frames-few : (file : List ℕ) (allowed : ℕ) (s : SurveyFields)
+pub frames-few : (file : List ℕ) {allowed : ℕ} {s : SurveyFields}
     → survey_fields file allowed ≡ Ok s → length s.frames ≤ allowed
-frames-few file allowed s e =
-    let parts = survey_fields-parts file allowed s e in
+frames-few file {allowed} {s} e =
+    let parts = survey_fields-parts e in
     let head = head_of file parts.0.first in
     let rows = rows_of file (frames_from file parts.0) in
     omega (
       arith,
-      few-rows file head (class_from parts.0) allowed rows
+      few-rows file head rows
           (all_faults-none_sound file head (class_from parts.0) allowed rows parts.1.frames),
       length-marked_rows head rows,
       ap (λ (t : SurveyFields). length t.frames) parts.2,
@@ -195,33 +191,29 @@ abbrev frames_in : List FilePart → ℕ
 frames_in [] = 0
 frames_in (p ∷ parts) = length p.survey.frames + frames_in parts
 
-parts-few : (files : Contents) (place : ℕ) (first : Option ClassFields) (allowed : ℕ)
-    (names : List (List ℕ)) (parts : List FilePart)
+parts-few : (files : Contents) (place : ℕ) (first : Option ClassFields) {allowed : ℕ}
+    (names : List (List ℕ)) {parts : List FilePart}
     → join_parts_from place first allowed files names ≡ Ok parts → frames_in parts ≤ allowed
 unfolding join_parts_from
-parts-few files place first allowed [] parts e = grind arith
-parts-few files place first allowed (name ∷ names) parts e =
-    let one = then_ok (join_part place first allowed (files name)) _ parts e in
+parts-few files place first [] e = grind arith
+parts-few files place first {allowed} (name ∷ names) {parts} e =
+    let one = then_ok e in
     let part = one.0 in
     let rest =
-    more-inputs part
-    (join_parts_from (place + 1) (Some (unwrap_or first part.survey.class))
-    (allowed - length part.survey.frames) files names)
-    parts one.2 in
-    let is = part-is place first allowed (files name) part one.1 in
-    let few = frames-few is.file allowed is.survey
-    (survey_of-parts is.file allowed is.survey is.surveyed).1 in
+    more-inputs one.2 in
+    let is = part-is place (files name) one.1 in
+    let few = frames-few is.file
+    (survey_of-parts is.file allowed is.surveyed).1 in
     let same = ap (λ (q : FilePart). length q.survey.frames) is.whole in
     let more =
-    parts-few files (place + 1) (Some (unwrap_or first part.survey.class))
-    (allowed - length part.survey.frames) names rest.0 rest.1 in
+    parts-few files (place + 1) (Some (unwrap_or first part.survey.class)) names rest.1 in
     subst (λ l. frames_in l ≤ allowed) rest.2 (omega (arith, few, same, more))
 
 -- what is written of an input has no more frames than the input
-part-few : (c : ClassFields) (p : FilePart) (is : IsInput c p) (k : ℕ)
+part-few : {c : ClassFields} {p : FilePart} (is : IsInput c p) (k : ℕ)
     → (length (part_stream (part_from k p)) ≤ length p.survey.frames)
     × (length p.survey.frames ≤ length (part_stream (part_from k p)) + k)
-part-few c p is k =
+part-few {p = p} is k =
     let own = part_stream (part_from k p) in
     let same = ap length (stream-from is k)
     ∙ length-drop k (whole_stream is)
@@ -238,16 +230,16 @@ later-few c (j ∷ joints) (p ∷ parts) are =
     omega (
       arith,
       length-append own (flat_map part_stream (later_parts joints parts)),
-      (part-few c p are.0 (left_out_count j.seam)).0,
+      (part-few are.0 (left_out_count j.seam)).0,
       later-few c joints parts are.1,
     )
 
 -- a part has no more frames than all parts together
-part-among : (parts : List FilePart) (n : ℕ) (p : FilePart) → slice_get parts n ≡ Some p
+part-among : (parts : List FilePart) (n : ℕ) {p : FilePart} → slice_get parts n ≡ Some p
     → length (part_stream p) ≤ length (flat_map part_stream parts)
-part-among [] n p is = absurd cc
-part-among (q ∷ parts) zero p is = grind (arith, length-append)
-part-among (q ∷ parts) (suc n) p is = grind (arith, length-append, part-among parts n p is)
+part-among [] n is = absurd cc
+part-among (q ∷ parts) zero is = grind (arith, length-append)
+part-among (q ∷ parts) (suc n) {p} is = grind (arith, length-append, part-among parts n is)
 
 -- the last part is the one at the last place
 last-at : (first : FilePart) (parts : List FilePart)
@@ -257,42 +249,41 @@ last-at first (p ∷ parts) = last-at p parts
 
 -- ---- positions
 
-begins-at : (v : Version) (start n front h delay : ℕ) → decoder_delay ≤ start → front ≤ h
-    → start + h * samples_of v - front * samples_of v - decoder_delay ≡ delay
+begins-at : (v : Version) {start : ℕ} (n : ℕ) {front h delay : ℕ} → decoder_delay ≤ start
+    → front ≤ h → start + h * samples_of v - front * samples_of v - decoder_delay ≡ delay
     → delay + decoder_delay + (n + front) * samples_of v ≡ start + (h + n) * samples_of v
-begins-at v start n front h delay late enough is = grind arith
+begins-at v n late enough is = grind arith
 
-ends-at : (v : Version) (place n front h many end frames : ℕ) → end ≤ n * samples_of v
-    → frames + front ≡ h + many
-    → place + (n + front) * samples_of v ≡ end + (h + many) * samples_of v
-    → place
+ends-at : (v : Version) {place : ℕ} (n front h many : ℕ) {end : ℕ} (frames : ℕ)
+    → end ≤ n * samples_of v → frames + front ≡ h + many
+    → place + (n + front) * samples_of v ≡ end + (h + many) * samples_of v → place
     ≡ frames * samples_of v + decoder_delay - (n * samples_of v - end + decoder_delay)
-ends-at v place n front h many end frames within same at = grind arith
+ends-at v n front h many frames within same at = grind arith
 
-there-at : (v : Version) (n front h many end frames : ℕ) → end ≤ n * samples_of v
+there-at : (v : Version) (n front h many : ℕ) {end : ℕ} (frames : ℕ) → end ≤ n * samples_of v
     → frames + front ≡ h + many → n * samples_of v - end ≤ frames * samples_of v
     → frames * samples_of v + decoder_delay - (n * samples_of v - end + decoder_delay)
     + (n + front) * samples_of v
     ≡ end + (h + many) * samples_of v
-there-at v n front h many end frames within same enough = grind arith
+there-at v n front h many frames within same enough = grind arith
 
-rest-within : (v : Version) (n frames end : ℕ) → n ≤ frames
+rest-within : (v : Version) {n frames : ℕ} (end : ℕ) → n ≤ frames
     → n * samples_of v - end ≤ frames * samples_of v
-rest-within v n frames end few = grind arith
+rest-within v end few = grind arith
 
-rest-played : (v : Version) (n frames start end : ℕ) → start ≤ end
+rest-played : (v : Version) {n : ℕ} (frames : ℕ) {start end : ℕ} → start ≤ end
     → n ≤ start / samples_of v + frames
     → n * samples_of v - end ≤ frames * samples_of v
-rest-played v n frames start end rises few = grind arith
+rest-played v frames rises few = grind arith
 
 -- ---- the join
 
 -- the delay of the run, by the first played position of the first input
-delay-parts : (first : FilePart) (parts : List FilePart) (delay : ℕ)
+delay-parts : (first : FilePart) (parts : List FilePart) {delay : ℕ}
     → delay_of_run first parts ≡ Some delay
     → (played : Played) × ((part_brought first).played ≡ Some played)
     × (seamless_delay played first parts ≡ delay) × (delay ≤ 4095)
-delay-parts first parts delay is = at (part_brought first).played refl is
+delay-parts first parts {delay} is = at (part_brought first).played refl is
   where
     by : (played : Played) (b : Bool) → nat_le (seamless_delay played first parts) 4095 ≡ b
         → (part_brought first).played ≡ Some played
@@ -312,9 +303,9 @@ delay-parts first parts delay is = at (part_brought first).played refl is
         by played (nat_le (seamless_delay played first parts) 4095) refl found some
 
 -- the lead-ins are at most one
-leads-one : (window : ℕ) (needs : List Need) (placed : List Placed) (stream : List StreamFrame)
+leads-one : {window : ℕ} {needs : List Need} {placed : List Placed} {stream : List StreamFrame}
     (leads : HasLeads window needs placed stream) → length leads.leads ≤ 1
-leads-one window needs placed stream leads = at (fits_behind window 0 needs) refl
+leads-one {window} {needs} leads = at (fits_behind window 0 needs) refl
   where
     at : (b : Bool) → fits_behind window 0 needs ≡ b → length leads.leads ≤ 1
     at b is = grind (arith, leads)
@@ -409,9 +400,9 @@ module _ {first : FilePart} {parts : List FilePart}
         few,
         stream-is,
         leads-many are,
-        leads-one _ _ _ _ (run-leads are),
+        leads-one (run-leads are),
         stream-parts,
-        (part-few c first are.head front).0,
+        (part-few are.head front).0,
         later-few c (join_of_parts first parts).joints parts are.others,
       )
 
@@ -427,8 +418,7 @@ module _ {first : FilePart} {parts : List FilePart}
       )
 
   last-is : IsInput c last
-  last-is =
-      input-at c (first ∷ parts) (length parts) last (are.head, are.others) (last-at first parts)
+  last-is = input-at (first ∷ parts) (length parts) (are.head, are.others) (last-at first parts)
 
   abbrev ended : Played
   ended = part_played last
@@ -450,7 +440,7 @@ module _ {first : FilePart} {parts : List FilePart}
   leads-most = omega (arith, leads-enough are, leads-many are)
 
   written : IsInputWritten first parts (length parts) last
-  written = written-at are (length parts) last (last-at first parts)
+  written = written-at are (length parts) (last-at first parts)
 
   last-many : n ≡ length written.left_out + length (part_stream written.part)
   last-many =
@@ -481,26 +471,26 @@ module _ {first : FilePart} {parts : List FilePart}
         stream-is,
         leads-most,
         stream-parts,
-        (part-few c first are.head front).1,
+        (part-few are.head front).1,
         are.head.some,
-        part-among later m written.part there,
+        part-among later m there,
       )
 
   -- nor are there more positions after the last played one of an input that follows
-  follows-by : (out : ℕ) → ended.start ≤ ended.end → (number : ℕ) → length parts ≡ number
+  follows-by : {out : ℕ} → ended.start ≤ ended.end → (number : ℕ) → length parts ≡ number
       → seam_at (join_of_parts first parts).joints number ≡ Some (Follows out)
       → n * samples_in c - ended.end ≤ frames * samples_in c
-  follows-by out rises zero same seam = absurd cc
-  follows-by out rises (suc m) same seam =
+  follows-by rises zero same seam = absurd cc
+  follows-by {out} rises (suc m) same seam =
       let there = subst (λ k. slice_get (first ∷ parts) k ≡ Some last) same (last-at first parts) in
-      let goes = (follower-at are m last there out seam).1 in
+      let goes = (follower-at are m last there seam).1 in
       let played =
-      (counted-played (part_head last) last.survey.class n goes.played goes.played_is).0 in
+      (counted-played (part_head last) last.survey.class n goes.played_is).0 in
       let next : m + 1 ≡ length parts = omega (arith, same) in
       let many = ap (λ k. length (run_after begins joints k)) next
       ∙ ap (λ js. length (run_after begins js (length parts)))
       (sym (joints-are are)) in
-      rest-played c.version n frames ended.start ended.end rises
+      rest-played c.version frames rises
       (omega (
         arith,
         ap (λ (p : Played). p.start / samples_in c) played,
@@ -517,8 +507,8 @@ module _ {first : FilePart} {parts : List FilePart}
       last.survey.class last.file
       written.left_out written.may) [
         | inl one ↦
-            rest-within c.version n frames ended.end (few-by one (length parts) refl)
-        | inr follows ↦ follows-by follows.0 rises (length parts) refl follows.1
+            rest-within c.version ended.end (few-by one (length parts) refl)
+        | inr follows ↦ follows-by rises (length parts) refl follows.1
       ]
 
   -- ---- where it is played
@@ -538,11 +528,11 @@ module _ {first : FilePart} {parts : List FilePart}
 
     parts_of : (played : Played) × ((part_brought first).played ≡ Some played)
         × (seamless_delay played first parts ≡ delay) × (delay ≤ 4095)
-    parts_of = delay-parts first parts delay delay_is
+    parts_of = delay-parts first parts delay_is
 
     counted : (part_played first ≡ parts_of.0) × (decoder_delay ≤ parts_of.0.start)
     counted =
-        counted-played (part_head first) first.survey.class (length first.survey.frames) parts_of.0
+        counted-played (part_head first) first.survey.class (length first.survey.frames)
         parts_of.1
 
     abbrev read : Info
@@ -557,11 +547,11 @@ module _ {first : FilePart} {parts : List FilePart}
         }
     read-is allowed s e =
         read-played are delay_is allowed s e
-        ∙ played-by c read frames delay (seamless_padding first parts)
-        (read-count are delay_is frames refl (frames-small few)) frames-some
+        ∙ played-by c read
+        (read-count are delay_is refl (frames-small few)) frames-some
         padding-least
-        (read-says are delay_is delay (seamless_padding first parts)
-        (written-says are delay_is delay (seamless_padding first parts)
+        (read-says are delay_is
+        (written-says are delay_is
         (run-says first parts delay (omega (arith, parts_of.3)) padding-most)))
 
     abbrev joined : Played
@@ -574,7 +564,7 @@ module _ {first : FilePart} {parts : List FilePart}
     start-same =
         let start = parts_of.0.start in
         let many = length first.survey.frames in
-        begins-at c.version start many front (run_lead_ins first parts) delay counted.1
+        begins-at c.version many counted.1
         (omega (arith, leads-enough are, leads-many are)) parts_of.2
         ∙ ap₂ (λ (p : Played) (m : ℕ). p.start + (run_lead_ins first parts + m) * samples_in c)
         (sym counted.0) (sym zero-end)
@@ -604,6 +594,6 @@ module _ {first : FilePart} {parts : List FilePart}
 -- a join in whose Info frame numbers are written begins and ends where its inputs do
 pub ends-kept : JoinsKeepTheirEnds
 ends-kept files inputs first parts delay allowed s taken delay_is octets e =
-    ends-read (inputs-are files inputs first parts taken)
-    (parts-few files 0 None most_frames inputs (first ∷ parts) taken) octets delay delay_is allowed
+    ends-read (inputs-are files inputs taken)
+    (parts-few files 0 None inputs taken) octets delay delay_is allowed
     s e

@@ -33,28 +33,28 @@ cleared-byte extension i long =
     ∙ get_or-append-add (replicate 8 0) (drop 19 extension) i 0
     ∙ get_or-drop 19 extension i 0
 
-cleared-says : (delay padding : ℕ) (extension : List ℕ) → length extension ≡ 36
+cleared-says : {delay padding : ℕ} {extension : List ℕ} → length extension ≡ 36
     → SaysNumbers delay padding extension → SaysNumbers delay padding (cleared extension)
-cleared-says delay padding extension long says =
+cleared-says long says =
     grind (arith, length-take-le, take-append-le, take-take, cleared-byte, same-encoder)
 
-either-says : (b : Bool) (delay padding : ℕ) (extension : List ℕ) → length extension ≡ 36
+either-says : (b : Bool) {delay padding : ℕ} {extension : List ℕ} → length extension ≡ 36
     → SaysNumbers delay padding extension
     → SaysNumbers delay padding (cond b extension (cleared extension))
-either-says b delay padding extension long says = grind (arith, cleared-says)
+either-says b long says = grind (arith, cleared-says)
 
 either-long : (b : Bool) (extension : List ℕ) → length extension ≡ 36
     → length (cond b extension (cleared extension)) ≡ 36
 either-long b extension long = grind arith
 
 -- an extension that is made from a head has its numbers, whatever the head's table
-pub made-says : (head : Option Info) (delay padding : ℕ)
+pub made-says : (head : Option Info) {delay padding : ℕ}
     → IfSome head (λ (fields : Info). length fields.extension ≡ 36) → delay < 4096
     → padding < 4096 → SaysNumbers delay padding (extension_of head delay padding)
 unfolding extension_of
-made-says None delay padding long short small = extension-says None delay padding tt short small
-made-says (Some fields) delay padding long short small =
-    extension-says (Some (record fields { table = None })) delay padding
+made-says None {delay} {padding} long short small = extension-says None tt short small
+made-says (Some fields) {delay} {padding} long short small =
+    extension-says (Some (record fields { table = None }))
     (record { table = tt; extension = long }) short small
 
 -- ---- the extension of a join
@@ -79,6 +79,6 @@ module _ (first : FilePart) (parts : List FilePart) (delay : ℕ) where
   pub run-says : delay < 4096 → seamless_padding first parts < 4096
       → SaysNumbers delay (seamless_padding first parts) (run_extension delay first parts)
   run-says short small =
-      either-says kept delay (seamless_padding first parts) made made-long
-      (made-says (part_head first) delay (seamless_padding first parts)
+      either-says kept made-long
+      (made-says (part_head first)
       (head_long first.file first.survey.head) short small)

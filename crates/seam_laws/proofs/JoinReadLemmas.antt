@@ -66,11 +66,11 @@ module _ {first : FilePart} {parts : List FilePart}
 
   unsealed-whole : AreInfoFields unsealed
   unsealed-whole =
-      for-whole c frames (quality_of (part_head first)) (run_extension delay first parts)
+      for-whole c frames (quality_of (part_head first))
       (run-long first parts delay)
 
   whole : AreInfoFields written_info
-  whole = sealed-whole header unsealed unsealed-whole
+  whole = sealed-whole header unsealed-whole
 
   file-is : IsLaidFile c blocks header written_info frames []
   file-is =
@@ -99,22 +99,22 @@ module _ {first : FilePart} {parts : List FilePart}
   read_info = head_info laid (Some (head_at (length (concat blocks)) header))
 
   -- the head has the number of frames that the Info frame has
-  pub read-count : (n : ℕ) → written_info.frames ≡ Some n → n < 256 ^ 4
+  pub read-count : {n : ℕ} → written_info.frames ≡ Some n → n < 256 ^ 4
       → read_info.frames ≡ Some n
-  read-count n is small =
-      laid-count header written_info file-is.header whole blocks frames [] n is small
+  read-count {n} is small =
+      laid-count header written_info file-is.header whole blocks frames [] is small
 
   -- the head says the numbers that the Info frame says
-  pub read-says : (d p : ℕ) → SaysNumbers d p written_info.extension
+  pub read-says : {d p : ℕ} → SaysNumbers d p written_info.extension
       → SaysNumbers d p read_info.extension
-  read-says d p says =
+  read-says {d} {p} says =
       subst (SaysNumbers d p)
       (sym (laid-extension header written_info file-is.header whole blocks frames [])) says
 
   -- the Info frame says the numbers of the extension
-  pub written-says : (d p : ℕ) → SaysNumbers d p (run_extension delay first parts)
+  pub written-says : {d p : ℕ} → SaysNumbers d p (run_extension delay first parts)
       → SaysNumbers d p written_info.extension
-  written-says d p says = (frames-sealed header unsealed unsealed-whole).says d p says
+  written-says {d} {p} says = (frames-sealed header unsealed-whole).says d p says
 
   module _ (allowed : ℕ) (j : SurveyFields)
       (e : survey_of (seamless_file (first ∷ parts)) allowed ≡ Ok j) where
@@ -122,8 +122,8 @@ module _ {first : FilePart} {parts : List FilePart}
     told =
         let most = length laid + length frames + 1 in
         let is = subst (λ l. survey_fields l allowed ≡ Ok j) join-is
-        (survey_of-parts (seamless_file (first ∷ parts)) allowed j e).1 in
-        let both = sym (survey_fields-allowed laid allowed most j (omega arith) is)
+        (survey_of-parts (seamless_file (first ∷ parts)) allowed e).1 in
+        let both = sym (survey_fields-allowed laid allowed (omega arith) is)
         ∙ laid-survey c blocks header written_info frames [] most file-is (omega arith) in
         cc
 

@@ -89,16 +89,16 @@ begun-bytes : (s : Side) (begin : ℕ)
 unfolding payload_bytes payload_bits
 begun-bytes s begin = refl
 
-moved-need : (class : ClassFields) (need : Need) (f : Frame) (p : Placed) → IsStreamEntry class f
+moved-need : {class : ClassFields} {need : Need} {f : Frame} (p : Placed) → IsStreamEntry class f
     → need.header ≡ f.kept.header
     → need.bytes ≡ length f.payload → Contains (own_choice need.header) p.slot
     → frame_need (frame_with_place p f) ≡ need
-moved-need class need f p entry header bytes slot = grind (arith, only_one, header, begun-bytes)
+moved-need p entry header bytes slot = grind (arith, only_one, header, begun-bytes)
 
-relaid_frames-cons-by : (b : Bool) (p : Placed) (placed : List Placed) (f : Frame) (fs : List Frame)
+relaid_frames-cons-by : {b : Bool} (p : Placed) (placed : List Placed) (f : Frame) (fs : List Frame)
     → p.lead_in ≡ b
     → relaid_frames (f ∷ fs) (p ∷ placed) ≡ one b p f ∷ relaid_frames (rest_behind b f fs) placed
-relaid_frames-cons-by b p placed f fs is = grind (arith, relaid_frames-cons, one)
+relaid_frames-cons-by p placed f fs is = grind (arith, relaid_frames-cons, one)
 
 -- frames that are laid in their own slots need what the plan was made for
 pub own-needs : (class : ClassFields) (needs : List Need) (fs : List Frame) (placed : List Placed)
@@ -110,9 +110,9 @@ own-needs class [] (f ∷ fs) placed entries are own = absurd are
 own-needs class (need ∷ needs) [] placed entries are own = absurd are
 own-needs class (need ∷ needs) (f ∷ fs) [] entries are own = absurd own
 own-needs class (need ∷ needs) (f ∷ fs) (p ∷ placed) entries are own =
-    ap (map frame_need) (relaid_frames-cons-by false p placed f fs own.0)
+    ap (map frame_need) (relaid_frames-cons-by p placed f fs own.0)
     ∙ ap₂ ◌∷◌
-    (moved-need class need f p entries.0 are.0 are.1 own.1)
+    (moved-need p entries.0 are.0 are.1 own.1)
     (own-needs class needs fs placed entries.1 are.2 own.2)
 
 -- what a lead-in and the frames after it need
@@ -123,18 +123,19 @@ pub record LedNeeds (window : ℕ) (needs : List Need) (at : ℕ) (fs : List Fra
   pub blank : begins_blank (rows_from at fs) ≡ true
 
 -- frames that are laid after their lead-in need what the lead-in and they do
-pub led-needs : (class : ClassFields) (window at : ℕ) (needs : List Need) (fs : List Frame)
+pub led-needs : (class : ClassFields) {window : ℕ} (at : ℕ) (needs : List Need) (fs : List Frame)
     (placed : List Placed) → IsClass class → AreStreamEntries class fs → AreNeedsOf needs fs
     → AreLedInOwnSlots window needs placed → FitsFromReach window 0 needs placed
     → LedNeeds window needs at (relaid_frames fs placed)
 unfolding AreLedInOwnSlots FitsFromReach IsLeadInHeader
-led-needs class window at [] fs placed known entries are led fits = absurd led
-led-needs class window at (need ∷ needs) [] placed known entries are led fits = absurd are
-led-needs class window at (need ∷ needs) (f ∷ fs) [] known entries are led fits = absurd led
-led-needs class window at (need ∷ needs) (f ∷ fs) (p ∷ placed) known entries are led fits =
+led-needs class at [] fs placed known entries are led fits = absurd led
+led-needs class at (need ∷ needs) [] placed known entries are led fits = absurd are
+led-needs class at (need ∷ needs) (f ∷ fs) [] known entries are led fits = absurd led
+led-needs class {window} at (need ∷ needs) (f ∷ fs)
+    (p ∷ placed) known entries are led fits =
     let header : HeaderFields = record need.header { protected = false; slot = p.slot } in
     let of_class = subst IsClass (sym entries.0.class) known in
-    let cons = relaid_frames-cons-by true p placed f fs led.0 in
+    let cons = relaid_frames-cons-by p placed f fs led.0 in
     let none : p.begin ≡ 0 = omega (arith, fits.0) in
     record {
       header = header;
@@ -145,7 +146,7 @@ led-needs class window at (need ∷ needs) (f ∷ fs) (p ∷ placed) known entri
           (sym are.0)
           (begun-bytes no_side p.begin ∙ no_bytes))
           (own-needs class (need ∷ needs) (f ∷ fs) placed entries are led.2);
-      lead = lead-in-is window need needs header
+      lead = lead-in-is window need needs
           (subst (λ h. IsClass (class_of h)) (sym are.0) of_class) (led.1, refl);
       blank = grind (arith, none-zero);
     }
@@ -170,8 +171,8 @@ led-frames window (need ∷ needs) (p ∷ placed) [] same led = absurd (omega (a
 led-frames window (need ∷ needs) (p ∷ placed) (f ∷ fs) same led =
     grind (
       arith,
-      one-on true p placed f fs led.0,
-      own-frames (need ∷ needs) (f ∷ fs) placed same
+      one-on {b = true} p placed f fs led.0,
+      own-frames (need ∷ needs) {stream = f ∷ fs} placed same
           led.2,
       own-many (need ∷ needs) placed led.2,
     )
@@ -274,7 +275,7 @@ module _ {laid : LaidPart} {file : List ℕ} {s : SurveyFields} {c : ClassFields
   part-is = record { has = input.has; class = refl; some = input.some; within = input.within }
 
   own-length : length own ≡ length needs
-  own-length = (part-sized s.class part part-is).same
+  own-length = (part-sized part-is).same
 
   -- there are as many needs as frames
   pub needs-many : length needs ≡ laid.to - laid.from
@@ -300,20 +301,20 @@ module _ {laid : LaidPart} {file : List ℕ} {s : SurveyFields} {c : ClassFields
         some = frames-some;
         entries = are.entries;
         fit = are.fit;
-        stream_is = grind (arith, part-stream s.class part part-is, part-is);
+        stream_is = grind (arith, part-stream part-is, part-is);
       }
 
   class-known : IsClass s.class
   class-known =
       let first = first-there s.frames laid.from (omega (arith, input.some, input.within)) in
       let row = input.has.placed laid.from first.0 first.1 in
-      subst IsClass row.class_is (IsClass-class_of first.0.header row.known)
+      subst IsClass row.class_is (IsClass-class_of row.known)
 
   needs-are : AreNeedsOf needs (part_frames part)
-  needs-are = part-needs s.class part part-is
+  needs-are = part-needs part-is
 
   entries-are : AreStreamEntries s.class (part_frames part)
-  entries-are = part-entries s.class part part-is
+  entries-are = part-entries part-is
 
   -- ---- as an input
 
@@ -342,8 +343,8 @@ module _ {laid : LaidPart} {file : List ℕ} {s : SurveyFields} {c : ClassFields
   told =
       let many = length bytes + length frames + 1 in
       let e = subst (λ l. survey_fields l input.is.allowed ≡ Ok p.survey) input.made.file_is
-      (survey_of-parts p.file input.is.allowed p.survey input.is.surveyed).1 in
-      let one = sym (survey_fields-allowed bytes input.is.allowed many p.survey (omega arith) e)
+      (survey_of-parts p.file input.is.allowed input.is.surveyed).1 in
+      let one = sym (survey_fields-allowed bytes input.is.allowed (omega arith) e)
       ∙ laid-survey s.class (front_blocks file s) input.made.row.header info frames input.made.back
       many made-laid (omega arith) in
       cc
@@ -362,7 +363,7 @@ module _ {laid : LaidPart} {file : List ℕ} {s : SurveyFields} {c : ClassFields
       made-laid).none
       input.is.allowed p.survey
       (subst (λ l. survey_fields l input.is.allowed ≡ Ok p.survey) input.made.file_is
-      (survey_of-parts p.file input.is.allowed p.survey input.is.surveyed).1)
+      (survey_of-parts p.file input.is.allowed input.is.surveyed).1)
 
   survey_without_head-same : survey_without_head p.survey ≡ p.survey
   survey_without_head-same =
@@ -374,7 +375,7 @@ module _ {laid : LaidPart} {file : List ℕ} {s : SurveyFields} {c : ClassFields
   pub input-stream : whole_stream input.is ≡ stream_with_lead_ins laid.placed own
   input-stream =
       ap (λ t. stream_of_survey p.file t) survey_without_head-same
-      ∙ sym (stream-is p.file input.is.allowed p.survey input.is.surveyed)
+      ∙ sym (stream-is p.file input.is.allowed input.is.surveyed)
       ∙ ap stream_of input.made.file_is
       ∙ (laid-stream s.class (front_blocks file s) input.made.row.header info frames input.made.back
       made-laid).stream_is
@@ -410,10 +411,10 @@ module _ {laid : LaidPart} {file : List ℕ} {s : SurveyFields} {c : ClassFields
   head-is = ap (λ (t : SurveyFields). t.head) (sym told)
 
   -- the front blocks of the input are the front blocks of the file
-  pub front-same : (many : ℕ) (t : SurveyFields) → survey_fields file many ≡ Ok t
+  pub front-same : (many : ℕ) {t : SurveyFields} → survey_fields file many ≡ Ok t
       → front_blocks file t ≡ front_blocks file s
       → front_blocks p.file p.survey ≡ front_blocks file s
-  front-same many t e same =
+  front-same many {t} e same =
       ap₂ (λ (f : List ℕ) (t : SurveyFields). front_blocks f t) input.made.file_is (sym told)
       ∙ ap (λ front.
       front_blocks (laid_file front input.made.row.header info frames input.made.back)
@@ -434,7 +435,7 @@ module _ {laid : LaidPart} {file : List ℕ} {s : SurveyFields} {c : ClassFields
   -- in their own slots, the input brings the frames alone
   pub brings-own : AreInOwnSlots needs laid.placed → BringsOwn c p input.is own_run own
   brings-own in_own =
-      let all = own-frames needs own laid.placed own-length in_own in
+      let all = own-frames needs laid.placed own-length in_own in
       record {
         frames_are =
             frames-same (part_brought p).frames own_run
@@ -456,7 +457,7 @@ module _ {laid : LaidPart} {file : List ℕ} {s : SurveyFields} {c : ClassFields
   unfolding has_lead_in
   brings-led led =
       let lead_needs =
-      led-needs s.class window at needs (part_frames part) laid.placed class-known entries-are
+      led-needs s.class at needs (part_frames part) laid.placed class-known entries-are
       needs-are led input.fitting.fits in
       let all = led-frames window needs laid.placed own own-length led in
       let lead_need : Need = record { header = lead_needs.header; bytes = 0 } in

@@ -15,7 +15,7 @@ use Rattle.slot_plan.specs.Lists.{AreChosenAreas, frames_with_areas, IsNotBehind
 use Rattle.slot_plan.specs.Parts.{all_items, AreLeadIns, IsLeadIn, led_items, need_item, open_frame}
 use Rattle.slot_plan.specs.Parts.{own_frame, own_slot_area, part_items}
 use Rattle.slot_plan.specs.Plans.{AreItemSlots, IsLedPlan, IsPlan, IsPlanFor, item_areas}
-use Rattle.slot_plan.specs.{Reserve.free_bytes_behind, declared.needs.{Need.Need, Placed.Placed}}
+use Rattle.slot_plan.specs.declared.needs.{Need.Need, Placed.Placed}
 
 -- ---- frames in their own slots
 
@@ -39,30 +39,30 @@ abbrev pub OwnBegins : ℕ → List Need → List Placed → Type 0
 OwnBegins window needs placed =
     map (λ (p : Placed). p.begin) placed ≡ begins_of window 0 0 (map own_frame needs)
 
-own-begins : (window : ℕ) (needs : List Need) (placed : List Placed)
+own-begins : {window : ℕ} (needs : List Need) {placed : List Placed}
     → IsPlanFor window (map (need_item own_choice) needs) placed → OwnBegins window needs placed
-own-begins window needs placed plan = grind (arith, own-areas, own-laid)
+own-begins needs plan = grind (arith, own-areas, own-laid)
 
-alone-begins : (window : ℕ) (needs : List Need) (lead_in : Option SlotFields)
-    (placed : List Placed) → IsLeadIn window own_choice needs lead_in
+alone-begins : {window : ℕ} (needs : List Need) (lead_in : Option SlotFields)
+    {placed : List Placed} → IsLeadIn window own_choice needs lead_in
     → IsPlanFor window (part_items own_choice needs lead_in) placed → FitsBehind window 0 needs
     → OwnBegins window needs placed
 unfolding IsLeadIn part_items
-alone-begins window needs lead_in placed alone plan fits = grind (arith, own-begins, none-own)
+alone-begins needs lead_in alone plan fits = grind (arith, own-begins, none-own)
 
-leads-begins : (window : ℕ) (needs : List Need) (lead_ins : List (Option SlotFields))
-    (placed : List Placed) → AreLeadIns window own_choice (needs ∷ []) lead_ins
+leads-begins : {window : ℕ} (needs : List Need) (lead_ins : List (Option SlotFields))
+    {placed : List Placed} → AreLeadIns window own_choice (needs ∷ []) lead_ins
     → IsPlanFor window (all_items own_choice (needs ∷ []) lead_ins) placed
     → FitsBehind window 0 needs → OwnBegins window needs placed
 unfolding AreLeadIns all_items
-leads-begins window needs lead_ins placed alone plan fits = grind (arith, alone-begins, append-nil)
+leads-begins needs lead_ins alone plan fits = grind (arith, alone-begins, append-nil)
 
 -- in the plan of frames that fit with no free bytes
 -- before them, main data begin as early as they may
-pub plan-begins : (window : ℕ) (needs : List Need) (placed : List Placed)
+pub plan-begins : {window : ℕ} {needs : List Need} {placed : List Placed}
     → IsPlan window own_choice (needs ∷ []) placed → FitsBehind window 0 needs
     → OwnBegins window needs placed
-plan-begins window needs placed plan fits = grind (arith, leads-begins)
+plan-begins plan fits = grind (arith, leads-begins)
 
 -- frames in their own slots whose main data begin alike are placed alike
 pub own-same : (needs : List Need) (xs ys : List Placed) → AreInOwnSlots needs xs
@@ -76,7 +76,7 @@ own-same (need ∷ needs) [] ys first second begins = absurd first
 own-same (need ∷ needs) (x ∷ xs) [] first second begins = absurd second
 own-same (need ∷ needs) (x ∷ xs) (y ∷ ys) first second begins =
     let slot =
-    sym (only_one need.header.slot x.slot first.1) ∙ only_one need.header.slot y.slot second.1 in
+    sym (only_one first.1) ∙ only_one second.1 in
     let lead = first.0 ∙ sym second.0 in
     let begin : x.begin ≡ y.begin = cc in
     let more : map (λ (p : Placed). p.begin) xs ≡ map (λ (p : Placed). p.begin) ys = cc in
@@ -98,8 +98,8 @@ pub lead-fits : (window : ℕ) (h : HeaderFields) (slot : SlotFields) (needs : L
     → FitsBehind window (area_of (class_of h) slot false) needs
 lead-fits window h slot needs fits =
     let area = area_of (class_of h) slot false in
-    let behind = fits-cons window 0 (lead_need h slot) needs (omega arith) fits in
-    more-behind window (free_bytes_behind window 0 0 area) area needs (omega arith) behind.1
+    let behind = fits-cons (lead_need h slot) needs (omega arith) fits in
+    more-behind window needs (omega arith) behind.1
 
 -- if frames fit after the area of a lead-in, it and the frames fit with no free bytes before them
 pub fits-lead : (window : ℕ) (h : HeaderFields) (slot : SlotFields) (needs : List Need)
@@ -107,9 +107,9 @@ pub fits-lead : (window : ℕ) (h : HeaderFields) (slot : SlotFields) (needs : L
     → FitsBehind window 0 (lead_need h slot ∷ needs)
 fits-lead window h slot needs fits = grind (arith, slot, cons-fits, within-fit, fit-feasible)
 
-not-behind : (m n : ℕ) (ms ns : List ℕ) → IsNotBehind (m ∷ ms) (n ∷ ns) → m ≤ n
+not-behind : {m n : ℕ} (ms ns : List ℕ) → IsNotBehind (m ∷ ms) (n ∷ ns) → m ≤ n
 unfolding IsNotBehind
-not-behind m n ms ns is = grind arith
+not-behind ms ns is = grind arith
 
 module _ (window : ℕ) (first : Need) (needs : List Need) where
   abbrev class : ClassFields
@@ -126,11 +126,11 @@ module _ (window : ℕ) (first : Need) (needs : List Need) where
   unfolding frames_with_areas led_items
   led-laid slot = grind (arith, slot, own-laid)
 
-  led-chosen : (slot : SlotFields) → Contains all_slots slot
+  led-chosen : {slot : SlotFields} → Contains all_slots slot
       → AreChosenAreas (map open_frame (led_items own_choice all))
       (area_of class slot false ∷ map own_slot_area all)
   unfolding AreChosenAreas led_items
-  led-chosen slot has = (Contains-area class false all_slots slot has, chosen-own all)
+  led-chosen {slot} has = (Contains-area class false all_slots has, chosen-own all)
 
   -- the lead-in of the plan and where the main data of all begin
   pub record IsLedAs (placed : List Placed) : Type 0 where
@@ -149,10 +149,10 @@ module _ (window : ℕ) (first : Need) (needs : List Need) where
   unfolding AreItemSlots item_areas led_items
   led-areas p placed slots = grind (arith, own-areas)
 
-  led-cons : (p : Placed) (placed : List Placed) → IsLedPlan window own_choice all (p ∷ placed)
+  led-cons : {p : Placed} {placed : List Placed} → IsLedPlan window own_choice all (p ∷ placed)
       → IsLedAs (p ∷ placed)
   unfolding AreItemSlots AreLedInOwnSlots led_items
-  led-cons p placed plan =
+  led-cons {p} {placed} plan =
       let slots = plan.slots in
       let areas = led-areas p placed slots in
       let opens = map open_frame (led_items own_choice all) in
@@ -164,12 +164,12 @@ module _ (window : ℕ) (first : Need) (needs : List Need) where
         chosen = slots.1;
         fits = lead-fits window first.header p.slot all feasible;
         least = λ other has fits.
-            not-behind (area_of class p.slot false) (area_of class other false)
+            not-behind
             (map own_slot_area all) (map own_slot_area all)
             (subst (λ l.
             IsNotBehind l (area_of class other false ∷ map own_slot_area all)) areas
             (plan.least.least (area_of class other false ∷ map own_slot_area all)
-            (led-chosen other has)
+            (led-chosen has)
             (subst (HasLayout window 0) (sym (led-laid other))
             (fits-lead window first.header other all fits))));
       } in
@@ -188,6 +188,6 @@ module _ (window : ℕ) (first : Need) (needs : List Need) where
 
   -- the plan of a part after an unconditional lead-in: the
   -- lead-in has the least slot whose area the frames fit after
-  pub led-as : (placed : List Placed) → IsLedPlan window own_choice all placed → IsLedAs placed
+  pub led-as : {placed : List Placed} → IsLedPlan window own_choice all placed → IsLedAs placed
   unfolding AreItemSlots led_items
-  led-as placed plan = grind (arith, led-cons)
+  led-as plan = grind (arith, led-cons)

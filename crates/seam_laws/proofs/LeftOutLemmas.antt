@@ -17,7 +17,7 @@ use Rattle.seam_laws.proofs.SeamlessFrontLemmas.{silent_frame, whole-first, zero
 use Rattle.seam_laws.proofs.SeamlessInputLemmas.{brought-many, inputs-are, IsInput, Joins}
 use Rattle.seam_laws.proofs.SeamlessInputLemmas.{stream-from, stream-many, whole_stream}
 use Rattle.seam_laws.proofs.SeamlessPlaceLemmas.{input-at}
-use Rattle.seam_laws.proofs.SeamlessRunLemmas.{all, front-few, front-parts, joints-are}
+use Rattle.seam_laws.proofs.SeamlessRunLemmas.{front-few, front-parts, joints-are}
 use Rattle.seam_laws.specs.JoinLaws.{IsEmptyFront, IsInputWritten, LeftOutIsEmpty, MayBeLeftOut}
 use Rattle.seam_laws.specs.{JoinLaws.seam_at, RunLaws.{InputGoesOn, run_after}}
 use Rattle.seam_plan.proofs.SeamLemmas.{follow-is, follows_with, IfWithout, without-led}
@@ -40,24 +40,24 @@ use Rattle.sync_survey.specs.declared.places.Head.{Head}
 -- ---- an input that begins blank
 
 -- the stream of a survey begins with the frame of its first row
-stream-first : (file : List ℕ) (s : SurveyFields) (r : Row) (rows : List Row)
+stream-first : (file : List ℕ) (s : SurveyFields) {r : Row} {rows : List Row}
     → s.frames ≡ r ∷ rows
     → (more : List StreamFrame) × (stream_of_survey file s
     ≡ stream_frame (main_bytes file s.head s.frames) s.head s.frames 0 r ∷ more)
 unfolding stream_of_survey stream_frames
-stream-first file s r rows are =
+stream-first file s {rows = rows} are =
     let frame : ℕ × Row → StreamFrame =
     λ p. stream_frame (main_bytes file s.head s.frames) s.head s.frames p.0 p.1 in (
       map frame (enumerate_from (0 + 1) rows),
       ap (λ l. map frame (enumerate_from 0 l)) are,
     )
 
-own-none : (r : Row) (lost : Bool) → r.lost ≡ lost → r.side ≡ no_side → row_side r ≡ no_side
-own-none r lost is none = grind arith
+own-none : (r : Row) {lost : Bool} → r.lost ≡ lost → r.side ≡ no_side → row_side r ≡ no_side
+own-none r is none = grind arith
 
-emptied-none : (r : Row) (lost : Bool) → r.lost ≡ lost → r.side ≡ no_side
+emptied-none : (r : Row) {lost : Bool} → r.lost ≡ lost → r.side ≡ no_side
     → (row_side (emptied_row r) ≡ no_side) × ((emptied_row r).header ≡ r.header)
-emptied-none r lost is none = grind arith
+emptied-none r is none = grind arith
 
 -- a first frame with nothing in its side information has nothing in it when the head is set apart
 apart-first : (head : Option Head) (q : Row) (rows : List Row) → q.side ≡ no_side
@@ -65,21 +65,21 @@ apart-first : (head : Option Head) (q : Row) (rows : List Row) → q.side ≡ no
     × (row_side r ≡ no_side) × (r.header ≡ q.header)
 unfolding apart_rows
 apart-first None q rows none =
-    let is = emptied-none q q.lost refl none in
+    let is = emptied-none q refl none in
     (emptied_row q, map emptied_row rows, refl, is.0, is.1)
 apart-first (Some head) q rows none =
     let r = apart_row (q ∷ rows) 0 q in
-    let is = emptied-none r r.lost refl none in
+    let is = emptied-none r refl none in
     (emptied_row r, map emptied_row (drop 1 (apart_rows (q ∷ rows))), refl, is.0, is.1)
 
 -- of a survey whose first frame has nothing in its side information the stream begins with a
 -- silent frame
-silent-first : (file : List ℕ) (s : SurveyFields) (r : Row) (rows : List Row) (h : HeaderFields)
+silent-first : (file : List ℕ) (s : SurveyFields) {r : Row} {rows : List Row} {h : HeaderFields}
     → s.frames ≡ r ∷ rows → row_side r ≡ no_side → r.header ≡ h
     → (more : List StreamFrame)
     × (stream_of_survey file s ≡ silent_frame (record h { slot = no_slot }) ∷ more)
-silent-first file s r rows h are none same =
-    let begins = stream-first file s r rows are in (
+silent-first file s {r} {rows} are none same =
+    let begins = stream-first file s are in (
       begins.0,
       begins.1
           ∙ ap (λ f. f ∷ begins.0)
@@ -105,12 +105,12 @@ module _ (c : ClassFields) (p : FilePart) (is : IsInput c p)
   known : IsClass c
   known =
       let placed = is.has.placed 0 q found in
-      subst IsClass (placed.class_is ∙ is.of_class) (IsClass-class_of q.header placed.known)
+      subst IsClass (placed.class_is ∙ is.of_class) (IsClass-class_of placed.known)
 
   none : q.side ≡ no_side
   none =
       let placed = is.has.placed 0 q found in
-      let pairs = (whole-first p.file p.survey.frames q is.has.rows found).pairs in
+      let pairs = (whole-first p.survey.frames is.has.rows found).pairs in
       grind (
         arith,
         zero-side,
@@ -131,13 +131,13 @@ module _ (c : ClassFields) (p : FilePart) (is : IsInput c p)
   own-first : (more : List StreamFrame) × (stream_of p.file ≡ front ∷ more)
   own-first =
       let own =
-      silent-first p.file p.survey q begin.1 q.header begin.2 (own-none q q.lost refl none) refl in
-      (own.0, stream-is p.file is.allowed p.survey is.surveyed ∙ own.1)
+      silent-first p.file p.survey begin.2 (own-none q refl none) refl in
+      (own.0, stream-is p.file is.allowed is.surveyed ∙ own.1)
 
   apart-front : (more : List StreamFrame) × (whole_stream is ≡ front ∷ more)
   apart-front =
       let apart = apart-first p.survey.head q begin.1 none in
-      silent-first p.file (survey_without_head p.survey) apart.0 apart.1 q.header
+      silent-first p.file (survey_without_head p.survey)
       (ap (λ l. map emptied_row (rows_set_apart p.survey.head l)) begin.2 ∙ apart.2)
       apart.3 apart.4
 
@@ -190,19 +190,19 @@ joint-led class run before input is =
     at None follows None without seam = absurd cc
 
 joints-led : (class : ClassFields) (run : List RunFrame) (before : Brought) (inputs : List Brought)
-    (n : ℕ) (input : Brought) (joint : JointFrames) → slice_get inputs n ≡ Some input
+    (n : ℕ) {input : Brought} {joint : JointFrames} → slice_get inputs n ≡ Some input
     → slice_get (joints_from class run before inputs) n ≡ Some joint → joint.seam ≡ LeadIn
     → has_lead_in (window_of class.version) input ≡ true
 unfolding joints_from
-joints-led class run before [] n input joint there found is = absurd cc
-joints-led class run before (i ∷ inputs) zero input joint there found is =
+joints-led class run before [] n there found is = absurd cc
+joints-led class run before (i ∷ inputs) zero {input} {joint} there found is =
     let same : i ≡ input = cc in
     let here : joint_of class run before i ≡ joint = cc in
     subst (λ b. has_lead_in (window_of class.version) b ≡ true) same
     (joint-led class run before i (ap (λ (j : JointFrames). j.seam) here ∙ is))
-joints-led class run before (i ∷ inputs) (suc n) input joint there found is =
+joints-led class run before (i ∷ inputs) (suc n) {input} {joint} there found is =
     let here = joint_of class run before i in
-    joints-led class (run ++ here.frames) i inputs n input joint there found is
+    joints-led class (run ++ here.frames) i inputs n there found is
 
 -- something becomes of each input
 joints-many : (class : ClassFields) (run : List RunFrame) (before : Brought)
@@ -220,19 +220,19 @@ record IsLater (joints : List JointFrames) (parts : List FilePart) (n : ℕ) (p 
     written : slice_get (later_parts joints parts) n
         ≡ Some (part_from (left_out_count joint.seam) p)
 
-later-at : (joints : List JointFrames) (parts : List FilePart) (n : ℕ) (p : FilePart)
+later-at : (joints : List JointFrames) (parts : List FilePart) (n : ℕ) {p : FilePart}
     → length joints ≡ length parts → slice_get parts n ≡ Some p → IsLater joints parts n p
-later-at joints [] n p same is = absurd cc
-later-at [] (q ∷ parts) n p same is = absurd (omega (arith, same))
-later-at (j ∷ joints) (q ∷ parts) zero p same is =
+later-at joints [] n same is = absurd cc
+later-at [] (q ∷ parts) n same is = absurd (omega (arith, same))
+later-at (j ∷ joints) (q ∷ parts) zero {p} same is =
     let own : q ≡ p = cc in
     record {
       joint = j;
       found = refl;
       written = ap (λ r. Some (part_from (left_out_count j.seam) r)) own;
     }
-later-at (j ∷ joints) (q ∷ parts) (suc n) p same is =
-    let more = later-at joints parts n p (omega (arith, same)) is in
+later-at (j ∷ joints) (q ∷ parts) (suc n) {p} same is =
+    let more = later-at joints parts n (omega (arith, same)) is in
     record { joint = more.joint; found = more.found; written = more.written }
 
 later-many : (joints : List JointFrames) (parts : List FilePart) → length joints ≡ length parts
@@ -276,11 +276,11 @@ module _ {first : FilePart} {parts : List FilePart}
         sym (take-append-drop k (whole_stream is))
         ∙ ap (left ++◌) (sym (stream-from is k))
 
-  led-front : (p : FilePart) (is : IsInput c p)
+  led-front : {p : FilePart} (is : IsInput c p)
       → has_lead_in (window_of c.version) (part_brought p) ≡ true
       → IsEmptyFront p.survey.class p.file (take 1 (whole_stream is))
   unfolding has_lead_in
-  led-front p is has =
+  led-front {p} is has =
       let blank =
       (and_parts (part_brought p).blank
       (leads_others (window_of c.version) (needs_of (part_brought p).frames)) has).0 in
@@ -299,7 +299,7 @@ module _ {first : FilePart} {parts : List FilePart}
               all = both first are.head joined.front;
               may = inr
                   (subst (λ n. IsEmptyFront c first.file (take n (whole_stream are.head)))
-                  (sym one) (led-front first are.head (front-parts are out).0));
+                  (sym one) (led-front are.head (front-parts are out).0));
             }
         | inr none ↦
             let zero_is : joined.front ≡ 0 = omega (arith, none) in
@@ -314,10 +314,10 @@ module _ {first : FilePart} {parts : List FilePart}
 
   module _ (n : ℕ) (p : FilePart) (found : slice_get parts n ≡ Some p) where
     is : IsInput c p
-    is = input-at c parts n p are.others found
+    is = input-at parts n are.others found
 
     later : IsLater joined.joints parts n p
-    later = later-at joined.joints parts n p joints-count found
+    later = later-at joined.joints parts n joints-count found
 
     joint_is : slice_get (joints_of c begins others) n ≡ Some later.joint
     joint_is =
@@ -328,43 +328,43 @@ module _ {first : FilePart} {parts : List FilePart}
     brought_is = slice_get-map part_brought parts n ∙ ap (option_map part_brought) found
 
     before : (q : FilePart) × (slice_get (first ∷ parts) n ≡ Some q)
-    before = get-some (first ∷ parts) n (omega (arith, get-within parts n p found))
+    before = get-some (first ∷ parts) n (omega (arith, get-within parts n found))
 
     -- an input that follows continues where the one before it ends
-    follower : (out : ℕ) → later.joint.seam ≡ Follows out
+    follower : {out : ℕ} → later.joint.seam ≡ Follows out
         → InputGoesOn c (part_brought before.0) (part_brought p)
         (run_after begins (joints_of c begins others) n)
         (run_after begins (joints_of c begins others) (n + 1)) out
-    follower out seam =
+    follower {out} seam =
         followers-on c begins others n (part_brought before.0) (part_brought p) later.joint out
         (slice_get-map part_brought (first ∷ parts) n ∙ ap (option_map part_brought) before.1)
         brought_is joint_is seam
 
     -- as many frames are left out as the seam says
-    follows-out : (out : ℕ) → later.joint.seam ≡ Follows out
+    follows-out : {out : ℕ} → later.joint.seam ≡ Follows out
         → length (take out (whole_stream is)) ≡ out
-    follows-out out seam =
+    follows-out {out} seam =
         length-take-le out (whole_stream is)
-        (omega (arith, (follower out seam).has, brought-many is, stream-many is))
+        (omega (arith, (follower seam).has, brought-many is, stream-many is))
 
     -- the input with this number, if its seam says that it follows
-    pub follower-at : (out : ℕ) → seam_at joined.joints (suc n) ≡ Some (Follows out)
+    pub follower-at : {out : ℕ} → seam_at joined.joints (suc n) ≡ Some (Follows out)
         → (q : Brought) × InputGoesOn c q (part_brought p)
         (run_after begins (joints_of c begins others) n)
         (run_after begins (joints_of c begins others) (n + 1)) out
-    follower-at out seam =
+    follower-at {out} seam =
         let own = sym (ap (option_map (λ (j : JointFrames). j.seam)) later.found) ∙ seam in
-        (part_brought before.0, follower out cc)
+        (part_brought before.0, follower cc)
 
     may : (seam : Seam) → later.joint.seam ≡ seam
         → MayBeLeftOut (Some seam) p.survey.class p.file
         (take (left_out_count seam) (whole_stream is))
     may Whole seam = refl
     may LeadIn seam =
-        led-front p is
-        (joints-led c begins.frames begins others n (part_brought p) later.joint brought_is joint_is
+        led-front is
+        (joints-led c begins.frames begins others n brought_is joint_is
         seam)
-    may (Follows out) seam = follows-out out seam
+    may (Follows out) seam = follows-out seam
 
     later-written : IsInputWritten first parts (suc n) p
     later-written = record {
@@ -379,17 +379,17 @@ module _ {first : FilePart} {parts : List FilePart}
     }
 
   -- each input is written, but for what may be left out of it
-  pub written-at : (number : ℕ) (input : FilePart) → slice_get (first ∷ parts) number ≡ Some input
+  pub written-at : (number : ℕ) {input : FilePart} → slice_get (first ∷ parts) number ≡ Some input
       → IsInputWritten first parts number input
-  written-at zero input found =
+  written-at zero {input} found =
       let same : first ≡ input = cc in
       subst (IsInputWritten first parts 0) same first-written
-  written-at (suc n) input found = later-written n input found
+  written-at (suc n) {input} found = later-written n input found
 
 -- what is left out of an input that doesn't follow is empty
 pub left-out-empty : LeftOutIsEmpty
 left-out-empty files inputs first parts taken =
-    let are = inputs-are files inputs first parts taken in
+    let are = inputs-are files inputs taken in
     record {
       inputs = written-at are;
       many = grind (

@@ -27,10 +27,10 @@ own-none window needs can = grind (arith, reserve_before-can, own_slot, within-f
 pub none-own : (window : ℕ) (needs : List Need) → FitsBehind window 0 needs
     → CanBeLaid window (open_frames own_slot needs)
 none-own window needs fits =
-    let least = (own-wanted window 0 needs fits).least 0 fits in
+    let least = (own-wanted 0 fits).least 0 fits in
     can-reserve_before window (open_frames own_slot needs) (map (area_by_header own_area_of) needs)
     (chosen-own needs)
-    (omega (arith, least)) (own-from window 0 0 needs fits).1
+    (omega (arith, least)) (own-from 0 0 needs fits).1
 
 abbrev behind_lead : ClassFields → SlotFields → List Need → List OpenFrame
 behind_lead class slot needs =
@@ -42,10 +42,10 @@ lead-fits : (window : ℕ) (class : ClassFields) (slot : SlotFields) (needs : Li
 lead-fits window class slot needs can =
     let opens = open_frames own_slot needs in
     let all = reserve_before-can window (behind_lead class slot needs) can in
-    let within = within-tail window (open_frame (lead_in_item class (slot ∷ []))) opens all.1 in
-    more-behind window (own_needed needs) (area_of class slot false) needs
+    let within = within-tail (open_frame (lead_in_item class (slot ∷ []))) opens all.1 in
+    more-behind window needs
     (omega (arith, all.0, lead-reserve_before class slot opens))
-    (within-fit window (own_needed needs)
+    (within-fit
     (map own_frame needs) within.0 (fit-own window (own_needed needs) needs (omega arith) within.1))
 
 fits-lead : (window : ℕ) (class : ClassFields) (slot : SlotFields) (needs : List Need)
@@ -53,20 +53,20 @@ fits-lead : (window : ℕ) (class : ClassFields) (slot : SlotFields) (needs : Li
     → CanBeLaid window (behind_lead class slot needs)
 fits-lead window class slot needs fits =
     let opens = open_frames own_slot needs in
-    let all = own-from window (area_of class slot false) 0 needs fits in
-    let least = (own-wanted window (area_of class slot false) needs fits).least
+    let all = own-from (area_of class slot false) 0 needs fits in
+    let least = (own-wanted (area_of class slot false) fits).least
     (area_of class slot false) fits in
     can-reserve_before window (behind_lead class slot needs)
     (area_of class slot false ∷ map (area_by_header own_area_of) needs)
     (lead-chosen class slot opens (map (area_by_header own_area_of) needs) (chosen-own needs))
     (omega (arith, lead-reserve_before class slot opens, least))
-    (lead-within window class slot opens all.0 all.1)
+    (lead-within class slot opens all.0 all.1)
 
-led-slot : (window : ℕ) (first : Need) (needs : List Need) (slot : SlotFields)
+led-slot : {window : ℕ} {first : Need} {needs : List Need} {slot : SlotFields}
     → IsLeadIn window own_slot (first ∷ needs) (Some slot)
     → IsLeadInSlot window (class_of first.header) (first ∷ needs) slot
 unfolding IsLeadIn part_items
-led-slot window first needs slot alone =
+led-slot {window} {first} {needs} {slot} alone =
     let class = class_of first.header in
     record {
       chosen = alone.2;
@@ -96,12 +96,12 @@ unfolding IsLeadIn part_items AreItemSlots AreLedInOwnSlots
 with-lead window needs lead_in placed alone for_items =
     grind (arith, own-none, only_one, led-slot, never-alone)
 
-with-leads : (window : ℕ) (needs : List Need) (lead_ins : List (Option SlotFields))
-    (placed : List Placed) → AreLeadIns window own_slot (needs ∷ []) lead_ins
+with-leads : {window : ℕ} (needs : List Need) (lead_ins : List (Option SlotFields))
+    {placed : List Placed} → AreLeadIns window own_slot (needs ∷ []) lead_ins
     → IsPlanFor window (all_items own_slot (needs ∷ []) lead_ins) placed
     → OneWay window needs placed
 unfolding AreLeadIns all_items
-with-leads window needs lead_ins placed alone plan = grind (arith, with-lead, append-nil)
+with-leads needs lead_ins alone plan = grind (arith, with-lead, append-nil)
 
 -- the plan of frames in their own slots has a lead-in exactly if they want something
 pub lead-where-wanted : LeadInWhereWanted

@@ -55,7 +55,7 @@ module _ (first : HeaderFields) (info : Info) (known : IsHeader first)
       ∙ drop_at side fields (side_size_of c) (length-replicate (side_size_of c) 0)
 
   fields-long : 8 ≤ length fields
-  fields-long = omega (arith, length-append (info_bytes info) zeros, length-info info sizes)
+  fields-long = omega (arith, length-append (info_bytes info) zeros, length-info sizes)
 
   flags-is : flags_in fields ≡ 15
   unfolding info_bytes
@@ -70,7 +70,7 @@ module _ (first : HeaderFields) (info : Info) (known : IsHeader first)
   extension-at =
       ap (λ l. take 36 (drop 120 l)) (sym fields-there)
       ∙ ap (take 36) (drop-drop 120 (low_place (info_header_of first)) (info_frame first info))
-      ∙ extension-there first info whole
+      ∙ extension-there first whole
 
   extension-in : (info_in fields).extension ≡ info.extension
   unfolding info_in
@@ -94,16 +94,16 @@ module _ (first : HeaderFields) (info : Info) (known : IsHeader first)
   frames-by vbr n rest = grind arith
 
   frames-long : 12 ≤ length fields
-  frames-long = omega (arith, length-append (info_bytes info) zeros, length-info info sizes)
+  frames-long = omega (arith, length-append (info_bytes info) zeros, length-info sizes)
 
   frames-at : take 4 (drop 8 fields) ≡ big_bytes 4 (number_or_zero info.frames)
   unfolding info_bytes
   frames-at = grind (arith, append_assoc, frames-by)
 
   -- the number of frames of an Info frame is read back
-  frames-in : (n : ℕ) → info.frames ≡ Some n → n < 256 ^ 4 → (info_in fields).frames ≡ Some n
+  frames-in : {n : ℕ} → info.frames ≡ Some n → n < 256 ^ 4 → (info_in fields).frames ≡ Some n
   unfolding info_in field_in field_place
-  frames-in n is small = grind (arith, flags-is, le-leb, frames-long, frames-at)
+  frames-in is small = grind (arith, flags-is, le-leb, frames-long, frames-at)
 
   -- the number of bytes, which has four bytes
   bytes-by : (vbr : Bool) (m n : ℕ) (rest : List ℕ)
@@ -113,16 +113,16 @@ module _ (first : HeaderFields) (info : Info) (known : IsHeader first)
   bytes-by vbr m n rest = grind arith
 
   bytes-long : 16 ≤ length fields
-  bytes-long = omega (arith, length-append (info_bytes info) zeros, length-info info sizes)
+  bytes-long = omega (arith, length-append (info_bytes info) zeros, length-info sizes)
 
   bytes-at : take 4 (drop 12 fields) ≡ big_bytes 4 (number_or_zero info.bytes)
   unfolding info_bytes
   bytes-at = grind (arith, append_assoc, bytes-by)
 
   -- the number of bytes of an Info frame is read back
-  bytes-in : (n : ℕ) → info.bytes ≡ Some n → n < 256 ^ 4 → (info_in fields).bytes ≡ Some n
+  bytes-in : {n : ℕ} → info.bytes ≡ Some n → n < 256 ^ 4 → (info_in fields).bytes ≡ Some n
   unfolding info_in field_in field_place
-  bytes-in n is small = grind (arith, flags-is, le-leb, bytes-long, bytes-at)
+  bytes-in is small = grind (arith, flags-is, le-leb, bytes-long, bytes-at)
 
   -- the quality, after the table
   behind-by : (vbr : Bool) (m n : ℕ) (rest : List ℕ)
@@ -155,7 +155,7 @@ module _ (first : HeaderFields) (info : Info) (known : IsHeader first)
       ∙ take_at four (info.extension ++ zeros) 4 refl
 
   quality-long : 120 ≤ length fields
-  quality-long = omega (arith, length-append (info_bytes info) zeros, length-info info sizes)
+  quality-long = omega (arith, length-append (info_bytes info) zeros, length-info sizes)
 
   -- the quality of an Info frame is read back, as a number of four bytes
   quality-in : (info_in fields).quality ≡ Some (number_or_zero info.quality % 256 ^ 4)
@@ -181,16 +181,16 @@ module _ (first : HeaderFields) (info : Info) (known : IsHeader first)
     laid-extension = grind (arith, head-there, fields-there, extension-in)
 
     -- the head of the file has the number of frames that it was laid with
-    pub laid-count : (n : ℕ) → info.frames ≡ Some n → n < 256 ^ 4
+    pub laid-count : {n : ℕ} → info.frames ≡ Some n → n < 256 ^ 4
         → (head_info file (Some (head_at (length (concat front)) first))).frames ≡ Some n
     unfolding head_info
-    laid-count n is small = grind (arith, head-there, fields-there, frames-in)
+    laid-count is small = grind (arith, head-there, fields-there, frames-in)
 
     -- the head of the file has the number of bytes that it was laid with
-    pub laid-bytes : (n : ℕ) → info.bytes ≡ Some n → n < 256 ^ 4
+    pub laid-bytes : {n : ℕ} → info.bytes ≡ Some n → n < 256 ^ 4
         → (head_info file (Some (head_at (length (concat front)) first))).bytes ≡ Some n
     unfolding head_info
-    laid-bytes n is small = grind (arith, head-there, fields-there, bytes-in)
+    laid-bytes is small = grind (arith, head-there, fields-there, bytes-in)
 
     -- the head of the file has the quality that it was laid with
     pub laid-quality

@@ -8,7 +8,7 @@ use Rattle.commands.proofs.{MadeLemmas.some-frames, RefusingLemmas.then_ok}
 use Rattle.cut_edits.{proofs.ChosenLemmas.IsRight, specs.Chosen.Chosen}
 use Rattle.frame_header.{proofs.HeaderLemmas.IsClass-class_of, specs.Fields.{ClassFields, IsClass}}
 use Rattle.frame_header.specs.Limits.{most_frames}
-use Rattle.joined_inputs.{proofs.PartLemmas.part-is, specs.Parts.{join_part, join_parts_from}}
+use Rattle.joined_inputs.{proofs.PartLemmas.part-is, specs.Parts.join_parts_from}
 use Rattle.laying.proofs.{LaidLemmas.first-there, SurveyFrameLemmas.survey-had}
 use Rattle.laying.specs.{Laid.{file_laid, LaidPart}, Relaid.FilePart, Surveys.CanBeRelaid}
 use Rattle.outside.specs.Files.{Contents}
@@ -21,7 +21,7 @@ use Rattle.seam_laws.specs.SeamlessLaws.{ArePieceInputs, bare_file, has_no_look_
 use Rattle.seam_laws.specs.SeamlessLaws.{is_look_alike, IsJoinedInSteps, last_place}
 use Rattle.seamless_edits.specs.Seamless.{seamless_file}
 use Rattle.split_edits.proofs.CommandLemmas.{first-parts}
-use Rattle.split_edits.specs.Cutting.{Cutting, piece_parts, piece_parts_from, with_first}
+use Rattle.split_edits.specs.Cutting.{Cutting, piece_parts, piece_parts_from}
 use Rattle.sync_survey.proofs.SurveyedFileLemmas.{survey_of-parts}
 use Rattle.sync_survey.specs.{Faults.{survey_fields, SurveyFields}, Survey.survey_of}
 
@@ -35,17 +35,17 @@ pub record Recording (file : List ℕ) (s : SurveyFields) : Type 0 where
   pub told : survey_fields file most_frames ≡ Ok s
 
 -- a file without fault is a recording that can be cut
-pub recording : (file : List ℕ) (s : SurveyFields) → survey_of file most_frames ≡ Ok s
+pub recording : {file : List ℕ} {s : SurveyFields} → survey_of file most_frames ≡ Ok s
     → Recording file s
-recording file s read =
-    let has = survey-had file most_frames s read in
-    let told = (survey_of-parts file most_frames s read).1 in
-    let row = first-there s.frames 0 (some-frames file most_frames s read) in
+recording {file} {s} read =
+    let has = survey-had most_frames read in
+    let told = (survey_of-parts file most_frames read).1 in
+    let row = first-there s.frames 0 (some-frames file most_frames read) in
     let placed = has.placed 0 row.0 row.1 in
     record {
       has = has;
-      few = frames-few file most_frames s told;
-      known = subst IsClass placed.class_is (IsClass-class_of row.0.header placed.known);
+      few = frames-few file told;
+      known = subst IsClass placed.class_is (IsClass-class_of placed.known);
       told = told;
     }
 
@@ -87,17 +87,17 @@ module _ {P : Type 0} (IsAt : P → P → FilePart → Type 0) where
     pub pieces : ArePieces IsAt from first parts
     pub pieces_on : ArePieces IsAt (last_place from first) second others
 
-  cut-pieces : (from : P) (tos : List P) (parts others : List FilePart)
+  cut-pieces : (from : P) {tos : List P} (parts : List FilePart) {others : List FilePart}
       → ArePieces IsAt from tos (parts ++ others) → AreCut from tos parts others
-  cut-pieces from tos [] others pieces = record {
+  cut-pieces from {tos} [] pieces = record {
     first = [];
     second = tos;
     last = refl;
     pieces = no_pieces;
     pieces_on = pieces;
   }
-  cut-pieces from tos (p ∷ parts) others (piece_then {to = b} {tos = bs} here more) =
-      let rest = cut-pieces b bs parts others more in
+  cut-pieces from (p ∷ parts) {others} (piece_then {to = b} {tos = bs} here more) =
+      let rest = cut-pieces b parts more in
       record {
         first = b ∷ rest.first;
         second = rest.second;
@@ -114,34 +114,32 @@ files_of parts = map (λ (p : FilePart). Some p.file) parts
 
 -- the files that are read as parts are the files of these parts
 pub parts-files : (contents : Contents) (place : ℕ) (class : Option ClassFields) (allowed : ℕ)
-    (names : List (List ℕ)) (parts : List FilePart)
+    (names : List (List ℕ)) {parts : List FilePart}
     → join_parts_from place class allowed contents names ≡ Ok parts
     → map contents names ≡ files_of parts
 unfolding join_parts_from
-parts-files contents place class allowed [] parts e = grind arith
-parts-files contents place class allowed (name ∷ names) parts e =
-    let one = then_ok (join_part place class allowed (contents name)) _ parts e in
+parts-files contents place class allowed [] e = grind arith
+parts-files contents place class allowed (name ∷ names) {parts} e =
+    let one = then_ok e in
     let part = one.0 in
-    let more = more-inputs part
-    (join_parts_from (place + 1) (Some (unwrap_or class part.survey.class))
-    (allowed - length part.survey.frames) contents names) parts one.2 in
-    let is = part-is place class allowed (contents name) part one.1 in
+    let more = more-inputs one.2 in
+    let is = part-is place (contents name) one.1 in
     ap₂ (λ (x : Option (List ℕ)) (xs : List (Option (List ℕ))). x ∷ xs)
     (is.there ∙ ap (λ (p : FilePart). Some p.file) is.whole)
     (parts-files contents (place + 1) (Some (unwrap_or class part.survey.class))
-    (allowed - length part.survey.frames) names more.0 more.1)
+    (allowed - length part.survey.frames) names more.1)
     ∙ ap files_of more.2
 
 -- in a join in two steps, the first file is the join of the first
 -- pieces, and the files after it are those of the other pieces
-step-files : (first : FilePart) (parts others : List FilePart)
+step-files : {first : FilePart} {parts others : List FilePart}
     → (steps : IsJoinedInSteps first parts others)
     → (steps.joined.file ≡ seamless_file (first ∷ parts))
     × (files_of others ≡ files_of steps.more)
-step-files first parts others steps =
+step-files steps =
     grind (
       arith,
-      parts-files steps.files 0 None most_frames steps.names (steps.joined ∷ steps.more)
+      parts-files steps.files 0 None most_frames steps.names
           steps.taken,
     )
 
@@ -178,26 +176,26 @@ module _ {P : Type 0} (cuts : Cuts P) (file : List ℕ) (t : SurveyFields) where
   cut_between from to = bare_file (laid_piece (cuts.led from to) (cuts.chosen from to) t) file t
 
   -- pieces are inputs
-  pub pieces-inputs : (c : ClassFields) {from : P} {tos : List P} {parts : List FilePart}
+  pub pieces-inputs : {c : ClassFields} {from : P} {tos : List P} {parts : List FilePart}
       → AreAt c from tos parts → AreInputs c parts
-  pieces-inputs c no_pieces = tt
-  pieces-inputs c (piece_then here more) = (here.piece.is, pieces-inputs c more)
+  pieces-inputs no_pieces = tt
+  pieces-inputs {c} (piece_then here more) = (here.piece.is, pieces-inputs more)
 
   -- and the inputs of a join
-  pub pieces-join : (c : ClassFields) {from to : P} {tos : List P} {first : FilePart}
+  pub pieces-join : {c : ClassFields} {from to : P} {tos : List P} {first : FilePart}
       {parts : List FilePart} → AreAt c from (to ∷ tos) (first ∷ parts) → Joins c first parts
-  pieces-join c pieces =
-      let are = pieces-inputs c pieces in record { head = are.0; others = are.1 }
+  pieces-join {c} pieces =
+      let are = pieces-inputs pieces in record { head = are.0; others = are.1 }
 
   -- the same files are the same pieces
-  same-pieces : (c : ClassFields) {from : P} {tos : List P} {xs : List FilePart}
+  same-pieces : {c : ClassFields} {from : P} {tos : List P} {xs : List FilePart}
       → AreAt c from tos xs → (ys : List FilePart)
       → files_of xs ≡ files_of ys
       → AreInputs c ys → AreAt c from tos ys
-  same-pieces c no_pieces [] same inputs = no_pieces
-  same-pieces c no_pieces (y ∷ ys) same inputs = absurd cc
-  same-pieces c (piece_then here more) [] same inputs = absurd cc
-  same-pieces c (piece_then {p = x} {parts = xs} here more) (y ∷ ys) same inputs =
+  same-pieces no_pieces [] same inputs = no_pieces
+  same-pieces no_pieces (y ∷ ys) same inputs = absurd cc
+  same-pieces (piece_then here more) [] same inputs = absurd cc
+  same-pieces {c} (piece_then {p = x} {parts = xs} here more) (y ∷ ys) same inputs =
       let file_is : x.file ≡ y.file = cc in
       let rest : files_of xs ≡ files_of ys =
       cc in
@@ -212,7 +210,7 @@ module _ {P : Type 0} (cuts : Cuts P) (file : List ℕ) (t : SurveyFields) where
           is = inputs.0;
         };
       })
-      (same-pieces c more ys rest inputs.1)
+      (same-pieces more ys rest inputs.1)
 
   -- ---- in two steps
 
@@ -234,15 +232,15 @@ module _ {P : Type 0} (cuts : Cuts P) (file : List ℕ) (t : SurveyFields) where
       {parts others : List FilePart} → AreAt t.class from (to ∷ tos) (first ∷ (parts ++ others))
       → (steps : IsJoinedInSteps first parts others)
       → seamless_file (steps.joined ∷ steps.more) ≡ seamless_file (first ∷ (parts ++ others))
-  two-steps has again {from = from} {to = to} {tos = tos} {first = first} {parts = parts}
-      {others = others} pieces steps =
-      let cut = cut-pieces (IsAt t.class) to tos parts others (later-at pieces) in
+  two-steps has again {from} {to} {tos} {first} {parts}
+      {others} pieces steps =
+      let cut = cut-pieces (IsAt t.class) to parts (later-at pieces) in
       let mid = last_place to cut.first in
       let front = again from to cut.first first parts
       (piece_then (first-at pieces) cut.pieces) in
       let right = front.right in
-      let stepped = step-files first parts others steps in
-      let inputs = inputs-are steps.files steps.names steps.joined steps.more steps.taken in
+      let stepped = step-files steps in
+      let inputs = inputs-are steps.files steps.names steps.taken in
       let laid = laid_piece (cuts.led from mid) (cuts.chosen from mid) t in
       let made = subst (IsFileOf laid file t) (sym (stepped.0 ∙ front.joins))
       (laid-bare laid has (omega (arith, right.some, right.within))) in
@@ -257,7 +255,7 @@ module _ {P : Type 0} (cuts : Cuts P) (file : List ℕ) (t : SurveyFields) where
         piece = record { has = has; right = right; made = made; is = all.head };
       } in
       (again from mid cut.second steps.joined steps.more
-      (piece_then begin (same-pieces t.class cut.pieces_on steps.more stepped.1 all.others))).joins
+      (piece_then begin (same-pieces cut.pieces_on steps.more stepped.1 all.others))).joins
       ∙ ap (cut_between from) cut.last
       ∙ sym (again from to tos first (parts ++ others) pieces).joins
 
@@ -278,13 +276,12 @@ module _ {P : Type 0} (cut : Cutting P) (cuts : Cuts P) (file : List ℕ) (s : S
     later : piece_parts_from cut file s to tos ≡ Ok more
     are : first ∷ more ≡ laid
 
-  laid-first : (from to : P) (tos : List P) (laid : List LaidPart)
+  laid-first : {from to : P} {tos : List P} {laid : List LaidPart}
       → piece_parts_from cut file s from (to ∷ tos) ≡ Ok laid → IsLaidFirst from to tos laid
-  laid-first from to tos laid e =
+  laid-first {from} {to} {tos} {laid} e =
       let one =
-      then_ok (cut.between from to file s)
-      (λ first. with_first first (piece_parts_from cut file s to tos)) laid e in
-      let more = first-parts one.0 (piece_parts_from cut file s to tos) laid one.2 in
+      then_ok e in
+      let more = first-parts one.2 in
       record {
         first = one.0;
         more = more.0;
@@ -298,13 +295,13 @@ module _ {P : Type 0} (cut : Cutting P) (cuts : Cuts P) (file : List ℕ) (s : S
       → (is_look_alike l p ≡ false) × (has_no_look_alike laid parts ≡ true)
   alike-first l laid p parts none =
       let both = and_parts (not (is_look_alike l p)) (has_no_look_alike laid parts) none in
-      (not-true (is_look_alike l p) both.0, both.1)
+      (not-true both.0, both.1)
 
   module _ (c : ClassFields) (NoneAlike : Type 0) where
-    piece-at : (from to : P) (l : LaidPart) (p : FilePart) → IsLaidAs cuts file t from to l
+    piece-at : {from to : P} {l : LaidPart} {p : FilePart} → IsLaidAs cuts file t from to l
         → IsInput c p → p.file ≡ file_laid l file t → (NoneAlike → is_look_alike l p ≡ false)
         → IsPlainAt cuts file t c NoneAlike from to p
-    piece-at from to l p how is same none =
+    piece-at {from} {to} {l} {p} how is same none =
         let laid = laid_piece (cuts.led from to) (cuts.chosen from to) t in
         let piece : IsPiece (cuts.led from to) (cuts.chosen from to) file t c p =
         record {
@@ -332,11 +329,11 @@ module _ {P : Type 0} (cut : Cutting P) (cuts : Cuts P) (file : List ℕ) (s : S
     pieces-from from [] [] (p ∷ parts) e inputs same none = absurd cc
     pieces-from from [] (l ∷ laid) parts e inputs same none = absurd cc
     pieces-from from (to ∷ tos) laid [] e inputs same none =
-        let first = laid-first from to tos laid e in
+        let first = laid-first e in
         let never = same ∙ ap files (sym first.are) in
         absurd cc
     pieces-from from (to ∷ tos) laid (p ∷ parts) e inputs same none =
-        let first = laid-first from to tos laid e in
+        let first = laid-first e in
         let l = first.first in
         let all = same ∙ ap files (sym first.are) in
         let here : p.file ≡ file_laid l file t = cc in
@@ -347,7 +344,7 @@ module _ {P : Type 0} (cut : Cutting P) (cuts : Cuts P) (file : List ℕ) (s : S
         alike-first l first.more p parts
         (ap (λ ls. has_no_look_alike ls (p ∷ parts)) first.are ∙ none n) in
         piece_then
-        (piece-at from to l p first.how inputs.0 here (λ n. (tests n).0))
+        (piece-at first.how inputs.0 here (λ n. (tests n).0))
         (pieces-from to tos first.more parts first.later inputs.1 more (λ n. (tests n).1))
 
   module _ (from to : P) (tos : List P) (laid : List LaidPart) (first : FilePart)
@@ -358,10 +355,10 @@ module _ {P : Type 0} (cut : Cutting P) (cuts : Cuts P) (file : List ℕ) (s : S
         → ArePieces (IsPlainAt cuts file t t.class NoneAlike) from (to ∷ tos) (first ∷ parts)
     laid-pieces NoneAlike inputs none =
         let c = first.survey.class in
-        let are = inputs-are inputs.files inputs.inputs first parts inputs.taken in
+        let are = inputs-are inputs.files inputs.inputs inputs.taken in
         let pieces =
         pieces-from c NoneAlike from (to ∷ tos) laid (first ∷ parts) e (are.head, are.others)
-        (sym (parts-files inputs.files 0 None most_frames inputs.inputs (first ∷ parts)
+        (sym (parts-files inputs.files 0 None most_frames inputs.inputs
         inputs.taken)
         ∙ inputs.are) none in
         subst (λ d. ArePieces (IsPlainAt cuts file t d NoneAlike) from (to ∷ tos) (first ∷ parts))

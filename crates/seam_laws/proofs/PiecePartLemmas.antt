@@ -46,9 +46,9 @@ pub record IsPiece (led : Bool) (chosen : Chosen) (file : List ℕ) (s : SurveyF
   pub is : IsInput c p
 
 -- a row needs what the list of needs has at its number
-pub row-need : (rows : List Row) (i : ℕ) (r : Row) (n : Need) → slice_get rows i ≡ Some r
+pub row-need : (rows : List Row) (i : ℕ) {r : Row} {n : Need} → slice_get rows i ≡ Some r
     → slice_get (map need_of rows) i ≡ Some n → need_of r ≡ n
-row-need rows i r n found is = grind (arith, slice_get-map, found)
+row-need rows i found is = grind (arith, slice_get-map, found)
 
 -- ---- one piece
 
@@ -103,10 +103,10 @@ module _ {led : Bool} {chosen : Chosen} {file : List ℕ} {s : SurveyFields} {c 
     pub one : leads ≡ 1
     pub brings : BringsLed c p piece.is own_frames own_stream
 
-  led-by : (needs : List Need) (ps : List Placed) → 0 < length needs
+  led-by : (needs : List Need) {ps : List Placed} → 0 < length needs
       → IsLedPlan window own_choice needs ps → AreLedInOwnSlots window needs ps
-  led-by [] ps some plan = absurd (omega (arith, some))
-  led-by (first ∷ needs) ps some plan = (led-as window first needs ps plan).led
+  led-by [] some plan = absurd (omega (arith, some))
+  led-by (first ∷ needs) {ps} some plan = (led-as window first needs plan).led
 
   led-more : (needs : List Need) (ps : List Placed) → AreLedInOwnSlots window needs ps
       → length ps ≡ length needs + 1
@@ -119,7 +119,7 @@ module _ {led : Bool} {chosen : Chosen} {file : List ℕ} {s : SurveyFields} {c 
       × ((led ≡ true) ⊎ (fits_behind window 0 needs ≡ false)))
   laid-ways true fits test =
       inr (
-        led-by needs (placed_if true) (omega (arith, piece-many, piece.right.some))
+        led-by needs (omega (arith, piece-many, piece.right.some))
             ((led-is chosen s
             piece.has.placed piece.right.some piece.right.within (placed_if true)).1 refl),
         inl refl,
@@ -178,14 +178,14 @@ module _ {led : Bool} {chosen : Chosen} {file : List ℕ} {s : SurveyFields} {c 
       ]
 
   -- after its lead-ins there is a row that needs what the row of its first chosen frame does
-  pub row-after : (n : ℕ) (r : Row) → n ≡ leads → slice_get p.survey.frames n ≡ Some r
+  pub row-after : {n : ℕ} {r : Row} → n ≡ leads → slice_get p.survey.frames n ≡ Some r
       → need_of r ≡ need_of piece.made.row
-  row-after n r same found =
+  row-after {n} {r} same found =
       let first = ap (λ l. slice_get l 0) frames-need
       ∙ ap (λ rows. slice_get (map need_of rows) 0)
-      (range-next s.frames chosen.from chosen.to piece.made.row piece.made.row_is piece.right.some)
+      (range-next s.frames piece.made.row_is piece.right.some)
       in
-      row-need p.survey.frames n r (need_of piece.made.row) found
+      row-need p.survey.frames n found
       (elim ways [
         | inl own ↦
             ap₂ (λ (l : List Need) (k : ℕ). slice_get l k) own.brings.rows_need (same ∙ own.none)
@@ -228,7 +228,7 @@ module _ {led : Bool} {chosen : Chosen} {file : List ℕ} {s : SurveyFields} {c 
   known = (piece.has.placed chosen.from piece.made.row piece.made.row_is).known
 
   whole : AreInfoFields info
-  whole = for-whole s.class frames chosen.quality chosen.extension piece.right.extension
+  whole = for-whole s.class frames chosen.quality piece.right.extension
 
   -- the extension is read as it was laid
   pub read-extension : read.extension ≡ chosen.extension
@@ -238,11 +238,11 @@ module _ {led : Bool} {chosen : Chosen} {file : List ℕ} {s : SurveyFields} {c 
       piece.made.back
 
   -- the number of frames is read as it was laid
-  pub read-count : (n : ℕ) → info.frames ≡ Some n → n < 256 ^ 4 → read.frames ≡ Some n
-  read-count n is small =
+  pub read-count : {n : ℕ} → info.frames ≡ Some n → n < 256 ^ 4 → read.frames ≡ Some n
+  read-count {n} is small =
       ap (λ l. (head_info l (Some at)).frames) piece.made.file_is
       ∙ laid-count piece.made.row.header info known whole (front_blocks file s) frames
-      piece.made.back n is small
+      piece.made.back is small
 
   -- the quality is read as it was written
   pub read-quality : read.quality ≡ Some (number_or_zero chosen.quality % 256 ^ 4)

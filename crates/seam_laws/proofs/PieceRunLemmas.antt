@@ -49,7 +49,7 @@ empty-fits window f xs empty fits =
     subst (λ n. FitsBehind window n (needs_of xs)) free
     ((fits-tested window window (needs_of xs)).0 fits) in
     (fits-tested window window (needs_of (f ∷ xs))).1
-    (cons-fits window window f.need (needs_of xs) (omega arith) (omega (arith, empty)) behind)
+    (cons-fits f.need (needs_of xs) (omega arith) (omega (arith, empty)) behind)
 
 -- the headers of the first of known frames are known
 pub known-front : (xs ys : List RunFrame) → AreHeadersKnown (xs ++ ys) → AreHeadersKnown xs
@@ -72,9 +72,9 @@ own-slot window run first needs known fits =
     let test : SlotFields → Bool =
     λ slot. is_area_no_less first slot && fits_behind window window
     (run ++ need_in_slot slot first ∷ needs) in
-    find-least c p test all_slots first.header.slot
-    (class-ascend c c p all_slots refl refl
-    (areas-ascend c (IsClass-class_of first.header known) p))
+    find-least c p test all_slots
+    (class-ascend p refl refl
+    (areas-ascend c (IsClass-class_of known) p))
     (Contains-all_slots first.header.slot known.slot)
     (and_from _ _ (le-leb (own_slot_area first) (own_slot_area first) (omega arith)) fits)
     (λ other has passes.
@@ -83,11 +83,11 @@ own-slot window run first needs known fits =
     (fits_behind window window (run ++ need_in_slot other first ∷ needs)) passes).0)
 
 -- frames that fit as they are join as they are
-pub joining_frames-own : (window : ℕ) (run frames : List RunFrame) → AreHeadersKnown frames
-    → fits_behind window window (needs_of (run ++ frames)) ≡ true
+pub joining_frames-own : (window : ℕ) (run : List RunFrame) {frames : List RunFrame}
+    → AreHeadersKnown frames → fits_behind window window (needs_of (run ++ frames)) ≡ true
     → joining_frames window run frames ≡ Some frames
 unfolding joining_frames
-joining_frames-own window run frames known fits = grind (arith, needs-append, own-slot)
+joining_frames-own window run known fits = grind (arith, needs-append, own-slot)
 
 -- ---- what becomes of a piece
 
@@ -101,12 +101,12 @@ module _ (class : ClassFields) where
     unfolding following_joint
     none-follows none = grind arith
 
-    led-without : (frames : List RunFrame) → IsLedPiece window frames input
+    led-without : {frames : List RunFrame} → IsLedPiece window frames input
         → fits_behind window 0 (needs_of frames) ≡ false
         → joining_frames window run frames ≡ Some frames
         → joint_without_lead_in class run input ≡ Some (joint_with LeadIn frames)
     unfolding joint_without_lead_in
-    led-without frames led lacks joins = grind (arith, and_from)
+    led-without led lacks joins = grind (arith, and_from)
 
     -- an input without a lead-in can't join without one
     pub unled-without : has_lead_in window input ≡ false
@@ -114,10 +114,10 @@ module _ (class : ClassFields) where
     unfolding joint_without_lead_in
     unled-without none = grind (arith, and_left)
 
-    piece-joint : (frames : List RunFrame) → IsPieceOf window frames input → AreHeadersKnown frames
+    piece-joint : {frames : List RunFrame} → IsPieceOf window frames input → AreHeadersKnown frames
         → fits_behind window window (needs_of (run ++ frames)) ≡ true
         → joint_of class run before input ≡ joint_with (piece_seam window frames) frames
-    piece-joint frames piece known fits =
+    piece-joint piece known fits =
         grind (arith, none-follows, unled-without, led-without, joining_frames-own)
 
   -- ---- all later pieces
@@ -139,7 +139,7 @@ module _ (class : ClassFields) where
       subst (λ l. fits_behind window window (needs_of l) ≡ true)
       (sym (append_assoc run frames (concat_frames more))) fits in
       let here =
-      piece-joint run before input frames are.0 (known-front frames (concat_frames more) known)
+      piece-joint run before input are.0 (known-front frames (concat_frames more) known)
       (front-fits window window (run ++ frames) (concat_frames more) fit) in
       ap (λ (j : JointFrames). j ∷ joints_from class (run ++ j.frames) input inputs) here
       ∙ ap (joint_by frames ∷◌)
@@ -159,14 +159,14 @@ module _ (class : ClassFields) where
   -- ---- the first piece
 
   -- if the run begins with these frames and all of it fits, only lead-ins are left out
-  pieces-joined : (begin : List RunFrame) (more : List (List RunFrame)) (first : Brought)
-      (inputs : List Brought) (front : ℕ) → ArePiecesOf window more inputs
+  pieces-joined : {begin : List RunFrame} (more : List (List RunFrame)) (first : Brought)
+      (inputs : List Brought) {front : ℕ} → ArePiecesOf window more inputs
       → AreHeadersKnown (concat_frames more) → first.frames ≡ begin
       → fits_behind window window (needs_of (begin ++ concat_frames more)) ≡ true
       → front ≡ front_left_out_count class first (begin ++ concat_frames more)
       → seamless_join class first inputs ≡ record { front = front; joints = map joint_by more }
   unfolding seamless_join
-  pieces-joined begin more first inputs front are known is fits gives =
+  pieces-joined more first inputs are known is fits gives =
       grind (arith, pieces-joints, joints-frames)
 
   abbrev IsRunOf : List RunFrame → List (List RunFrame) → Brought → Bool → SeamlessJoin → Type 0
@@ -190,7 +190,7 @@ module _ (class : ClassFields) where
         (and_left (has_lead_in window first)
         (not (fits_behind window 0 (needs_of (drop 1 all)))) unled.none) in
         let joined =
-        pieces-joined frames more first inputs 0 are
+        pieces-joined more first inputs are
         (known-behind frames (concat_frames more) known)
         unled.frames_are fits (sym none) in
         subst (IsRunOf frames more first true) (sym joined) (
@@ -209,7 +209,7 @@ module _ (class : ClassFields) where
         (and_from (has_lead_in window first) (not (fits_behind window 0 (needs_of all))) led.has
         (ap not (front-lacks window 0 frames (concat_frames more) lacks))) in
         let joined =
-        pieces-joined begin more first inputs 1 are (known-behind frames (concat_frames more) known)
+        pieces-joined more first inputs are (known-behind frames (concat_frames more) known)
         led.frames_are
         (empty-fits window led.lead_in all led.empty fits) (sym one) in
         subst (IsRunOf frames more first false) (sym joined) (

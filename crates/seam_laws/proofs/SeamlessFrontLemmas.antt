@@ -60,9 +60,9 @@ none-shaped : IsShaped no_side
 none-shaped = record { scfsi = refl; granules = refl; first = refl; second = refl }
 
 -- side information that is spelled in zeros has nothing in it
-pub zero-side : (c : ClassFields) (s : Side) → IsClass c → IsShaped s → SideFits c s
+pub zero-side : {c : ClassFields} {s : Side} → IsClass c → IsShaped s → SideFits c s
     → AllZero (side_bits c s) → s ≡ no_side
-zero-side c s known is fits zeros =
+zero-side {c} {s} known is fits zeros =
     sym (side_at-side_bits c known s is fits)
     ∙ ap (side_at c)
     (zeros-are (side_bits c s) (side_bits c no_side)
@@ -73,43 +73,44 @@ zero-side c s known is fits zeros =
 -- ---- the first frame of an input
 
 -- rows begin blank exactly where the first of them is blank
-pub begins-first : (rows : List Row) (r : Row) → slice_get rows 0 ≡ Some r
+pub begins-first : (rows : List Row) {r : Row} → slice_get rows 0 ≡ Some r
     → begins_blank rows ≡ is_side_blank r
-begins-first rows r is = grind arith
+begins-first rows is = grind arith
 
 -- the first of rows that are whole is whole
-pub whole-first : (file : List ℕ) (rows : List Row) (r : Row) → AreWholeRows file rows
+pub whole-first : {file : List ℕ} (rows : List Row) {r : Row} → AreWholeRows file rows
     → slice_get rows 0 ≡ Some r → IsWholeRow file r
-whole-first file [] r are is = absurd cc
-whole-first file (q ∷ rows) r are is = let same : q ≡ r = cc in subst (IsWholeRow file) same are.0
+whole-first [] are is = absurd cc
+whole-first {file} (q ∷ rows) {r} are is = let same : q ≡ r = cc in
+    subst (IsWholeRow file) same are.0
 
-emptied-side : (r : Row) (lost : Bool) → r.lost ≡ lost → r.side ≡ no_side
+emptied-side : (r : Row) {lost : Bool} → r.lost ≡ lost → r.side ≡ no_side
     → row_side (emptied_row r) ≡ no_side
-emptied-side r lost is none = grind arith
+emptied-side r is none = grind arith
 
-apart-side : (head : Option Head) (rows : List Row) (q r : Row) → slice_get rows 0 ≡ Some q
+apart-side : (head : Option Head) (rows : List Row) {q r : Row} → slice_get rows 0 ≡ Some q
     → q.side ≡ no_side
     → slice_get (map emptied_row (rows_set_apart head rows)) 0 ≡ Some r → row_side r ≡ no_side
 unfolding apart_rows
-apart-side head [] q r first none is = absurd cc
-apart-side None (p ∷ rows) q r first none is = grind (arith, emptied-side)
-apart-side (Some head) (p ∷ rows) q r first none is = grind (arith, emptied-side)
+apart-side head [] first none is = absurd cc
+apart-side None (p ∷ rows) first none is = grind (arith, emptied-side)
+apart-side (Some head) (p ∷ rows) first none is = grind (arith, emptied-side)
 
 -- ---- its header
 
-find-contains : (test : SlotFields → Bool) (slots : List SlotFields) (slot : SlotFields)
+find-contains : (test : SlotFields → Bool) (slots : List SlotFields) {slot : SlotFields}
     → find test slots ≡ Some slot → Contains slots slot
-find-contains test [] slot is = absurd cc
-find-contains test (s ∷ slots) slot is = at (test s) (find-contains test slots slot) is
+find-contains test [] is = absurd cc
+find-contains test (s ∷ slots) {slot} is = at (test s) (find-contains test slots) is
   where
     at : (b : Bool) → (find test slots ≡ Some slot → Contains slots slot)
         → cond b (Some s) (find test slots) ≡ Some slot → Contains (s ∷ slots) slot
     at true later found = let same : s ≡ slot = cc in (zero, omega arith, same)
     at false later found = let has = later found in (suc has.0, omega (arith, has.1), has.2)
 
-one-header : (g h : HeaderFields) → IsHeader g → IsHeader h → header_bits g ≡ header_bits h → g ≡ h
-one-header g h first second same =
-    grind (arith, header_in-header_bits g first, header_in-header_bits h second, second)
+one-header : {g h : HeaderFields} → IsHeader g → IsHeader h → header_bits g ≡ header_bits h → g ≡ h
+one-header {g} {h} first second same =
+    grind (arith, header_in-header_bits first, header_in-header_bits second, second)
 
 -- two frames, where the first has the header of a lead-in before the second, but for its slot
 record AreLed (rows : List Row) : Type 0 where
@@ -139,11 +140,11 @@ rows-led window (r ∷ q ∷ rows) known leads =
         let fits : SlotFields → Bool =
         λ s. fits_behind window (area_of (class_of q.header) s false)
         (map need_of (q ∷ rows)) in
-        let is_slot = slot_among slot (find-contains fits all_slots slot found) in
+        let is_slot = slot_among (find-contains fits all_slots found) in
         let of = known 1 q refl in
         let lead : HeaderFields = record q.header { protected = false; slot = slot } in
         let lead_known : IsHeader lead = grind arith in
-        let equal = one-header r.header lead (known 0 r refl) lead_known
+        let equal = one-header (known 0 r refl) lead_known
         ((bytes_eq-Decides (header_bits r.header) (header_bits lead)).0 same) in
         record {
           first = r;
@@ -192,17 +193,17 @@ module _ (c : ClassFields) (p : FilePart) (is : IsInput c p)
     (blank : begins_blank p.survey.frames ≡ true) where
   -- when the head is set apart, the first frame of
   -- the input has side information with nothing in it
-  pub blank-side : (r : Row) → slice_get (survey_without_head p.survey).frames 0 ≡ Some r
+  pub blank-side : {r : Row} → slice_get (survey_without_head p.survey).frames 0 ≡ Some r
       → row_side r ≡ no_side
-  blank-side r found =
+  blank-side {r} found =
       let q = first-there p.survey.frames 0 is.some in
       let placed = is.has.placed 0 q.0 q.1 in
-      let pairs = (whole-first p.file p.survey.frames q.0 is.has.rows q.1).pairs in
-      let known = IsClass-class_of q.0.header placed.known in
-      let none = zero-side (class_of q.0.header) q.0.side known (shaped q.0.side pairs)
+      let pairs = (whole-first p.survey.frames is.has.rows q.1).pairs in
+      let known = IsClass-class_of placed.known in
+      let none = zero-side known (shaped pairs)
       (subst (λ d. SideFits d q.0.side) (sym placed.class_is) placed.fits)
-      (sym (begins-first p.survey.frames q.0 q.1) ∙ blank) in
-      apart-side p.survey.head p.survey.frames q.0 r q.1 none found
+      (sym (begins-first p.survey.frames q.1) ∙ blank) in
+      apart-side p.survey.head p.survey.frames q.1 none found
 
 module _ {c : ClassFields} {first : FilePart} {parts : List FilePart} (are : Joins c first parts)
     (out : 0 < (joined are).front) where
@@ -229,7 +230,7 @@ module _ {c : ClassFields} {first : FilePart} {parts : List FilePart} (are : Joi
 
   first-none : row_side two.first ≡ no_side
   first-none =
-      blank-side c first are.head leads.0 two.first
+      blank-side c first are.head leads.0
       (ap (λ l. slice_get l 0) two.are)
 
   -- the first two frames of the first input
@@ -252,10 +253,10 @@ module _ {c : ClassFields} {first : FilePart} {parts : List FilePart} (are : Joi
       grind (arith, one, flat_map, stream-from are.head 1, begins-two.2)
 
   -- what the run begins with, and what its stream begins with
-  pub front-alike : (g : RunFrame) (f : StreamFrame) (fs : List StreamFrame)
+  pub front-alike : {g : RunFrame} {f : StreamFrame} {fs : List StreamFrame}
       → slice_get (all are) 0 ≡ Some g → stream are ≡ f ∷ fs
       → sound_of c (silent_lead_in f) ≡ g.sound
-  front-alike g f fs begins streams =
+  front-alike {g} {f} {fs} begins streams =
       let others_sounds =
       sounds_left (joints_of c (brought are) (others are))
       (others are) in
@@ -273,7 +274,7 @@ module _ {c : ClassFields} {first : FilePart} {parts : List FilePart} (are : Joi
       ∙ sym sound
 
   -- where the lead-in of the first input leaves the run, it is the one that the run gets again
-  pub front-silent : (f : StreamFrame) (fs : List StreamFrame) → stream are ≡ f ∷ fs
+  pub front-silent : {f : StreamFrame} {fs : List StreamFrame} → stream are ≡ f ∷ fs
       → (more : List StreamFrame)
       × (whole_stream are.head ≡ silent_lead_in f ∷ more)
-  front-silent f fs streams = grind (arith, empty-frame, first-none, second)
+  front-silent streams = grind (arith, empty-frame, first-none, second)

@@ -64,56 +64,58 @@ pub inputs-whole : (class : ClassFields) (parts : List FilePart) → AreInputs c
 inputs-whole class [] are = tt
 inputs-whole class (p ∷ parts) are = (input-whole are.0, inputs-whole class parts are.1)
 
-input-is : (class : ClassFields) (place : ℕ) (first : Option ClassFields) (allowed : ℕ)
-    (o : Option (List ℕ)) (p : FilePart)
+input-is : {class : ClassFields} (place : ℕ) (first : Option ClassFields) (allowed : ℕ)
+    (o : Option (List ℕ)) {p : FilePart}
     → join_part place first allowed o ≡ Ok p → p.survey.class ≡ class → IsInput class p
-input-is class place first allowed o p e same =
-    let is = part-is place first allowed o p e in
+input-is {class} place first allowed o {p} e same =
+    let is = part-is place o e in
     subst (IsInput class) is.whole
     (record {
       allowed = allowed;
       surveyed = is.surveyed;
-      has = survey-had is.file allowed is.survey is.surveyed;
+      has = survey-had allowed is.surveyed;
       of_class = ap (λ (q : FilePart). q.survey.class) is.whole ∙ same;
       from = refl;
       to = refl;
-      some = some-frames is.file allowed is.survey is.surveyed;
+      some = some-frames is.file allowed is.surveyed;
     })
 
 inputs-behind : (files : Contents) (class : ClassFields) (place allowed : ℕ) (names : List (List ℕ))
-    (parts : List FilePart)
+    {parts : List FilePart}
     → join_parts_from place (Some class) allowed files names ≡ Ok parts → AreInputs class parts
 unfolding join_parts_from
-inputs-behind files class place allowed [] parts e = grind arith
-inputs-behind files class place allowed (name ∷ names) parts e =
-    let one = then_ok (join_part place (Some class) allowed (files name)) _ parts e in
+inputs-behind files class place allowed [] e = grind arith
+inputs-behind files class place allowed (name ∷ names) {parts} e =
+    let one =
+    then_ok {r = join_part place (Some class) allowed (files name)} {make = _} {b = parts} e in
     let part = one.0 in
     let more =
-    more-inputs part
-    (join_parts_from (place + 1) (Some class) (allowed - length part.survey.frames) files names)
-    parts one.2 in
-    let is = part-is place (Some class) allowed (files name) part one.1 in
+    more-inputs {part = part}
+    {r = join_parts_from (place + 1) (Some class) (allowed - length part.survey.frames) files names}
+    {parts = parts} one.2 in
+    let is =
+    part-is place {first = Some class} {allowed = allowed} (files name) {part = part} one.1 in
     let same : part.survey.class ≡ class = grind arith in
     subst (AreInputs class) more.2 (
-      input-is class place (Some class) allowed (files name) part one.1 same,
-      inputs-behind files class (place + 1) (allowed - length part.survey.frames) names more.0
+      input-is {class = class} place (Some class) allowed (files name) {p = part} one.1 same,
+      inputs-behind files class (place + 1) (allowed - length part.survey.frames) names
+          {parts = more.0}
           more.1,
     )
 
-are-inputs : (files : Contents) (names : List (List ℕ)) (first : FilePart) (parts : List FilePart)
+are-inputs : (files : Contents) (names : List (List ℕ)) {first : FilePart} {parts : List FilePart}
     → join_parts files names ≡ Ok (first ∷ parts)
     → AreInputs first.survey.class (first ∷ parts)
 unfolding join_parts_from
-are-inputs files [] first parts e = absurd cc
-are-inputs files (name ∷ names) first parts e =
-    grind (arith, then_ok, more-inputs, input-is, inputs-behind)
+are-inputs files [] e = absurd cc
+are-inputs files (name ∷ names) e = grind (arith, then_ok, more-inputs, input-is, inputs-behind)
 
 -- the parts that files are read as are inputs of the class of the first one
-pub inputs-are : (files : Contents) (names : List (List ℕ)) (first : FilePart)
-    (parts : List FilePart) → join_parts files names ≡ Ok (first ∷ parts)
+pub inputs-are : (files : Contents) (names : List (List ℕ)) {first : FilePart}
+    {parts : List FilePart} → join_parts files names ≡ Ok (first ∷ parts)
     → Joins first.survey.class first parts
-inputs-are files names first parts e =
-    let are = are-inputs files names first parts e in record { head = are.0; others = are.1 }
+inputs-are files names {first} {parts} e =
+    let are = are-inputs files names e in record { head = are.0; others = are.1 }
 
 -- the class of the inputs is that of the first one
 pub own-class : {c : ClassFields} {first : FilePart} {parts : List FilePart} → Joins c first parts
@@ -142,10 +144,10 @@ run-sounds class (r ∷ rows) [] same = absurd (omega (arith, same))
 run-sounds class (r ∷ rows) (f ∷ stream) same =
     grind (arith, run-sounds class rows stream (omega (arith, same)))
 
-counted-end : (samples frames : ℕ) (o : Option HeadCounts) (played : Played)
+counted-end : (samples frames : ℕ) (o : Option HeadCounts) {played : Played}
     → option_map (counted_played samples frames) o ≡ Some played
     → played.end ≤ frames * samples
-counted-end samples frames o played e = grind arith
+counted-end samples frames o e = grind arith
 
 module _ {class : ClassFields} {p : FilePart} (is : IsInput class p) where
   abbrev survey : SurveyFields
@@ -157,12 +159,12 @@ module _ {class : ClassFields} {p : FilePart} (is : IsInput class p) where
 
   -- the file has the survey whose head is set apart
   pub has-apart : CanBeRelaid p.file survey
-  has-apart = survey_without_head-had p.file p.survey is.has
+  has-apart = survey_without_head-had is.has
       (survey_without_head-placed p.survey is.has.placed)
 
   stream-length : length whole_stream ≡ length survey.frames
   stream-length =
-      let are = frames-of p.file survey has-apart in
+      let are = frames-of has-apart in
       ap length (sym are.stream_is)
       ∙ length-map (all_frames p.file survey) stream_entry ∙ all-length p.file survey
 
@@ -213,10 +215,10 @@ module _ {class : ClassFields} {p : FilePart} (is : IsInput class p) where
       }
 
   -- no played position is after the last frame
-  pub played-end : (played : Played) → (part_brought p).played ≡ Some played
+  pub played-end : {played : Played} → (part_brought p).played ≡ Some played
       → played.end ≤ length p.survey.frames * samples_in class
   unfolding counted_positions
-  played-end played e = grind (arith, counted-end)
+  played-end e = grind (arith, counted-end)
 
 -- all inputs bring frames that fit
 pub inputs-fit : (class : ClassFields) (parts : List FilePart) → AreInputs class parts

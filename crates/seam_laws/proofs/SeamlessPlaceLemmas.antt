@@ -27,11 +27,11 @@ use Rattle.sync_survey.specs.MainData.{StreamFrame}
 
 -- ---- lists
 
-get-front : {X : Type 0} (xs ys : List X) (i : ℕ) (x : X) → slice_get xs i ≡ Some x
+get-front : {X : Type 0} (xs ys : List X) (i : ℕ) {x : X} → slice_get xs i ≡ Some x
     → slice_get (xs ++ ys) i ≡ Some x
-get-front [] ys i x is = absurd cc
-get-front (z ∷ xs) ys zero x is = is
-get-front (z ∷ xs) ys (suc i) x is = get-front xs ys i x is
+get-front [] ys i is = absurd cc
+get-front (z ∷ xs) ys zero is = is
+get-front (z ∷ xs) ys (suc i) {x} is = get-front xs ys i is
 
 get-behind : {X : Type 0} (xs ys : List X) (i : ℕ)
     → slice_get (xs ++ ys) (length xs + i) ≡ slice_get ys i
@@ -45,10 +45,10 @@ record HasSound (class : ClassFields) (stream : List StreamFrame) (i : ℕ) (sou
     found : slice_get stream i ≡ Some frame
     is : sound_of class frame ≡ sound
 
-has-sound : (class : ClassFields) (stream : List StreamFrame) (i : ℕ) (sound : List ℕ)
+has-sound : {class : ClassFields} (stream : List StreamFrame) (i : ℕ) {sound : List ℕ}
     → slice_get (map (sound_of class) stream) i ≡ Some sound
     → HasSound class stream i sound
-has-sound class stream i sound is =
+has-sound {class} stream i {sound} is =
     at (slice_get stream i) refl (sym (slice_get-map (sound_of class) stream i) ∙ is)
   where
     at : (o : Option StreamFrame) → slice_get stream i ≡ o
@@ -56,9 +56,9 @@ has-sound class stream i sound is =
     at None found none = absurd cc
     at (Some f) found some = record { frame = f; found = found; is = cc }
 
-sound-at : (frames : List RunFrame) (i : ℕ) (f : RunFrame) → slice_get frames i ≡ Some f
+sound-at : (frames : List RunFrame) (i : ℕ) {f : RunFrame} → slice_get frames i ≡ Some f
     → slice_get (sounds frames) i ≡ Some f.sound
-sound-at frames i f is = grind (arith, slice_get-map, is)
+sound-at frames i is = grind (arith, slice_get-map, is)
 
 -- ---- positions
 
@@ -72,9 +72,9 @@ record IsPlaced (v : Version) (x n front leads ends : ℕ) : Type 0 where
   in_frame : place / samples_of v ≡ frame
   offset : place % samples_of v ≡ x % samples_of v
 
-placed-by : (v : Version) (x n front leads ends : ℕ) → n + front ≤ x / samples_of v + (leads + ends)
+placed-by : (v : Version) {x n front leads ends : ℕ} → n + front ≤ x / samples_of v + (leads + ends)
     → IsPlaced v x n front leads ends
-placed-by One x n front leads ends enough = record {
+placed-by One {x} {n} {front} {leads} {ends} enough = record {
   place = (x / 1152 + (leads + ends) - (n + front)) * 1152 + x % 1152;
   frame = x / 1152 + (leads + ends) - (n + front);
   at = omega (arith, enough);
@@ -82,7 +82,7 @@ placed-by One x n front leads ends enough = record {
   in_frame = omega arith;
   offset = omega arith;
 }
-placed-by _ x n front leads ends enough = record {
+placed-by _ {x} {n} {front} {leads} {ends} enough = record {
   place = (x / 576 + (leads + ends) - (n + front)) * 576 + x % 576;
   frame = x / 576 + (leads + ends) - (n + front);
   at = omega (arith, enough);
@@ -92,28 +92,29 @@ placed-by _ x n front leads ends enough = record {
 }
 
 -- the positions of the next file begin where the positions of one file end
-meets-at : (v : Version) (place start end n m front leads old new out : ℕ)
+meets-at : (v : Version) (place start : ℕ) {end : ℕ} (n m front leads old new out : ℕ)
     → place + (n + front) * samples_of v ≡ start + (leads + new) * samples_of v
     → start + (m * samples_of v - end) ≡ out * samples_of v → end ≤ m * samples_of v
     → new + out ≡ old + n
     → place + (m + front) * samples_of v ≡ end + (leads + old) * samples_of v
-meets-at v place start end n m front leads old new out at meets within longer = grind arith
+meets-at v place start n m front leads old new out at meets within longer = grind arith
 
-later-frame : (v : Version) (x y : ℕ) → x ≤ y → x / samples_of v ≤ y / samples_of v
-later-frame v x y less = grind arith
+later-frame : (v : Version) {x y : ℕ} → x ≤ y → x / samples_of v ≤ y / samples_of v
+later-frame v less = grind arith
 
-within-frames : (v : Version) (x end n : ℕ) → x < end → end ≤ n * samples_of v
+within-frames : (v : Version) {x end n : ℕ} → x < end → end ≤ n * samples_of v
     → x / samples_of v < n
-within-frames v x end n before most = grind arith
+within-frames v before most = grind arith
 
 -- ---- the frames of the run in the joined file
 
 -- each of the parts of inputs is an input
-pub input-at : (class : ClassFields) (parts : List FilePart) (i : ℕ) (p : FilePart)
+pub input-at : {class : ClassFields} (parts : List FilePart) (i : ℕ) {p : FilePart}
     → AreInputs class parts → slice_get parts i ≡ Some p → IsInput class p
-input-at class [] i p are is = absurd cc
-input-at class (q ∷ parts) zero p are is = let same : q ≡ p = cc in subst (IsInput class) same are.0
-input-at class (q ∷ parts) (suc i) p are is = input-at class parts i p are.1 is
+input-at [] i are is = absurd cc
+input-at {class} (q ∷ parts) zero {p} are is = let same : q ≡ p = cc in
+    subst (IsInput class) same are.0
+input-at {class} (q ∷ parts) (suc i) {p} are is = input-at parts i are.1 is
 
 module _ {first : FilePart} {parts : List FilePart}
     (are : Joins first.survey.class first parts)
@@ -133,27 +134,27 @@ module _ {first : FilePart} {parts : List FilePart}
     abbrev leads : List StreamFrame
     leads = (run-leads are).leads
 
-    stays-by : (j i : ℕ) (g : RunFrame) → slice_get whole j ≡ Some g → j ≡ front + i
+    stays-by : {j : ℕ} (i : ℕ) {g : RunFrame} → slice_get whole j ≡ Some g → j ≡ front + i
         → HasSound c (leads ++ heard) (length leads + i) g.sound
-    stays-by j i g found is =
+    stays-by i {g} found is =
         let there = ap (λ l. slice_get (sounds l) i) (run-is are)
-        ∙ sound-at (drop front whole) i g (get-drop front whole i ∙ ap (slice_get whole) (sym is)
+        ∙ sound-at (drop front whole) i (get-drop front whole i ∙ ap (slice_get whole) (sym is)
         ∙ found) in
         let own =
-        has-sound c heard i g.sound
+        has-sound heard i
         (ap (λ l. slice_get l i) (stream-sounds are) ∙ there) in
         record { frame = own.frame; found = get-behind leads heard i ∙ own.found; is = own.is }
 
     -- the first frame, where it leaves the run
-    leaves-by : (g : RunFrame) → slice_get whole 0 ≡ Some g → 0 < front
+    leaves-by : {g : RunFrame} → slice_get whole 0 ≡ Some g → 0 < front
         → HasSound c (leads ++ heard) 0 g.sound × (length leads ≡ 1)
-    leaves-by g found out =
+    leaves-by {g} found out =
         let led = (run-leads are).led (front-parts are out).1 in
         let f = led.0 in (
           record {
             frame = silent_lead_in f;
             found = ap (λ l. slice_get (l ++ heard) 0) led.3;
-            is = front-alike are out g f led.1 found led.2;
+            is = front-alike are out found led.2;
           },
           ap length led.3,
         )
@@ -162,14 +163,14 @@ module _ {first : FilePart} {parts : List FilePart}
     pub leads-enough : front ≤ length leads
     leads-enough = grind (arith, cases_lt, run-leads, front-parts, front-few)
 
-    run-stays : (j place : ℕ) (g : RunFrame) → slice_get whole j ≡ Some g
+    run-stays : (j : ℕ) {place : ℕ} {g : RunFrame} → slice_get whole j ≡ Some g
         → place + front ≡ length leads + j → HasSound c (leads ++ heard) place g.sound
-    run-stays j place g found is =
+    run-stays j {place} {g} found is =
         elim (cases_lt j front) [
           | inl early ↦
               let none : j ≡ 0 = omega (arith, early, front-few are) in
               let left =
-              leaves-by g (subst (λ n. slice_get whole n ≡ Some g) none found)
+              leaves-by (subst (λ n. slice_get whole n ≡ Some g) none found)
               (omega (arith, early)) in
               let here : 0 ≡ place =
               omega (arith, early, is, none, left.1, front-few are) in
@@ -178,7 +179,7 @@ module _ {first : FilePart} {parts : List FilePart}
               let i = j - front in
               let here : length leads + i ≡ place = omega (arith, late, is) in
               subst (λ n. HasSound c (leads ++ heard) n g.sound) here
-              (stays-by j i g found (omega (arith, late)))
+              (stays-by i found (omega (arith, late)))
         ]
 
     -- ---- an input that follows
@@ -207,10 +208,10 @@ module _ {first : FilePart} {parts : List FilePart}
         (is_joint : slice_get (join_of_parts first parts).joints number ≡ Some joint)
         (seam : joint.seam ≡ Follows out) where
       before_is : IsInput c before
-      before_is = input-at c (first ∷ parts) number before (are.head, are.others) is_before
+      before_is = input-at (first ∷ parts) number (are.head, are.others) is_before
 
       input_is : IsInput c input
-      input_is = input-at c parts number input are.others is_input
+      input_is = input-at parts number are.others is_input
 
       abbrev old_run : List RunFrame
       old_run = run_after begin (joints_of c begin more) number
@@ -251,7 +252,7 @@ module _ {first : FilePart} {parts : List FilePart}
       enough x late =
           omega (
             arith,
-            later-frame c.version goes.played.start x late,
+            later-frame c.version late,
             goes.alike.within,
             many,
             ends-new,
@@ -259,11 +260,10 @@ module _ {first : FilePart} {parts : List FilePart}
             leads-enough,
           )
 
-      place-of : (x : ℕ) → goes.played.start ≤ x → IsPlaced c.version x n front
+      place-of : {x : ℕ} → goes.played.start ≤ x → IsPlaced c.version x n front
           (run_lead_ins first parts) (run_end first parts (number + 1))
-      place-of x late =
-          placed-by c.version x n front (run_lead_ins first parts)
-          (run_end first parts (number + 1))
+      place-of {x} late =
+          placed-by c.version
           (enough x late)
 
       -- ---- one of its samples
@@ -271,7 +271,7 @@ module _ {first : FilePart} {parts : List FilePart}
       module _ (x : ℕ) (late : goes.played.start ≤ x) (early : x < goes.played.end) where
         placed : IsPlaced c.version x n front (run_lead_ins first parts)
             (run_end first parts (number + 1))
-        placed = place-of x late
+        placed = place-of late
 
         -- the number of its frame in the input
         abbrev i : ℕ
@@ -279,8 +279,8 @@ module _ {first : FilePart} {parts : List FilePart}
 
         within : i < n
         within =
-            within-frames c.version x goes.played.end n early
-            (played-end input_is goes.played goes.played_is)
+            within-frames c.version early
+            (played-end input_is goes.played_is)
 
         own_frame : (f : RunFrame) × (slice_get own i ≡ Some f)
         own_frame = get-some own i (omega (arith, within, many))
@@ -291,13 +291,13 @@ module _ {first : FilePart} {parts : List FilePart}
 
         run_frame : (g : RunFrame) × (slice_get new_run j ≡ Some g) × (g.sound ≡ own_frame.0.sound)
         run_frame =
-            goes.alike.alike i own_frame.0 (later-frame c.version goes.played.start x late)
+            goes.alike.alike i own_frame.0 (later-frame c.version late)
             own_frame.1
 
         in_whole : slice_get whole j ≡ Some run_frame.0
         in_whole =
             ap (λ l. slice_get l j) (sym (whole-parts (number + 1)))
-            ∙ get-front new_run (added (drop (number + 1) (joints_of c begin more))) j run_frame.0
+            ∙ get-front new_run (added (drop (number + 1) (joints_of c begin more))) j
             run_frame.1
 
         in_file : placed.frame + front ≡ length leads + j
@@ -309,19 +309,19 @@ module _ {first : FilePart} {parts : List FilePart}
               many,
               leads-many are,
               goes.alike.within,
-              later-frame c.version goes.played.start x late,
+              later-frame c.version late,
             )
 
         heard_frame : HasSound c (leads ++ heard) placed.frame run_frame.0.sound
-        heard_frame = run-stays j placed.frame run_frame.0 in_whole in_file
+        heard_frame = run-stays j in_whole in_file
 
         own_stream : HasSound c (part_stream (part_without_head input)) i own_frame.0.sound
         own_stream =
-            has-sound c (part_stream (part_without_head input)) i own_frame.0.sound
+            has-sound (part_stream (part_without_head input)) i
             (ap (λ l. slice_get (map (sound_of c) l) i)
             (stream-whole input_is)
             ∙ ap (λ l. slice_get l i) (sym (brought-sounds input_is))
-            ∙ sound-at own i own_frame.0 own_frame.1)
+            ∙ sound-at own i own_frame.1)
 
         heard_there : slice_get (seamless_stream (first ∷ parts)) (placed.place / samples_in c)
             ≡ Some heard_frame.frame
@@ -349,7 +349,7 @@ module _ {first : FilePart} {parts : List FilePart}
 
       comes-behind : ComesBehind first parts number before input
       comes-behind =
-          let place = place-of goes.played.start (omega arith) in
+          let place = place-of (omega arith) in
           record {
             ended = goes.ended;
             played = goes.played;
@@ -357,12 +357,12 @@ module _ {first : FilePart} {parts : List FilePart}
             played_is = goes.played_is;
             seam = place.place;
             ends =
-                meets-at c.version place.place goes.played.start goes.ended.end n
+                meets-at c.version place.place goes.played.start n
                 (length before.survey.frames) front (run_lead_ins first parts)
                 (run_end first parts number) (run_end first parts (number + 1)) out place.at
                 (ap (λ m. goes.played.start + rest_of c m goes.ended)
                 (sym (brought-many before_is)) ∙ goes.meets)
-                (played-end before_is goes.ended goes.ended_is)
+                (played-end before_is goes.ended_is)
                 (omega (arith, goes.longer, ends-new, ends-old, many));
             starts = place.at;
             samples = keeps;
@@ -371,5 +371,5 @@ module _ {first : FilePart} {parts : List FilePart}
 -- an input that follows comes right after the one before it
 pub following : FollowingSamplesStay
 following files inputs first parts number before input joint out taken old new at seam =
-    comes-behind (inputs-are files inputs first parts taken) number out before input
+    comes-behind (inputs-are files inputs taken) number out before input
     joint old new at seam

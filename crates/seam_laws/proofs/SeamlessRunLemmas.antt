@@ -27,8 +27,8 @@ use Rattle.slot_plan.specs.declared.needs.Placed.{Placed}
 use Rattle.sync_survey.specs.MainData.{StreamFrame}
 
 -- a value whose negation is true is false
-pub not-true : (b : Bool) → not b ≡ true → b ≡ false
-not-true b is = grind arith
+pub not-true : {b : Bool} → not b ≡ true → b ≡ false
+not-true is = grind arith
 
 -- ---- its lead-ins
 
@@ -44,10 +44,10 @@ pub record HasLeads (window : ℕ) (needs : List Need) (placed : List Placed)
       × (leads ≡ silent_lead_in f ∷ [])
 
 -- in a plan of frames in their own slots, all frames are there, and nothing else
-pub own-frames : (needs : List Need) (stream : List StreamFrame) (placed : List Placed)
+pub own-frames : (needs : List Need) {stream : List StreamFrame} (placed : List Placed)
     → length stream ≡ length needs → AreInOwnSlots needs placed
     → stream_with_lead_ins placed stream ≡ stream
-own-frames needs stream placed same own =
+own-frames needs {stream} placed same own =
     let for_all =
     subst (λ l. AreItemSlots l placed) (sym (append-nil (map (need_item own_choice) needs))) own in
     let on = frames-on own_choice [] needs stream [] placed same for_all in
@@ -60,29 +60,30 @@ pub own-many : (needs : List Need) (placed : List Placed) → AreInOwnSlots need
     → length placed ≡ length needs
 own-many needs placed own = grind (arith, for_length, own, length-map)
 
-led-leads : (window : ℕ) (needs : List Need) (placed : List Placed) (stream : List StreamFrame)
+led-leads : {window : ℕ} (needs : List Need) (placed : List Placed) (stream : List StreamFrame)
     → length stream ≡ length needs
     → fits_behind window 0 needs ≡ false → AreLedInOwnSlots window needs placed
     → HasLeads window needs placed stream
 unfolding AreLedInOwnSlots
-led-leads window [] placed stream same lacks led = absurd led
-led-leads window (need ∷ needs) [] stream same lacks led = absurd led
-led-leads window (need ∷ needs) (p ∷ placed) [] same lacks led = absurd (omega (arith, same))
-led-leads window (need ∷ needs) (p ∷ placed) (f ∷ stream) same lacks led = record {
+led-leads [] placed stream same lacks led = absurd led
+led-leads (need ∷ needs) [] stream same lacks led = absurd led
+led-leads (need ∷ needs) (p ∷ placed) [] same lacks led = absurd (omega (arith, same))
+led-leads {window} (need ∷ needs) (p ∷ placed) (f ∷ stream) same lacks led = record {
   leads = silent_lead_in f ∷ [];
-  is = one-on true p placed f stream led.0
+  is = one-on p placed f stream led.0
       ∙ ap (silent_lead_in f ∷◌)
-      (own-frames (need ∷ needs) (f ∷ stream) placed same led.2);
+      (own-frames (need ∷ needs) placed same led.2);
   many = omega (arith, own-many (need ∷ needs) placed led.2);
   own = λ fits. absurd (both_ways (fits_behind window 0 (need ∷ needs)) lacks fits);
   led = λ lacks. (f, stream, refl, refl);
 }
 
 -- a stream with one frame for each need has the lead-ins of a plan of these needs
-pub has-leads : (window : ℕ) (needs : List Need) (placed : List Placed) (stream : List StreamFrame)
+pub has-leads : {window : ℕ} {needs : List Need} {placed : List Placed} {stream : List StreamFrame}
     → IsPlan window own_choice (needs ∷ []) placed
     → length stream ≡ length needs → HasLeads window needs placed stream
-has-leads window needs placed stream plan same = at (fits_behind window 0 needs) refl
+has-leads {window} {needs} {placed} {stream} plan same =
+    at (fits_behind window 0 needs) refl
   where
     at : (b : Bool) → fits_behind window 0 needs ≡ b → HasLeads window needs placed stream
     at true fits =
@@ -90,13 +91,13 @@ has-leads window needs placed stream plan same = at (fits_behind window 0 needs)
         (lead-where-wanted window needs placed plan).0 ((fits-tested window 0 needs).0 fits) in
         record {
           leads = [];
-          is = own-frames needs stream placed same own;
+          is = own-frames needs placed same own;
           many = omega (arith, own-many needs placed own);
           own = λ fits. refl;
           led = λ lacks. absurd (both_ways (fits_behind window 0 needs) lacks fits);
         }
     at false lacks =
-        led-leads window needs placed stream same lacks
+        led-leads needs placed stream same lacks
         ((lead-where-wanted window needs placed plan).1
         (λ fits. both_ways (fits_behind window 0 needs) lacks
         ((fits-tested window 0 needs).1 fits)))
@@ -123,8 +124,8 @@ left-sounds class (j ∷ joints) (p ∷ parts) are =
 cond-few : (b : Bool) → cond b 1 0 ≤ 1
 cond-few b = grind arith
 
-cond-some : (b : Bool) → 0 < cond b 1 0 → b ≡ true
-cond-some b some = grind arith
+cond-some : {b : Bool} → 0 < cond b 1 0 → b ≡ true
+cond-some some = grind arith
 
 module _ {class : ClassFields} {first : FilePart} {parts : List FilePart}
     (are : Joins class first parts) where

@@ -11,7 +11,7 @@ use Rattle.frame_writer.specs.Frames.{Frame}
 use Rattle.info_header.specs.{InfoFrame.info_frame, declared.fields.Info.Info}
 use Rattle.laying.proofs.{HoldLemmas.{part-entries, part-stream}, LaidLemmas.first-there}
 use Rattle.laying.proofs.SurveyFrameLemmas.{frames-of}
-use Rattle.laying.specs.Laid.{frames_laid, info_laid, LaidPart, source_part}
+use Rattle.laying.specs.Laid.{frames_laid, info_laid, LaidPart}
 use Rattle.laying.specs.LaidFiles.{AreStreamEntries, laid_file, stream_entry}
 use Rattle.laying.specs.Relaid.{all_frames, FilePart, IsPart, part_frames, part_stream}
 use Rattle.laying.specs.{Relaid.relaid_frames, Written.{front_blocks, info_for}}
@@ -60,16 +60,16 @@ pub record AreRead (c : ClassFields) (fs : List Frame) (stream : List StreamFram
 
 read-append : {c : ClassFields} {fs gs : List Frame} {xs ys : List StreamFrame}
     → AreRead c fs xs → AreRead c gs ys → AreRead c (fs ++ gs) (xs ++ ys)
-read-append {c = c} {fs = fs} {gs = gs} first second = record {
+read-append {c} {fs} {gs} first second = record {
   entries = entries-append c fs gs first.entries second.entries;
   is = map-append stream_entry fs gs ∙ ap₂ ◌++◌ first.is second.is;
 }
 
 module _ (c : ClassFields) where
-  part-read : (p : FilePart) (is : IsInput c p) (k : ℕ)
+  part-read : {p : FilePart} (is : IsInput c p) (k : ℕ)
       → AreRead c (part_frames (part_from k p)) (part_stream (part_from k p))
-  part-read p is k =
-      let are = frames-of p.file (survey_without_head p.survey) (has-apart is) in
+  part-read {p} is k =
+      let are = frames-of (has-apart is) in
       let all = all_frames p.file (survey_without_head p.survey) in
       record {
         entries = grind (arith, entries-take, entries-drop);
@@ -82,13 +82,13 @@ module _ (c : ClassFields) where
   parts-read [] parts are = record { entries = tt; is = refl }
   parts-read (j ∷ joints) [] are = record { entries = tt; is = refl }
   parts-read (j ∷ joints) (p ∷ parts) are =
-      read-append (part-read p are.0 (left_out_count j.seam)) (parts-read joints parts are.1)
+      read-append (part-read are.0 (left_out_count j.seam)) (parts-read joints parts are.1)
 
   -- the frames of the run are read as its stream
   run-read : {first : FilePart} {parts : List FilePart} (are : Joins c first parts)
       → AreRead c (flat_map part_frames (run_parts first parts)) (stream are)
-  run-read {first = first} {parts = parts} are =
-      read-append (part-read first are.head (join_of_parts first parts).front)
+  run-read {first} {parts} are =
+      read-append (part-read are.head (join_of_parts first parts).front)
       (parts-read (join_of_parts first parts).joints parts are.others)
 
 -- ---- the file
@@ -107,12 +107,12 @@ module _ {c : ClassFields} (known : IsClass c) {first : FilePart} {parts : List 
       (bare-same c known run_frames_in fs read.entries entries (read.is ∙ streams))
 
   -- if the run has the stream and the plan of a part, the frames of the join are those of the part
-  pub frames-of-part : (part : FilePart) → IsPart c part → stream are ≡ part_stream part
-      → (placed : List Placed) → run_plan first parts ≡ placed
+  pub frames-of-part : {part : FilePart} → IsPart c part → stream are ≡ part_stream part
+      → {placed : List Placed} → run_plan first parts ≡ placed
       → seamless_frames first parts ≡ relaid_frames (part_frames part) placed
-  frames-of-part part is streams placed plans =
-      frames-by (part_frames part) (part-entries c part is)
-      (streams ∙ sym (part-stream c part is))
+  frames-of-part {part} is streams plans =
+      frames-by (part_frames part) (part-entries is)
+      (streams ∙ sym (part-stream is))
       ∙ ap (relaid_frames (part_frames part)) plans
 
   -- a row after what leaves the run
@@ -149,14 +149,14 @@ module _ {file : List ℕ} {s : SurveyFields} (r : Recording file s) {from to : 
   one = (begin r plain).0.piece
 
   inputs : Joins s.class first parts
-  inputs = pieces-join (whole_cuts s) file s s.class (pieces-are r plain)
+  inputs = pieces-join (whole_cuts s) file s (pieces-are r plain)
 
   frames-are : seamless_frames first parts ≡ frames_laid cut file s
   frames-are =
       let right = whole-right r (pieces-are r plain) in
-      frames-of-part r.known inputs (source_part cut file s)
+      frames-of-part r.known inputs
       (record { has = r.has; class = refl; some = right.some; within = right.within })
-      (run-stream r plain) cut.placed (plan-is r plain)
+      (run-stream r plain) (plan-is r plain)
 
   -- no numbers are written
   none-counted : delay_of_run first parts ≡ None
@@ -167,11 +167,11 @@ module _ {file : List ℕ} {s : SurveyFields} (r : Recording file s) {from to : 
       if nat_le delay 4095 then Some delay else None))
       (uncounted one refl)
 
-  infos-are : (row : Row) → slice_get first.survey.frames (join_of_parts first parts).front
+  infos-are : {row : Row} → slice_get first.survey.frames (join_of_parts first parts).front
       ≡ Some row → info_frame row.header (seamless_info (delay_of_run first parts) row first parts)
       ≡ info_frame one.made.row.header (info_laid cut file s)
-  infos-are row found =
-      let need = row-after one (join_of_parts first parts).front row (front-is r plain) found in
+  infos-are {row} found =
+      let need = row-after one (front-is r plain) found in
       ap₂ (λ (h : HeaderFields) (i : Info). info_frame h i) (ap (λ (n : Need). n.header) need)
       (ap (λ o. seamless_info o row first parts) none-counted
       ∙ ap₂ (λ (d : ClassFields) (fs : List Frame). info_for d fs None (replicate 36 0))
@@ -180,5 +180,6 @@ module _ {file : List ℕ} {s : SurveyFields} (r : Recording file s) {from to : 
   -- the join of the pieces is the file of the whole without the blocks after its frames
   pub seamless-file : seamless_file (first ∷ parts) ≡ bare_file cut file s
   seamless-file =
-      file-same r.known inputs cut file s one.made.row one.made.row_is frames-are infos-are
-      (front-same (laid-input one) most_frames s r.told refl)
+      file-same r.known inputs cut file s one.made.row one.made.row_is frames-are
+      (λ row. infos-are {row = row})
+      (front-same (laid-input one) most_frames {t = s} r.told refl)

@@ -59,11 +59,11 @@ module _ (c : ClassFields) (known : IsClass c) where
 
   module _ (p : FilePart) (is : IsInput c p) where
     -- the first frame of an input that begins blank is empty
-    pub first-empty : (f : StreamFrame) (fs : List StreamFrame)
+    pub first-empty : {f : StreamFrame} {fs : List StreamFrame}
         → begins_blank p.survey.frames ≡ true
         → whole_stream is ≡ f ∷ fs → is_empty_frame c f ≡ true
     unfolding stream_of_survey stream_frames
-    first-empty f fs blank begins = at (survey_without_head p.survey).frames refl
+    first-empty {f} blank begins = at (survey_without_head p.survey).frames refl
       where
         at : (rows : List Row) → (survey_without_head p.survey).frames ≡ rows
             → is_empty_frame c f ≡ true
@@ -84,19 +84,19 @@ module _ (c : ClassFields) (known : IsClass c) where
             (survey_without_head p.survey).head (survey_without_head p.survey).frames q.0 q.1 in
             let streams = sym (ap (λ l. map g (enumerate_from 0 l)) are) ∙ begins in
             let same : g (0, r) ≡ f = cc in
-            let none = blank-side c p is blank r (ap (λ l. slice_get l 0) are) in
+            let none = blank-side c p is blank (ap (λ l. slice_get l 0) are) in
             grind (arith, same, none, none-zero)
 
-    drop-full : (stream : List StreamFrame) → whole_stream is ≡ stream
+    drop-full : {stream : List StreamFrame} → whole_stream is ≡ stream
         → begins_blank p.survey.frames ≡ true → full (drop 1 stream) ≡ full stream
-    drop-full h begins blank = grind (arith, full-empty, first-empty)
+    drop-full begins blank = grind (arith, full-empty, first-empty)
 
     without-full : has_lead_in (window_of c.version) (part_brought p) ≡ true
         → full (part_stream (part_from 1 p)) ≡ full (whole_stream is)
     unfolding has_lead_in
     without-full has =
         ap full (stream-from is 1)
-        ∙ drop-full (whole_stream is) refl
+        ∙ drop-full refl
         (and_parts (part_brought p).blank
         (leads_others (window_of c.version) (needs_of (part_brought p).frames)) has).0
 
@@ -134,9 +134,9 @@ module _ {file : List ℕ} {s : SurveyFields} (r : Recording file s) where
       ≡ filled
       (slice_range (all_stream file s) (number s from) (number s (last_place from tos)))
   unfolding joints_from
-  pieces-full run before {from = from} no_pieces =
+  pieces-full run before {from} no_pieces =
       ap filled (sym (range-none (all_stream file s) (number s from)))
-  pieces-full run before {from = from}
+  pieces-full run before {from}
       (piece_then {to = to} {tos = tos} {p = p} {parts = parts} here more) =
       let joint = joint_of s.class run before (part_brought p) in
       let later =
@@ -155,7 +155,7 @@ module _ {file : List ℕ} {s : SurveyFields} (r : Recording file s) where
       (pieces-full (run ++ joint.frames) (part_brought p) more)
       ∙ sym (full-append s.class r.known (slice_range all a b) (slice_range all b end))
       ∙ ap filled
-      (range-append all a b end (omega (arith, here.piece.right.some)) (rise r more))
+      (range-append all (omega (arith, here.piece.right.some)) (rise r more))
 
   module _ {from to : Place} {tos : List Place} {first : FilePart} {parts : List FilePart}
       (pieces : AreWhole file s from (to ∷ tos) (first ∷ parts)) where
@@ -166,7 +166,7 @@ module _ {file : List ℕ} {s : SurveyFields} (r : Recording file s) where
     later = later-at pieces
 
     inputs : Joins s.class first parts
-    inputs = pieces-join (whole_cuts s) file s s.class pieces
+    inputs = pieces-join (whole_cuts s) file s pieces
 
     abbrev front : ℕ
     front = (join_of_parts first parts).front
@@ -212,4 +212,4 @@ module _ {file : List ℕ} {s : SurveyFields} (r : Recording file s) where
         ∙ ap₂ ◌++◌ (first-full ∙ piece-full begin.piece) joints-full
         ∙ sym (full-append s.class r.known (slice_range all a b) (slice_range all b end))
         ∙ ap filled
-        (range-append all a b end (omega (arith, begin.piece.right.some)) (rise r later))
+        (range-append all (omega (arith, begin.piece.right.some)) (rise r later))

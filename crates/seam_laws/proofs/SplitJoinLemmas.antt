@@ -48,28 +48,28 @@ whole_cuts s = record {
 }
 
 -- a frame is between two numbers, and all frames up to the second are there
-pub right-between : (s : SurveyFields) (a b : ℕ) → a < b → b ≤ length s.frames
+pub right-between : {s : SurveyFields} {a b : ℕ} → a < b → b ≤ length s.frames
     → IsRight (chosen_between a b) s
-right-between s a b some within =
+right-between some within =
     record { some = some; within = within; extension = length-replicate {A = ℕ} 36 0 }
 
 module _ (file : List ℕ) (s : SurveyFields) (from to : Place) where
   abbrev laid : LaidPart
   laid = laid_piece false (chosen_between (number s from) (number s to)) s
 
-  cut-one : (l : LaidPart) → cut_part from to file s ≡ Ok l
+  cut-one : {l : LaidPart} → cut_part from to file s ≡ Ok l
       → (number s from < number s to) × (number s to ≤ length s.frames) × (l ≡ laid)
   unfolding laying_part cut_choice
-  cut-one l e = grind (arith, then_ok, chosen-within, refusal_or-ok)
+  cut-one e = grind (arith, then_ok, chosen-within, refusal_or-ok)
 
   -- what is cut from one place to another is their piece
-  pub whole-laid : (l : LaidPart) → cut_part from to file s ≡ Ok l
+  pub whole-laid : {l : LaidPart} → cut_part from to file s ≡ Ok l
       → IsLaidAs (whole_cuts s) file s from to l
-  whole-laid l e =
-      let cut = cut-one l e in
+  whole-laid {l} e =
+      let cut = cut-one e in
       record {
         there = tt;
-        right = right-between s (number s from) (number s to) cut.0 cut.1;
+        right = right-between cut.0 cut.1;
         is = cut.2;
       }
 
@@ -90,21 +90,21 @@ module _ {chosen : Chosen} {file : List ℕ} {s : SurveyFields} {p : FilePart}
     abbrev run : List RunFrame
     run = own_frames piece
 
-    fits-run : (b : Bool) → fits_behind window 0 (chosen_needs chosen s) ≡ b
+    fits-run : {b : Bool} → fits_behind window 0 (chosen_needs chosen s) ≡ b
         → fits_behind window 0 (needs_of run) ≡ b
-    fits-run b is = ap (fits_behind window 0) (frames-need piece) ∙ is
+    fits-run is = ap (fits_behind window 0) (frames-need piece) ∙ is
 
     lacked : (false ≡ true) ⊎ (fits_behind window 0 (chosen_needs chosen s) ≡ false)
         → fits_behind window 0 (needs_of run) ≡ false
     lacked (inl never) = absurd cc
-    lacked (inr lacks) = fits-run false lacks
+    lacked (inr lacks) = fits-run lacks
 
     -- how many lead-ins it has follows from whether its frames fit with no free bytes before them
     pub by-fit : (f : Bool → ℕ) → f true ≡ 0 → f false ≡ 1
         → f (fits_behind window 0 (needs_of run)) ≡ leads piece
     by-fit f without with =
         elim (ways piece) [
-          | inl own ↦ ap f (fits-run true own.fits) ∙ without ∙ sym own.none
+          | inl own ↦ ap f (fits-run own.fits) ∙ without ∙ sym own.none
           | inr led ↦ ap f (lacked led.lacks) ∙ with ∙ sym led.one
         ]
 
@@ -123,7 +123,7 @@ module _ {chosen : Chosen} {file : List ℕ} {s : SurveyFields} {p : FilePart}
           elim (ways piece) [
             | inl own ↦
                 absurd (both_ways (fits_behind window 0 (needs_of run)) lacks
-                (fits-run true own.fits))
+                (fits-run own.fits))
             | inr led ↦
                 record {
                   lead_in = led.brings.lead_in;
@@ -177,18 +177,18 @@ module _ {file : List ℕ} {s : SurveyFields} (r : Recording file s) where
       → AreWhole file s from (to ∷ tos) (first ∷ parts)
       → IsRight (chosen_between (number s from) (number s (last_place to tos))) s
   whole-right (piece_then here more) =
-      right-between s _ _ (omega (arith, here.piece.right.some, rise more))
+      right-between (omega (arith, here.piece.right.some, rise more))
       (ends here.piece.right.within more)
 
   runs-all : {from : Place} {tos : List Place} {parts : List FilePart}
       → AreWhole file s from tos parts
       → concat_frames (runs_from file s from tos)
       ≡ run_between file s (number s from) (number s (last_place from tos))
-  runs-all {from = from} no_pieces = sym (between-none r.has (number s from))
-  runs-all {from = from} (piece_then {to = to} {tos = tos} here more) =
+  runs-all {from} no_pieces = sym (between-none r.has (number s from))
+  runs-all {from} (piece_then {to = to} {tos = tos} here more) =
       ap (run_between file s (number s from) (number s to) ++◌)
       (runs-all more)
-      ∙ between-append r.has (number s from) (number s to) (number s (last_place to tos))
+      ∙ between-append r.has
       (omega (arith, here.piece.right.some)) (rise more)
 
   pieces-of : {from : Place} {tos : List Place} {parts : List FilePart}
@@ -203,11 +203,10 @@ module _ {file : List ℕ} {s : SurveyFields} (r : Recording file s) where
       ≡ map (piece_seam frames_window) (runs_from file s from tos)
       → flat_map part_stream (later_parts joints parts)
       ≡ slice_range (all_stream file s) (number s from) (number s (last_place from tos))
-  pieces-left {from = from} no_pieces [] seams =
-      sym (range-none (all_stream file s) (number s from))
+  pieces-left {from} no_pieces [] seams = sym (range-none (all_stream file s) (number s from))
   pieces-left no_pieces (j ∷ joints) seams = absurd cc
   pieces-left (piece_then here more) [] seams = absurd cc
-  pieces-left {from = from} (piece_then {to = to} {tos = tos} {p = p} {parts = parts} here more)
+  pieces-left {from} (piece_then {to = to} {tos = tos} {p = p} {parts = parts} here more)
       (j ∷ joints) seams =
       let run = run_between file s (number s from) (number s to) in
       let seam : j.seam ≡ piece_seam frames_window run = cc in
@@ -219,8 +218,7 @@ module _ {file : List ℕ} {s : SurveyFields} (r : Recording file s) where
       ap₂ ◌++◌
       (ap (λ n. part_stream (part_from n p)) out ∙ left-own here.piece)
       (pieces-left more joints later)
-      ∙ range-append (all_stream file s) (number s from) (number s to)
-      (number s (last_place to tos)) (omega (arith, here.piece.right.some)) (rise more)
+      ∙ range-append (all_stream file s) (omega (arith, here.piece.right.some)) (rise more)
 
   -- ---- their join
 
@@ -275,8 +273,7 @@ module _ {file : List ℕ} {s : SurveyFields} (r : Recording file s) where
         ap₂ ◌++◌
         (ap (λ n. part_stream (part_from n first)) front-is ∙ left-own begin.0.piece)
         (pieces-left later (join_of_parts first parts).joints one-run.seams)
-        ∙ range-append (all_stream file s) (number s from) (number s to)
-        (number s (last_place to tos)) (omega (arith, begin.0.piece.right.some)) (rise later)
+        ∙ range-append (all_stream file s) (omega (arith, begin.0.piece.right.some)) (rise later)
 
     -- the stream of the join is the stream that the whole is laid with
     pub seamless-stream : seamless_stream (first ∷ parts) ≡ stream_laid cut_whole file s

@@ -14,7 +14,7 @@ use Rattle.split_edits.specs.Split.{cutting_of}
 -- the join of the pieces of a split joins the frames from the first place to the last
 pub split-joins : SplitThenSeamlessJoin
 split-joins points file s place next places laid first parts read e inputs =
-    let r = recording file s read in
+    let r = recording read in
     let last = last_place next places in
     let NoneAlike = has_no_look_alike laid (first ∷ parts) ≡ true in
     let pieces =
@@ -32,5 +32,5 @@ split-joins points file s place next places laid first parts read e inputs =
       full =
           all-full r whole
           ∙ ap (λ l. full_frames s.class (slice_range l (number s place) (number s last)))
-          (sym (stream-is file most_frames s read));
+          (sym (stream-is file most_frames read));
     }

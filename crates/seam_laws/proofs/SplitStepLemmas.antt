@@ -32,10 +32,10 @@ filter-few p (x ∷ xs) = at (p x) (filter-few p xs)
     at false few = omega (arith, few)
 
 -- no frame of a stream without empty frames is empty
-pub none-empty : (c : ClassFields) (stream : List StreamFrame) (i : ℕ) (f : StreamFrame)
+pub none-empty : (c : ClassFields) (stream : List StreamFrame) (i : ℕ) {f : StreamFrame}
     → full_frames c stream ≡ stream → slice_get stream i ≡ Some f → is_empty_frame c f ≡ true → ⊥
-none-empty c [] i f full found empty = absurd cc
-none-empty c (g ∷ stream) zero f full found empty =
+none-empty c [] i full found empty = absurd cc
+none-empty c (g ∷ stream) zero {f} full found empty =
     let same : g ≡ f = cc in
     let dropped : full_frames c stream ≡ g ∷ stream = grind arith in
     omega (
@@ -43,8 +43,8 @@ none-empty c (g ∷ stream) zero f full found empty =
       filter-few (λ x. not (is_empty_frame c x)) stream,
       ap length dropped,
     )
-none-empty c (g ∷ stream) (suc i) f full found empty =
-    at (is_empty_frame c g) full (λ more. none-empty c stream i f more found empty)
+none-empty c (g ∷ stream) (suc i) {f} full found empty =
+    at (is_empty_frame c g) full (λ more. none-empty c stream i more found empty)
   where
     at : (b : Bool)
         → cond (not b) (g ∷ full_frames c stream) (full_frames c stream) ≡ g ∷ stream
@@ -59,9 +59,9 @@ none-empty c (g ∷ stream) (suc i) f full found empty =
         )
 
 -- the first frame of a range is the frame at its first number
-pub first-of-range : (xs : List StreamFrame) (a b : ℕ) (f : StreamFrame) (fs : List StreamFrame)
+pub first-of-range : (xs : List StreamFrame) {a b : ℕ} {f : StreamFrame} {fs : List StreamFrame}
     → a < b → slice_range xs a b ≡ f ∷ fs → slice_get xs a ≡ Some f
-first-of-range xs a b f fs some is =
+first-of-range xs {a} {b} {f} {fs} some is =
     let many : b - a ≡ suc (b - a - 1) = omega (arith, some) in
     let here : a + 0 ≡ a = omega arith in
     ap (slice_get xs) (sym here) ∙ sym (get-drop a xs 0) ∙ at (drop a xs)
@@ -100,9 +100,9 @@ module _ {led : Bool} {chosen : Chosen} {file : List ℕ} {s : SurveyFields} {p 
         ap length is,
       )
   by-stream (f ∷ fs) is whole alike =
-      none-empty s.class (all_stream file s) from f filled
-      (first-of-range (all_stream file s) from chosen.to f fs piece.right.some is)
-      (first-empty s.class known p piece.is f fs (blank-first alike) (whole ∙ is))
+      none-empty s.class (all_stream file s) from filled
+      (first-of-range (all_stream file s) piece.right.some is)
+      (first-empty s.class known p piece.is (blank-first alike) (whole ∙ is))
 
   alike-never : leads piece ≡ 0 → has_one ≡ true → ⊥
   alike-never none alike =
@@ -124,8 +124,8 @@ module _ {led : Bool} {chosen : Chosen} {file : List ℕ} {s : SurveyFields} {p 
 -- a join in two steps makes the same file as one of all pieces at once
 pub in-steps : StepsJoinTheSame
 in-steps points file s place next places laid first parts others read e inputs filled steps =
-    let r = recording file s read in
-    let full = subst (λ l. full_frames s.class l ≡ l) (stream-is file most_frames s read) filled in
+    let r = recording read in
+    let full = subst (λ l. full_frames s.class l ≡ l) (stream-is file most_frames read) filled in
     let pieces =
     laid-pieces (cutting_of points)
     (whole_cuts s) file s r.has (whole-laid file s) place next places laid

@@ -7,10 +7,10 @@ abbrev pub sounds : List RunFrame → List (List ℕ)
 sounds frames = map (λ (f : RunFrame). f.sound) frames
 
 -- joining changes no sound
-pub joining_frames-sounds : (window : ℕ) (run rest frames : List RunFrame)
+pub joining_frames-sounds : (window : ℕ) (run rest : List RunFrame) {frames : List RunFrame}
     → joining_frames window run rest ≡ Some frames → sounds frames ≡ sounds rest
 unfolding joining_frames
-joining_frames-sounds window run rest frames is = grind arith
+joining_frames-sounds window run rest is = grind arith
 
 -- the frames that these inputs add to the run, in order
 abbrev pub added : List JointFrames → List RunFrame

@@ -21,7 +21,7 @@ use Rattle.slot_plan.specs.declared.needs.Need.{Need}
 
 module _ (window left : ℕ) (run : List Need) (is : IsMostLeft window window run left) where
   run-fits : FitsBehind window window run
-  run-fits = (leaves-fit window window left run (omega arith) is.leaves).0
+  run-fits = (leaves-fit run (omega arith) is.leaves).0
 
   behind-run : (needs : List Need) → FitsBehind window window (run ++ needs)
       → FitsBehind window left needs
@@ -51,25 +51,25 @@ module _ (window left : ℕ) (run : List Need) (is : IsMostLeft window window ru
         is_area_no_less first slot
         && fits_behind window window (run ++ need_in_slot slot first ∷ needs)
 
-    joins-passes : (slot : SlotFields) → JoinsInSlot window left first needs slot
+    joins-passes : {slot : SlotFields} → JoinsInSlot window left first needs slot
         → joins_in slot ≡ true
-    joins-passes slot joins = grind (arith, and_from, le-leb, behind-tested)
+    joins-passes joins = grind (arith, and_from, le-leb, behind-tested)
 
-    passes-joins : (slot : SlotFields) → Contains all_slots slot → joins_in slot ≡ true
+    passes-joins : {slot : SlotFields} → Contains all_slots slot → joins_in slot ≡ true
         → JoinsInSlot window left first needs slot
-    passes-joins slot has passes = grind (arith, and_parts, leb-true, behind-tested)
+    passes-joins has passes = grind (arith, and_parts, leb-true, behind-tested)
 
     -- if the frames join in a slot, the search finds it
-    pub join-found : (slot : SlotFields) → IsJoinSlot window left (first ∷ needs) (Some slot)
+    pub join-found : {slot : SlotFields} → IsJoinSlot window left (first ∷ needs) (Some slot)
         → join_slot window run first needs ≡ Some slot
     unfolding IsJoinSlot
-    join-found slot joins =
+    join-found {slot} joins =
         let c : ClassFields = class_of first.header in
         let p : Bool = first.header.protected in
-        find-least c p joins_in all_slots slot
-        (class-ascend c c p all_slots refl refl (areas-ascend c known p)) joins.joins.chosen
-        (joins-passes slot joins.joins)
-        (λ other has passes. joins.least other (passes-joins other has passes))
+        find-least c p joins_in all_slots
+        (class-ascend p refl refl (areas-ascend c known p)) joins.joins.chosen
+        (joins-passes joins.joins)
+        (λ other has passes. joins.least other (passes-joins has passes))
 
     -- if the frames join in no slot, the search finds none
     pub join-none : IsJoinSlot window left (first ∷ needs) None
@@ -82,41 +82,41 @@ abbrev pub joint_in : Seam → SlotFields → Joint
 joint_in seam slot = record { seam = seam; slot = Some slot }
 
 -- frames join as `joins` says: in a slot, or in none
-joining-as : (window left : ℕ) (seam : Seam) (run : List RunFrame) (first : RunFrame)
+joining-as : {window left : ℕ} (seam : Seam) (run : List RunFrame) (first : RunFrame)
     (frames : List RunFrame) (slot : Option SlotFields)
     → IsMostLeft window window (needs_of run) left → IsClass (class_of first.need.header)
     → IsJoinSlot window left (needs_of (first ∷ frames)) slot
     → IsJointOfFrames seam (joining_frames window run (first ∷ frames))
     (option_map (joint_in seam) slot)
 unfolding joining_frames
-joining-as window left seam run first frames (Some slot) is known joins = grind (arith, join-found)
-joining-as window left seam run first frames None is known none = grind (arith, join-none)
+joining-as seam run first frames (Some slot) is known joins = grind (arith, join-found)
+joining-as seam run first frames None is known none = grind (arith, join-none)
 
 -- ---- what `joins` returns
 
 -- an empty list of frames joins any run, without a slot
-pub joining_frames-empty : (window : ℕ) (seam : Seam) (run rest : List RunFrame) (needs : List Need)
+pub joining_frames-empty : (window : ℕ) (seam : Seam) (run rest : List RunFrame) {needs : List Need}
     → needs ≡ needs_of rest → length needs ≡ 0 → IsJointOfFrames seam
     (joining_frames window run rest) (Some (record { seam = seam; slot = None }))
 unfolding joining_frames
-joining_frames-empty window seam run rest needs is none = grind arith
+joining_frames-empty window seam run rest is none = grind arith
 
-first-known : (class : ClassFields) (first : RunFrame) (frames : List RunFrame) (needs : List Need)
+first-known : (class : ClassFields) (first : RunFrame) (frames : List RunFrame) {needs : List Need}
     → needs ≡ needs_of (first ∷ frames) → AreNeedsOfClass class needs → IsClass class
     → IsClass (class_of first.need.header)
 unfolding AreNeedsOfClass
-first-known class first frames needs is same known = grind arith
+first-known class first frames is same known = grind arith
 
 -- if the frames join in a slot, they join the run in it; if they don't join, there is no seam
-pub joins-as : (class : ClassFields) (seam : Seam) (run rest : List RunFrame) (left : ℕ)
-    (needs : List Need) (slot : Option SlotFields) → AreNeedsOfClass class needs → IsClass class
+pub joins-as : (class : ClassFields) (seam : Seam) (run rest : List RunFrame) {left : ℕ}
+    {needs : List Need} (slot : Option SlotFields) → AreNeedsOfClass class needs → IsClass class
     → IsMostLeft (window_of class.version) (window_of class.version) (needs_of run) left
     → needs ≡ needs_of rest → IsJoinSlot (window_of class.version) left needs slot
     → IsJointOfFrames seam (joining_frames (window_of class.version) run rest)
     (option_map (joint_in seam) slot)
 unfolding IsJoinSlot
-joins-as class seam run [] left needs slot same known before is joins = grind arith
-joins-as class seam run (f ∷ fs) left needs slot same known before is joins =
+joins-as class seam run [] slot same known before is joins = grind arith
+joins-as class seam run (f ∷ fs) slot same known before is joins =
     grind (arith, joining-as, first-known)
 
 -- frames that join in a slot fit there
@@ -127,9 +127,9 @@ unfolding IsJoinSlot needs_with_first_slot
 join-fit class left needs slot joins = grind arith
 
 -- frames that fit after no bytes fit in their own slots after what a run leaves
-pub whole-fit : (class : ClassFields) (left : ℕ) (needs : List Need) (first : Need)
+pub whole-fit : (class : ClassFields) (left : ℕ) (needs : List Need) {first : Need}
     → 0 < length needs → first ≡ slice_index_or needs 0 first
     → FitsBehind (window_of class.version) 0 needs
     → AddedFramesFit class left needs (Some first.header.slot)
 unfolding needs_with_first_slot
-whole-fit class left needs first some at fits = grind (arith, more-behind)
+whole-fit class left needs some at fits = grind (arith, more-behind)

@@ -72,53 +72,52 @@ module _ (class : ClassFields) (left : ℕ) (run : List Need) (known : IsClass c
       run_part_items-is window run first needs
       ∙ ap (joined_in window first needs)
       (join-found window left run is first needs
-      (first-known class first needs same known) slot joins)
+      (first-known class first needs same known) joins)
 
   -- a part whose frames can't join comes behind its lead-in
-  pub led-part-items : (needs : List Need) (header : HeaderFields) → AreNeedsOfClass class needs
+  pub led-part-items : (needs : List Need) {header : HeaderFields} → AreNeedsOfClass class needs
       → IsJoinSlot (window_of class.version) left needs None
       → IsLeadInHeader (window_of class.version) needs header
       → run_part_items (window_of class.version) run needs ≡ joint_items (Led header) needs
   unfolding IsJoinSlot
-  led-part-items [] header same none leads = absurd none
-  led-part-items (first ∷ needs) header same none leads =
+  led-part-items [] same none leads = absurd none
+  led-part-items (first ∷ needs) {header} same none leads =
       let window : ℕ = window_of class.version in
       let first_known = first-known class first needs same known in
       run_part_items-is window run first needs
       ∙ ap (joined_in window first needs)
       (join-none window left run is first needs first_known none)
       ∙ ap (λ o. option_to_list (option_map lead_in_run_item o) ++ map frame_item (first ∷ needs))
-      (lead-in-is window first needs header first_known leads)
+      (lead-in-is window first needs first_known leads)
 
 -- ---- whatever the run is
 
 -- frames that fit after the area of a lead-in fit after bytes and the lead-in
-pub lead-fits : (window left : ℕ) (lead : Need) (needs : List Need) → left ≤ window
+pub lead-fits : {window left : ℕ} (lead : Need) (needs : List Need) → left ≤ window
     → lead.bytes ≡ 0 → FitsBehind window (own_slot_area lead) needs
     → FitsBehind window window needs → FitsBehind window left (lead ∷ needs)
-lead-fits window left lead needs within none fits all =
-    grind (arith, cons-fits, more-behind, within)
+lead-fits lead needs within none fits all = grind (arith, cons-fits, more-behind, within)
 
 -- a part whose first frame joins in a slot fits after what the run leaves
-pub in-slot-joint : (class : ClassFields) (left : ℕ) (needs : List Need) (slot : SlotFields)
+pub in-slot-joint : {class : ClassFields} {left : ℕ} (needs : List Need) {slot : SlotFields}
     → IsJoinSlot (window_of class.version) left needs (Some slot)
     → IsPartJoint class left needs (InSlot slot)
 unfolding IsJoinSlot needs_with_first_slot
-in-slot-joint class left [] slot joins = absurd joins
-in-slot-joint class left (first ∷ needs) slot joins = record {
+in-slot-joint [] joins = absurd joins
+in-slot-joint {class} {left} (first ∷ needs) {slot} joins = record {
   own = joins.joins.chosen;
   fits = subst (FitsBehind (window_of class.version) left)
       (sym (needs-items (need_in_slot slot first ∷ needs))) joins.joins.fits;
 }
 
 -- a part behind its lead-in fits after what any run leaves
-pub led-joint : (class : ClassFields) (left : ℕ) (needs : List Need) (header : HeaderFields)
+pub led-joint : {class : ClassFields} {left : ℕ} (needs : List Need) {header : HeaderFields}
     → left ≤ window_of class.version → IsPartNeeds class needs
     → IsLeadInHeader (window_of class.version) needs header
     → IsPartJoint class left needs (Led header)
 unfolding IsLeadInHeader
-led-joint class left [] header within part leads = absurd leads
-led-joint class left (first ∷ needs) header within part leads =
+led-joint [] within part leads = absurd leads
+led-joint {class} {left} (first ∷ needs) {header} within part leads =
     let window : ℕ = window_of class.version in
     let lead : Need = record { header = header; bytes = 0 } in
     let area : area_of (class_of first.header) header.slot false ≡ own_slot_area lead =
@@ -126,6 +125,6 @@ led-joint class left (first ∷ needs) header within part leads =
     record {
       own = (leads.1, leads.0.chosen);
       fits = subst (FitsBehind window left) (sym (needs-items (lead ∷ first ∷ needs)))
-          (lead-fits window left lead (first ∷ needs) within refl
+          (lead-fits lead (first ∷ needs) within refl
           (subst (λ n. FitsBehind window n (first ∷ needs)) area leads.0.fits) part.fits);
     }

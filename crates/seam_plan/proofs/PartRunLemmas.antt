@@ -26,9 +26,9 @@ use Rattle.slot_plan.specs.{Parts.{AreNeedsOfClass, own_slot_area}, declared.nee
 
 -- if no slot is found, none of the slots passes the test
 pub none-passes : (test : SlotFields → Bool) (slots : List SlotFields) → find test slots ≡ None
-    → (slot : SlotFields) → Contains slots slot → test slot ≡ false
-none-passes test [] none slot has = absurd (omega (arith, has.1))
-none-passes test (s ∷ slots) none slot has = grind (arith, none-passes test slots)
+    → {slot : SlotFields} → Contains slots slot → test slot ≡ false
+none-passes test [] none has = absurd (omega (arith, has.1))
+none-passes test (s ∷ slots) none has = grind (arith, none-passes test slots)
 
 false-not-true : false ≡ true → ⊥
 false-not-true is = absurd cc
@@ -41,10 +41,10 @@ pub record HasLeadIn (window : ℕ) (first : Need) (needs : List Need) : Type 0 
   pub fits : FitsBehind window (area_of (class_of first.header) header.slot false) (first ∷ needs)
 
 -- frames that fit after a whole window have a lead-in
-pub has-lead-in : (class : ClassFields) (first : Need) (needs : List Need) → IsClass class
+pub has-lead-in : {class : ClassFields} {first : Need} {needs : List Need} → IsClass class
     → IsPartNeeds class (first ∷ needs) → HasLeadIn (window_of class.version) first needs
 unfolding lead_in_header AreNeedsOfClass
-has-lead-in class first needs known part =
+has-lead-in {class} {first} {needs} known part =
     at (lead_in_slot window (class_of first.header) (first ∷ needs)) refl
   where
     window : ℕ
@@ -57,17 +57,17 @@ has-lead-in class first needs known part =
         → lead_in_slot window (class_of first.header) (first ∷ needs) ≡ o
         → HasLeadIn window first needs
     at None is =
-        let fails = none-passes test all_slots is largest_slot
+        let fails = none-passes test all_slots is
         (Contains-all_slots largest_slot (omega arith, omega arith)) in
         let own : ClassFields = class_of first.header in
         let area : ℕ = area_of own largest_slot false in
         let spanned : window ≤ area = subst (λ (k : ClassFields). window_of k.version ≤ area)
         part.same.0 (window-spanned own (first-known class first needs part.same known)) in
         let fits = (fits-tested window area (first ∷ needs)).1
-        (more-behind window window area (first ∷ needs) spanned part.fits) in
+        (more-behind window (first ∷ needs) spanned part.fits) in
         absurd (false-not-true (sym fails ∙ fits))
     at (Some slot) is =
-        let found = found-passes test all_slots slot is in
+        let found = found-passes test all_slots is in
         record {
           header = record first.header { protected = false; slot = slot };
           is = ap (option_map (λ s. record first.header { protected = false; slot = s })) is;
@@ -125,14 +125,14 @@ module _ (class : ClassFields) (known : IsClass class) where
       → FitsBehind window window (run ++ needs)
   behind run needs fits all = grind (arith, own-left, then-fits)
 
-  in-slot-added : (run : List Need) (first : Need) (needs : List Need) (slot : SlotFields)
+  in-slot-added : {run : List Need} {first : Need} {needs : List Need} {slot : SlotFields}
       → AreNeedsOfClass class (first ∷ needs) → join_slot window run first needs ≡ Some slot
       → IsPartAdded class run (first ∷ needs) (map frame_item (need_in_slot slot first ∷ needs))
   unfolding AreNeedsOfClass AreRunItemsOf
-  in-slot-added run first needs slot same is =
+  in-slot-added {run} {first} {needs} {slot} same is =
       let all : List Need = need_in_slot slot first ∷ needs in
       let found = found-passes (λ s. is_area_no_less first s
-      && fits_behind window window (run ++ need_in_slot s first ∷ needs)) all_slots slot is in
+      && fits_behind window window (run ++ need_in_slot s first ∷ needs)) all_slots is in
       let fits = (fits-tested window window (run ++ all)).0
       (and_parts (is_area_no_less first slot) (fits_behind window window (run ++ all)) found.0).1 in
       record {
@@ -141,20 +141,20 @@ module _ (class : ClassFields) (known : IsClass class) where
         own = inl (record { frame = refl; moved = refl; slot = inr found.1 }, items-same needs);
       }
 
-  led-added : (run : List Need) (first : Need) (needs : List Need)
+  led-added : {run : List Need} {first : Need} {needs : List Need}
       → IsPartNeeds class (first ∷ needs) → FitsBehind window window run
       → (lead : HasLeadIn window first needs)
       → IsPartAdded class run (first ∷ needs) (lead_in_run_item lead.header ∷ map frame_item
       (first ∷ needs))
   unfolding AreNeedsOfClass AreRunItemsOf
-  led-added run first needs part fits lead =
+  led-added {run} {first} {needs} part fits lead =
       let need : Need = record { header = lead.header; bytes = 0 } in
       let area : area_of (class_of first.header) lead.header.slot false ≡ own_slot_area need =
       grind arith in
       let same_needs = needs-items (first ∷ needs) in
       let room = subst (λ n. FitsBehind window n (first ∷ needs)) area lead.fits in
       let all = behind run (need ∷ first ∷ needs) fits
-      (λ left within. lead-fits window left need (first ∷ needs) within refl room part.fits) in
+      (λ left within. lead-fits need (first ∷ needs) within refl room part.fits) in
       record {
         fits = subst (λ l. FitsBehind window window (run ++ need ∷ l)) (sym same_needs) all;
         same = grind arith;
@@ -166,31 +166,31 @@ module _ (class : ClassFields) (known : IsClass class) where
       }
 
   -- a part behind a run that fits is its frames and at most one lead-in, with which the run fits
-  pub part-added : (run needs : List Need) → IsPartNeeds class needs → FitsBehind window window run
-      → IsPartAdded class run needs (run_part_items window run needs)
-  part-added run [] part fits = absurd (omega (arith, part.some))
-  part-added run (first ∷ needs) part fits =
+  pub part-added : {run : List Need} (needs : List Need) → IsPartNeeds class needs
+      → FitsBehind window window run → IsPartAdded class run needs (run_part_items window run needs)
+  part-added [] part fits = absurd (omega (arith, part.some))
+  part-added {run} (first ∷ needs) part fits =
       subst (IsPartAdded class run (first ∷ needs)) (sym (run_part_items-is window run first needs))
       (at (join_slot window run first needs) refl)
     where
       at : (o : Option SlotFields) → join_slot window run first needs ≡ o
           → IsPartAdded class run (first ∷ needs) (joined_in window first needs o)
       at None is =
-          let lead = has-lead-in class first needs known part in
+          let lead = has-lead-in known part in
           subst (λ o. IsPartAdded class run (first ∷ needs)
           (option_to_list (option_map lead_in_run_item o) ++ map frame_item (first ∷ needs)))
-          (sym lead.is) (led-added run first needs part fits lead)
-      at (Some slot) is = in-slot-added run first needs slot part.same is
+          (sym lead.is) (led-added part fits lead)
+      at (Some slot) is = in-slot-added part.same is
 
   -- ---- all parts
 
-  first-of-all : (needs : List Need) (parts : List (List Need))
+  first-of-all : {needs : List Need} (parts : List (List Need))
       → All (IsPartNeeds class) (needs ∷ parts) → IsPartNeeds class needs
-  first-of-all needs parts all = all 0 needs (omega arith)
+  first-of-all {needs} parts all = all 0 needs (omega arith)
 
-  others-of-all : (needs : List Need) (parts : List (List Need))
+  others-of-all : {needs : List Need} (parts : List (List Need))
       → All (IsPartNeeds class) (needs ∷ parts) → All (IsPartNeeds class) parts
-  others-of-all needs parts all = λ k d within. all (suc k) d (omega (arith, within))
+  others-of-all parts all = λ k d within. all (suc k) d (omega (arith, within))
 
   behind-added : (run : List Need) (parts : List (List Need)) → All (IsPartNeeds class) parts
       → FitsBehind window window run
@@ -204,9 +204,9 @@ module _ (class : ClassFields) (known : IsClass class) where
   }
   behind-added run (needs ∷ parts) all fits =
       let items = run_part_items window run needs in
-      let here = part-added run needs (first-of-all needs parts all) fits in
+      let here = part-added needs (first-of-all parts all) fits in
       let later = items_behind window (run ++ item_needs items) parts in
-      let more = behind-added (run ++ item_needs items) parts (others-of-all needs parts all)
+      let more = behind-added (run ++ item_needs items) parts (others-of-all parts all)
       here.fits in
       let both : item_needs (items ++ later) ≡ item_needs items ++ item_needs later =
       map-append (λ (item : RunItem). item.need) items later in
@@ -226,9 +226,9 @@ module _ (class : ClassFields) (known : IsClass class) where
   unfolding run_items AreRunItemsOf AreNeedsOfClass
   run-added [] all = record { fits = nothing-fits window window; same = tt; own = tt }
   run-added (first ∷ parts) all =
-      let part = first-of-all first parts all in
+      let part = first-of-all parts all in
       let later = items_behind window first parts in
-      let more = behind-added first parts (others-of-all first parts all) part.fits in
+      let more = behind-added first parts (others-of-all parts all) part.fits in
       let both : item_needs (map frame_item first ++ later) ≡ first ++ item_needs later =
       map-append (λ (item : RunItem). item.need) (map frame_item first) later
       ∙ ap (λ l. l ++ item_needs later) (needs-items first) in
@@ -241,19 +241,19 @@ module _ (class : ClassFields) (known : IsClass class) where
       }
 
 -- the run of parts of one class that fit after a whole window fits so, and is of the class
-pub run-items-fit : (class : ClassFields) (parts : List (List Need)) → IsClass class
+pub run-items-fit : {class : ClassFields} (parts : List (List Need)) → IsClass class
     → All (IsPartNeeds class) parts
     → FitsBehind (window_of class.version) (window_of class.version)
     (item_needs (run_items (window_of class.version) parts))
     × AreNeedsOfClass class (item_needs (run_items (window_of class.version) parts))
-run-items-fit class parts known all =
+run-items-fit {class} parts known all =
     let added = run-added class known parts all in
     (added.fits, added.same)
 
 -- the run of parts is the frames of the parts in order, each in its own slot or
 -- in another, and some lead-ins, each of them right before a frame
-pub items-are-parts : (class : ClassFields) (parts : List (List Need)) → IsClass class
+pub items-are-parts : {class : ClassFields} (parts : List (List Need)) → IsClass class
     → All (IsPartNeeds class) parts
     → AreRunItemsOf (run_items (window_of class.version) parts)
     (flat_map (λ (needs : List Need). needs) parts)
-items-are-parts class parts known all = (run-added class known parts all).own
+items-are-parts {class} parts known all = (run-added class known parts all).own

@@ -29,12 +29,14 @@ last-append {X} xs ys =
     ∙ drop-drop (length (drop a xs ++ ys) - 7) a (xs ++ ys) ∙ ap (λ n. drop n (xs ++ ys)) same
 
 -- seven at the end of a list are its last seven
-pub last-seven : {X : Type 0} (xs ys : List X) → length ys ≡ 7 → last_seven (xs ++ ys) ≡ ys
-last-seven xs ys seven = grind (arith, length-append xs ys, drop-front xs ys)
+pub last-seven : {X : Type 0} (xs : List X) {ys : List X} → length ys ≡ 7
+    → last_seven (xs ++ ys) ≡ ys
+last-seven xs {ys} seven = grind (arith, length-append xs ys, drop-front xs ys)
 
 -- the last seven of at most seven are all of them
-pub last-few : {X : Type 0} (xs : List X) → length xs ≤ 7 → last_seven xs ≡ xs
-last-few xs few = let none : length xs - 7 ≡ 0 = omega (arith, few) in ap (λ n. drop n xs) none
+pub last-few : {X : Type 0} {xs : List X} → length xs ≤ 7 → last_seven xs ≡ xs
+last-few {xs = xs} few = let none : length xs - 7 ≡ 0 = omega (arith, few) in
+    ap (λ n. drop n xs) none
 
 -- one more frame adds its place
 pub places-more : (input from at : ℕ) → from ≤ at → frame_places input from (at + 1 - from)
@@ -73,15 +75,15 @@ note-slid old items new input from at after is notes places begins =
     (frame_place input at ∷ []) ∙ ap (λ l. places ++ l) (sym (places-more input from at after)))
 
 -- the noting begins at the first frame, or at the seventh from the end
-pub note-from : (from to first sub : ℕ) → first ≡ max from sub → sub ≡ to - 7 → from ≤ to
+pub note-from : {from to first sub : ℕ} → first ≡ max from sub → sub ≡ to - 7 → from ≤ to
     → (from ≤ first) × (first ≤ to) × ((first ≡ from) ⊎ (to - first ≡ 7))
-note-from from to first sub is less within = grind (arith, max-is, cases_lt)
+note-from is less within = grind (arith, max-is, cases_lt)
 
 -- All places of an input up to a frame end with the last seven of them.
-pub last-from : (places : List FramePlace) (input from first to : ℕ) → from ≤ first → first ≤ to
-    → to - first ≡ 7 → last_seven (places ++ frame_places input first (to - first))
+pub last-from : (places : List FramePlace) (input : ℕ) {from first to : ℕ} → from ≤ first
+    → first ≤ to → to - first ≡ 7 → last_seven (places ++ frame_places input first (to - first))
     ≡ last_seven (places ++ frame_places input from (to - from))
-last-from places input from first to after within seven =
+last-from places input {from} {first} {to} after within seven =
     let many : length (frame_places input first (to - first)) ≡ 7 =
     length-map-range_with_len (frame_place input) first (to - first) ∙ seven in
     let split : first - from + (to - first) ≡ to - from = omega (arith, after, within) in
@@ -95,18 +97,17 @@ last-from places input from first to after within seven =
           (range_with_len from (first - from))
           (range_with_len (from + (first - from)) (to - first)),
     ) in
-    last-seven places (frame_places input first (to - first)) many
+    last-seven places many
     ∙ sym (
     ap (λ l. last_seven (places ++ l)) both
     ∙ ap last_seven (sym (append_assoc places (frame_places input from (first - from))
     (frame_places input first (to - first))))
-    ∙ last-seven (places ++ frame_places input from (first - from))
-    (frame_places input first (to - first)) many
+    ∙ last-seven (places ++ frame_places input from (first - from)) many
     )
 
 -- noting the last seven places of an input is as good as noting all
-pub note-all : (old items : List FramePlace) (input from first to : ℕ) → from ≤ first → first ≤ to
-    → (first ≡ from) ⊎ (to - first ≡ 7) → Notes old items input first to
+pub note-all : {old items : List FramePlace} (input : ℕ) {from first to : ℕ} → from ≤ first
+    → first ≤ to → (first ≡ from) ⊎ (to - first ≡ 7) → Notes old items input first to
     → (places : List FramePlace) → old ≡ last_seven places
     → items ≡ last_seven (places ++ frame_places input from (to - from))
-note-all old items input from first to after within h notes places is = grind (arith, last-from)
+note-all input after within h notes places is = grind (arith, last-from)

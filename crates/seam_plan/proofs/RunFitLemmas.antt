@@ -50,21 +50,21 @@ moved-append (x ∷ xs) ys (other ∷ others) more front behind =
 abbrev pub Passes : (SlotFields → Bool) → List SlotFields → SlotFields → Type 0
 Passes test slots slot = (test slot ≡ true) × Contains slots slot
 
-found-first : (test : SlotFields → Bool) (s : SlotFields) (slots : List SlotFields)
-    (slot : SlotFields) (b : Bool) → test s ≡ b
+found-first : (test : SlotFields → Bool) {s : SlotFields} (slots : List SlotFields)
+    {slot : SlotFields} (b : Bool) → test s ≡ b
     → (find test slots ≡ Some slot → Passes test slots slot)
     → cond b (Some s) (find test slots) ≡ Some slot → Passes test (s ∷ slots) slot
-found-first test s slots slot true passes later e = grind (arith, slot)
-found-first test s slots slot false passes later e =
+found-first test slots {slot} true passes later e = grind (arith, slot)
+found-first test slots false passes later e =
     let more = later e in
     (more.0, (suc more.1.0, omega (arith, more.1.1), more.1.2))
 
 -- the slot that is found passes the test, and is one of the slots
-pub found-passes : (test : SlotFields → Bool) (slots : List SlotFields) (slot : SlotFields)
+pub found-passes : (test : SlotFields → Bool) (slots : List SlotFields) {slot : SlotFields}
     → find test slots ≡ Some slot → Passes test slots slot
-found-passes test [] slot e = absurd cc
-found-passes test (s ∷ slots) slot e =
-    found-first test s slots slot (test s) refl (λ later. found-passes test slots slot later) e
+found-passes test [] e = absurd cc
+found-passes test (s ∷ slots) {slot} e =
+    found-first test slots (test s) refl (λ later. found-passes test slots later) e
 
 -- ---- frames that join a run
 
@@ -98,7 +98,7 @@ joins-in window run (f ∷ fs) fits = at (join_slot window (needs_of run) f.need
         → JoinIn window run (f ∷ fs) (option_map (λ slot. frame_in_slot slot f ∷ fs) o)
     at None e = tt
     at (Some slot) e =
-        let found = found-passes (joins_by window run f fs) all_slots slot e in
+        let found = found-passes (joins_by window run f fs) all_slots e in
         let all : List Need = needs_of run ++ need_in_slot slot f.need ∷ needs_of fs in
         let both =
         and_parts (is_area_no_less f.need slot) (fits_behind window window all) found.0 in
@@ -114,13 +114,13 @@ joins-in window run (f ∷ fs) fits = at (join_slot window (needs_of run) f.need
 -- frames that fit after no bytes fit after a run
 then-alone : (window : ℕ) (first others : List Need) → FitsBehind window window first
     → FitsBehind window 0 others → FitsBehind window window (first ++ others)
-then-alone window first others fits alone = at _ (own-left window window first (omega arith) fits)
+then-alone window first others fits alone = at _ (own-left (omega arith) fits)
   where
     at : (left : ℕ) → IsMostLeft window window first left
         → FitsBehind window window (first ++ others)
     at left is =
         then-fits window window left first others (omega arith) is
-        (more-behind window 0 left others (omega arith) alone)
+        (more-behind window others (omega arith) alone)
 
 -- ---- an input
 
@@ -233,13 +233,13 @@ pub record IsJoined (class : ClassFields) (first : Brought) (inputs : List Broug
   pub fits : FitsWindow class (run_of first joined)
 
 -- inputs that fit alone are joined to a run that fits after a whole window
-pub inputs-joined : (class : ClassFields) (first : Brought) (inputs : List Brought)
+pub inputs-joined : {class : ClassFields} {first : Brought} {inputs : List Brought}
     → 0 < length first.frames → FitsAlone class first → AllFitAlone class inputs
     → IsJoined class first inputs (seamless_join class first inputs)
 unfolding seamless_join
-inputs-joined class first inputs some alone all =
+inputs-joined {class} {first} {inputs} some alone all =
     let window = window_of class.version in
-    let begins = more-behind window 0 window (needs_of first.frames) (omega arith) alone in
+    let begins = more-behind window (needs_of first.frames) (omega arith) alone in
     let all_added = joints-added class first.frames first inputs begins all in
     let joints = joints_of class first inputs in
     let front = front_left_out_count class first (run_with first joints) in

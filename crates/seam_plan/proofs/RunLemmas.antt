@@ -20,28 +20,28 @@ use Rattle.slot_plan.specs.FreeBytes.{need_in_slot, needs_with_first_slot}
 use Rattle.slot_plan.specs.declared.needs.Need.{Need}
 
 -- an input that can be joined fits after a whole window
-pub fits-window : (class : ClassFields) (input : Input) → IsJoinableInput class input
+pub fits-window : {class : ClassFields} {input : Input} → IsJoinableInput class input
     → FitsBehind (window_of class.version) (window_of class.version) input.needs.now
-fits-window class input can = grind (arith, more-behind)
+fits-window can = grind (arith, more-behind)
 
 -- all frames of an input except the first k fit after a whole window
-pub drop-window : (class : ClassFields) (input : Input) (k : ℕ) → IsJoinableInput class input
+pub drop-window : {class : ClassFields} {input : Input} (k : ℕ) → IsJoinableInput class input
     → FitBehindWindow (drop k input.needs.now)
-drop-window class input k can = record {
+drop-window {class} {input} k can = record {
   class = class;
   same = class-drop class input.needs.now k can.same;
   fits = fits-drop (window_of class.version) 0 k input.needs.now can.fits;
 }
 
 -- all frames of an input fit after a whole window
-pub all-window : (class : ClassFields) (input : Input) → IsJoinableInput class input
+pub all-window : {class : ClassFields} {input : Input} → IsJoinableInput class input
     → FitBehindWindow input.needs.now
-all-window class input can = grind (arith, fits-window)
+all-window can = grind (arith, fits-window)
 
 -- all frames of an input fit after as many bytes as the window of the class
-pub all-free : (class : ClassFields) (input : Input) → IsJoinableInput class input
+pub all-free : {class : ClassFields} {input : Input} → IsJoinableInput class input
     → FitBehindFree (window_of class.version) input.needs.now
-all-free class input can = grind (arith, fits-window)
+all-free can = grind (arith, fits-window)
 
 -- ---- a run with more frames
 
@@ -75,13 +75,14 @@ module _ (class : ClassFields) (number : ℕ) (frames more : List RunFrame) (pla
   run-goes same left last rest = grind (arith, all-needs, added, all-length, length-map)
 
 -- a run that goes on with what is decided is the run of the definition
-pub run-joins : (class : ClassFields) (number : ℕ) (frames : List RunFrame)
-    (places : List FramePlace) (before brought : Brought) (input : Input) (old new : Run)
-    (result : Joint) → IsRun class frames places before old → IsBroughtInput input brought
+pub run-joins : {class : ClassFields} {number : ℕ} {frames : List RunFrame}
+    {places : List FramePlace} {before brought : Brought} {input : Input} {old new : Run}
+    {result : Joint} → IsRun class frames places before old → IsBroughtInput input brought
     → IsJoint (joint_of class frames before brought) result
     → RunGoesOn number input result old new
     → JoinsRun class number frames places before brought result new
-run-joins class number frames places before brought input old new result is brings decided goes =
+run-joins {class} {number} {frames} {places} {before}
+    {brought} {input} {new = new} {result = result} is brings decided goes =
     let joint : JointFrames = joint_of class frames before brought in
     let out : left_out_count result.seam ≡ left_out_count joint.seam = grind arith in
     let adds : needs_of joint.frames
@@ -95,14 +96,13 @@ run-joins class number frames places before brought input old new result is brin
     }
 
 -- what a run that begins with an input leaves
-pub run-begins : (class : ClassFields) (input : Input) (first : Brought) (run : Run)
+pub run-begins : {class : ClassFields} {input : Input} {first : Brought} {run : Run}
     → IsBroughtInput input first → run.class ≡ class
     → IsMostLeft (window_of class.version) (window_of class.version) input.needs.now run.left
     → run.last.items ≡ last_seven (frame_places 0 0 (length input.needs.now))
     → run.rest ≡ option_map (λ p. rest_of class (length input.needs.now) p) input.played
     → IsRun class first.frames (frame_places 0 0 (length first.frames)) first run
-run-begins class input first run brings same left last rest =
-    grind (arith, length-map, length-map-range_with_len)
+run-begins brings same left last rest = grind (arith, length-map, length-map-range_with_len)
 
 -- ---- frames that are added
 
@@ -113,11 +113,11 @@ pub in-window : (class : ClassFields) (left : ℕ) (needs : List Need) (slot : S
 in-window class left needs slot fit = grind arith
 
 -- the frames with the first in a slot are this one and the others
-pub first-moved : (needs : List Need) (slot : SlotFields) (first : Need) → 0 < length needs
+pub first-moved : (needs : List Need) (slot : SlotFields) {first : Need} → 0 < length needs
     → first ≡ slice_index_or needs 0 first
     → needs_with_first_slot slot needs ≡ need_in_slot slot first ∷ drop 1 needs
 unfolding needs_with_first_slot
-first-moved needs slot first some at = grind arith
+first-moved needs slot some at = grind arith
 
 -- if frames fit with the first in a slot, there is a frame
 pub some-in : (class : ClassFields) (left : ℕ) (needs : List Need) (slot : SlotFields)
@@ -127,8 +127,8 @@ some-in class left needs slot fit = grind arith
 -- ---- frames of a slice
 
 -- if frames fit after a whole window, so do those after the first k
-pub drop-fits : (k : ℕ) (needs : List Need) → FitBehindWindow needs → FitBehindWindow (drop k needs)
-drop-fits k needs fit = grind (arith, class-drop, fits-drop)
+pub drop-fits : (k : ℕ) {needs : List Need} → FitBehindWindow needs → FitBehindWindow (drop k needs)
+drop-fits k fit = grind (arith, class-drop, fits-drop)
 
 -- ---- the frames that are shared
 

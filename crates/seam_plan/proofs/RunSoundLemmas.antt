@@ -60,7 +60,7 @@ module _ (class : ClassFields) where
     whole : AddOwn joints inputs × FitsWindow class (run_with first joints)
     whole =
         joints-added class first.frames first inputs
-        (more-behind window 0 window (needs_of first.frames) (omega arith) fit.fits)
+        (more-behind window (needs_of first.frames) (omega arith) fit.fits)
         (all-alone inputs are)
 
     -- the run sounds like the first input, and then like what is left of the others

@@ -45,11 +45,11 @@ module _ (class : ClassFields) (run : List RunFrame) (before brought : Brought) 
       at shared = grind arith
 
   -- an input follows as the frames after the overlap that is alike join, if there is one
-  pub follow-by : (alike overlap : Option Overlap) (result : Option Joint)
+  pub follow-by : {alike overlap : Option Overlap} (result : Option Joint)
       → alike ≡ alike_overlap class run before brought → alike ≡ overlap
       → AreJoint (option_and_then (follows_with class run brought) overlap) result
       → AreJoint (following_joint class run before brought) result
-  follow-by alike overlap result is same joins =
+  follow-by result is same joins =
       subst (λ o. AreJoint o result)
       (sym (follow-is ∙ ap (option_and_then (follows_with class run brought)) (sym is ∙ same)))
       joins
@@ -89,12 +89,12 @@ module _ (class : ClassFields) (run : List RunFrame) (input : Input) (brought : 
     (has : Bool) (is : IsBroughtInput input brought)
     (leads : has ≡ has_lead_in (window_of class.version) brought) where
   -- an input joins without its lead-in if it has one that the others want, and the others can join
-  without-by : (alone b : Bool) (result : Option Joint)
+  without-by : {alone b : Bool} (result : Option Joint)
       → alone ≡ fits_behind (window_of class.version) 0 (drop 1 input.needs.now)
       → (has && not alone) ≡ b → AreJoint (without_if class run brought b) result
       → AreJoint (joint_without_lead_in class run brought) result
   unfolding joint_without_lead_in
-  without-by alone b result fits left joins =
+  without-by {alone} result fits left joins =
       let same : alone
       ≡ fits_behind (window_of class.version) 0 (needs_of (drop 1 brought.frames)) =
       grind (arith, drop-map) in
@@ -105,46 +105,46 @@ module _ (class : ClassFields) (run : List RunFrame) (input : Input) (brought : 
   pub without-lead : has ≡ false → AreJoint (joint_without_lead_in class run brought) None
   without-lead none =
       let alone : Bool = fits_behind (window_of class.version) 0 (drop 1 input.needs.now) in
-      without-by alone false None refl (and_left has (not alone) none) tt
+      without-by None refl (and_left has (not alone) none) tt
 
   -- an input whose lead-in isn't wanted doesn't join without it
-  pub without-want : (alone : Bool)
+  pub without-want : {alone : Bool}
       → alone ≡ fits_behind (window_of class.version) 0 (drop 1 input.needs.now) → alone ≡ true
       → AreJoint (joint_without_lead_in class run brought) None
-  without-want alone fits true_is =
-      without-by alone false None fits (and_right has (not alone) (not_from_true alone true_is)) tt
+  without-want {alone} fits true_is =
+      without-by None fits (and_right has (not alone) (not_from_true alone true_is)) tt
 
   -- a lead-in that the others want is left out if the others can join
-  pub without-some : (alone : Bool) (result : Option Joint)
+  pub without-some : {alone : Bool} (result : Option Joint)
       → alone ≡ fits_behind (window_of class.version) 0 (drop 1 input.needs.now)
       → has ≡ true → alone ≡ false → AreJoint (without_if class run brought true) result
       → AreJoint (joint_without_lead_in class run brought) result
-  without-some alone result fits has_is alone_is joins =
-      without-by alone true result fits
+  without-some {alone} result fits has_is alone_is joins =
+      without-by result fits
       (and_from has (not alone) has_is (not_from_false alone alone_is)) joins
 
 -- the frames of an input except the first k need what is left of its needs
-pub needs-drop : (k : ℕ) (input : Input) (brought : Brought) → IsBroughtInput input brought
+pub needs-drop : (k : ℕ) {input : Input} {brought : Brought} → IsBroughtInput input brought
     → drop k input.needs.now ≡ needs_of (drop k brought.frames)
-needs-drop k input brought is =
+needs-drop k {brought = brought} is =
     ap (drop k) is.needs ∙ drop-map (λ (f : RunFrame). f.need) k brought.frames
 
 -- ---- what is decided
 
 -- what becomes of an input is the first choice, if there is one
-pub joint-first : (x y : Option JointFrames) (z : JointFrames) (result : Joint)
+pub joint-first : (x y : Option JointFrames) (z : JointFrames) {result : Joint}
     → AreJoint x (Some result) → IsJoint (unwrap_or (option_or x y) z) result
-joint-first x y z result is = grind arith
+joint-first x y z is = grind arith
 
 -- if there is no first choice, it is the second
-pub joint-second : (x y : Option JointFrames) (z : JointFrames) (result : Joint)
+pub joint-second : (x y : Option JointFrames) (z : JointFrames) {result : Joint}
     → AreJoint x None → AreJoint y (Some result) → IsJoint (unwrap_or (option_or x y) z) result
-joint-second x y z result first is = grind arith
+joint-second x y z first is = grind arith
 
 -- if there is neither, it is the last
-pub joint-last : (x y : Option JointFrames) (z : JointFrames) (result : Joint) → AreJoint x None
+pub joint-last : (x y : Option JointFrames) {z : JointFrames} {result : Joint} → AreJoint x None
     → AreJoint y None → IsJoint z result → IsJoint (unwrap_or (option_or x y) z) result
-joint-last x y z result first second is = grind arith
+joint-last x y first second is = grind arith
 
 -- ---- a property of what becomes of an input
 
@@ -250,11 +250,11 @@ length-moved slot needs = grind arith
 -- ---- a whole input
 
 -- an input that is left whole joins in the slot of its first frame
-pub whole_joint-is : (input : Input) (brought : Brought) (first : Need)
+pub whole_joint-is : {input : Input} {brought : Brought} {first : Need}
     → IsBroughtInput input brought → 0 < length input.needs.now
     → first ≡ slice_index_or input.needs.now 0 first
     → IsJoint (whole_joint brought) (record { seam = Whole; slot = Some first.header.slot })
-whole_joint-is input brought first is some at = record {
+whole_joint-is {brought = brought} {first = first} is some at = record {
   seam = refl;
   slot = first-slot brought.frames first (subst (λ l. 0 < length l) is.needs some)
       (subst (λ l. first ≡ slice_index_or l 0 first) is.needs at);

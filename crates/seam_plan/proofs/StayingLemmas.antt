@@ -8,33 +8,33 @@ use Rattle.seam_plan.specs.{Stretches.{staying_from, staying_parts}, declared.st
 -- ---- the parts are in order
 
 -- parts that begin at a number or later begin at each smaller number or later
-order-less : (frames m n : ℕ) (parts : List Part) → n ≤ m → AreInOrder m frames parts
+order-less : (frames : ℕ) {m n : ℕ} (parts : List Part) → n ≤ m → AreInOrder m frames parts
     → AreInOrder n frames parts
 unfolding AreInOrder
-order-less frames m n [] less order = tt
-order-less frames m n (part ∷ parts) less order = grind arith
+order-less frames [] less order = tt
+order-less frames (part ∷ parts) less order = grind arith
 
 -- the frames between two numbers are in order before parts that begin after a later number
-order-between : (frames from to next : ℕ) (parts : List Part) → from ≤ to → to < next → to ≤ frames
+order-between : {frames from to next : ℕ} (parts : List Part) → from ≤ to → to < next → to ≤ frames
     → AreInOrder next frames parts → AreInOrder from frames (part_between from to ++ parts)
 unfolding AreInOrder
-order-between frames from to next parts rising less within order = grind (arith, order-less)
+order-between parts rising less within order = grind (arith, order-less)
 
 -- if stretches are in order, so are the parts that stay
-order-from : (frames before : ℕ) (stretches : List (ℕ × ℕ)) → before ≤ frames
+order-from : {frames before : ℕ} (stretches : List (ℕ × ℕ)) → before ≤ frames
     → disorder_from frames before stretches ≡ None
     → AreInOrder before frames (staying_from frames before stretches)
 unfolding disorder_from staying_from AreInOrder
-order-from frames before [] within none = grind arith
-order-from frames before (stretch ∷ stretches) within none =
-    grind (arith, order-between, order-from frames stretch.1 stretches)
+order-from [] within none = grind arith
+order-from {frames} (stretch ∷ stretches) within none =
+    grind (arith, order-between, order-from {frames = frames} {before = stretch.1} stretches)
 
 -- the parts that stay are in order, and there is at least one
-pub staying-order : (frames : ℕ) (stretches : List (ℕ × ℕ)) (parts : List Part)
+pub staying-order : (frames : ℕ) (stretches : List (ℕ × ℕ)) {parts : List Part}
     → staying_parts frames stretches ≡ Ok parts
     → (1 ≤ length parts) × AreInOrder 0 frames parts
 unfolding staying_parts
-staying-order frames stretches parts is = grind (arith, order-from)
+staying-order frames stretches is = grind (arith, order-from)
 
 -- ---- stretch by stretch
 
@@ -80,17 +80,17 @@ module _ (frames : ℕ) (stretches : List (ℕ × ℕ)) (k before : ℕ) (parts 
   stays-wrong order wrong = grind (arith, next)
 
 -- behind the last stretch all parts are found
-pub stays-all : (frames : ℕ) (stretches : List (ℕ × ℕ)) (k before : ℕ) (parts last : List Part)
+pub stays-all : {frames : ℕ} {stretches : List (ℕ × ℕ)} {k before : ℕ} {parts last : List Part}
     → StaysTo frames stretches k before parts → length stretches ≤ k
     → last ≡ parts ++ part_between before frames
     → staying_parts frames stretches ≡ parts_or_none frames last
 unfolding staying_parts staying_from disorder_from
-stays-all frames stretches k before parts last to all added = grind (arith, drop_all)
+stays-all to all added = grind (arith, drop_all)
 
 -- if there are parts, they are the answer
-pub parts-some : (frames : ℕ) (parts : List Part) → 0 < length parts
+pub parts-some : (frames : ℕ) {parts : List Part} → 0 < length parts
     → parts_or_none frames parts ≡ Ok parts
-parts-some frames parts some = grind arith
+parts-some frames some = grind arith
 
 -- if there are no parts, 0 and the number of frames are the answer
 pub parts-none : (frames : ℕ) (parts : List Part) → length parts ≡ 0

@@ -26,30 +26,30 @@ HasLast run count last =
 
 module _ (inputs : List InputFields) (number : ℕ) (run : Run) (input : Input)
     (overlap : Overlap) (finds : Finds run input overlap) (can : CanFollow input overlap) where
-  within-brought : (brought : Brought) → IsBroughtInput input brought
+  within-brought : {brought : Brought} → IsBroughtInput input brought
       → overlap.frames ≤ length brought.frames
-  within-brought brought brings = grind (arith, length-map)
+  within-brought brings = grind (arith, length-map)
 
   few-count : overlap.frames - overlap.first_alike ≤ 7
   few-count = omega (arith, can.few)
 
   -- if the run has no such last frames, the overlap isn't alike
-  pub none-alike : (files : Files) (last : Option (List FramePlace))
+  pub none-alike : (files : Files) {last : Option (List FramePlace)}
       → HasLast run (overlap.frames - overlap.first_alike) last → last ≡ None
       → IsSharedOverlap files inputs number run input None
-  none-alike (Untold touched) last has none = tt
-  none-alike (Told f) last has none = λ class frames places before brought is brings sounds there.
+  none-alike (Untold touched) has none = tt
+  none-alike (Told f) has none = λ class frames places before brought is brings sounds there.
       alike-few class (all_run_frames f inputs) number frames places before brought overlap
-      is.same (within-brought brought brings) can.some sounds there
+      is.same (within-brought brings) can.some sounds there
       (finds class frames places before brought is brings)
       (sym none ∙ has class frames places before is few-count)
 
   -- if the run has such last frames, the test of their sounds decides
-  pub tested-alike : (files : Files) (last : List FramePlace) (b : Bool)
+  pub tested-alike : (files : Files) {last : List FramePlace} (b : Bool)
       → HasLast run (overlap.frames - overlap.first_alike) (Some last) → IfTold files
       (λ f. sounds_from (all_run_frames f inputs) number overlap.first_alike last ≡ b)
       → IsSharedOverlap files inputs number run input (cond b (Some overlap) None)
-  tested-alike files last b has test = grind (arith, alike-tested, within-brought, few-count)
+  tested-alike files b has test = grind (arith, alike-tested, within-brought, few-count)
 
 -- one more frame is compared
 module _ (inputs : List InputFields) (number frame : ℕ) (p : FramePlace)
@@ -59,7 +59,7 @@ module _ (inputs : List InputFields) (number frame : ℕ) (p : FramePlace)
       IfTold files (λ f. b ≡ same_sounds (all_run_frames f inputs) p (frame_place number frame))
 
   -- if a frame doesn't sound the same, not all do
-  pub ends-here : (files : Files) (all : Contents → Bool) (b : Bool) → b ≡ false → Same files b
+  pub ends-here : (files : Files) (all : Contents → Bool) {b : Bool} → b ≡ false → Same files b
       → IfTold files (λ f. sounds_from (all_run_frames f inputs) number frame places ≡ all f)
       → IfTold files (λ f. all f ≡ false)
-  ends-here files all b so same before = grind arith
+  ends-here files all so same before = grind arith

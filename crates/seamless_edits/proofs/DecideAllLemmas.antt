@@ -17,7 +17,7 @@ use Rattle.seam_plan.specs.Seams.{front_left_out_count, joints_from, seamless_jo
 use Rattle.seam_plan.specs.declared.{input.Input.Input, run.Joint.Joint}
 use Rattle.seamless_edits.proofs.DecideLemmas.{moved-drop, moved-same}
 use Rattle.seamless_edits.proofs.DecideStepLemmas.{brings-silent, brings-told, IsInputOf, places-at}
-use Rattle.seamless_edits.proofs.DecideStepLemmas.{places-sound, range-behind, silent_brought}
+use Rattle.seamless_edits.proofs.DecideStepLemmas.{places-sound, range-behind}
 use Rattle.seamless_edits.specs.Deciding.{AreMovedNeeds, BringsNeeds, brought_of, broughts_in}
 use Rattle.seamless_edits.specs.Deciding.{CanBeDecided, CanBeginRun, FitAlone, FitsAlone}
 use Rattle.seamless_edits.specs.Deciding.{from_places, HasBegunRun, input_needs, IsDecidedTo}
@@ -33,29 +33,29 @@ use Rattle.sync_survey.specs.{Faults.SurveyFields, Survey.IsSurveyLaidOut}
 -- ---- an input from which a run can begin
 
 -- the needs of an input's frames are of its class
-pub needs-class : (s : SurveyFields) → IsSurveyLaidOut s → AreNeedsOfClass s.class (input_needs s)
-needs-class s laid =
+pub needs-class : {s : SurveyFields} → IsSurveyLaidOut s → AreNeedsOfClass s.class (input_needs s)
+needs-class {s} laid =
     let whole : map need_of (slice_range s.frames 0 (length s.frames)) ≡ input_needs s =
     range-behind s 0 in
     subst (AreNeedsOfClass s.class) whole (part-fits s 0 (length s.frames) laid.placed).0
 
 -- a run can begin from the first of inputs that can be decided
-pub can-begin : (files : Files) (i : InputFields) (inputs : List InputFields)
-    (bs : List Beginning) → CanBeDecided files (i ∷ inputs) bs → CanBeginRun i.survey
+pub can-begin : {files : Files} {i : InputFields} {inputs : List InputFields}
+    {bs : List Beginning} → CanBeDecided files (i ∷ inputs) bs → CanBeginRun i.survey
 unfolding frames_together
-can-begin files i inputs bs can = record {
+can-begin {i = i} can = record {
   some = can.joined.alike.0;
   few = omega (arith, can.joined.frames);
-  same = needs-class i.survey can.joined.alike.1;
+  same = needs-class can.joined.alike.1;
   fits = can.fit.0;
 }
 
 -- the same, with the first input given by its place
-pub can-begin-at : (files : Files) (inputs : List InputFields) (bs : List Beginning)
+pub can-begin-at : {files : Files} (inputs : List InputFields) {bs : List Beginning}
     {i : InputFields} {rest : List InputFields} → CanBeDecided files inputs bs
     → drop 0 inputs ≡ i ∷ rest → CanBeginRun i.survey
-can-begin-at files [] bs can e = absurd cc
-can-begin-at files (j ∷ inputs) bs {i} {rest} can e = grind (arith, can-begin files j inputs bs can)
+can-begin-at [] can e = absurd cc
+can-begin-at {files} (j ∷ inputs) {bs} {i} {rest} can e = grind (arith, can-begin can)
 
 -- ---- the first input
 
@@ -66,18 +66,18 @@ module _ (files : Files) (i : InputFields) (inputs : List InputFields)
   s = i.survey
 
   abbrev can-be : CanBeginRun s
-  can-be = can-begin files i inputs (b ∷ bs) can
+  can-be = can-begin can
 
   rows-one : (outs : List ℕ)
       → needs_of_parts (rest_rows (from_places (i ∷ []) (0 ∷ outs))) ≡ input_needs s
   unfolding needs_of_parts
   rows-one outs = search (arith, append-nil, range-behind)
 
-  first-is : (first : Brought) → BringsNeeds s b first → IfTold files (λ f.
+  first-is : {first : Brought} → BringsNeeds s b first → IfTold files (λ f.
       IsDecidedTo s.class (take 1 (broughts_in f (i ∷ inputs) (b ∷ bs)))
       (all_run_frames f (i ∷ inputs)) first.frames (frame_places 0 0 (length first.frames)) first
       d.joints.items) → IsDecidingTo files (i ∷ inputs) (b ∷ bs) 1 d
-  first-is first brings told =
+  first-is {first} brings told =
       let many : length first.frames ≡ length s.frames = grind (arith, length-map) in
       let none = begun.joints in
       record {
@@ -89,7 +89,7 @@ module _ (files : Files) (i : InputFields) (inputs : List InputFields)
         is_run = begun.run first brings;
         sound = begun.sound;
         needs = begun.needs ∙ sym brings.needs;
-        at = places-at (i ∷ inputs) 0 i 0 (length first.frames) refl (omega (arith, many));
+        at = places-at 0 0 (length first.frames) refl (omega (arith, many));
         many = omega (arith, ap length none);
         within = (omega arith, tt);
         moved = rw (begun.needs, rows-one []) (moved-same (input_needs s));
@@ -113,31 +113,32 @@ module _ (files : Files) (i : InputFields) (inputs : List InputFields)
         run = sym (append-nil first.frames);
         joints_are = subst (λ (l : List Joint). AllZip IsJoint [] l) (sym begun.joints) tt;
         sounds = places-sound (all_run_frames f (i ∷ inputs)) 0 0
-            (length first.frames) first.frames refl (omega arith);
+            (length first.frames) refl (omega arith);
       }
 
 -- the run has begun
-pub begun-decides : (files : Files) (i : InputFields) (inputs : List InputFields)
-    (b : Beginning) (bs : List Beginning) (d : Deciding)
+pub begun-decides : (files : Files) {i : InputFields} {inputs : List InputFields}
+    {b : Beginning} {bs : List Beginning} {d : Deciding}
     → CanBeDecided files (i ∷ inputs) (b ∷ bs) → HasBegunRun i.survey b d
     → IsDecidingTo files (i ∷ inputs) (b ∷ bs) 1 d
-begun-decides (Untold touched) i inputs b bs d can begun = first-is (Untold touched) i inputs
-    b bs d can begun (silent_brought i.survey b) (brings-silent i.survey b) tt
-begun-decides (Told f) i inputs b bs d can begun =
-    first-is (Told f) i inputs b bs d can begun (brought_of f i b)
+begun-decides (Untold touched) {i} {inputs} {b} {bs} {d} can begun =
+    first-is (Untold touched) i inputs
+    b bs d can begun (brings-silent i.survey b) tt
+begun-decides (Told f) {i} {inputs} {b} {bs} {d} can begun =
+    first-is (Told f) i inputs b bs d can begun
     (brings-told f i b) (first-told (Told f) i inputs b bs d can begun f)
 
 -- the same, with the input and its beginning given by their places
-pub begun-at : (files : Files) (inputs : List InputFields)
-    (bs : List Beginning) (i : InputFields) (b : Beginning) (d : Deciding)
+pub begun-at : {files : Files} (inputs : List InputFields)
+    (bs : List Beginning) {i : InputFields} {b : Beginning} {d : Deciding}
     → CanBeDecided files inputs bs → slice_get inputs 0 ≡ Some i → slice_get bs 0 ≡ Some b
     → HasBegunRun i.survey b d → IsDecidingTo files inputs bs 1 d
-begun-at files [] bs i b d can found there begun = absurd cc
-begun-at files (j ∷ inputs) [] i b d can found there begun = absurd cc
-begun-at files (j ∷ inputs) (c ∷ bs) i b d can found there begun =
+begun-at [] bs can found there begun = absurd cc
+begun-at (j ∷ inputs) [] can found there begun = absurd cc
+begun-at {files} (j ∷ inputs) (c ∷ bs) {i} {b} {d} can found there begun =
     let items : i ≡ j = cc in
     let beginnings : b ≡ c = cc in
-    begun-decides files j inputs c bs d can
+    begun-decides files can
     (subst (λ (u : InputFields). HasBegunRun u.survey c d) items
     (subst (λ (e : Beginning). HasBegunRun i.survey e d) beginnings begun))
 
@@ -167,12 +168,12 @@ rows-most (i ∷ inputs) (n ∷ froms) =
       length-map s.frames need_of,
     )
 
-rows-drop : (i : InputFields) (inputs : List InputFields) (front : ℕ) (froms : List ℕ)
+rows-drop : (i : InputFields) (inputs : List InputFields) {front : ℕ} (froms : List ℕ)
     → front ≤ length i.survey.frames
     → drop front (needs_of_parts (rest_rows (from_places (i ∷ inputs) (0 ∷ froms))))
     ≡ needs_of_parts (rest_rows (from_places (i ∷ inputs) (front ∷ froms)))
 unfolding needs_of_parts
-rows-drop i inputs front froms within =
+rows-drop i inputs {front} froms within =
     let s = i.survey in
     let rest = needs_of_parts (rest_rows (from_places inputs froms)) in
     ap (λ (l : List Need). drop front (l ++ rest)) (range-behind s 0)
@@ -254,29 +255,29 @@ module _ (files : Files) (i : InputFields) (inputs : List InputFields)
       same = class-drop is.class d.needs.items front is.same;
       fits = grind (arith, fits-drop, all-fit);
       moved = subst (AreMovedNeeds (drop front d.needs.items))
-          (rows-drop i inputs front (left_out_counts d.joints.items) (omega (arith, known.behind)))
+          (rows-drop i inputs (left_out_counts d.joints.items) (omega (arith, known.behind)))
           (moved-drop front d.needs.items
           (needs_of_parts
           (rest_rows (from_places (i ∷ inputs) (0 ∷ left_out_counts d.joints.items)))) all-moved);
     }
 
-    joined-of : (f : Contents) (all : List Brought) (lists : List (List RunFrame))
+    joined-of : (f : Contents) {all : List Brought} {lists : List (List RunFrame)}
         → all ≡ brought_of f i b ∷ drop 1 all
         → IsDecidedTo is.class all lists is.frames is.places is.before d.joints.items
         → IsJoinedOf is.class all decided
     unfolding seamless_join
-    joined-of f all lists begins told = grind (arith, brings-told, same-class)
+    joined-of f begins told = grind (arith, brings-told, same-class)
 
-all-told : (f : Contents) (i : InputFields) (inputs : List InputFields)
-    (b : Beginning) (bs : List Beginning) (d : Deciding)
+all-told : {f : Contents} {i : InputFields} {inputs : List InputFields}
+    {b : Beginning} {bs : List Beginning} {d : Deciding}
     → (can : CanBeDecided (Told f) (i ∷ inputs) (b ∷ bs))
-    (is : IsDecidingTo (Told f) (i ∷ inputs) (b ∷ bs) (length (i ∷ inputs)) d) (front : ℕ)
+    (is : IsDecidingTo (Told f) (i ∷ inputs) (b ∷ bs) (length (i ∷ inputs)) d) {front : ℕ}
     → IsFront i.survey b d.needs.items front
     → IsJoinedOf is.class (broughts_in f (i ∷ inputs) (b ∷ bs))
     (record { front = front; joints = d.joints; needs = d.needs })
-all-told f i inputs b bs d can is front known =
+all-told {f} {i} {inputs} {b} {bs} {d} can is {front} known =
     let all = broughts_in f (i ∷ inputs) (b ∷ bs) in
-    joined-of (Told f) i inputs b bs d can is front known f all (all_run_frames f (i ∷ inputs)) refl
+    joined-of (Told f) i inputs b bs d can is front known f refl
     (subst (λ (l : List Brought). IsDecidedTo is.class l
     (all_run_frames f (i ∷ inputs)) is.frames is.places is.before d.joints.items)
     (take_all (length (i ∷ inputs)) all (broughts-few f (i ∷ inputs) (b ∷ bs))) is.told)
@@ -293,7 +294,7 @@ all-decided (Untold touched) i inputs b bs d can is front known =
     record { run = runnable (Untold touched) i inputs b bs d can is front known; told = tt }
 all-decided (Told f) i inputs b bs d can is front known = record {
   run = runnable (Told f) i inputs b bs d can is front known;
-  told = all-told f i inputs b bs d can is front known;
+  told = all-told can is known;
 }
 
 -- what is known when all inputs are decided: the needs of the run are of the first input's class
@@ -330,31 +331,31 @@ at-end files {i} {b} d (j ∷ inputs) (c ∷ bs) can e there count all is =
 
 -- ---- the next input
 
-alike-at : (class : ClassFields) (inputs : List InputFields) (n : ℕ) (i : InputFields)
+alike-at : {class : ClassFields} (inputs : List InputFields) (n : ℕ) {i : InputFields}
     → AreInputsOfClass class inputs → slice_get inputs n ≡ Some i
     → (0 < length i.survey.frames) × IsSurveyLaidOut i.survey × (i.survey.class ≡ class)
-alike-at class [] n i are found = absurd cc
-alike-at class (j ∷ inputs) zero i are found = grind arith
-alike-at class (j ∷ inputs) (suc n) i are found = alike-at class inputs n i are.3 found
+alike-at [] n are found = absurd cc
+alike-at (j ∷ inputs) zero are found = grind arith
+alike-at {class} (j ∷ inputs) (suc n) {i} are found = alike-at inputs n are.3 found
 
-fit-at : (inputs : List InputFields) (n : ℕ) (i : InputFields) → FitAlone inputs
+fit-at : (inputs : List InputFields) (n : ℕ) {i : InputFields} → FitAlone inputs
     → slice_get inputs n ≡ Some i → FitsAlone i.survey
-fit-at [] n i are found = absurd cc
-fit-at (j ∷ inputs) zero i are found = grind arith
-fit-at (j ∷ inputs) (suc n) i are found = fit-at inputs n i are.1 found
+fit-at [] n are found = absurd cc
+fit-at (j ∷ inputs) zero are found = grind arith
+fit-at (j ∷ inputs) (suc n) {i} are found = fit-at inputs n are.1 found
 
-frames-at : (inputs : List InputFields) (n : ℕ) (i : InputFields) → slice_get inputs n ≡ Some i
+frames-at : (inputs : List InputFields) (n : ℕ) {i : InputFields} → slice_get inputs n ≡ Some i
     → length i.survey.frames ≤ frames_together inputs
 unfolding frames_together
-frames-at [] n i found = absurd cc
-frames-at (j ∷ inputs) zero i found = grind arith
-frames-at (j ∷ inputs) (suc n) i found = omega (arith, frames-at inputs n i found)
+frames-at [] n found = absurd cc
+frames-at (j ∷ inputs) zero found = grind arith
+frames-at (j ∷ inputs) (suc n) {i} found = omega (arith, frames-at inputs n found)
 
 -- an input has no more frames than a join may have
-pub input-few : (files : Files) (inputs : List InputFields) (bs : List Beginning) (n : ℕ)
-    (i : InputFields) → CanBeDecided files inputs bs → slice_get inputs n ≡ Some i
+pub input-few : {files : Files} {inputs : List InputFields} {bs : List Beginning} (n : ℕ)
+    {i : InputFields} → CanBeDecided files inputs bs → slice_get inputs n ≡ Some i
     → length (input_needs i.survey) ≤ most_frames
-input-few files inputs bs n i can found = grind (arith, frames-at, length-map)
+input-few n can found = grind (arith, frames-at, length-map)
 
 module _ (files : Files) (inputs : List InputFields) (bs : List Beginning)
     (number : ℕ) (d : Deciding) (can : CanBeDecided files inputs bs)
@@ -369,7 +370,7 @@ module _ (files : Files) (inputs : List InputFields) (bs : List Beginning)
   next = i.survey
 
   known : (0 < length next.frames) × IsSurveyLaidOut next × (next.class ≡ can.joined.class)
-  known = alike-at can.joined.class inputs number i can.joined.alike found
+  known = alike-at inputs number can.joined.alike found
 
   class-here : next.class ≡ is.class
   class-here = grind (arith, can.joined.class, is.class, can.joined.first, is.class_is, known.2)
@@ -383,8 +384,8 @@ module _ (files : Files) (inputs : List InputFields) (bs : List Beginning)
   can-join-own : IsJoinableInput next.class input
   can-join-own = record {
     some = omega (arith, known.0, long);
-    few = omega (arith, long, frames-at inputs number i found, can.joined.frames);
-    same = subst (AreNeedsOfClass next.class) (sym needs) (needs-class next known.1);
+    few = omega (arith, long, frames-at inputs number found, can.joined.frames);
+    same = subst (AreNeedsOfClass next.class) (sym needs) (needs-class known.1);
     fits = grind (arith, fit-at);
     counted = subst (λ n. IfSome input.played (AreCounted next.class n)) (sym long) counted;
   }
@@ -412,8 +413,8 @@ module _ (files : Files) (inputs : List InputFields) (bs : List Beginning)
   }
 
 -- all inputs are of one class
-pub all-of-one : (inputs : List InputFields) → CanInputsBeJoined inputs → AreOfOneClass inputs
-all-of-one inputs can = (can.class, each can.class inputs can.alike)
+pub all-of-one : {inputs : List InputFields} → CanInputsBeJoined inputs → AreOfOneClass inputs
+all-of-one {inputs} can = (can.class, each can.class inputs can.alike)
   where
     each : (class : ClassFields) (inputs : List InputFields) → AreInputsOfClass class inputs
         → All (λ (i : InputFields). i.survey.class ≡ class) inputs

@@ -63,13 +63,13 @@ last-next first [] next = refl
 last-next first (b ∷ others) next = last-next b others next
 
 -- one more joint and its result
-pub zip-more : (joints : List JointFrames) (results : List Joint) (joint : JointFrames)
-    (result : Joint) → AllZip IsJoint joints results → IsJoint joint result
+pub zip-more : (joints : List JointFrames) (results : List Joint) {joint : JointFrames}
+    {result : Joint} → AllZip IsJoint joints results → IsJoint joint result
     → AllZip IsJoint (joints ++ joint ∷ []) (results ++ result ∷ [])
-zip-more [] [] joint result are is = (is, tt)
-zip-more (j ∷ joints) (r ∷ results) joint result are is =
-    (are.0, zip-more joints results joint result are.1 is)
-zip-more _ _ joint result are is = absurd are
+zip-more [] [] are is = (is, tt)
+zip-more (j ∷ joints) (r ∷ results) {joint} {result} are is =
+    (are.0, zip-more joints results are.1 is)
+zip-more _ _ are is = absurd are
 
 -- the number of frames left out by one more joint comes last
 pub outs-more : (joints : List Joint) (joint : Joint)
@@ -127,28 +127,28 @@ drop-cons zero (x ∷ xs) within = (x, refl, refl)
 drop-cons (suc n) (x ∷ xs) within = grind (arith, drop-cons n xs (omega (arith, within)))
 
 -- the sound at a place is the sound of the frame there
-pub sound-here : (lists : List (List RunFrame)) (number frame : ℕ) (all : List RunFrame)
-    (x : RunFrame) → slice_get lists number ≡ Some all → slice_get all frame ≡ Some x
+pub sound-here : (lists : List (List RunFrame)) (number frame : ℕ) {all : List RunFrame}
+    {x : RunFrame} → slice_get lists number ≡ Some all → slice_get all frame ≡ Some x
     → sound_at lists (frame_place number frame) ≡ x.sound
-sound-here lists number frame all x has is = grind arith
+sound-here lists number frame has is = grind arith
 
 -- the frames at these places sound like the input's frames exactly if they are alike
-sounds-alike : (lists : List (List RunFrame)) (number from : ℕ) (all : List RunFrame)
+sounds-alike : (lists : List (List RunFrame)) (number from : ℕ) {all : List RunFrame}
     (ps : List FramePlace) (xs : List RunFrame) → slice_get lists number ≡ Some all
     → from + length ps ≤ length all → map (sound_at lists) ps ≡ map (λ (x : RunFrame). x.sound) xs
     → sounds_from lists number from ps ≡ are_frames_alike xs (take (length ps) (drop from all))
 unfolding are_frames_alike
-sounds-alike lists number from all [] [] has within same = refl
-sounds-alike lists number from all [] (x ∷ xs) has within same = absurd cc
-sounds-alike lists number from all (p ∷ ps) [] has within same = absurd cc
-sounds-alike lists number from all (p ∷ ps) (x ∷ xs) has within same =
+sounds-alike lists number from [] [] has within same = refl
+sounds-alike lists number from [] (x ∷ xs) has within same = absurd cc
+sounds-alike lists number from (p ∷ ps) [] has within same = absurd cc
+sounds-alike lists number from {all} (p ∷ ps) (x ∷ xs) has within same =
     let next = drop-cons from all (omega (arith, within)) in
     let head : sound_at lists p ≡ x.sound = cc in
     let tail : map (sound_at lists) ps ≡ map (λ (y : RunFrame). y.sound) xs = cc in
     ap₂ (λ (a b : List ℕ). bytes_eq a b && sounds_from lists number (from + 1) ps) head
-    (sound-here lists number from all next.0 has next.1)
+    (sound-here lists number from has next.1)
     ∙ ap (λ (b : Bool). bytes_eq x.sound next.0.sound && b)
-    (sounds-alike lists number (from + 1) all ps xs has (omega (arith, within)) tail)
+    (sounds-alike lists number (from + 1) ps xs has (omega (arith, within)) tail)
     ∙ sym (ap (λ (l : List RunFrame). are_frames_alike (x ∷ xs) (take (suc (length ps)) l)) next.2)
 
 -- ---- the overlap
@@ -209,6 +209,6 @@ module _ (class : ClassFields) (lists : List (List RunFrame)) (number : ℕ) (fr
     tested = grind (arith, length-compared_frames, last-length, sounds-alike, last-sounds)
 
     -- the overlap is alike exactly if these frames sound the same
-    pub alike-tested : (b : Bool) → sounds_from lists number overlap.first_alike last ≡ b
+    pub alike-tested : {b : Bool} → sounds_from lists number overlap.first_alike last ≡ b
         → alike_overlap class frames before brought ≡ cond b (Some overlap) None
-    alike-tested b test = decided ∙ ap (λ (x : Bool). cond x (Some overlap) None) (tested ∙ test)
+    alike-tested test = decided ∙ ap (λ (x : Bool). cond x (Some overlap) None) (tested ∙ test)

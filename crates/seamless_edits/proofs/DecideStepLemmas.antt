@@ -45,8 +45,8 @@ zip-needs class (r ∷ rows) [] long = absurd (omega (arith, long))
 zip-needs class (r ∷ rows) (f ∷ stream) long =
     ap (λ (l : List Need). need_of r ∷ l) (zip-needs class rows stream (omega (arith, long)))
 
-range-all : {X : Type 0} (n : ℕ) (xs : List X) → n ≡ length xs → slice_range xs 0 n ≡ xs
-range-all n xs is = take_all (n - 0) xs (omega (arith, is))
+range-all : {X : Type 0} {n : ℕ} {xs : List X} → n ≡ length xs → slice_range xs 0 n ≡ xs
+range-all {n = n} {xs = xs} is = take_all (n - 0) xs (omega (arith, is))
 
 stream-length : (file : List ℕ) (s : SurveyFields)
     → length (stream_of_survey file s) ≡ length s.frames
@@ -103,7 +103,7 @@ joint-keeps class run before brought =
     joint-by class run before brought (Keeps brought)
     (λ seam frames is.
     joining_frames-sounds (window_of class.version) run
-    (drop (left_out_count seam) brought.frames) frames is)
+    (drop (left_out_count seam) brought.frames) is)
     refl
 
 -- ---- lists with one more item
@@ -138,25 +138,25 @@ pub range-behind : (s : SurveyFields) (from : ℕ)
 range-behind s from = grind (arith, take_all, length-drop, drop-map)
 
 -- the items up to a place and the one there are one item more
-pub take-more : {X : Type 0} (xs : List X) (n : ℕ) (x : X) → slice_get xs n ≡ Some x
+pub take-more : {X : Type 0} (xs : List X) (n : ℕ) {x : X} → slice_get xs n ≡ Some x
     → take (n + 1) xs ≡ take n xs ++ x ∷ []
-take-more [] n x is = absurd cc
-take-more (y ∷ xs) zero x is = ap (λ z. z ∷ []) cc
-take-more (y ∷ xs) (suc n) x is = grind (arith, take-more xs n x is)
+take-more [] n is = absurd cc
+take-more (y ∷ xs) zero is = ap (λ z. z ∷ []) cc
+take-more (y ∷ xs) (suc n) {x} is = grind (arith, take-more xs n is)
 
 -- `count` places from one on are places of frames, if the input has that many frames
-pub places-at : (inputs : List InputFields) (number : ℕ) (i : InputFields) (from count : ℕ)
+pub places-at : {inputs : List InputFields} (number : ℕ) {i : InputFields} (from count : ℕ)
     → slice_get inputs number ≡ Some i → from + count ≤ length i.survey.frames
     → AreFramePlaces inputs (frame_places number from count)
-places-at inputs number i from zero is within = All-nil (IsFramePlace inputs)
-places-at inputs number i from (suc count) is within =
-    grind (arith, All-cons, places-at inputs number i (from + 1) count is (omega (arith, within)))
+places-at {inputs} number from zero is within = All-nil (IsFramePlace inputs)
+places-at {inputs} number {i} from (suc count) is within =
+    grind (arith, All-cons, places-at number (from + 1) count is (omega (arith, within)))
 
 -- the sounds of the frames of an input from one on
-pub places-sound : (lists : List (List RunFrame)) (number from count : ℕ) (all : List RunFrame)
+pub places-sound : (lists : List (List RunFrame)) (number from count : ℕ) {all : List RunFrame}
     → slice_get lists number ≡ Some all → from + count ≡ length all
     → map (sound_at lists) (frame_places number from count) ≡ map-sounds (drop from all)
-places-sound lists number from count all has is = at count from all has is
+places-sound lists number from count {all} has is = at count from all has is
   where
     at : (count from : ℕ) (all : List RunFrame) → slice_get lists number ≡ Some all
         → from + count ≡ length all
@@ -164,24 +164,24 @@ places-sound lists number from count all has is = at count from all has is
     at zero from all has is = sym (ap map-sounds (drop_all from all (omega (arith, is))))
     at (suc count) from all has is =
         let next = drop-cons from all (omega (arith, is)) in
-        ap₂ (λ (x : List ℕ) (l : List (List ℕ)). x ∷ l) (sound-here lists number from all next.0 has
+        ap₂ (λ (x : List ℕ) (l : List (List ℕ)). x ∷ l) (sound-here lists number from has
         next.1) (at count (from + 1) all has (omega (arith, is)))
         ∙ sym (ap map-sounds next.2)
 
 -- what the input with this number brings
 pub broughts-get : (f : Contents) (inputs : List InputFields) (bs : List Beginning) (n : ℕ)
-    (i : InputFields) (b : Beginning) → slice_get inputs n ≡ Some i → slice_get bs n ≡ Some b
+    {i : InputFields} {b : Beginning} → slice_get inputs n ≡ Some i → slice_get bs n ≡ Some b
     → slice_get (broughts_in f inputs bs) n ≡ Some (brought_of f i b)
-broughts-get f inputs bs n i b found begun =
-    map-get (λ (p : InputFields × Beginning). brought_of f p.0 p.1) (zip inputs bs) n (i, b)
-    (zip-get inputs bs n i b found begun)
+broughts-get f inputs bs n {i} {b} found begun =
+    map-get (λ (p : InputFields × Beginning). brought_of f p.0 p.1) (zip inputs bs) n
+    (zip-get inputs bs n found begun)
 
 -- the frames of the input with this number
-pub frames-get : (f : Contents) (inputs : List InputFields) (n : ℕ) (i : InputFields)
+pub frames-get : (f : Contents) (inputs : List InputFields) (n : ℕ) {i : InputFields}
     → slice_get inputs n ≡ Some i
     → slice_get (all_run_frames f inputs) n ≡ Some (run_frames (whole_in f i))
-frames-get f inputs n i found =
-    map-get (λ (j : InputFields). run_frames (whole_in f j)) inputs n i found
+frames-get f inputs n {i} found =
+    map-get (λ (j : InputFields). run_frames (whole_in f j)) inputs n found
 
 -- ---- the step
 
@@ -218,10 +218,10 @@ pub record IsInputOf (inputs : List InputFields) (bs : List Beginning) (number :
       ≡ counted_positions beginning.head item.survey.class (length item.survey.frames)
   pub same : AreNeedsOfClass class input.needs.now
 
-is-brought : (inputs : List InputFields) (bs : List Beginning) (number : ℕ) (class : ClassFields)
-    (input : Input) (of : IsInputOf inputs bs number class input) (brought : Brought)
+is-brought : {inputs : List InputFields} {bs : List Beginning} {number : ℕ} {class : ClassFields}
+    {input : Input} (of : IsInputOf inputs bs number class input) {brought : Brought}
     → BringsNeeds of.item.survey of.beginning brought → IsBroughtInput input brought
-is-brought inputs bs number class input of brought brings = record {
+is-brought of brings = record {
   needs = of.needs ∙ sym brings.needs;
   blank = of.blank ∙ sym brings.blank;
   played = of.played ∙ sym brings.played;
@@ -259,7 +259,7 @@ module _ (files : Files) (inputs : List InputFields) (bs : List Beginning)
       ≡ before ++ here ∷ []
   inputs-next =
       ap₂ (λ (l : List InputFields) (m : List ℕ). from_places l m)
-      (take-more inputs number of.item of.found) outs-next
+      (take-more inputs number of.found) outs-next
       ∙ places-more (take number inputs) (0 ∷ left_out_counts old.joints.items) of.item out
       outs-long
 
@@ -268,25 +268,25 @@ module _ (files : Files) (inputs : List InputFields) (bs : List Beginning)
       omega (arith, added.out, ap length of.needs, length-map of.item.survey.frames need_of)
 
   -- the state with these frames added
-  build : (brought : Brought) (more : List RunFrame)
+  build : {brought : Brought} (more : List RunFrame)
       → BringsNeeds of.item.survey of.beginning brought → needs_of more ≡ left
       → IfTold files (λ f. IsDecidedTo so_far.class (take (number + 1)
       (broughts_in f inputs bs)) (all_run_frames f inputs) (so_far.frames ++ more)
       (so_far.places ++ frame_places number out (length more)) brought new.joints.items)
       → IsDecidingTo files inputs bs (number + 1) new
-  build brought more brings adds told = record {
+  build {brought} more brings adds told = record {
     class = so_far.class;
     class_is = so_far.class_is;
     frames = so_far.frames ++ more;
     places = so_far.places ++ frame_places number out (length more);
     before = brought;
     is_run = added.goes so_far.class so_far.frames more so_far.places so_far.before brought
-        so_far.is_run (is-brought inputs bs number so_far.class input of brought brings) adds;
+        so_far.is_run (is-brought of brings) adds;
     sound = added.sound;
     needs = grind (arith, adds, map-append);
     at =
         All-append (IsFramePlace inputs) so_far.places (frame_places number out (length more))
-        so_far.at (places-at inputs number of.item out
+        so_far.at (places-at number out
         (length more) of.found (omega (arith, many-more more adds)));
     many = omega
         (arith, ap length added.joints, length-append old.joints.items (joint ∷ []), so_far.many);
@@ -326,7 +326,7 @@ module _ (f : Contents) (inputs : List InputFields) (bs : List Beginning)
   brings = grind (arith, is-brought, brings-told)
 
   has : slice_get lists number ≡ Some next.frames
-  has = frames-get f inputs number of.item of.found
+  has = frames-get f inputs number of.found
 
   same : alike ≡ alike_overlap so_far.class so_far.frames so_far.before next
   same = grind (arith, brings, has)
@@ -350,7 +350,7 @@ module _ (f : Contents) (inputs : List InputFields) (bs : List Beginning)
       map-append (sound_at lists)
       so_far.places (frame_places number (left_out_count joint.seam) (length decided.frames))
       ∙ ap₂ (λ (a b : List (List ℕ)). a ++ b) so_far.told.sounds
-      (places-sound lists number (left_out_count joint.seam) (length decided.frames) next.frames has
+      (places-sound lists number (left_out_count joint.seam) (length decided.frames) has
       (many-more (Told f) inputs bs number input alike joint old new so_far of added
       decided.frames adds ∙ sym next-length)
       ∙ ap (λ n. map-sounds (drop n next.frames)) (ap left_out_count joined.seam)
@@ -370,9 +370,9 @@ module _ (f : Contents) (inputs : List InputFields) (bs : List Beginning)
   told-next =
       grind (
         arith,
-        take-more (broughts_in f inputs bs) number next
-            (broughts-get f inputs bs number of.item of.beginning of.found of.begun),
-        broughts-get f inputs bs number of.item of.beginning of.found of.begun,
+        take-more (broughts_in f inputs bs) number
+            (broughts-get f inputs bs number of.found of.begun),
+        broughts-get f inputs bs number of.found of.begun,
         last-next,
         run-next,
         joints-next,
@@ -383,21 +383,23 @@ module _ (f : Contents) (inputs : List InputFields) (bs : List Beginning)
 
   -- where the contents of the files are known, one more input is decided
   pub told-step : IsDecidingTo (Told f) inputs bs (number + 1) new
-  told-step = build (Told f) inputs bs number input alike joint old new so_far of added next
+  told-step = build (Told f) inputs bs number input alike joint old new so_far of added
       decided.frames (brings-told f of.item of.beginning) adds told-next
 
 -- one more input is decided
-pub decided-step : (files : Files) (inputs : List InputFields) (bs : List Beginning)
-    (number : ℕ) (input : Input) (alike : Option Overlap) (joint : Joint)
-    (old new : Deciding) (so_far : IsDecidingTo files inputs bs number old)
+pub decided-step : (files : Files) {inputs : List InputFields} {bs : List Beginning}
+    {number : ℕ} {input : Input} {alike : Option Overlap} {joint : Joint}
+    {old new : Deciding} (so_far : IsDecidingTo files inputs bs number old)
     (of : IsInputOf inputs bs number so_far.class input)
     → IsAdded number input alike joint old new
     → IsSharedOverlap files inputs number old.run input alike
     → IsDecidingTo files inputs bs (number + 1) new
-decided-step (Told f) inputs bs number input alike joint old new so_far of added is =
+decided-step (Told f)
+    {inputs} {bs} {number} {input} {alike} {joint} {old} {new} so_far of added is =
     told-step f inputs bs number input alike joint old new so_far of added is
-decided-step (Untold touched) inputs bs number input alike joint old new so_far of added is =
+decided-step (Untold touched)
+    {inputs} {bs} {number} {input} {alike} {joint} {old} {new} so_far of added is =
     let left = joined_needs joint.slot (drop (left_out_count joint.seam) input.needs.now) in
     build (Untold touched) inputs bs number input alike joint old new so_far of added
-    (silent_brought of.item.survey of.beginning) (map silent_frame left)
+    (map silent_frame left)
     (brings-silent of.item.survey of.beginning) (silent-needs left) tt

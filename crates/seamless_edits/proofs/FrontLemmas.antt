@@ -27,5 +27,5 @@ unfolding front_left_out_count has_lead_in
 front-behind class first run some = grind (arith, leads-some, length-map)
 
 -- the frames of an input fit after a whole window
-pub begin-window : (s : SurveyFields) → CanBeginRun s → FitBehindWindow (input_needs s)
-begin-window s can = grind (arith, more-behind)
+pub begin-window : {s : SurveyFields} → CanBeginRun s → FitBehindWindow (input_needs s)
+begin-window can = grind (arith, more-behind)

@@ -26,29 +26,29 @@ get-at (y ∷ xs) zero e = cc
 get-at (y ∷ xs) (suc place) e = get-at xs place e
 
 -- the input at a place
-pub known-here : (files : Files) (inputs : List InputFields) (place : ℕ) {i : InputFields}
+pub known-here : {files : Files} (inputs : List InputFields) (place : ℕ) {i : InputFields}
     {rest : List InputFields} → AreHeld files inputs → drop place inputs ≡ i ∷ rest
     → IsHeld files i.name i.survey
-known-here files inputs place {i} {rest} known found =
-    known-at files inputs place i known (get-at inputs place found)
+known-here {files} inputs place {i} {rest} known found =
+    known-at inputs place known (get-at inputs place found)
 
 -- the name of an input, by its place
 pub named-at : (inputs : List InputFields) (place : ℕ) {i : InputFields} {rest : List InputFields}
     → drop place inputs ≡ i ∷ rest → i.name ≡ slice_index_or (input_names inputs) place []
-named-at inputs place {i} {rest} e = get-index (input_names inputs) place i.name []
-    (map-get (λ (j : InputFields). j.name) inputs place i (get-at inputs place e))
+named-at inputs place {i} {rest} e = get-index (input_names inputs) place []
+    (map-get (λ (j : InputFields). j.name) inputs place (get-at inputs place e))
 
 -- the beginning of one more input
-pub begun-more : (files : Files) (inputs : List InputFields) (bs : List Beginning)
-    (i : InputFields) (b : Beginning) → AreBeginnings files inputs bs → IsBeginning files i b
+pub begun-more : {files : Files} (inputs : List InputFields) (bs : List Beginning)
+    {i : InputFields} {b : Beginning} → AreBeginnings files inputs bs → IsBeginning files i b
     → AreBeginnings files (inputs ++ i ∷ []) (bs ++ b ∷ [])
-begun-more files [] [] i b are is = (is, tt)
-begun-more files (j ∷ inputs) (c ∷ bs) i b are is = (are.0, begun-more files inputs bs i b are.1 is)
-begun-more files _ _ i b are is = absurd are
+begun-more [] [] are is = (is, tt)
+begun-more {files} (j ∷ inputs) (c ∷ bs) {i} {b} are is = (are.0, begun-more inputs bs are.1 is)
+begun-more _ _ are is = absurd are
 
 -- a pass that doesn't write ends early only because of its input
-pub reads-only : (fault : PassFault) → (fault ≡ Write → ⊥) → IsReadPassFault fault
-reads-only fault never = grind arith
+pub reads-only : {fault : PassFault} → (fault ≡ Write → ⊥) → IsReadPassFault fault
+reads-only never = grind arith
 
 -- ---- bytes that are 0
 
@@ -63,11 +63,11 @@ zeros-number (bit ∷ rest) zeros =
     ap₂ (λ b n. b * 2 ^ length rest + n) (eqb-true bit 0 parts.0) (zeros-number rest parts.1)
     ∙ omega arith
 
-byte-zero : (byte : ℕ) → byte < 256 → (b : Bool) → list_all is_zero (bits_of 8 byte) ≡ b
+byte-zero : {byte : ℕ} → byte < 256 → (b : Bool) → list_all is_zero (bits_of 8 byte) ≡ b
     → (byte ≡ 0 → ⊥) → b ≡ false
-byte-zero byte few true is some =
-    absurd (some (sym (number-bits_of-below 8 byte few) ∙ zeros-number (bits_of 8 byte) is))
-byte-zero byte few false is some = refl
+byte-zero {byte} few true is some =
+    absurd (some (sym (number-bits_of-below 8 few) ∙ zeros-number (bits_of 8 byte) is))
+byte-zero few false is some = refl
 
 -- the bits of one byte more
 zeros-append : (xs ys : List ℕ) → list_all is_zero (bits (xs ++ ys))
@@ -79,9 +79,9 @@ unfolding bits_of
 zero-bits = refl
 
 -- one more byte is 0
-pub zeros-next : (xs : List ℕ) (byte : ℕ) → list_all is_zero (bits xs) ≡ true → byte ≡ 0
+pub zeros-next : (xs : List ℕ) {byte : ℕ} → list_all is_zero (bits xs) ≡ true → byte ≡ 0
     → list_all is_zero (bits (xs ++ byte ∷ [])) ≡ true
-zeros-next xs byte so_far none = grind (arith, zeros-append, bits-one, zero-bits)
+zeros-next xs so_far none = grind (arith, zeros-append, bits-one, zero-bits)
 
 none-and : (b : Bool) → (b && false) ≡ false
 none-and b = grind arith
@@ -93,7 +93,7 @@ zeros-not [] i within few some = absurd (omega (arith, within))
 zeros-not (x ∷ xs) zero within few some =
     ap (list_all is_zero) (bits-cons x xs) ∙ list_all-append is_zero (bits_of 8 x) (bits xs)
     ∙ ap (λ b. b && list_all is_zero (bits xs))
-    (byte-zero x few (list_all is_zero (bits_of 8 x)) refl some)
+    (byte-zero few (list_all is_zero (bits_of 8 x)) refl some)
 zeros-not (x ∷ xs) (suc i) within few some =
     ap (list_all is_zero) (bits-cons x xs) ∙ list_all-append is_zero (bits_of 8 x) (bits xs)
     ∙ ap (λ b. list_all is_zero (bits_of 8 x) && b)
@@ -102,11 +102,11 @@ zeros-not (x ∷ xs) (suc i) within few some =
 -- ---- one more input whose head is set apart
 
 -- when one more head is set apart, all up to it are, and the inputs after it are as they were
-pub apart-next : (xs now : List InputFields) (n : ℕ) (d new : InputFields)
-    → n < length xs → now
+pub apart-next : (xs : List InputFields) {now : List InputFields} {n : ℕ} (d : InputFields)
+    {new : InputFields} → n < length xs → now
     ≡ map input_without_head (take n xs) ++ drop n xs → new ≡ input_without_head (get_or now n d)
     → set now n new ≡ map input_without_head (take (n + 1) xs) ++ drop (n + 1) xs
-apart-next xs now n d new within is one =
+apart-next xs {n = n} d {new} within is one =
     subst (λ (l : List InputFields). set l n new
     ≡ map input_without_head (take (n + 1) xs) ++ drop (n + 1) xs)
     (sym is)
@@ -128,12 +128,11 @@ apart-next xs now n d new within is one =
 
 -- when one more input begins behind what is left out, all up to it do, and the inputs after it are
 -- as they were
-pub from-next : (xs now : List InputFields) (froms : List ℕ) (n : ℕ) (d : InputFields) (from : ℕ)
-    → n < length xs → now ≡ from_places (take n xs) froms ++ drop n xs
-    → drop n froms ≡ from ∷ drop (n + 1) froms
-    → set now n (record (get_or now n d) { from = from })
+pub from-next : (xs : List InputFields) {now : List InputFields} (froms : List ℕ) {n : ℕ}
+    (d : InputFields) {from : ℕ} → n < length xs → now ≡ from_places (take n xs) froms ++ drop n xs
+    → drop n froms ≡ from ∷ drop (n + 1) froms → set now n (record (get_or now n d) { from = from })
     ≡ from_places (take (n + 1) xs) froms ++ drop (n + 1) xs
-from-next xs now froms n d from within is next =
+from-next xs {now} froms {n} d {from} within is next =
     subst (λ (l : List InputFields). set l n (record (get_or l n d) { from = from })
     ≡ from_places (take (n + 1) xs) froms ++ drop (n + 1) xs) (sym is) (at xs froms n within next)
   where

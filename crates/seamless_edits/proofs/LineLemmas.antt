@@ -26,15 +26,15 @@ told-none [] lost = refl
 told-none (name ∷ names) lost = refl
 
 -- past the last joint nothing is told
-pub told-past : (names : List (List ℕ)) (joints : List Joint) (lost : List (List ℕ)) (i : ℕ)
+pub told-past : (names : List (List ℕ)) (joints : List Joint) (lost : List (List ℕ)) {i : ℕ}
     → length joints ≤ i → told_by names (drop i joints) lost ≡ []
-told-past names joints lost i past = rw (drop_all i joints past) (told-none names lost)
+told-past names joints lost {i} past = rw (drop_all i joints past) (told-none names lost)
 
 -- the name of an input comes before the names of those after it
-pub name-next : (inputs : List InputFields) (n : ℕ) (i : InputFields)
+pub name-next : (inputs : List InputFields) (n : ℕ) {i : InputFields}
     → drop n inputs ≡ i ∷ drop (n + 1) inputs
     → drop n (input_names inputs) ≡ i.name ∷ drop (n + 1) (input_names inputs)
-name-next inputs n i is = grind (arith, drop-map)
+name-next inputs n is = grind (arith, drop-map)
 
 -- ---- one line
 
@@ -51,9 +51,9 @@ module _ (waits name piece rest line mid : List ℕ) (s t u : Sent) (named : pie
   line-whole = append_assoc waits piece line ∙ ap₂ (λ (a b : List ℕ). waits ++ (a ++ b)) named is
 
   -- if the name was passed on and then the rest, the whole line was
-  pub line-on : (after : List ℕ) → SendsWaiting (waits ++ piece) mid s t
+  pub line-on : {after : List ℕ} → SendsWaiting (waits ++ piece) mid s t
       → SendsWaiting (mid ++ line) after t u → SendsWaiting (waits ++ (name ++ rest)) after s u
-  line-on after first more = grind (arith, line-whole, sent_more_on)
+  line-on first more = grind (arith, line-whole, sent_more_on)
 
   -- if only a part of the rest was passed on, a part of the line was
   pub line-part : SendsWaiting (waits ++ piece) mid s t → SentPrefix (mid ++ line) t u

@@ -17,29 +17,29 @@ numbers-from n rows =
 
 -- ---- one more frame
 
-next-from : (n i : ℕ) (rows : List Row) (r : Row) → i < length rows → get_or rows i r ≡ r
+next-from : (n i : ℕ) (rows : List Row) {r : Row} → i < length rows → get_or rows i r ≡ r
     → numbers-from n (take (i + 1) rows)
     ≡ numbers-from n (take i rows) ++ cond r.lost ((n + i) ∷ []) []
-next-from n i [] r within is = absurd (omega (arith, within))
-next-from n zero (x ∷ rows) r within is = grind arith
-next-from n (suc i) (x ∷ rows) r within is =
-    grind (arith, next-from (n + 1) i rows r (omega (arith, within)) is)
+next-from n i [] within is = absurd (omega (arith, within))
+next-from n zero (x ∷ rows) within is = grind arith
+next-from n (suc i) (x ∷ rows) {r} within is =
+    grind (arith, next-from (n + 1) i rows (omega (arith, within)) is)
 
 -- a lost frame is added to the numbers, and no other
-pub lost-next : (rows : List Row) (i : ℕ) (r : Row) → i < length rows → get_or rows i r ≡ r
+pub lost-next : (rows : List Row) {i : ℕ} {r : Row} → i < length rows → get_or rows i r ≡ r
     → lost_numbers (take (i + 1) rows)
     ≡ lost_numbers (take i rows) ++ cond r.lost (i ∷ []) []
-lost-next rows i r within is =
+lost-next rows {i} {r} within is =
     let same : 0 + i ≡ i = omega arith in
-    next-from 0 i rows r within is
+    next-from 0 i rows within is
     ∙ ap (λ n. lost_numbers (take i rows) ++ cond r.lost (n ∷ []) []) same
 
 -- ---- how many are written
 
 -- of the numbers of this frame and of these, those from this one on
-one-more : (from n count : ℕ) (numbers : List ℕ) → count_by (nat_le from) numbers ≡ count
+one-more : (from n : ℕ) {count : ℕ} (numbers : List ℕ) → count_by (nat_le from) numbers ≡ count
     → count_by (nat_le from) (n ∷ numbers) ≡ cond (nat_le from n) 1 0 + count
-one-more from n count numbers rest =
+one-more from n numbers rest =
     sum_by-cons (λ m. cond (nat_le from m) 1 0) n numbers
     ∙ ap (λ m. cond (nat_le from n) 1 0 + m) rest
 
@@ -47,10 +47,10 @@ one-more from n count numbers rest =
 abbrev lost-after : ℕ → List Row → List (ℕ × Row)
 lost-after n rows = filter (λ (p : ℕ × Row). p.1.lost) (enumerate_from n rows)
 
-all-from : (from n : ℕ) (rows : List Row) → from ≤ n
+all-from : {from : ℕ} (n : ℕ) (rows : List Row) → from ≤ n
     → count_by (nat_le from) (numbers-from n rows) ≡ lost_count rows
-all-from from n [] least = refl
-all-from from n (x ∷ rows) least = at x.lost (all-from from (n + 1) rows (omega (arith, least)))
+all-from n [] least = refl
+all-from {from} n (x ∷ rows) least = at x.lost (all-from (n + 1) rows (omega (arith, least)))
   where
     at : (lost : Bool) → count_by (nat_le from) (numbers-from (n + 1) rows) ≡ lost_count rows
         → count_by (nat_le from) (map (λ (p : ℕ × Row). p.0)
@@ -58,24 +58,24 @@ all-from from n (x ∷ rows) least = at x.lost (all-from from (n + 1) rows (omeg
         ≡ length (cond lost (x ∷ filter (λ (r : Row). r.lost) rows)
         (filter (λ (r : Row). r.lost) rows))
     at true rest =
-        one-more from n (lost_count rows) (numbers-from (n + 1) rows) rest
+        one-more from n (numbers-from (n + 1) rows) rest
         ∙ ap (λ b. cond b 1 0 + lost_count rows) (le-leb from n least)
         ∙ omega arith
     at false rest = rest
 
-count-from : (from n k : ℕ) (rows : List Row) → from ≡ n + k
+count-from : {from : ℕ} (n k : ℕ) (rows : List Row) → from ≡ n + k
     → count_by (nat_le from) (numbers-from n rows) ≡ lost_count (drop k rows)
-count-from from n zero rows is = all-from from n rows (omega (arith, is))
-count-from from n (suc k) [] is = refl
-count-from from n (suc k) (x ∷ rows) is =
-    at x.lost (count-from from (n + 1) k rows (omega (arith, is)))
+count-from {from} n zero rows is = all-from n rows (omega (arith, is))
+count-from n (suc k) [] is = refl
+count-from {from} n (suc k) (x ∷ rows) is =
+    at x.lost (count-from (n + 1) k rows (omega (arith, is)))
   where
     at : (lost : Bool) → count_by (nat_le from) (numbers-from (n + 1) rows)
         ≡ lost_count (drop k rows) → count_by (nat_le from) (map (λ (p : ℕ × Row). p.0)
         (cond lost ((n, x) ∷ lost-after (n + 1) rows) (lost-after (n + 1) rows)))
         ≡ lost_count (drop k rows)
     at true rest =
-        one-more from n (lost_count (drop k rows)) (numbers-from (n + 1) rows) rest
+        one-more from n (numbers-from (n + 1) rows) rest
         ∙ ap (λ b. cond b 1 0 + lost_count (drop k rows)) (lt-leb from n (omega (arith, is)))
         ∙ omega arith
     at false rest = rest
@@ -83,7 +83,7 @@ count-from from n (suc k) (x ∷ rows) is =
 -- the lost frames that aren't left out are those with greater numbers
 pub lost-same : (from : ℕ) (rows : List Row)
     → lost_from from (lost_numbers rows) ≡ lost_count (drop from rows)
-lost-same from rows = count-from from 0 from rows (omega arith)
+lost-same from rows = count-from 0 from rows (omega arith)
 
 -- ---- one more input
 
@@ -94,11 +94,12 @@ same-input (x ∷ xs) zero d within = refl
 same-input (x ∷ xs) (suc n) d within = same-input xs n d (omega (arith, within))
 
 -- the numbers of the lost frames of one more input come behind those of the inputs before it
-pub lost-more : (xs now : List InputFields) (n : ℕ) (d : InputFields) (so_far : List (List ℕ))
-    (numbers : List ℕ) → n < length xs → now ≡ map input_without_head (take n xs) ++ drop n xs
+pub lost-more : (xs : List InputFields) {now : List InputFields} {n : ℕ} (d : InputFields)
+    {so_far : List (List ℕ)}
+    {numbers : List ℕ} → n < length xs → now ≡ map input_without_head (take n xs) ++ drop n xs
     → numbers ≡ lost_in_input (get_or now n d) → so_far ≡ map lost_in_input (take n xs)
     → so_far ++ (numbers ∷ []) ≡ map lost_in_input (take (n + 1) xs)
-lost-more xs now n d so_far numbers within is one before =
+lost-more xs {n = n} d {numbers = numbers} within is one before =
     let here : numbers ≡ lost_in_input (get_or xs n d) =
     one ∙ ap (λ (l : List InputFields). lost_in_input (get_or l n d)) is
     ∙ ap lost_in_input (same-input xs n d within) in

@@ -9,11 +9,11 @@ use Rattle.seamless_edits.specs.Numbers.{first_head, last_head}
 use Rattle.seamless_edits.specs.declared.beginnings.Beginning.{Beginning}
 
 -- a head that counts says what is after the last played position
-pub rest-counted : (head : Option Info) (class : ClassFields) (frames : ℕ) (p : Played)
+pub rest-counted : (head : Option Info) (class : ClassFields) (frames : ℕ) {p : Played}
     → Some p ≡ counted_positions head class frames
     → rest_of class frames (played_of head class frames) ≡ rest_of class frames p
 unfolding counted_positions played_of
-rest-counted head class frames p is = grind (arith, option_map)
+rest-counted head class frames is = grind (arith, option_map)
 
 -- if the head doesn't count, nothing is after the last played position
 pub rest-none : (head : Option Info) (class : ClassFields) (frames : ℕ) → None

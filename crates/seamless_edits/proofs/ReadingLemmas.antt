@@ -30,7 +30,7 @@ module _ (window input : List ℕ) (files : Files) (s : SurveyFields) (i : ℕ) 
     (area_is : area ≡ own_area r.header) (begin_is : begin ≡ r.side.main_data_begin)
     (count_is : count ≡ payload_bits r.side) where
   within : IsWithin s.head s.frames i r
-  within = data-within s.head s.class s.frames i r (laid.placed i r found) kept
+  within = data-within (laid.placed i r found) kept
 
   least : count ≤ 8 * payload_bytes r.side
   least = grind (arith, bytes-are, bits-least)
@@ -41,9 +41,9 @@ module _ (window input : List ℕ) (files : Files) (s : SurveyFields) (i : ℕ) 
     held = λ few.
         omega (
           arith,
-          window-holds window over.main over.held,
+          window-holds over.main over.held,
           over.long,
-          place-next s.head s.frames i r found,
+          place-next s.head s.frames i found,
           area_is,
           begin_is,
           within.begins,

@@ -46,8 +46,8 @@ module _ (first : FilePart) (parts : List FilePart) where
   info-sizes row (Some delay) =
       let extension = run_extension delay first parts in
       let whole =
-      for-whole class frames (quality_of (part_head first)) extension (run-long delay) in
-      let sealed = sealed-whole row.header _ whole in
+      for-whole class frames (quality_of (part_head first)) (run-long delay) in
+      let sealed = sealed-whole row.header whole in
       record { table = sealed.table; extension = sealed.extension }
 
   -- ---- the file
@@ -108,42 +108,44 @@ module _ (first : FilePart) (parts : List FilePart) where
 
 -- ---- inputs that aren't refused
 
-part-whole : (files : Contents) (c : ClassFields) (place : ℕ) (first : Option ClassFields)
-    (allowed : ℕ) (name : List ℕ) (part : FilePart) → join_part place first allowed (files name)
+part-whole : (files : Contents) {c : ClassFields} (place : ℕ) (first : Option ClassFields)
+    (allowed : ℕ) (name : List ℕ) {part : FilePart} → join_part place first allowed (files name)
     ≡ Ok part → part.survey.class ≡ c → IsWholeFile c part
-part-whole files c place first allowed name part e same =
-    let is = part-is place first allowed (files name) part e in
+part-whole files {c} place first allowed name {part} e same =
+    let is = part-is place (files name) e in
     subst (IsWholeFile c) is.whole
     (record {
-      had = survey-had is.file allowed is.survey is.surveyed;
+      had = survey-had allowed is.surveyed;
       same = ap (λ (p : FilePart). p.survey.class) is.whole ∙ same;
       from = refl;
       to = refl;
-      some = some-frames is.file allowed is.survey is.surveyed;
+      some = some-frames is.file allowed is.surveyed;
     })
 
-then-parts : (part : FilePart) (r : Result (List FilePart) EditFault) (parts : List FilePart)
+then-parts : {part : FilePart} {r : Result (List FilePart) EditFault} {parts : List FilePart}
     → then_made r (λ later. Ok (part ∷ later)) ≡ Ok parts
     → (later : List FilePart) × (r ≡ Ok later) × (part ∷ later ≡ parts)
-then-parts part r parts e = grind arith
+then-parts e = grind arith
 
 -- the inputs after the first, which are of its class
 later-whole : (files : Contents) (c : ClassFields) (place allowed : ℕ) (names : List (List ℕ))
-    (parts : List FilePart) → join_parts_from place (Some c) allowed files names ≡ Ok parts
+    {parts : List FilePart} → join_parts_from place (Some c) allowed files names ≡ Ok parts
     → AreWholeFiles c parts
 unfolding join_parts_from
-later-whole files c place allowed [] parts e = grind arith
-later-whole files c place allowed (name ∷ names) parts e =
-    let one = then_ok (join_part place (Some c) allowed (files name)) _ parts e in
+later-whole files c place allowed [] e = grind arith
+later-whole files c place allowed (name ∷ names) {parts} e =
+    let one =
+    then_ok {r = join_part place (Some c) allowed (files name)} {make = _} {b = parts} e in
     let part : FilePart = one.0 in
     let left : ℕ = allowed - length part.survey.frames in
     let more =
-    then-parts part (join_parts_from (place + 1) (Some c) left files names) parts one.2 in
-    let is = part-is place (Some c) allowed (files name) part one.1 in
+    then-parts {part = part} {r = join_parts_from (place + 1) (Some c) left files names} {parts =
+    parts} one.2 in
+    let is = part-is place {first = Some c} {allowed = allowed} (files name) {part = part} one.1 in
     let same = ap (λ (p : FilePart). p.survey.class) (sym is.whole) ∙ is.follows in
     subst (AreWholeFiles c) more.2 (
-      part-whole files c place (Some c) allowed name part one.1 same,
-      later-whole files c (place + 1) left names more.0 more.1,
+      part-whole files {c = c} place (Some c) allowed name {part = part} one.1 same,
+      later-whole files c (place + 1) left names {parts = more.0} more.1,
     )
 
 -- all inputs are whole files
@@ -155,27 +157,27 @@ pub record AreInputFiles (parts : List FilePart) : Type 0 where
   pub all : AreWholeFiles first.survey.class more
 
 -- the parts that were made from the files are whole files
-pub parts-whole : (files : Contents) (names : List (List ℕ)) (parts : List FilePart)
+pub parts-whole : (files : Contents) (names : List (List ℕ)) {parts : List FilePart}
     → 1 ≤ length names → join_parts files names ≡ Ok parts → AreInputFiles parts
 unfolding join_parts_from
-parts-whole files [] parts some e = absurd (omega (arith, some))
-parts-whole files (name ∷ names) parts some e =
-    let one = then_ok (join_part 0 None most_frames (files name)) _ parts e in
+parts-whole files [] some e = absurd (omega (arith, some))
+parts-whole files (name ∷ names) {parts} some e =
+    let one = then_ok e in
     let part : FilePart = one.0 in
     let left : ℕ = most_frames - length part.survey.frames in
     let later = join_parts_from (0 + 1) (Some part.survey.class) left files names in
-    let more = then-parts part later parts one.2 in
+    let more = then-parts one.2 in
     record {
       first = part;
       more = more.0;
       is = more.2;
-      whole = part-whole files part.survey.class 0 None most_frames name part one.1 refl;
-      all = later-whole files part.survey.class (0 + 1) left names more.0 more.1;
+      whole = part-whole files 0 None most_frames name one.1 refl;
+      all = later-whole files part.survey.class (0 + 1) left names more.1;
     }
 
 -- the file made from them holds its stream
-pub files-hold : (files : Contents) (names : List (List ℕ)) (parts : List FilePart)
+pub files-hold : (files : Contents) (names : List (List ℕ)) {parts : List FilePart}
     → 1 ≤ length names → join_parts files names ≡ Ok parts
     → HoldsStream (seamless_file parts) (seamless_stream parts)
-files-hold files names parts some e =
-    grind (arith, parts-whole files names parts some e, seamless-holds)
+files-hold files names {parts} some e =
+    grind (arith, parts-whole files names some e, seamless-holds)

@@ -56,40 +56,42 @@ AreGiven [] [] = Unit {0}
 AreGiven (need ∷ needs) (f ∷ fs) = IsNeedOf need f × AreGiven needs fs
 AreGiven _ _ = ⊥
 
-piece-by : (b : Bool) (p : Placed) (need : Need) (f : Frame) → IsNeedOf need f
+piece-by : (b : Bool) (p : Placed) {need : Need} {f : Frame} → IsNeedOf need f
     → (length (one b p f).payload ≡ placed_bytes b need)
     × ((one b p f).kept.side.main_data_begin ≡ p.begin)
     × (frame_area (one b p f).kept
     ≡ area_of (class_of need.header) p.slot (cond b false need.header.protected))
-piece-by b p need f is = grind arith
+piece-by b p is = grind arith
 
-next-given : (b : Bool) (need : Need) (needs : List Need) (f : Frame) (fs : List Frame)
+next-given : (b : Bool) {need : Need} (needs : List Need) {f : Frame} (fs : List Frame)
     → AreGiven (need ∷ needs) (f ∷ fs) → AreGiven (rest_behind b need needs) (rest_behind b f fs)
-next-given b need needs f fs are = grind arith
+next-given b needs fs are = grind arith
 
 -- from a place on after which there are `reach` free bytes within reach
-laid-from : (c : ClassFields) (needs : List Need) (fs : List Frame) (placed : List Placed)
-    (reach end before : ℕ) → AreStreamEntries c fs → AreGiven needs fs → AreInSlots placed
+laid-from : {c : ClassFields} (needs : List Need) (fs : List Frame) (placed : List Placed)
+    {reach end before : ℕ} → AreStreamEntries c fs → AreGiven needs fs → AreInSlots placed
     → FitsFromReach (window_of c.version) reach needs placed → reach ≤ window_of c.version
     → end + reach ≤ before → AreLaidFrom c end before (relaid_frames fs placed)
     (stream_with_lead_ins placed (map stream_entry fs))
 unfolding FitsFromReach
-laid-from c [] [] placed reach end before are given slots fits near room =
+laid-from {c} [] [] placed {end = end} {before = before} are given slots fits near room =
     none_laid c end before placed
-laid-from c (need ∷ needs) (f ∷ fs) [] reach end before are given slots fits near room = absurd fits
-laid-from c (need ∷ needs) (f ∷ fs) (p ∷ placed) reach end before are given slots fits near room =
+laid-from (need ∷ needs) (f ∷ fs) [] are given slots fits near room = absurd fits
+laid-from {c} (need ∷ needs) (f ∷ fs) (p ∷ placed)
+    {end = end} {before = before} are given slots fits near room =
     let window = window_of c.version in
     let g = one p.lead_in p f in
     let bytes = placed_bytes p.lead_in need in
     let area = placed_area p need in
-    let piece = piece-by p.lead_in p need f given.0 in
+    let piece = piece-by p.lead_in p {need = need} {f = f} given.0 in
     let begins : g.kept.side.main_data_begin ≡ p.begin = piece.1 in
     let ended : ℕ = before - g.kept.side.main_data_begin + bytes in
     let left : List Frame = rest_behind p.lead_in f fs in
-    let others = next-entries c p.lead_in f fs are.0 are.1 in
-    let more = next-given p.lead_in need needs f fs given in
-    let behind = laid-from c (rest_behind p.lead_in need needs) left placed
-    (reach_behind window p need) ended (before + area) others more slots.1 fits.2 (omega arith)
+    let others = next-entries {c = c} p.lead_in {f = f} fs are.0 are.1 in
+    let more = next-given p.lead_in {need = need} needs {f = f} fs given in
+    let behind = laid-from {c = c} (rest_behind p.lead_in need needs) left placed
+    {reach = reach_behind window p need} {end = ended} {before = before + area} others more
+    slots.1 fits.2 (omega arith)
     (omega (arith, begins, fits.0, fits.1, room)) in
     let Laid : List Frame → List StreamFrame → Type 0 =
     λ frames stream. AreLaidFrom c ended (before + area) frames stream in
@@ -102,11 +104,12 @@ laid-from c (need ∷ needs) (f ∷ fs) (p ∷ placed) reach end before are give
     (sym (relaid_frames-cons p placed f fs))
     (subst (λ (l : List StreamFrame). AreLaidFrom c end before (g ∷ relaid_frames left placed) l)
     (sym (stream-cons p placed (stream_entry f) (map stream_entry fs)))
-    (laid_more c end before bytes area g (relaid_frames left placed)
-    (one_in_stream p.lead_in (stream_entry f)) (stream_with_lead_ins placed stream) is
+    (laid_more {c = c} {end = end} {before = before} {bytes = bytes} {area = area} {g = g} {gs =
+    relaid_frames left placed}
+    {q = one_in_stream p.lead_in (stream_entry f)} {qs = stream_with_lead_ins placed stream} is
     (one-stream p.lead_in p f) piece.0 piece.2
     (omega (arith, begins, fits.0, room)) (omega (arith, begins, fits.0, fits.1, room)) there))
-laid-from c _ _ placed reach end before are given slots fits near room = absurd given
+laid-from _ _ placed are given slots fits near room = absurd given
 
 some-from : (window reach : ℕ) (needs : List Need) (fs : List Frame) (placed : List Placed)
     → AreGiven needs fs → FitsFromReach window reach needs placed → 0 < length fs
@@ -117,7 +120,7 @@ some-from window reach needs fs placed given fits some = grind (arith, relaid_fr
 -- ---- frames in other slots
 
 own_slots : AreSlots own_choice
-own_slots h slot is has = subst IsSlot (only_one h.slot slot has) is.slot
+own_slots h slot is has = subst IsSlot (only_one has) is.slot
 
 -- what is known of the needs and of the frames
 record AreKnown (c : ClassFields) (needs : List Need) (fs : List Frame) : Type 0 where
@@ -126,36 +129,36 @@ record AreKnown (c : ClassFields) (needs : List Need) (fs : List Frame) : Type 0
   classes : AreNeedsOfClass c needs
   order : All (ChoosesInOrder own_choice) needs
 
-slot-by : (need moved : Need) → IsMoved need moved → IsHeader need.header → IsSlot moved.header.slot
-slot-by need moved is known = at is.slot
+slot-by : {need moved : Need} → IsMoved need moved → IsHeader need.header → IsSlot moved.header.slot
+slot-by {need} {moved} is known = at is.slot
   where
     at : (moved.header.slot ≡ need.header.slot) ⊎ Contains all_slots moved.header.slot
         → IsSlot moved.header.slot
     at (inl own) = subst IsSlot (sym own) known.slot
-    at (inr other) = slot_among moved.header.slot other
+    at (inr other) = slot_among other
 
-header-by : (need moved : Need) → IsMoved need moved → IsHeader need.header → IsHeader moved.header
-header-by need moved is known = grind (arith, slot-by need moved is known, known)
+header-by : {need moved : Need} → IsMoved need moved → IsHeader need.header → IsHeader moved.header
+header-by {need} {moved} is known = grind (arith, slot-by is known, known)
 
-own-order : (need : Need) → IsHeader need.header → ChoosesInOrder own_choice need
-own-order need known = record {
-  class = IsClass-class_of need.header known;
+own-order : {need : Need} → IsHeader need.header → ChoosesInOrder own_choice need
+own-order {need} known = record {
+  class = IsClass-class_of known;
   ascending = λ i j d before lt. absurd (omega (arith, before, lt));
   own = (0, omega arith, refl);
 }
 
-moved-known : (c : ClassFields) (own needs : List Need) (fs : List Frame) → AreMoved own needs
+moved-known : {c : ClassFields} (own needs : List Need) (fs : List Frame) → AreMoved own needs
     → AreNeedsOf own fs → AreStreamEntries c fs → AreKnown c needs fs
 unfolding AreNeedsOfClass
-moved-known c [] [] [] moved are entries =
+moved-known [] [] [] moved are entries =
     record { given = tt; headers = tt; classes = tt; order = All-nil (ChoosesInOrder own_choice) }
-moved-known c [] [] (f ∷ fs) moved are entries = absurd are
-moved-known c [] (m ∷ needs) fs moved are entries = absurd moved
-moved-known c (n ∷ own) [] fs moved are entries = absurd moved
-moved-known c (n ∷ own) (m ∷ needs) [] moved are entries = absurd are
-moved-known c (n ∷ own) (m ∷ needs) (f ∷ fs) moved are entries =
-    let more = moved-known c own needs fs moved.1 are.2 entries.1 in
-    let known = header-by n m moved.0 (subst IsHeader (sym are.0) entries.0.header) in
+moved-known [] [] (f ∷ fs) moved are entries = absurd are
+moved-known [] (m ∷ needs) fs moved are entries = absurd moved
+moved-known (n ∷ own) [] fs moved are entries = absurd moved
+moved-known (n ∷ own) (m ∷ needs) [] moved are entries = absurd are
+moved-known {c} (n ∷ own) (m ∷ needs) (f ∷ fs) moved are entries =
+    let more = moved-known own needs fs moved.1 are.2 entries.1 in
+    let known = header-by moved.0 (subst IsHeader (sym are.0) entries.0.header) in
     let class : class_of m.header ≡ class_of f.kept.header = grind arith in
     let word : m.header.protected ≡ f.kept.header.protected = grind arith in
     let bytes : m.bytes ≡ length f.payload = ap (λ (x : Need). x.bytes) moved.0.is ∙ are.1 in
@@ -163,7 +166,7 @@ moved-known c (n ∷ own) (m ∷ needs) (f ∷ fs) moved are entries =
       given = (record { class = class; protected = word; bytes = bytes }, more.given);
       headers = (known, more.headers);
       classes = (class ∙ entries.0.class, more.classes);
-      order = All-cons (ChoosesInOrder own_choice) m needs (own-order m known) more.order;
+      order = All-cons (ChoosesInOrder own_choice) m needs (own-order known) more.order;
     }
 
 -- ---- an input
@@ -189,27 +192,27 @@ zip-needs class (r ∷ rows) [] same = absurd (omega (arith, same))
 zip-needs class (r ∷ rows) (f ∷ stream) same =
     ap (λ (l : List Need). need_of r ∷ l) (zip-needs class rows stream (omega (arith, same)))
 
-range-behind : {X : Type 0} (xs : List X) (from to : ℕ) → to ≡ length xs
+range-behind : {X : Type 0} (xs : List X) (from : ℕ) {to : ℕ} → to ≡ length xs
     → slice_range xs from to ≡ drop from xs
-range-behind xs from to is = grind (arith, take_all, to, from, length-drop)
+range-behind xs from {to} is = grind (arith, take_all, to, from, length-drop)
 
 module _ (c : ClassFields) (p : FilePart) (is : IsWholeFile c p) where
   abbrev own : SurveyFields
   own = survey_without_head p.survey
 
   has : CanBeRelaid p.file own
-  has = survey_without_head-had p.file p.survey is.had
+  has = survey_without_head-had is.had
       (survey_without_head-placed p.survey is.had.placed)
 
   end : p.to ≡ length own.frames
   end = is.to ∙ sym (survey_without_head-length p.survey)
 
-  range-is : {X : Type 0} (xs : List X) → length xs ≡ length own.frames
+  range-is : {X : Type 0} {xs : List X} → length xs ≡ length own.frames
       → slice_range xs p.from p.to ≡ xs
-  range-is xs same = grind (arith, slice_range, end, same, range-whole)
+  range-is same = grind (arith, slice_range, end, same, range-whole)
 
   rows-are : part_rows (part_without_head p) ≡ own.frames
-  rows-are = range-is own.frames refl
+  rows-are = range-is refl
 
   stream-same : length (part_stream (part_without_head p))
       ≡ length (part_rows (part_without_head p))
@@ -226,10 +229,10 @@ module _ (c : ClassFields) (p : FilePart) (is : IsWholeFile c p) where
   -- its frames fit after 0 free bytes
   pub brought-alone : FitsAlone c (part_brought p)
   brought-alone =
-      let none = placed-apart p.survey.head p.survey.class p.survey.frames is.had.placed in
+      let none = placed-apart p.survey.head is.had.placed in
       let rows = rows_set_apart p.survey.head p.survey.frames in
       let placed = placed-emptied None p.survey.class rows none in
-      let fits = rows-alone p.survey.class own.frames placed in
+      let fits = rows-alone placed in
       subst (λ (d : ClassFields). FitsAlone d (part_brought p)) is.same
       (subst (FitsBehind (window_of p.survey.class.version) 0) (sym needs-are) fits)
 
@@ -237,13 +240,12 @@ module _ (c : ClassFields) (p : FilePart) (is : IsWholeFile c p) where
   own-needs : (from : ℕ)
       → part_needs (part_from from p) ≡ needs_of (drop from (part_brought p).frames)
   own-needs from =
-      ap (map need_of) (range-behind own.frames from p.to end)
+      ap (map need_of) (range-behind own.frames from end)
       ∙ sym (drop-map need_of from own.frames) ∙ ap (drop from) (sym needs-are)
       ∙ drop-map (λ (f : RunFrame). f.need) from (part_brought p).frames
 
-  part-is : (from : ℕ) → from < p.to → IsPart c (part_from from p)
-  part-is from some =
-      record { has = has; class = is.same; some = some; within = omega (arith, end) }
+  part-is : {from : ℕ} → from < p.to → IsPart c (part_from from p)
+  part-is some = record { has = has; class = is.same; some = some; within = omega (arith, end) }
 
 -- ---- parts, some of which may have no frame
 
@@ -255,11 +257,11 @@ range-none : {X : Type 0} (xs : List X) (from to : ℕ) → nat_lt from to ≡ f
     → slice_range xs from to ≡ []
 range-none xs from to e = grind (arith, to, from, ltb-false)
 
-flat-kept : {X : Type 0} (f : FilePart → List X)
+flat-kept : {X : Type 0} {f : FilePart → List X}
     → ((p : FilePart) → nat_lt p.from p.to ≡ false → f p ≡ []) → (parts : List FilePart)
     → flat_map f (with-frames parts) ≡ flat_map f parts
-flat-kept f none [] = refl
-flat-kept f none (p ∷ parts) = grind (arith, flat_map, flat-kept f none parts)
+flat-kept none [] = refl
+flat-kept {f = f} none (p ∷ parts) = grind (arith, flat_map, flat-kept none parts)
 
 -- each part that has a frame is a part of the class
 abbrev AreIf : ClassFields → List FilePart → Type 0
@@ -282,13 +284,14 @@ record AreLaidParts (c : ClassFields) (parts : List FilePart) : Type 0 where
   entries : AreStreamEntries c (flat_map part_frames parts)
   stream : map stream_entry (flat_map part_frames parts) ≡ flat_map part_stream parts
 
-laid-parts : (c : ClassFields) (parts : List FilePart) → AreIf c parts → AreLaidParts c parts
-laid-parts c parts are =
+laid-parts : {c : ClassFields} {parts : List FilePart} → AreIf c parts → AreLaidParts c parts
+laid-parts {c} {parts} are =
     let kept = with-frames parts in
     let is = kept-are c parts are in
-    let frames = flat-kept part_frames (λ p e. range-none _ p.from p.to e) parts in
-    let needs = flat-kept part_needs (λ p e. ap (map need_of) (range-none _ p.from p.to e)) parts in
-    let stream = flat-kept part_stream (λ p e. range-none _ p.from p.to e) parts in
+    let frames = flat-kept {f = part_frames} (λ p e. range-none _ p.from p.to e) parts in
+    let needs =
+    flat-kept {f = part_needs} (λ p e. ap (map need_of) (range-none _ p.from p.to e)) parts in
+    let stream = flat-kept {f = part_stream} (λ p e. range-none _ p.from p.to e) parts in
     record {
       needs = grind (arith, flat_map, flat-needs, needs, parts-needs);
       entries = subst (AreStreamEntries c) frames (parts-entries c kept is);
@@ -309,7 +312,7 @@ joints-are c [] [] are add = tt
 joints-are c [] (p ∷ parts) are add = absurd add
 joints-are c (j ∷ joints) [] are add = absurd add
 joints-are c (j ∷ joints) (p ∷ parts) are add =
-    (part-is c p are.0 (left_out_count j.seam), joints-are c joints parts are.1 add.1)
+    (part-is c p are.0, joints-are c joints parts are.1 add.1)
 
 joints-moved : (c : ClassFields) (joints : List JointFrames) (parts : List FilePart)
     → AreWholeFiles c parts → AddOwn joints (map part_brought parts)
@@ -356,13 +359,13 @@ module _ (first : FilePart) (parts : List FilePart) (is : IsWholeFile first.surv
   front-within = omega (arith, run-joined.front, brought-many class first is)
 
   front-part : IsPart class (part_from joined.front first)
-  front-part = part-is class first is joined.front (omega (arith, is.to, front-within))
+  front-part = part-is class first is (omega (arith, is.to, front-within))
 
   all-are : AreIf class all
   all-are = ((λ some. front-part), joints-are class joined.joints parts are run-joined.own)
 
   laid-all : AreLaidParts class all
-  laid-all = laid-parts class all all-are
+  laid-all = laid-parts all-are
 
   run-moved : AreMoved (flat_map part_needs all) (needs_of run)
   run-moved =
@@ -379,7 +382,7 @@ module _ (first : FilePart) (parts : List FilePart) (is : IsWholeFile first.surv
 
   known : AreKnown class (needs_of run) (flat_map part_frames all)
   known =
-      moved-known class (flat_map part_needs all) (needs_of run) (flat_map part_frames all)
+      moved-known (flat_map part_needs all) (needs_of run) (flat_map part_frames all)
       run-moved laid-all.needs laid-all.entries
 
   -- the plan is the first list of own slots in which the run has a layout
@@ -388,7 +391,7 @@ module _ (first : FilePart) (parts : List FilePart) (is : IsWholeFile first.surv
   run-planned =
       let OfClass : List Need → Type 0 = λ part. AreNeedsOfClass class part in
       let InOrder : List Need → Type 0 = λ part. All (ChoosesInOrder own_choice) part in
-      (least-plan-is class own_choice (needs_of run ∷ []) (run_plan first parts)
+      (least-plan-is class (run_plan first parts)
       (All-cons OfClass (needs_of run) [] known.classes (All-nil OfClass))
       (All-cons InOrder (needs_of run) [] known.order (All-nil InOrder))
       (run-joined.fits, tt)).1 refl
@@ -398,14 +401,14 @@ module _ (first : FilePart) (parts : List FilePart) (is : IsWholeFile first.surv
   run-fitting =
       subst (λ (needs : List Need). IsFittingPlan window needs (run_plan first parts))
       (append-nil (needs_of run))
-      (parts-fitting window own_choice own_slots (needs_of run ∷ []) (run_plan first parts)
+      (parts-fitting window own_choice own_slots
       (known.headers, tt) run-planned)
 
   some-frames : 0 < length (flat_map part_frames all)
   some-frames =
       let part : FilePart = part_from joined.front first in
       let later = flat_map part_frames (later_parts joined.joints parts) in
-      omega (arith, part-some class part front-part, length-append (part_frames part) later)
+      omega (arith, part-some front-part, length-append (part_frames part) later)
 
   given-length : (needs : List Need) (fs : List Frame) → AreGiven needs fs
       → length fs ≡ length needs
@@ -433,7 +436,7 @@ module _ (first : FilePart) (parts : List FilePart) (is : IsWholeFile first.surv
       let fs = flat_map part_frames all in
       let plan : List Placed = run_plan first parts in
       let fits = run-fitting in
-      let laid = laid-from class (needs_of run) fs plan 0 0 0 laid-all.entries known.given
+      let laid = laid-from (needs_of run) fs plan laid-all.entries known.given
       fits.slots fits.fits (omega arith) (omega arith) in
       record {
         some = some-from window 0 (needs_of run) fs plan known.given fits.fits some-frames;

@@ -53,7 +53,7 @@ apart-exact : (files : Files) (name : List ℕ) (s : SurveyFields) → IsSurveyL
     → ((file : List ℕ) → Holds files name file → CanBeRelaid file s) → (file : List ℕ)
     → Holds files name file → CanBeRelaid file (survey_without_head s)
 apart-exact files name s laid exact file holds =
-    survey_without_head-had file s (exact file holds) (survey_without_head-placed s laid.placed)
+    survey_without_head-had (exact file holds) (survey_without_head-placed s laid.placed)
 
 -- inputs that can be read can be read when their heads are set apart
 held-apart : (files : Files) (inputs : List InputFields) → AreHeld files inputs
@@ -94,7 +94,7 @@ inputs-known first allowed files [] are = tt
 inputs-known first allowed files (i ∷ inputs) are = (
   record {
     there = are.0.there;
-    exact = λ file holds. survey-had file allowed i.survey (are.0.exact file holds);
+    exact = λ file holds. survey-had allowed (are.0.exact file holds);
     laid = are.0.laid;
   },
   inputs-known (Some (unwrap_or first i.survey.class)) (allowed - length i.survey.frames) files
@@ -119,9 +119,9 @@ class-apart : (inputs : List InputFields)
 class-apart inputs = grind arith
 
 -- inputs that can be joined can be joined when their heads are set apart
-pub join-apart : (inputs : List InputFields) → CanInputsBeJoined inputs
+pub join-apart : {inputs : List InputFields} → CanInputsBeJoined inputs
     → CanInputsBeJoined (map input_without_head inputs)
-join-apart inputs can = record {
+join-apart {inputs} can = record {
   class = can.class;
   first = class-apart inputs ∙ can.first;
   alike = alike-apart can.class inputs can.alike;
@@ -129,16 +129,16 @@ join-apart inputs can = record {
   frames = omega (arith, frames-apart inputs, can.frames);
 }
 
-alone-apart : (s : SurveyFields) → IsSurveyLaidOut s → FitsAlone (survey_without_head s)
-alone-apart s laid =
-    let none = placed-apart s.head s.class s.frames laid.placed in
-    rows-alone s.class (survey_without_head s).frames
+alone-apart : {s : SurveyFields} → IsSurveyLaidOut s → FitsAlone (survey_without_head s)
+alone-apart {s} laid =
+    let none = placed-apart s.head laid.placed in
+    rows-alone
     (placed-emptied None s.class (rows_set_apart s.head s.frames) none)
 
 all-alone : (class : ClassFields) (inputs : List InputFields) → AreInputsOfClass class inputs
     → FitAlone (map input_without_head inputs)
 all-alone class [] are = tt
-all-alone class (i ∷ inputs) are = (alone-apart i.survey are.1, all-alone class inputs are.3)
+all-alone class (i ∷ inputs) are = (alone-apart are.1, all-alone class inputs are.3)
 
 -- there are as many beginnings as inputs
 begun-long : (files : Files) (inputs : List InputFields) (bs : List Beginning)
@@ -146,11 +146,11 @@ begun-long : (files : Files) (inputs : List InputFields) (bs : List Beginning)
 begun-long files inputs bs are = AllZip-long (IsBeginning files) inputs bs are
 
 -- it can be decided what becomes of inputs whose heads are set apart
-pub apart-decided : (files : Files) (inputs : List InputFields) (bs : List Beginning)
+pub apart-decided : {files : Files} {inputs : List InputFields} {bs : List Beginning}
     → AreJoinInputs None most_frames files inputs → CanInputsBeJoined inputs
     → AreBeginnings files inputs bs → CanBeDecided files (map input_without_head inputs) bs
-apart-decided files inputs bs are can begun = record {
-  joined = join-apart inputs can;
+apart-decided {files} {inputs} {bs} are can begun = record {
+  joined = join-apart can;
   known = held-apart files inputs (inputs-known None most_frames files inputs are);
   fit = all-alone can.class inputs can.alike;
   begun = begun-long files inputs bs begun ∙ sym (length-map inputs input_without_head);
@@ -162,7 +162,7 @@ heads-told : (first : Option ClassFields) (allowed : ℕ) (f : Contents) (inputs
     → AreBeginnings (Told f) inputs bs → AreHeads f inputs bs
 heads-told first allowed f [] [] are begun = tt
 heads-told first allowed f (i ∷ inputs) (b ∷ bs) are begun =
-    let held = there_holds f i.name are.0.there in
+    let held = there_holds f are.0.there in
     let file : unwrap_or (f i.name) [] ≡ held.0 =
     ap (λ (o : Option (List ℕ)). unwrap_or o []) held.1 in (
       (begun.0.head (unwrap_or (f i.name) []) (held.1 ∙ ap Some (sym file)), begun.0.blank),
@@ -174,15 +174,15 @@ heads-told first allowed f (i ∷ inputs) [] are begun = absurd begun
 -- ---- what is made of the inputs
 
 -- the frames of the decided run can be written
-pub made-written : (output : List ℕ) (files : Files) (inputs : List InputFields)
-    (bs : List Beginning) (made : MadeRun)
+pub made-written : {output : List ℕ} {files : Files} (inputs : List InputFields)
+    {bs : List Beginning} {made : MadeRun}
     → clash_from (output ∷ []) 0 (input_names inputs) ≡ None
     → AreJoinInputs None most_frames files inputs
     → CanInputsBeJoined inputs → IsRunMade files (map input_without_head inputs) bs made
     → CanJoinBeWritten output files
     (from_places (map input_without_head inputs) (left_out_of made.decided)) made.work
-made-written output files [] bs made free are can is = let first = can.first in absurd cc
-made-written output files (i ∷ inputs) bs made free are can is =
+made-written [] free are can is = let first = can.first in absurd cc
+made-written {output} {files} (i ∷ inputs) {made = made} free are can is =
     let class = can.class in
     let first = can.first in
     record {
@@ -225,7 +225,7 @@ module _ (f : Contents) (i : InputFields) (inputs : List InputFields) (b : Begin
   heads = heads-told None most_frames f (i ∷ inputs) (b ∷ bs) are begun
 
   of : AllOf s.class (i ∷ inputs)
-  of = all-of s.class (i ∷ inputs) (alike-first i inputs can)
+  of = all-of s.class (i ∷ inputs) (alike-first can)
 
   class-same : is.decided.run.class ≡ s.class
   class-same = let first = is.decided.run.class_is in cc
@@ -235,10 +235,10 @@ module _ (f : Contents) (i : InputFields) (inputs : List InputFields) (b : Begin
   decided = grind (arith, class-same)
 
   -- the bytes that are written are the file
-  pub made-file : (bytes : List ℕ) → f i.name ≡ Some bytes → join_bytes (Told f)
+  pub made-file : {bytes : List ℕ} → f i.name ≡ Some bytes → join_bytes (Told f)
       (from_places (map input_without_head (i ∷ inputs)) (left_out_of made.decided))
       made.work bytes ≡ seamless_file (whole_parts f (i ∷ inputs))
-  made-file bytes held =
+  made-file {bytes} held =
       let file : unwrap_or (f i.name) [] ≡ bytes = grind (arith, unwrap_or) in
       let within : made.decided.front < length s.frames =
       omega
@@ -249,7 +249,7 @@ module _ (f : Contents) (i : InputFields) (inputs : List InputFields) (b : Begin
       ++ bytes_of_frames (relaid_frames (flat_map part_frames (map (part_in f) left))
       (entries made.work.plan))) (sym file)
       ∙ seamless-written f i inputs b bs made.decided (entries made.work.plan) heads of
-      decided is.run.plan made.work.info.items is.run.fits.fits is.run.info within
+      decided is.run.plan is.run.fits.fits is.run.info within
 
   -- the lines that are sent are the text
   pub made-text : (names : List (List ℕ)) → told_lines (drop 1 names) made.decided.joints.items
@@ -305,10 +305,10 @@ module _ (names : List (List ℕ)) (files : Files) (ready : Ready)
       )) ∙ is.named)
 
   -- what was prepared can be written
-  pub ready-writable : (output : List ℕ) → clash_from (output ∷ []) 0 names ≡ None
+  pub ready-writable : {output : List ℕ} → clash_from (output ∷ []) 0 names ≡ None
       → CanJoinBeWritten output files left_inputs ready.made.work
-  ready-writable output free = rw is.inputs
-      (made-written output files is.found is.bs ready.made (rw is.named free) is.are is.joined
+  ready-writable {output} free = rw is.inputs
+      (made-written is.found (rw is.named free) is.are is.joined
       is.made)
 
   abbrev pub made_of : List ℕ → List ℕ
@@ -316,13 +316,13 @@ module _ (names : List (List ℕ)) (files : Files) (ready : Ready)
 
 module _ (names : List (List ℕ)) (some : 1 ≤ length names) where
   -- what was prepared makes what the task makes
-  pub ready-making : (files : Files) (ready : Ready) (is : IsSeamlessReady names files ready)
+  pub ready-making : {files : Files} {ready : Ready} (is : IsSeamlessReady names files ready)
       → IsMaking (seamless_task names) (made_of names files ready is) files
-  ready-making files ready is =
+  ready-making {files} {ready} is =
       rw is.inputs (subst (λ ns. IsMaking (seamless_task ns) (join_bytes files
       (from_places (map input_without_head is.found) (left_out_of ready.made.decided))
       ready.made.work) files) is.named
-      (inputs-making seamless_file seamless_stream _ files is.found
+      (inputs-making seamless_file seamless_stream files is.found
       (omega (arith, many names files ready is, some)) is.are
       (at files is.found is.bs is.are is.joined is.begun is.made)))
     where
@@ -336,15 +336,15 @@ module _ (names : List (List ℕ)) (some : 1 ≤ length names) where
       at fs (i ∷ inputs) [] are can begun made bytes held = absurd begun
       at (Untold touched) (i ∷ inputs) (b ∷ bs) are can begun made bytes held = absurd held
       at (Told f) (i ∷ inputs) (b ∷ bs) are can begun made bytes held =
-          made-file f i inputs b bs ready.made are can begun made bytes held
+          made-file f i inputs b bs ready.made are can begun made held
           ∙ ap seamless_file (sym (parts-whole-in None most_frames f (i ∷ inputs) are))
 
   -- the file of the parts holds the stream of the run
-  pub ready-holds : (files : Files) (ready : Ready) (is : IsSeamlessReady names files ready)
+  pub ready-holds : {files : Files} {ready : Ready} (is : IsSeamlessReady names files ready)
       → IfTold files (λ f. (bytes : List ℕ) → f (first_input names) ≡ Some bytes
       → AreSoundFiles f names × HoldsStream (seamless_file (parts_of files is.found))
       ((seamless_task names).stream f))
-  ready-holds files ready is =
+  ready-holds {files} is =
       subst (λ (ns : List (List ℕ)). IfTold files (λ f. (bytes : List ℕ)
       → f (first_input ns) ≡ Some bytes → AreSoundFiles f ns
       × HoldsStream (seamless_file (parts_of files is.found)) ((seamless_task ns).stream f)))
@@ -358,18 +358,18 @@ module _ (names : List (List ℕ)) (some : 1 ≤ length names) where
           (seamless_stream (parts_of fs inputs)))
       at (Untold touched) inputs some are = tt
       at (Told f) inputs some are =
-          files-hold f (input_names inputs) (map (part_in f) inputs)
+          files-hold f (input_names inputs)
           (omega (arith, length-map inputs (λ (i : InputFields). i.name), some))
           (parts-all 0 None most_frames f inputs are)
 
   -- the text of the command is the text of what was decided
-  pub ready-text : (files : Files) (ready : Ready) (output all : List ℕ)
+  pub ready-text : {files : Files} {ready : Ready} (output : List ℕ) {all : List ℕ}
       → IsSeamlessReady names files ready → IsCommandText (seamless_command output names) files all
       → told_lines (drop 1 names) ready.made.decided.joints.items
       (drop 1 (map vec_items ready.lost.items)) ≡ all
-  ready-text files ready output all is text =
+  ready-text {files} {ready} output {all} is text =
       let told = telling_command-text (λ f. seamless_text_or_none names (join_parts f names))
-      (one_command (seamless_task names) output) files all text in
+      (one_command (seamless_task names) output) text in
       ap (λ (l : List (List ℕ)). told_lines (drop 1 names) ready.made.decided.joints.items
       (drop 1 l)) is.lost
       ∙ at files told.1 is.found is.bs (omega (arith, many names files ready is, some)) is.named
@@ -402,20 +402,20 @@ module _ (names : List (List ℕ)) (some : 1 ≤ length names) where
 
 module _ (names : List (List ℕ)) where
   -- running out of memory after the survey is an early fault, since the first input is there
-  pub memory-early : (old new : Seen) (inputs : List InputFields) → input_names inputs ≡ names
+  pub memory-early : {old new : Seen} (inputs : List InputFields) → input_names inputs ≡ names
       → 1 ≤ length inputs → AreJoinInputs None most_frames old.files inputs → new ≡ old
       → NeedsMemory (first_input names) old new
-  memory-early old new inputs named some are stays = rw (append-nil, named) at
-      (found-input most_frames inputs [] old new are some stays)
+  memory-early {old} {new} inputs named some are stays = rw (append-nil, named) at
+      (found-input most_frames inputs [] are some stays)
 
   -- a fault of reading the inputs after the survey is an early fault
-  pub read-fault-early : (old mid new : Seen) (inputs : List InputFields) (fault : EditFault)
-      → input_names inputs ≡ names → 1 ≤ length inputs
+  pub read-fault-early : {old mid : Seen} (new : Seen) (inputs : List InputFields)
+      (fault : EditFault) → input_names inputs ≡ names → 1 ≤ length inputs
       → AreJoinInputs None most_frames old.files inputs → mid ≡ old
       → IsInputReadFault names mid new fault → IsEarlyFault (seamless_task names) old new fault
-  read-fault-early old mid new inputs fault named some are same is =
-      read-early (seamless_task names) old new fault (memory-early old new inputs named some are)
-      (before old.files are) (fault-later names old mid new fault same is)
+  read-fault-early {old} {mid} new inputs fault named some are same is =
+      read-early (seamless_task names) fault (memory-early inputs named some are)
+      (before old.files are) (fault-later names new fault same is)
     where
       before : (files : Files) → AreJoinInputs None most_frames files inputs
           → IfTold files (λ f. IfErr ((seamless_task names).makes f) (IsNotBefore fault))
@@ -426,9 +426,9 @@ module _ (names : List (List ℕ)) where
           (sym (rw named at (parts-all 0 None most_frames f inputs are))) tt
 
   -- if the first input is there and not too long, only a late fault refuses the join
-  pub seamless-late : (f : Contents) (bytes : List ℕ) → f (first_input names) ≡ Some bytes
+  pub seamless-late : (f : Contents) {bytes : List ℕ} → f (first_input names) ≡ Some bytes
       → length bytes ≤ longest_file → IfErr ((seamless_task names).makes f) IsLateFault
-  seamless-late f bytes held few = join-late seamless_file names f bytes held few
+  seamless-late f {bytes} held few = join-late seamless_file names f bytes held few
 
 -- ---- runs of the command
 
@@ -439,21 +439,21 @@ text_of names f = seamless_text_or_none names (join_parts f names)
 module _ (output : List ℕ) (names : List (List ℕ)) (free : clash_in (seamless_task names) output
     ≡ None) (some : 1 ≤ length names) {old new : Seen} {r : Result (Unit {0}) EditFault} where
   -- a call that wrote the run, or a part of it, is a run of the command without a text
-  pub written-run : (ready : Ready) (is : IsSeamlessReady names old.files ready)
+  pub written-run : {ready : Ready} (is : IsSeamlessReady names old.files ready)
       → IfErr r (HasJoinNumbers (length names))
       → WritesOutput (made_of names old.files ready is) names output old new r
       → NoneFell old.counts new.counts
       → IsRunOf (one_command (seamless_task names) output) old new r
-  written-run ready is numbers wrote fell =
+  written-run {ready} is numbers wrote fell =
       let task = seamless_task names in
       one_run task output free (made_of names old.files ready is)
-      (ready-making names some old.files ready is) refl
+      (ready-making names some is) refl
       (one_streams task output free (λ _. seamless_file (parts_of old.files is.found)) old.files
       (subst (λ (ns : List (List ℕ)). IsMaking (seamless_task ns)
       (λ _. seamless_file (parts_of old.files is.found)) old.files) is.named
-      (inputs-making seamless_file seamless_stream _ old.files is.found
+      (inputs-making seamless_file seamless_stream old.files is.found
       (omega (arith, named-long is.found is.named, some)) is.are (λ _ _. refl)))
-      (ready-holds names some old.files ready is) r)
-      (IfErr-weaker r _ _ (λ fault. join-numbers seamless_file seamless_stream output names
-      (length names) fault refl) numbers)
+      (ready-holds names some is) r)
+      (IfErr-weaker r _ _
+      (λ fault. join-numbers seamless_file seamless_stream output names fault refl) numbers)
       wrote fell

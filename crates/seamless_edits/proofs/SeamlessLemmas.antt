@@ -52,11 +52,11 @@ survey_without_head-part : (file : List ℕ) (s : SurveyFields)
     → part_without_head (whole_part file s) ≡ whole_part file (survey_without_head s)
 survey_without_head-part file s = grind (arith, survey_without_head-length)
 
-brought-same : (f : Contents) (i : InputFields) (b : Beginning)
+brought-same : (f : Contents) (i : InputFields) {b : Beginning}
     → b.head ≡ fields_of_head (unwrap_or (f i.name) []) i.survey.head
     → b.blank ≡ begins_blank i.survey.frames
     → brought_of f (input_without_head i) b ≡ part_brought (whole_in f i)
-brought-same f i b head blank = grind (arith, survey_without_head-part, survey_without_head-length)
+brought-same f i head blank = grind (arith, survey_without_head-part, survey_without_head-length)
 
 -- how an input begins, where the contents of the files are known
 abbrev pub IsHead : Contents → InputFields → Beginning → Type 0
@@ -159,35 +159,35 @@ row-apart : (r : Row) (b : Bool)
     → (cond b (record r { side = no_side; lost = false }) r).header ≡ r.header
 row-apart r b = grind arith
 
-rows-header : (rows : List Row) (n : ℕ) (more : List Row) (i : ℕ) (r : Row)
+rows-header : (rows : List Row) (n : ℕ) (more : List Row) (i : ℕ) {r : Row}
     → slice_get more i ≡ Some r → (q : Row) × (slice_get (map emptied_row (map (λ (p : ℕ × Row).
     apart_row rows p.0 p.1) (enumerate_from n more))) i ≡ Some q) × (q.header ≡ r.header)
-rows-header rows n [] i r is = absurd cc
-rows-header rows n (x ∷ more) zero r is =
+rows-header rows n [] i is = absurd cc
+rows-header rows n (x ∷ more) zero {r} is =
     let same : x ≡ r = cc in
     let y : Row = apart_row rows n x in
     (emptied_row y, refl, row-apart y y.lost ∙ ap (λ (z : Row). z.header) same)
-rows-header rows n (x ∷ more) (suc i) r is = rows-header rows (n + 1) more i r is
+rows-header rows n (x ∷ more) (suc i) {r} is = rows-header rows (n + 1) more i is
 
-map-header : (more : List Row) (i : ℕ) (r : Row) → slice_get more i ≡ Some r
+map-header : (more : List Row) (i : ℕ) {r : Row} → slice_get more i ≡ Some r
     → (q : Row) × (slice_get (map emptied_row more) i ≡ Some q) × (q.header ≡ r.header)
-map-header [] i r is = absurd cc
-map-header (x ∷ more) zero r is = let same : x ≡ r = cc in
+map-header [] i is = absurd cc
+map-header (x ∷ more) zero {r} is = let same : x ≡ r = cc in
     (emptied_row x, refl, row-apart x x.lost ∙ ap (λ (z : Row). z.header) same)
-map-header (x ∷ more) (suc i) r is = map-header more i r is
+map-header (x ∷ more) (suc i) {r} is = map-header more i is
 
-set-header : (head : Option Head) (rows : List Row) (i : ℕ) (r : Row) → slice_get rows i ≡ Some r
+set-header : (head : Option Head) (rows : List Row) (i : ℕ) {r : Row} → slice_get rows i ≡ Some r
     → (q : Row) × (slice_get (map emptied_row (rows_set_apart head rows)) i ≡ Some q)
     × (q.header ≡ r.header)
 unfolding apart_rows
-set-header None rows i r is = map-header rows i r is
-set-header (Some head) rows i r is = rows-header rows 0 rows i r is
+set-header None rows i {r} is = map-header rows i is
+set-header (Some head) rows i {r} is = rows-header rows 0 rows i is
 
 -- a frame keeps its header when the head is set apart
-pub survey_without_head-header : (s : SurveyFields) (i : ℕ) (r : Row)
+pub survey_without_head-header : (s : SurveyFields) (i : ℕ) {r : Row}
     → slice_get s.frames i ≡ Some r
     → (q : Row) × (slice_get (survey_without_head s).frames i ≡ Some q) × (q.header ≡ r.header)
-survey_without_head-header s i r is = set-header s.head s.frames i r is
+survey_without_head-header s i {r} is = set-header s.head s.frames i is
 
 -- ---- the numbers
 
@@ -209,16 +209,15 @@ abbrev pub AllOf : ClassFields → List InputFields → Type 0
 AllOf class [] = Unit {0}
 AllOf class (i ∷ inputs) = (i.survey.class ≡ class) × AllOf class inputs
 
-padding-same : (class : ClassFields) (f : Contents) (i : InputFields) (inputs : List InputFields)
-    (b : Beginning) (bs : List Beginning)
+padding-same : {class : ClassFields} (f : Contents) (i : InputFields) (inputs : List InputFields)
+    {b : Beginning} (bs : List Beginning)
     → AllOf class (i ∷ inputs) → AreHeads f (i ∷ inputs) (b ∷ bs)
     → seamless_padding (whole_in f i) (whole_parts f inputs)
     ≡ ends_padding class (last_head (b ∷ bs))
     (last_length (input_without_head i) (map input_without_head inputs))
-padding-same class f i [] b [] of are = grind (arith, unwrap_or, survey_without_head-length)
-padding-same class f i (j ∷ inputs) b (c ∷ bs) of are =
-    padding-same class f j inputs c bs of.1 are.1
-padding-same class f i _ b _ of are = absurd are.1
+padding-same f i [] [] of are = grind (arith, unwrap_or, survey_without_head-length)
+padding-same {class} f i (j ∷ inputs) (c ∷ bs) of are = padding-same f j inputs bs of.1 are.1
+padding-same f i _ _ of are = absurd are.1
 
 -- ---- the whole join
 
@@ -305,17 +304,17 @@ module _ (f : Contents) (i : InputFields) (inputs : List InputFields) (b : Begin
   -- ---- the file
 
   -- the bytes that are written are the file of the join
-  pub seamless-written : (info : List ℕ)
+  pub seamless-written : {info : List ℕ}
       → FitsFromReach (window_of s.class.version) 0 (needs_of_parts (rest_rows left)) placed
       → IsRunInfo (map input_without_head (i ∷ inputs)) (b ∷ bs) d placed info
       → d.front < length s.frames → (concat (front_blocks file s) ++ info)
       ++ bytes_of_frames (relaid_frames (flat_map part_frames (map (part_in f) left)) placed)
       ≡ seamless_file (whole_parts f (i ∷ inputs))
   unfolding seamless_file laid_file
-  seamless-written info fits is_info within =
+  seamless-written {info} fits is_info within =
       let frames = seamless_frames first parts in
       let row = first-there s.frames d.front within in
-      let other = survey_without_head-header s d.front row.0 row.1 in
+      let other = survey_without_head-header s d.front row.1 in
       let laid = map (part_in f) left in
       let slots : map slot_in frames ≡ map (λ (p : Placed). p.slot) placed =
       ap (map slot_in) (sym frames-same)

@@ -28,25 +28,27 @@ use Rattle.sync_survey.specs.MainData.{granule_lengths, split_bits}
 -- ---- tests
 
 -- two tests of bytes are the same if each equality follows from the other
-pub same-tests : (a b c d : List ℕ) → (a ≡ b → c ≡ d) → (c ≡ d → a ≡ b)
+pub same-tests : {a b c d : List ℕ} → (a ≡ b → c ≡ d) → (c ≡ d → a ≡ b)
     → bytes_eq a b ≡ bytes_eq c d
-same-tests a b c d to from = grind (arith, same_from_decides, bytes_eq, bytes_eq-Decides)
+same-tests to from = grind (arith, same_from_decides, bytes_eq, bytes_eq-Decides)
 
 -- bytes are the same exactly if their bits are
-pub bits-tested : (a b xs ys : List ℕ) → bits a ≡ xs → bits b ≡ ys → AreBytes a → AreBytes b
-    → bytes_eq a b ≡ bytes_eq xs ys
-bits-tested a b xs ys first second octets others = grind (arith, same-tests, bits-injective)
+pub bits-tested : (a b : List ℕ) {xs ys : List ℕ} → bits a ≡ xs → bits b ≡ ys → AreBytes a
+    → AreBytes b → bytes_eq a b ≡ bytes_eq xs ys
+bits-tested a b first second octets others = grind (arith, same-tests, bits-injective)
 
 -- two lists are the same if their parts are
 module _ {X : Type 0} where
   -- the first parts are the same, if they have the same length
-  pub front-same : (us vs xs ys : List X) → length us ≡ length vs → us ++ xs ≡ vs ++ ys → us ≡ vs
-  front-same us vs xs ys long is =
+  pub front-same : {us vs : List X} (xs ys : List X) → length us ≡ length vs → us ++ xs ≡ vs ++ ys
+      → us ≡ vs
+  front-same {us} {vs} xs ys long is =
       grind (arith, take_at us xs (length us) refl, take_at vs ys (length us) (sym long))
 
   -- the second parts are the same, if the first have the same length
-  pub back-same : (us vs xs ys : List X) → length us ≡ length vs → us ++ xs ≡ vs ++ ys → xs ≡ ys
-  back-same us vs xs ys long is =
+  pub back-same : (us vs : List X) {xs ys : List X} → length us ≡ length vs → us ++ xs ≡ vs ++ ys
+      → xs ≡ ys
+  back-same us vs {xs} {ys} long is =
       grind (arith, drop_at us xs (length us) refl, drop_at vs ys (length us) (sym long))
 
 -- ---- headers
@@ -60,7 +62,7 @@ put-slot slot bs =
 slot-bits : (h : HeaderFields) (slot : SlotFields)
     → put-slot slot (header_bits h) ≡ header_bits (record h { slot = slot })
 unfolding put-slot
-slot-bits h slot = slot_put h slot (header_bits h) _ _ refl refl refl
+slot-bits h slot = slot_put h slot refl refl refl
 
 -- headers that are the same in one slot are the same in every slot
 slot-same : (g h : HeaderFields) (s t : SlotFields)
@@ -97,14 +99,14 @@ fits-bare : (c : ClassFields) (b : Bool) (g : Granule)
 fits-bare c b g fits = grind arith
 
 -- side information without gains and main_data_begin fits, too
-pub compared_side-fits : (c : ClassFields) (s : Side) → SideFits c s → SideFits c (compared_side s)
-compared_side-fits c s fits = grind (arith, compared_side-granule, fits-bare)
+pub compared_side-fits : {c : ClassFields} {s : Side} → SideFits c s → SideFits c (compared_side s)
+compared_side-fits fits = grind (arith, compared_side-granule, fits-bare)
 
-pairs-shaped : (s : Side) → HasPairs s → IsShaped s
-pairs-shaped s pairs = grind arith
+pairs-shaped : {s : Side} → HasPairs s → IsShaped s
+pairs-shaped pairs = grind arith
 
-compared_side-shaped : (s : Side) → HasPairs s → IsShaped (compared_side s)
-compared_side-shaped s pairs = record {
+compared_side-shaped : {s : Side} → HasPairs s → IsShaped (compared_side s)
+compared_side-shaped {s} pairs = record {
   scfsi = pairs.scfsi;
   granules = length-map s.granules (map without_gain) ∙ pairs.granules;
   first = ap length (index-map (map without_gain) s.granules 0 []) ∙ length-map
@@ -165,15 +167,15 @@ module _ (f m p a b : ℕ) (g h k l : Granule) where
   lengths-two-stereo fits =
       omega (arith, ap length_of (fits.granules 1 0), ap length_of (fits.granules 1 1))
 
-lengths-as-two : (f channels : ℕ) (s : Side) → LengthsAre (class_with Two f channels) s
+lengths-as-two : {f channels : ℕ} {s : Side} → LengthsAre (class_with Two f channels) s
     → LengthsAre (class_with TwoFive f channels) s
 unfolding granules_in
-lengths-as-two f channels s two fits = grind arith
+lengths-as-two two fits = grind arith
 
 lengths-are : (c : ClassFields) → IsClass c → (s : Side) → IsShaped s → LengthsAre c s
 lengths-are =
     each_side LengthsAre lengths-one-mono lengths-one-stereo lengths-two-mono lengths-two-stereo
-    lengths-as-two
+    (λ f channels s. lengths-as-two {f = f} {channels = channels} {s = s})
 
 -- parts of a list, joined, are the list
 concat-parts : (ns bs : List ℕ) → concat (split_bits ns bs) ≡ take (sum ns) bs
@@ -188,7 +190,7 @@ module _ (c : ClassFields) (f : Frame) (is : IsStreamEntry c f) where
   side = f.kept.side
 
   known : IsClass c
-  known = subst IsClass is.class (IsClass-class_of f.kept.header is.header)
+  known = subst IsClass is.class (IsClass-class_of is.header)
 
   abbrev data_bits : List ℕ
   data_bits = take (payload_bits side) (bits f.payload)
@@ -213,7 +215,7 @@ module _ (c : ClassFields) (f : Frame) (is : IsStreamEntry c f) where
   parts-are =
       concat-parts (granule_lengths f.kept.header side) data_bits
       ∙ ap (λ n. take n data_bits) (ap (λ k. sum (map length_of (granules_in k side))) is.class
-      ∙ lengths-are c known side (pairs-shaped side is.pairs) is.fits)
+      ∙ lengths-are c known side (pairs-shaped is.pairs) is.fits)
       ∙ take_all (payload_bits side) data_bits (omega (arith, data-many))
 
   -- the sound is the header without its slot, the side information without gains and
@@ -246,11 +248,11 @@ module _ (c : ClassFields) (f g : Frame) (first : IsStreamEntry c f)
   sides-many same =
       let back = side_at-side_bits c (known c f first) in
       let sides : compared_side f.kept.side ≡ compared_side g.kept.side =
-      sym (back (compared_side f.kept.side) (compared_side-shaped f.kept.side first.pairs)
-      (compared_side-fits c f.kept.side first.fits))
+      sym (back (compared_side f.kept.side) (compared_side-shaped first.pairs)
+      (compared_side-fits first.fits))
       ∙ ap (side_at c) same
-      ∙ back (compared_side g.kept.side) (compared_side-shaped g.kept.side second.pairs)
-      (compared_side-fits c g.kept.side second.fits) in
+      ∙ back (compared_side g.kept.side) (compared_side-shaped second.pairs)
+      (compared_side-fits second.fits) in
       sym (payload-compared_side f.kept.side) ∙ ap payload_bits sides
       ∙ payload-compared_side g.kept.side
 
@@ -265,15 +267,15 @@ module _ (c : ClassFields) (f g : Frame) (first : IsStreamEntry c f)
 
   sound-headers : Sounds
       → header_bits (without_slot f.kept.header) ≡ header_bits (without_slot g.kept.header)
-  sound-headers same = front-same _ _ _ _ header-long (sounds-parts same)
+  sound-headers same = front-same _ _ header-long (sounds-parts same)
 
   sound-rest : Sounds → side_bits c (compared_side f.kept.side) ++ data_bits c f first ≡ side_bits c
       (compared_side g.kept.side) ++ data_bits c g second
-  sound-rest same = back-same _ _ _ _ header-long (sounds-parts same)
+  sound-rest same = back-same _ _ header-long (sounds-parts same)
 
   sound-sides : Sounds
       → side_bits c (compared_side f.kept.side) ≡ side_bits c (compared_side g.kept.side)
-  sound-sides same = front-same _ _ _ _ side-long (sound-rest same)
+  sound-sides same = front-same _ _ side-long (sound-rest same)
 
   zeros-same : payload_bits f.kept.side ≡ payload_bits g.kept.side
       → zeros (8 * payload_bytes f.kept.side - payload_bits f.kept.side) ≡ zeros
@@ -283,10 +285,10 @@ module _ (c : ClassFields) (f g : Frame) (first : IsStreamEntry c f)
 
   sound-payloads : Sounds → f.payload ≡ g.payload
   sound-payloads same =
-      let datas = back-same _ _ _ _ side-long (sound-rest same) in
+      let datas = back-same _ _ side-long (sound-rest same) in
       let many : payload_bits f.kept.side ≡ payload_bits g.kept.side = sym (data-many c f first)
       ∙ ap length datas ∙ data-many c g second in
-      bits-injective f.payload g.payload first.octets second.octets
+      bits-injective first.octets second.octets
       (all-bits c f first ∙ ap₂ (λ (a b : List ℕ). a ++ b) datas (zeros-same many) ∙ sym
       (all-bits c g second))
 

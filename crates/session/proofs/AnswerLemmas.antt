@@ -17,16 +17,16 @@ pub record Empties (name : List ℕ) (old new : GrowingFolder)
   pub counts : OnlyWrites (grown_counts old) (grown_counts new)
 
 -- that is what `create` answers
-pub creates : (name : List ℕ) (old new : GrowingFolder) (r : Result (Unit {0}) Failed)
+pub creates : {name : List ℕ} (old new : GrowingFolder) (r : Result (Unit {0}) Failed)
     → Empties name old new r → CreateAnswer name (grown_seen old) (grown_seen new) r
-creates name old new (Ok x) e = record {
-  created = emptied_is (grown_files old) (grown_files new) name e.emptied;
+creates {name} old new (Ok x) e = record {
+  created = emptied_is (grown_files old) name e.emptied;
   kept = tt;
   failed = tt;
   done = e.done;
   counts = e.counts;
 }
-creates name old new (Err fault) e = record {
+creates old new (Err fault) e = record {
   created = tt;
   kept = inl (ap Told e.kept);
   failed = grind arith;
@@ -35,18 +35,18 @@ creates name old new (Err fault) e = record {
 }
 
 -- it is what `create_new` answers, if the name wasn't there
-pub makes : (name : List ℕ) (old new : GrowingFolder) (r : Result (Unit {0}) Failed)
+pub makes : {name : List ℕ} (old new : GrowingFolder) (r : Result (Unit {0}) Failed)
     → OnOk r (grown_files old name ≡ None) → Empties name old new r
     → MakeAnswer name (grown_seen old) (grown_seen new) r
-makes name old new (Ok x) missing e = record {
+makes {name} old new (Ok x) missing e = record {
   missing = missing;
-  created = new_is (grown_files old) (grown_files new) name e.emptied;
+  created = new_is (grown_files old) name e.emptied;
   kept = tt;
   failed = tt;
   done = e.done;
   counts = e.counts;
 }
-makes name old new (Err fault) missing e = record {
+makes old new (Err fault) missing e = record {
   missing = tt;
   created = tt;
   kept = inl (ap Told e.kept);

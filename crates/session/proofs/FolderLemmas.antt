@@ -9,10 +9,10 @@ use Rattle.outside.{proofs.FilesLemmas.update_held, specs.Files.{Contents, with_
 use Rattle.session.specs.Shown.{without_file}
 
 -- to take out a name that isn't there changes nothing
-pub gone_already : (files : Contents) (name : List ℕ) → files name ≡ None
+pub gone_already : {files : Contents} (name : List ℕ) → files name ≡ None
     → without_file files name ≡ files
 unfolding without_file
-gone_already files name missing = update_held files name None missing
+gone_already {files} name missing = update_held name missing
 
 module _ {X Y : Type 0} (bytes_of : X → List ℕ) (old new : BTreeMap (String Y) X) (name : List ℕ)
   where
@@ -24,9 +24,9 @@ module _ {X Y : Type 0} (bytes_of : X → List ℕ) (old new : BTreeMap (String 
     abbrev pub Sets : Option X → Type 0
     Sets now = UpdatesBy string_cmp (λ key. slice_cmp nat_cmp name (string_bytes key)) old new now
 
-    held_set : (now : Option X) → Sets now
+    held_set : {now : Option X} → Sets now
         → held new ≡ update bytes_eq (held old) name (option_map bytes_of now)
-    held_set now sets =
+    held_set {now} sets =
         λ i other. (ap (option_map bytes_of) (btree_map_updates_text name old new now sets other)
         ∙ at (bytes_eq name other) (get_by_text old other)) i
       where
@@ -36,15 +36,15 @@ module _ {X Y : Type 0} (bytes_of : X → List ℕ) (old new : BTreeMap (String 
         at false before = refl
 
     -- a name that was given a content has its bytes
-    pub name_holds : (now : X) → Sets (Some now)
+    pub name_holds : {now : X} → Sets (Some now)
         → held new ≡ with_file (held old) name (bytes_of now)
     unfolding with_file
-    name_holds now sets = held_set (Some now) sets
+    name_holds {now} sets = held_set sets
 
     -- a name that was taken out isn't there
     pub name_gone : Sets None → held new ≡ without_file (held old) name
     unfolding without_file
-    name_gone sets = held_set None sets
+    name_gone sets = held_set sets
 
     -- where the name had a content before:
     module _ (before : X) (was : Some before ≡ get_by_text old name) where
@@ -52,15 +52,15 @@ module _ {X Y : Type 0} (bytes_of : X → List ℕ) (old new : BTreeMap (String 
       held_before = sym (ap (option_map bytes_of) was)
 
       -- if its content has more bytes now, the name has them
-      pub name_appended : (now : X) (more : List ℕ) → Sets (Some now)
+      pub name_appended : {now : X} (more : List ℕ) → Sets (Some now)
           → bytes_of now ≡ bytes_of before ++ more
           → held new ≡ with_file (held old) name (unwrap_or (held old name) [] ++ more)
-      name_appended now more sets is = name_holds now sets
+      name_appended {now} more sets is = name_holds sets
           ∙ ap (with_file (held old) name) (is
           ∙ ap (λ (o : Option (List ℕ)). unwrap_or o [] ++ more) (sym held_before))
 
       -- if its content has the same bytes, all names have what they had
-      pub name_kept : (now : X) → Sets (Some now) → bytes_of now ≡ bytes_of before
+      pub name_kept : {now : X} → Sets (Some now) → bytes_of now ≡ bytes_of before
           → held new ≡ held old
-      name_kept now sets is = held_set (Some now) sets ∙ update_held (held old) name
-          (Some (bytes_of now)) (held_before ∙ ap (λ (bytes : List ℕ). Some bytes) (sym is))
+      name_kept {now} sets is = held_set sets
+          ∙ update_held name (held_before ∙ ap (λ (bytes : List ℕ). Some bytes) (sym is))

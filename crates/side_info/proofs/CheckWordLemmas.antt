@@ -23,12 +23,12 @@ check_word-written four side h s front rest =
 
 -- the check word of bytes that were read is the check word of the header and the fields that were
 -- read
-pub check_word-read : (four side : List ℕ) (h : HeaderFields) → length four ≡ 4
+pub check_word-read : (four side : List ℕ) {h : HeaderFields} → length four ≡ 4
     → header_at four ≡ good h → length side ≡ side_size_of (class_of h)
     → remainder crc_start (bits (drop 2 four ++ side))
     ≡ check_word_of h (side_at (class_of h) (bits side))
-check_word-read four side h four_bytes is size =
+check_word-read four side {h} four_bytes is size =
     check_word-written four side h (side_at (class_of h) (bits side))
-    (sym (header_bits-header_at four h four_bytes is))
-    (sym (side_bits-side_at (class_of h) (IsClass-class_of h (IsHeader-header_at four h is))
-    (bits side) (AreBits-bits side) (length-bits side ∙ ap (λ n. 8 * n) size)))
+    (sym (header_bits-header_at four four_bytes is))
+    (sym (side_bits-side_at (class_of h) (IsClass-class_of (IsHeader-header_at four is))
+    (AreBits-bits side) (length-bits side ∙ ap (λ n. 8 * n) size)))

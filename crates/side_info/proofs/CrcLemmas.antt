@@ -27,10 +27,10 @@ step_cases zero (suc (suc bit)) shifted ht hb = absurd (omega arith)
 step_cases (suc zero) (suc (suc bit)) shifted ht hb = absurd (omega arith)
 step_cases _ _ shifted ht hb = sym (xor_zero_r shifted)
 
-step-is : (word bit : ℕ) → bit < 2
+step-is : (word : ℕ) {bit : ℕ} → bit < 2
     → crc_bit word bit ≡ bit_xor (word * 2 % 65536) (taken (bit_xor (bit_at word 15) bit))
 unfolding crc_bit
-step-is word bit h = grind (arith, step_cases, mod_below, lit<)
+step-is word h = grind (arith, step_cases, mod_below, lit<)
 
 taken-xor : (a b : ℕ) → a < 2 → b < 2 → taken (bit_xor a b) ≡ bit_xor (taken a) (taken b)
 taken-xor (suc zero) (suc (suc b)) ha hb = absurd (omega arith)
@@ -64,9 +64,9 @@ shifted-xor a b =
     ap (λ x. x % 65536) (sym twice) ∙ xor_mod (a * 2) (b * 2) 16
 
 -- a step from the exclusive or of two words, where the bit is added to the first word
-step-xor : (a b bit : ℕ) → bit < 2
+step-xor : (a b : ℕ) {bit : ℕ} → bit < 2
     → crc_bit (bit_xor a b) bit ≡ bit_xor (crc_bit a bit) (crc_bit b 0)
-step-xor a b bit h =
+step-xor a b h =
     search (
       arith,
       mod_below,
@@ -165,13 +165,13 @@ module _ (word byte : ℕ) (small : word < 2 ^ 16) (few : byte < 256) where
       ≡ remainder word (bits_of 8 byte)
   remainder-byte =
       let gone : remainder (byte * 256) (bits_of 8 byte) ≡ 0 = eqb-true _ _
-      (all_below-pass 256 (λ b. eqb (remainder (b * 256) (bits_of 8 b)) 0) byte cancels few) in
+      (all_below-pass 256 (λ b. eqb (remainder (b * 256) (bits_of 8 b)) 0) cancels few) in
       let moved : remainder (word % 256) eight_zeros ≡ word % 256 * 256 =
-      eqb-true _ _ (all_below-pass 256 (λ low. eqb (remainder low eight_zeros) (low * 256))
-      (word % 256) moves (mod_below word 256 (lit< tt))) in
+      eqb-true _ _ (all_below-pass 256 (λ low. eqb (remainder low eight_zeros) (low * 256)) moves
+      (mod_below word 256 (lit< tt))) in
       let entry : remainder (left * 256) eight_zeros ≡ get_or (table 0) left 0 =
       eqb-true _ _ (all_below-pass 256
-      (λ b. eqb (remainder (b * 256) eight_zeros) (get_or (table 0) b 0)) left tabled left-below) in
+      (λ b. eqb (remainder (b * 256) eight_zeros) (get_or (table 0) b 0)) tabled left-below) in
       let lowest : word * 256 % 65536 ≡ word % 256 * 256 = omega arith in
       sym (ap (λ w. remainder w (bits_of 8 byte)) parts
       ∙ remainder-xor (bits_of 8 byte) (byte * 256) (bit_xor (left * 256) (word % 256))
@@ -191,11 +191,11 @@ behind-xor : (a b : ℕ) → behind (bit_xor a b) ≡ bit_xor (behind a) (behind
 behind-xor a b = remainder-xor eight_zeros a b zeros_are_bits
 
 -- dividing a byte adds it at the top of the word
-remainder-top : (word byte : ℕ) → byte < 256
+remainder-top : (word : ℕ) {byte : ℕ} → byte < 256
     → remainder word (bits_of 8 byte) ≡ behind (bit_xor word (byte * 256))
-remainder-top word byte few =
+remainder-top word {byte} few =
     let gone : remainder (byte * 256) (bits_of 8 byte) ≡ 0 = eqb-true _ _
-    (all_below-pass 256 (λ b. eqb (remainder (b * 256) (bits_of 8 b)) 0) byte cancels few) in
+    (all_below-pass 256 (λ b. eqb (remainder (b * 256) (bits_of 8 b)) 0) cancels few) in
     let back : bit_xor (byte * 256) (bit_xor word (byte * 256)) ≡ word =
     grind (arith, bit_xor, xor_comm, xor_assoc, xor_self) in
     ap (λ w. remainder w (bits_of 8 byte)) (sym back)
@@ -204,9 +204,9 @@ remainder-top word byte few =
     ∙ ap₂ bit_xor gone (ap (remainder (bit_xor word (byte * 256))) (zeros-bits_of byte))
 
 -- a byte at the top of a word is added to the upper byte
-over : (high low byte : ℕ) → low < 256
+over : (high : ℕ) {low : ℕ} (byte : ℕ) → low < 256
     → bit_xor (high * 256 + low) (byte * 256) ≡ bit_xor (bit_xor high byte * 256) low
-over high low byte few =
+over high {low} byte few =
     ap (bit_xor (high * 256 + low)) (sym (add-zero (byte * 256)))
     ∙ xor_block 8 high byte low 0 few (lit< tt)
     ∙ ap (λ x. bit_xor high byte * 256 + x) (xor_zero_r low)
@@ -225,15 +225,15 @@ all_follow : all_below 7 follows ≡ true
 unfolding remainder crc_bit
 all_follow = refl
 
-next : (k byte : ℕ) → k < 7 → byte < 256
+next : {k byte : ℕ} → k < 7 → byte < 256
     → behind (get_or (table k) byte 0) ≡ get_or (table (k + 1)) byte 0
-next k byte less few =
+next {k} {byte} less few =
     eqb-true _ _ (all_below-pass 256 (λ b. eqb (remainder (get_or (table k) b 0) eight_zeros)
-    (get_or (table (k + 1)) b 0)) byte (all_below-pass 7 follows k all_follow less) few)
+    (get_or (table (k + 1)) b 0)) (all_below-pass 7 follows all_follow less) few)
 
 entry : (byte : ℕ) → byte < 256 → behind (byte * 256) ≡ get_or (table 0) byte 0
 entry byte few = eqb-true _ _ (all_below-pass 256
-    (λ b. eqb (remainder (b * 256) eight_zeros) (get_or (table 0) b 0)) byte tabled few)
+    (λ b. eqb (remainder (b * 256) eight_zeros) (get_or (table 0) b 0)) tabled few)
 
 module _ (word a b : ℕ) (small : word < 2 ^ 16) (a_few : a < 256) (b_few : b < 256) where
   -- what is added to the upper byte of the word, and what is added to the lower
@@ -248,9 +248,9 @@ module _ (word a b : ℕ) (small : word < 2 ^ 16) (a_few : a < 256) (b_few : b <
       let low : word % 256 < 256 = mod_below word 256 (lit< tt) in
       let whole : word ≡ word / 256 * 256 + word % 256 = omega arith in
       let moved : behind (word % 256) ≡ word % 256 * 256 = eqb-true _ _ (all_below-pass 256
-      (λ low. eqb (remainder low eight_zeros) (low * 256)) (word % 256) moves low) in
-      remainder-top word a a_few
-      ∙ ap behind (ap (λ w. bit_xor w (a * 256)) whole ∙ over (word / 256) (word % 256) a low)
+      (λ low. eqb (remainder low eight_zeros) (low * 256)) moves low) in
+      remainder-top word a_few
+      ∙ ap behind (ap (λ w. bit_xor w (a * 256)) whole ∙ over (word / 256) a low)
       ∙ behind-xor (upper * 256) (word % 256)
       ∙ ap (bit_xor (behind (upper * 256))) moved
 
@@ -268,13 +268,13 @@ module _ (word a b : ℕ) (small : word < 2 ^ 16) (a_few : a < 256) (b_few : b <
   pub remainder-two : bit_xor (get_or (table 1) (bit_xor (word / 256) a) 0) (get_or (table 0)
       (bit_xor (word % 256) b) 0) ≡ remainder (remainder word (bits_of 8 a)) (bits_of 8 b)
   remainder-two = sym (after_b ∙ ap₂ bit_xor (ap behind (entry upper upper_few)
-      ∙ next 0 upper (lit< tt) upper_few) (entry lower lower_few))
+      ∙ next {k = 0} {byte = upper} (lit< tt) upper_few) (entry lower lower_few))
 
 -- dividing a byte after other bytes
-remainder-push : (word byte : ℕ) (xs : List ℕ) → byte < 256
+remainder-push : (word : ℕ) {byte : ℕ} (xs : List ℕ) → byte < 256
     → remainder word (bits (xs ++ byte ∷ []))
     ≡ bit_xor (behind (remainder word (bits xs))) (get_or (table 0) byte 0)
-remainder-push word byte xs few =
+remainder-push word xs few =
     grind (arith, bits-append, bits-one, remainder-append, remainder-top, behind-xor, entry)
 
 -- two bytes are divided in order
@@ -308,51 +308,58 @@ module _ (word a b c d e f g h : ℕ) (small : word < 2 ^ 16) (a_few : a < 256) 
   behind_3 : remainder word (bits (a ∷ b ∷ c ∷ []))
       ≡ bit_xor (bit_xor (get_or (table 2) high 0) (get_or (table 1) low 0)) (get_or (table 0) c 0)
   behind_3 =
-      remainder-push word c (a ∷ b ∷ []) c_few
+      remainder-push word {byte = c} (a ∷ b ∷ []) c_few
       ∙ ap (λ w. bit_xor w (get_or (table 0) c 0)) (ap behind behind_2 ∙ behind-xor _ _
-      ∙ ap₂ bit_xor (next 1 high (lit< tt) high_few) (next 0 low (lit< tt) low_few))
+      ∙ ap₂ bit_xor (next {k = 1} {byte = high} (lit< tt) high_few)
+      (next {k = 0} {byte = low} (lit< tt) low_few))
 
   behind_4 : remainder word (bits (a ∷ b ∷ c ∷ d ∷ []))
       ≡ bit_xor (bit_xor (bit_xor (get_or (table 3) high 0) (get_or (table 2) low 0))
       (get_or (table 1) c 0)) (get_or (table 0) d 0)
   behind_4 =
-      remainder-push word d (a ∷ b ∷ c ∷ []) d_few
+      remainder-push word {byte = d} (a ∷ b ∷ c ∷ []) d_few
       ∙ ap (λ w. bit_xor w (get_or (table 0) d 0))
       (ap behind behind_3 ∙ behind-xor _ _ ∙ ap₂ bit_xor (behind-xor _ _ ∙ ap₂ bit_xor
-      (next 2 high (lit< tt) high_few) (next 1 low (lit< tt) low_few)) (next 0 c (lit< tt) c_few))
+      (next {k = 2} {byte = high} (lit< tt) high_few) (next {k = 1} {byte = low} (lit< tt) low_few))
+      (next {k = 0} {byte = c} (lit< tt) c_few))
 
   behind_5 : remainder word (bits (a ∷ b ∷ c ∷ d ∷ e ∷ []))
       ≡ bit_xor (bit_xor (bit_xor (bit_xor (get_or (table 4) high 0) (get_or (table 3) low 0))
       (get_or (table 2) c 0)) (get_or (table 1) d 0)) (get_or (table 0) e 0)
   behind_5 =
-      remainder-push word e (a ∷ b ∷ c ∷ d ∷ []) e_few
+      remainder-push word {byte = e} (a ∷ b ∷ c ∷ d ∷ []) e_few
       ∙ ap (λ w. bit_xor w (get_or (table 0) e 0))
       (ap behind behind_4 ∙ behind-xor _ _ ∙ ap₂ bit_xor (behind-xor _ _ ∙ ap₂ bit_xor
-      (behind-xor _ _ ∙ ap₂ bit_xor (next 3 high (lit< tt) high_few) (next 2 low (lit< tt) low_few))
-      (next 1 c (lit< tt) c_few)) (next 0 d (lit< tt) d_few))
+      (behind-xor _ _ ∙ ap₂ bit_xor (next {k = 3} {byte = high} (lit< tt) high_few)
+      (next {k = 2} {byte = low} (lit< tt) low_few))
+      (next {k = 1} {byte = c} (lit< tt) c_few)) (next {k = 0} {byte = d} (lit< tt) d_few))
 
   behind_6 : remainder word (bits (a ∷ b ∷ c ∷ d ∷ e ∷ f ∷ []))
       ≡ bit_xor
       (bit_xor (bit_xor (bit_xor (bit_xor (get_or (table 5) high 0) (get_or (table 4) low 0))
       (get_or (table 3) c 0)) (get_or (table 2) d 0)) (get_or (table 1) e 0)) (get_or (table 0) f 0)
   behind_6 =
-      remainder-push word f (a ∷ b ∷ c ∷ d ∷ e ∷ []) f_few
+      remainder-push word {byte = f} (a ∷ b ∷ c ∷ d ∷ e ∷ []) f_few
       ∙ ap (λ w. bit_xor w (get_or (table 0) f 0)) (ap behind behind_5 ∙ behind-xor _ _
       ∙ ap₂ bit_xor (behind-xor _ _ ∙ ap₂ bit_xor (behind-xor _ _ ∙ ap₂ bit_xor
-      (behind-xor _ _ ∙ ap₂ bit_xor (next 4 high (lit< tt) high_few) (next 3 low (lit< tt) low_few))
-      (next 2 c (lit< tt) c_few)) (next 1 d (lit< tt) d_few)) (next 0 e (lit< tt) e_few))
+      (behind-xor _ _ ∙ ap₂ bit_xor (next {k = 4} {byte = high} (lit< tt) high_few)
+      (next {k = 3} {byte = low} (lit< tt) low_few))
+      (next {k = 2} {byte = c} (lit< tt) c_few)) (next {k = 1} {byte = d} (lit< tt) d_few))
+      (next {k = 0} {byte = e} (lit< tt) e_few))
 
   behind_7 : remainder word (bits (a ∷ b ∷ c ∷ d ∷ e ∷ f ∷ g ∷ []))
       ≡ bit_xor (bit_xor (bit_xor (bit_xor (bit_xor (bit_xor (get_or (table 6) high 0)
       (get_or (table 5) low 0)) (get_or (table 4) c 0)) (get_or (table 3) d 0))
       (get_or (table 2) e 0)) (get_or (table 1) f 0)) (get_or (table 0) g 0)
   behind_7 =
-      remainder-push word g (a ∷ b ∷ c ∷ d ∷ e ∷ f ∷ []) g_few
+      remainder-push word {byte = g} (a ∷ b ∷ c ∷ d ∷ e ∷ f ∷ []) g_few
       ∙ ap (λ w. bit_xor w (get_or (table 0) g 0))
       (ap behind behind_6 ∙ behind-xor _ _ ∙ ap₂ bit_xor (behind-xor _ _ ∙ ap₂ bit_xor
       (behind-xor _ _ ∙ ap₂ bit_xor (behind-xor _ _ ∙ ap₂ bit_xor (behind-xor _ _ ∙ ap₂ bit_xor
-      (next 5 high (lit< tt) high_few) (next 4 low (lit< tt) low_few)) (next 3 c (lit< tt) c_few))
-      (next 2 d (lit< tt) d_few)) (next 1 e (lit< tt) e_few)) (next 0 f (lit< tt) f_few))
+      (next {k = 5} {byte = high} (lit< tt) high_few) (next {k = 4} {byte = low} (lit< tt) low_few))
+      (next {k = 3} {byte = c} (lit< tt) c_few))
+      (next {k = 2} {byte = d} (lit< tt) d_few)) (next {k = 1} {byte = e} (lit< tt) e_few))
+      (next {k = 0} {byte = f} (lit< tt) f_few))
 
   -- dividing eight bytes takes one look into each of eight tables
   pub remainder-eight : remainder word (bits (a ∷ b ∷ c ∷ d ∷ e ∷ f ∷ g ∷ h ∷ []))
@@ -360,20 +367,22 @@ module _ (word a b c d e f g h : ℕ) (small : word < 2 ^ 16) (a_few : a < 256) 
       (get_or (table 6) low 0)) (get_or (table 5) c 0)) (get_or (table 4) d 0))
       (get_or (table 3) e 0)) (get_or (table 2) f 0)) (get_or (table 1) g 0)) (get_or (table 0) h 0)
   remainder-eight =
-      remainder-push word h (a ∷ b ∷ c ∷ d ∷ e ∷ f ∷ g ∷ []) h_few
+      remainder-push word {byte = h} (a ∷ b ∷ c ∷ d ∷ e ∷ f ∷ g ∷ []) h_few
       ∙ ap (λ w. bit_xor w (get_or (table 0) h 0))
       (ap behind behind_7 ∙ behind-xor _ _ ∙ ap₂ bit_xor (behind-xor _ _ ∙ ap₂ bit_xor
       (behind-xor _ _ ∙ ap₂ bit_xor (behind-xor _ _ ∙ ap₂ bit_xor (behind-xor _ _ ∙ ap₂ bit_xor
-      (behind-xor _ _ ∙ ap₂ bit_xor (next 6 high (lit< tt) high_few) (next 5 low (lit< tt) low_few))
-      (next 4 c (lit< tt) c_few)) (next 3 d (lit< tt) d_few)) (next 2 e (lit< tt) e_few))
-      (next 1 f (lit< tt) f_few)) (next 0 g (lit< tt) g_few))
+      (behind-xor _ _ ∙ ap₂ bit_xor (next {k = 6} {byte = high} (lit< tt) high_few)
+      (next {k = 5} {byte = low} (lit< tt) low_few))
+      (next {k = 4} {byte = c} (lit< tt) c_few)) (next {k = 3} {byte = d} (lit< tt) d_few))
+      (next {k = 2} {byte = e} (lit< tt) e_few))
+      (next {k = 1} {byte = f} (lit< tt) f_few)) (next {k = 0} {byte = g} (lit< tt) g_few))
 
 -- ---- bytes
 -- one byte more is divided after those before it
-pub remainder-more : (word : ℕ) (xs : List ℕ) (i : ℕ) → i < length xs
+pub remainder-more : (word : ℕ) (xs : List ℕ) {i : ℕ} → i < length xs
     → remainder (remainder word (bits (take i xs))) (bits_of 8 (get_or xs i 0))
     ≡ remainder word (bits (take (i + 1) xs))
-remainder-more word xs i h =
+remainder-more word xs {i} h =
     sym (remainder-append (bits (take i xs)) (bits_of 8 (get_or xs i 0)) word)
     ∙ ap (remainder word)
     (ap (λ bs. bits (take i xs) ++ bs) (sym (bits-one (get_or xs i 0)))
@@ -386,14 +395,14 @@ pub remainder-bits_append : (word : ℕ) (xs ys : List ℕ)
 remainder-bits_append word xs ys = grind (arith, remainder-append, bits-append)
 
 -- dividing the first eight of some bytes takes one look into each of eight tables
-pub eight_list : (word : ℕ) (xs : List ℕ) → word < 2 ^ 16 → ((i : ℕ) → get_or xs i 0 < 256)
+pub eight_list : {word : ℕ} (xs : List ℕ) → word < 2 ^ 16 → ((i : ℕ) → get_or xs i 0 < 256)
     → 8 ≤ length xs
     → bit_xor (bit_xor (bit_xor (bit_xor (bit_xor (bit_xor (bit_xor (get_or (table 7) (bit_xor
     (word / 256) (get_or xs 0 0)) 0) (get_or (table 6) (bit_xor (word % 256) (get_or xs 1 0)) 0))
     (get_or (table 5) (get_or xs 2 0) 0)) (get_or (table 4) (get_or xs 3 0) 0)) (get_or (table 3)
     (get_or xs 4 0) 0)) (get_or (table 2) (get_or xs 5 0) 0)) (get_or (table 1) (get_or xs 6 0) 0))
     (get_or (table 0) (get_or xs 7 0) 0) ≡ remainder word (bits (take 8 xs))
-eight_list word xs small few long = grind (arith, remainder-eight)
+eight_list xs small few long = grind (arith, remainder-eight)
 
 -- eight bytes more are divided after those before them
 pub remainder-eight_more : (word : ℕ) (xs : List ℕ) (at : ℕ)

@@ -1,8 +1,8 @@
 -- What stays, and what is read back, when other side information is put into a frame.
 use Rattle.std.proofs.Common.{ap, append_assoc, ap₂, arith, bit_xor, Bool, cond, drop, false}
 use Rattle.std.proofs.Common.{get_or, length, length-append, length-drop, List, lit<, refl, suc}
-use Rattle.std.proofs.Common.{sym, take, take-append-drop, true, zero, ℕ, [], ◌%◌, ◌*◌, ◌++◌, ◌+◌}
-use Rattle.std.proofs.Common.{◌<◌, ◌^◌, ◌∙◌, ◌∷◌, ◌≡◌, ◌≤◌}
+use Rattle.std.proofs.Common.{sym, take, take-append-drop, true, zero, ℕ, [], ◌*◌, ◌++◌, ◌+◌, ◌<◌}
+use Rattle.std.proofs.Common.{◌^◌, ◌∙◌, ◌∷◌, ◌≡◌, ◌≤◌}
 use Rattle.std.proofs.lemmas.List.{drop-drop, drop_at, length-take, take-take, take_at}
 use Rattle.std.proofs.lemmas.Nat.{from_be_bytes-to_be_bytes_2, mod_below, xor_lt}
 use Rattle.std.specs.Int.{from_be_bytes, to_be_bytes, w16}
@@ -24,26 +24,26 @@ use Rattle.side_info.specs.declared.side.Side.{Side}
 
 -- ---- a word of two bytes
 
-number-two : (a b : ℕ) → AreBytes (a ∷ b ∷ [])
+number-two : {a b : ℕ} → AreBytes (a ∷ b ∷ [])
     → number (bits (a ∷ b ∷ [])) ≡ from_be_bytes w16 (a ∷ b ∷ [])
-number-two a b h =
-    grind (arith, bits-one a, number-bits_of-below 8 a h.0, number-bits-push (a ∷ []) b h.1.0)
+number-two {a} {b} h =
+    grind (arith, bits-one a, number-bits_of-below 8 h.0, number-bits-push (a ∷ []) h.1.0)
 
 -- two bytes are the big-endian number that their bits spell
 pub number-word : (xs : List ℕ) → length xs ≡ 2 → AreBytes xs
     → number (bits xs) ≡ from_be_bytes w16 xs
-number-word (a ∷ b ∷ []) l h = number-two a b h
+number-word (a ∷ b ∷ []) l h = number-two h
 number-word xs l h = absurd (omega arith)
 
 AreBytes-word : (n : ℕ) → AreBytes (to_be_bytes w16 n)
 AreBytes-word n = (mod_below _ 256 (lit< tt), (mod_below _ 256 (lit< tt), tt))
 
-bits-word : (n : ℕ) → n < 2 ^ 16 → bits (to_be_bytes w16 n) ≡ bits_of 16 n
-bits-word n h = grind (arith, bits-bits_of, number-word, AreBytes-word, from_be_bytes-to_be_bytes_2)
+bits-word : {n : ℕ} → n < 2 ^ 16 → bits (to_be_bytes w16 n) ≡ bits_of 16 n
+bits-word h = grind (arith, bits-bits_of, number-word, AreBytes-word, from_be_bytes-to_be_bytes_2)
 
 -- a number of 16 bits is written as the two bytes of its bits
-pub bytes-word : (n : ℕ) → n < 2 ^ 16 → to_be_bytes w16 n ≡ bytes (bits_of 16 n)
-bytes-word n h = sym (bytes-bits (to_be_bytes w16 n) (AreBytes-word n)) ∙ ap bytes (bits-word n h)
+pub bytes-word : {n : ℕ} → n < 2 ^ 16 → to_be_bytes w16 n ≡ bytes (bits_of 16 n)
+bytes-word {n} h = sym (bytes-bits (to_be_bytes w16 n) (AreBytes-word n)) ∙ ap bytes (bits-word h)
 
 -- ---- bytes between others
 
@@ -140,10 +140,10 @@ record IsMade (h : HeaderFields) (s : Side) (frame : List ℕ) : Type 0 where
       ≡ ((take 4 frame ++ crc_part h s) ++ bytes (side_bits (class_of h) s))
       ++ drop (overhead_of (class_of h) h.protected) frame
 
-made : (h : HeaderFields) (s : Side) (frame : List ℕ) → IsClass (class_of h) → IsShaped s
+made : {h : HeaderFields} {s : Side} {frame : List ℕ} → IsClass (class_of h) → IsShaped s
     → HasRoom h frame → IsMade h s frame
 unfolding frame_with_side
-made h s frame class shaped room =
+made {h} {s} {frame} class shaped room =
     let c = class_of h in
     let part = bytes (side_bits c s) in
     let rest = drop (overhead_of c h.protected) frame in
@@ -158,9 +158,9 @@ made h s frame class shaped room =
 -- ---- what stays
 
 -- a frame with other side information is as long as before
-pub length-frame_with_side : (h : HeaderFields) (s : Side) (frame : List ℕ) → IsClass (class_of h)
+pub length-frame_with_side : (h : HeaderFields) {s : Side} (frame : List ℕ) → IsClass (class_of h)
     → IsShaped s → HasRoom h frame → length (frame_with_side h s frame) ≡ length frame
-length-frame_with_side h s frame class shaped room =
+length-frame_with_side h frame class shaped room =
     grind (arith, made, overhead-is, length-append, length-drop)
 
 -- a frame with other side information keeps its header
@@ -170,47 +170,47 @@ unfolding frame_with_side
 header-frame_with_side h s frame room = grind (arith, room-least h frame room, length-take 4 frame)
 
 -- the bytes before the area of a frame with other side information
-front_length : (h : HeaderFields) (s : Side) (frame : List ℕ) → IsMade h s frame
+front_length : {h : HeaderFields} {s : Side} {frame : List ℕ} → IsMade h s frame
     → length ((take 4 frame ++ crc_part h s) ++ bytes (side_bits (class_of h) s))
     ≡ overhead_of (class_of h) h.protected
-front_length h s frame is = grind (arith, overhead-is, length-append)
+front_length is = grind (arith, overhead-is, length-append)
 
 -- a frame with other side information keeps its area
-pub area-frame_with_side : (h : HeaderFields) (s : Side) (frame : List ℕ) → IsClass (class_of h)
+pub area-frame_with_side : (h : HeaderFields) {s : Side} (frame : List ℕ) → IsClass (class_of h)
     → IsShaped s → HasRoom h frame
     → drop (overhead_of (class_of h) h.protected) (frame_with_side h s frame)
     ≡ drop (overhead_of (class_of h) h.protected) frame
-area-frame_with_side h s frame class shaped room = grind (arith, made, drop_at, front_length)
+area-frame_with_side h frame class shaped room = grind (arith, made, drop_at, front_length)
 
 -- ---- what is read back
 
 -- the side information of the frame is the bytes that were put in
-pub side_part-frame_with_side : (h : HeaderFields) (s : Side) (frame : List ℕ)
+pub side_part-frame_with_side : (h : HeaderFields) {s : Side} (frame : List ℕ)
     → IsClass (class_of h) → IsShaped s → HasRoom h frame
     → side_part h (frame_with_side h s frame) ≡ bytes (side_bits (class_of h) s)
 unfolding side_part
-side_part-frame_with_side h s frame class shaped room =
+side_part-frame_with_side h frame class shaped room =
     grind (arith, made, length-append, append_assoc, drop_at, take_at)
 
 -- the side information that was put in is read from the frame
-pub side_in-frame_with_side : (h : HeaderFields) (s : Side) (frame : List ℕ) → IsClass (class_of h)
+pub side_in-frame_with_side : (h : HeaderFields) {s : Side} (frame : List ℕ) → IsClass (class_of h)
     → IsShaped s → SideFits (class_of h) s → HasRoom h frame
     → side_in h (frame_with_side h s frame) ≡ s
 unfolding side_in
-side_in-frame_with_side h s frame class shaped fits room =
+side_in-frame_with_side h {s} frame class shaped fits room =
     let c = class_of h in
     let long = length-side_bits c class s shaped in
-    ap (λ (l : List ℕ). side_at c (bits l)) (side_part-frame_with_side h s frame class shaped room)
-    ∙ ap (side_at c) (bits-bytes (side_size_of c) (side_bits c s) (AreBits-side_bits c s) long)
+    ap (λ (l : List ℕ). side_at c (bits l)) (side_part-frame_with_side h frame class shaped room)
+    ∙ ap (side_at c) (bits-bytes (side_size_of c) (AreBits-side_bits c s) long)
     ∙ side_at-side_bits c class s shaped fits
 
-step_below : (b : Bool) (word : ℕ) → word < 65536 → cond b word (bit_xor word polynomial) < 65536
-step_below true word few = few
-step_below false word few = xor_lt 16 word polynomial few (lit< tt)
+step_below : (b : Bool) {word : ℕ} → word < 65536 → cond b word (bit_xor word polynomial) < 65536
+step_below true few = few
+step_below false {word} few = xor_lt 16 word polynomial few (lit< tt)
 
 crc_bit-below : (word bit : ℕ) → crc_bit word bit < 65536
 unfolding crc_bit
-crc_bit-below word bit = step_below _ (word * 2 % 65536) (mod_below (word * 2) 65536 (lit< tt))
+crc_bit-below word bit = step_below _ (mod_below (word * 2) 65536 (lit< tt))
 
 remainder-below : (word : ℕ) (bs : List ℕ) → word < 65536 → remainder word bs < 65536
 unfolding remainder
@@ -240,17 +240,17 @@ pub stored_crc-frame_with_side : (h : HeaderFields) (s : Side) (frame : List ℕ
 stored_crc-frame_with_side h s frame is room =
     let word = check_word_of h s in
     stored_crc-protected h s frame is room
-    ∙ ap number (bits-bytes 2 (bits_of 16 word) (AreBits-bits_of 16 word) (length-bits_of 16 word))
-    ∙ number-bits_of-below 16 word (check_word-below h s)
+    ∙ ap number (bits-bytes 2 (AreBits-bits_of 16 word) (length-bits_of 16 word))
+    ∙ number-bits_of-below 16 (check_word-below h s)
 
 -- ---- a frame whose side information is put in again
 
 -- if side information is put into a frame twice, the last one counts
-pub frame_with_side-again : (h : HeaderFields) (s t : Side) (frame : List ℕ) → IsClass (class_of h)
-    → IsShaped t → HasRoom h frame
+pub frame_with_side-again : (h : HeaderFields) (s : Side) {t : Side} (frame : List ℕ)
+    → IsClass (class_of h) → IsShaped t → HasRoom h frame
     → frame_with_side h s (frame_with_side h t frame) ≡ frame_with_side h s frame
 unfolding frame_with_side
-frame_with_side-again h s t frame class shaped room =
+frame_with_side-again h s frame class shaped room =
     grind (arith, header-frame_with_side, area-frame_with_side)
 
 -- the check word of a protected frame is right
@@ -263,10 +263,10 @@ unfolding stored_crc
 word_of-said frame all long =
     grind (arith, length-take, length-drop, bits-bits_of, bytes-bits, AreBelow-take, AreBelow-drop)
 
-word_cases : (h : HeaderFields) (s : Side) (frame : List ℕ) (b : Bool) → h.protected ≡ b
+word_cases : (h : HeaderFields) (s : Side) (frame : List ℕ) {b : Bool} → h.protected ≡ b
     → AreBytes frame → HasRoom h frame → (h.protected ≡ true → stored_crc frame ≡ check_word_of h s)
     → cond b (bytes (bits_of 16 (check_word_of h s))) [] ++ drop (side_place b) frame ≡ drop 4 frame
-word_cases h s frame b is all room right =
+word_cases h s frame is all room right =
     grind (arith, word_of-said, room-protected, drop-drop, take-append-drop)
 
 -- the side information that is read from a frame is written as the bytes that are there
@@ -289,11 +289,11 @@ side_there h frame class all room =
 
 -- putting a frame's own side information into it doesn't change the frame, if its check word is
 -- right
-pub frame_with_side-own : (h : HeaderFields) (frame : List ℕ) → IsClass (class_of h)
+pub frame_with_side-own : (h : HeaderFields) {frame : List ℕ} → IsClass (class_of h)
     → AreBytes frame → HasRoom h frame → IsRight h frame
     → frame_with_side h (side_in h frame) frame ≡ frame
 unfolding frame_with_side side_part
-frame_with_side-own h frame class all room right =
+frame_with_side-own h {frame} class all room right =
     let c = class_of h in
     let s = side_in h frame in
     let place = side_place h.protected in
@@ -304,7 +304,7 @@ frame_with_side-own h frame class all room right =
     ap₂ (λ (xs ys : List ℕ). take 4 frame ++ (crc_part h s ++ (xs ++ ys)))
     (side_there h frame class all room) rest
     ∙ ap (λ (l : List ℕ). take 4 frame ++ (crc_part h s ++ l)) (take-append-drop size behind)
-    ∙ ap (λ (l : List ℕ). take 4 frame ++ l) (word_cases h s frame h.protected refl all room right)
+    ∙ ap (λ (l : List ℕ). take 4 frame ++ l) (word_cases h s frame refl all room right)
     ∙ take-append-drop 4 frame
 
 -- the lists in side information read from a frame are as long as the arrays
@@ -337,12 +337,12 @@ drop-take-append (suc m) (suc n) [] le = refl
 drop-take-append (suc m) (suc n) (x ∷ xs) le = drop-take-append m n xs (omega (arith, le))
 
 -- the side information is the same in any first bytes of the frame that contain it
-pub side_in-take : (h : HeaderFields) (len : ℕ) (xs : List ℕ)
+pub side_in-take : (h : HeaderFields) {len : ℕ} (xs : List ℕ)
     → overhead_of (class_of h) h.protected ≤ len → side_in h (take len xs) ≡ side_in h xs
 unfolding side_in side_part
-side_in-take h len xs room = grind (arith, take-drop-take, overhead-is)
+side_in-take h xs room = grind (arith, take-drop-take, overhead-is)
 
 -- the check word is the same in any first bytes of the frame, at least six
-pub stored_crc-take : (len : ℕ) (xs : List ℕ) → 6 ≤ len → stored_crc (take len xs) ≡ stored_crc xs
+pub stored_crc-take : {len : ℕ} (xs : List ℕ) → 6 ≤ len → stored_crc (take len xs) ≡ stored_crc xs
 unfolding stored_crc
-stored_crc-take len xs room = grind (arith, take-drop-take 2 4 len xs (omega (arith, room)))
+stored_crc-take {len} xs room = grind (arith, take-drop-take 2 4 len xs (omega (arith, room)))

@@ -35,7 +35,7 @@ module _ (h : HeaderFields) (known : IsHeader h) (four part room : List ℕ) (he
     (all : AreBytes part) (is : room ≡ padded_side part) where
   header_is : header_of (front_with four room) ≡ h
   unfolding header_of
-  header_is = header_fields-header_at four h (header_at-bytes four h known head)
+  header_is = header_fields-header_at four (header_at-bytes four known head)
 
   own : own_side (class_of h) room ≡ part
   unfolding own_side padded_side
@@ -59,9 +59,9 @@ module _ (h : HeaderFields) (known : IsHeader h) (four part room : List ℕ) (he
 
 -- ---- the header
 -- a header that is read from its four bytes is the header of the front
-pub header_read : (a : Inside) (h : HeaderFields) → header_at a.header ≡ good h → header_of a ≡ h
+pub header_read : (a : Inside) {h : HeaderFields} → header_at a.header ≡ good h → header_of a ≡ h
 unfolding header_of
-header_read a h is = header_fields-header_at a.header h is
+header_read a {h} is = header_fields-header_at a.header is
 
 -- the side information of a front is the side information of its class in its own bytes
 pub side_read : (a : Inside)
@@ -96,10 +96,10 @@ unfolding header_of header_fields
 mode_extension_read a = refl
 
 -- the fields of headers whose bits are alike are the same but for slot and mode extension
-pub fields-alike : (bs cs : List ℕ) → AreHeadersAlike bs cs
+pub fields-alike : {bs cs : List ℕ} → AreHeadersAlike bs cs
     → header_fields bs ≡ header_like (header_fields cs) (header_fields bs)
 unfolding header_fields
-fields-alike bs cs same = grind arith
+fields-alike same = grind arith
 
 -- a header that differs from another only in slot and mode extension has bits alike the other's
 pub alike-fields : (h other : HeaderFields)
@@ -127,24 +127,24 @@ unfolding side_of
 shaped a = search (arith, IsShaped-side_at)
 
 -- the fields of the side information of a front are within their bits
-pub fits : (a : Inside) → AreFrontBytes a → SideFits (class_of (header_of a)) (side_of a)
+pub fits : {a : Inside} → AreFrontBytes a → SideFits (class_of (header_of a)) (side_of a)
 unfolding side_of
-fits a w = grind (arith, SideFits-side_at, IsClass-class_of, AreBits-bits)
+fits w = grind (arith, SideFits-side_at, IsClass-class_of, AreBits-bits)
 
 -- what is known of a front holds if its bytes are the ones that its fields are written as
-pub written : (a : Inside) → AreFrontBytes a → Written a
+pub written : {a : Inside} → AreFrontBytes a → Written a
 unfolding own_side padded_side
-written a w =
+written {a} w =
     let h = header_of a in
     let c = class_of h in
     let n = side_size_of c in
-    let class = IsClass-class_of h w.known in
+    let class = IsClass-class_of w.known in
     let part = bytes (side_bits c (side_of a)) in
     let long = length-side_bits c class (side_of a) (shaped a) in
     let size : length part ≡ n = length-bytes n (side_bits c (side_of a)) long in
     let header : bytes (header_bits h) ≡ a.header = ap (λ b. b.header) w.same in
     let head : bits a.header ≡ header_bits h = ap bits (sym header)
-    ∙ bits-bytes 4 (header_bits h) (AreBits-header_bits h) (length-header_bits h) in
+    ∙ bits-bytes 4 (AreBits-header_bits h) (length-header_bits h) in
     let room : a.side ≡ part ++ drop (length part) (replicate 32 0) =
     sym (ap (λ b. b.side) w.same) in
     let own : take n a.side ≡ part =
@@ -152,53 +152,53 @@ written a w =
     record {
       head = head;
       octets = subst AreBytes header (AreBytes-bytes (header_bits h) (AreBits-header_bits h));
-      at = header_at-bytes a.header h w.known head;
+      at = header_at-bytes a.header w.known head;
       class = class;
       size = ap length own ∙ size;
       all = subst AreBytes (sym own)
           (AreBytes-bytes (side_bits c (side_of a)) (AreBits-side_bits c (side_of a)));
       side = ap bits own
-          ∙ bits-bytes n (side_bits c (side_of a)) (AreBits-side_bits c (side_of a)) long;
+          ∙ bits-bytes n (AreBits-side_bits c (side_of a)) long;
       rest = ap (drop n) room ∙ drop_at part (drop (length part) (replicate 32 0)) n size
           ∙ ap (λ k. drop k (replicate 32 0)) size;
     }
 
 -- the big-endian number of the four bytes has the bits of these bytes
-pub word_bits : (a : Inside) → AreFrontBytes a → (word : ℕ) → word ≡ from_be_bytes w32 a.header
+pub word_bits : {a : Inside} → AreFrontBytes a → {word : ℕ} → word ≡ from_be_bytes w32 a.header
     → bits_of 32 word ≡ bits a.header
-word_bits a w word is =
+word_bits {a} w is =
     let h = header_of a in
     let four : length a.header ≡ 4 = ap length (sym (ap (λ b. b.header) w.same))
     ∙ length-bytes 4 (header_bits h) (length-header_bits h) in
-    ap (bits_of 32) is ∙ sym (bits-be_bytes a.header four (written a w).octets)
+    ap (bits_of 32) is ∙ sym (bits-be_bytes a.header four (written w).octets)
 
 -- the big-endian number of the four bytes has the bits of the header
-pub word_fields : (a : Inside) → AreFrontBytes a → (word : ℕ) → word ≡ from_be_bytes w32 a.header
+pub word_fields : {a : Inside} → AreFrontBytes a → {word : ℕ} → word ≡ from_be_bytes w32 a.header
     → header_fields (bits_of 32 word) ≡ header_of a
 unfolding header_of
-word_fields a w word is = ap header_fields (word_bits a w word is)
+word_fields {a} w {word} is = ap header_fields (word_bits w is)
 
 -- the side information is as many of the 32 bytes as the class has
-pub written_size : (a : Inside) → AreFrontBytes a
+pub written_size : {a : Inside} → AreFrontBytes a
     → length (take (side_size_of (class_of (header_of a))) a.side)
     ≡ side_size_of (class_of (header_of a))
 unfolding own_side
-written_size a w = (written a w).size
+written_size {a} w = (written w).size
 
 -- other side bytes of the same length are followed by zeros too
-pub padded_side-other : (a : Inside) → AreFrontBytes a → (part : List ℕ)
+pub padded_side-other : {a : Inside} → AreFrontBytes a → (part : List ℕ)
     → length part ≡ side_size_of (class_of (header_of a))
     → part ++ drop (side_size_of (class_of (header_of a))) a.side ≡ padded_side part
 unfolding padded_side
-padded_side-other a w part size = grind (arith, written a w, size)
+padded_side-other {a} w part size = grind (arith, written w, size)
 
 -- the 32 bytes are the side information, with zeros after it
-pub padded_side-own : (a : Inside) → AreFrontBytes a
+pub padded_side-own : {a : Inside} → AreFrontBytes a
     → a.side ≡ padded_side (own_side (class_of (header_of a)) a.side)
 unfolding own_side
-padded_side-own a w =
+padded_side-own {a} w =
     sym (take-append-drop (side_size_of (class_of (header_of a))) a.side)
-    ∙ padded_side-other a w (take (side_size_of (class_of (header_of a))) a.side) (written_size a w)
+    ∙ padded_side-other w (take (side_size_of (class_of (header_of a))) a.side) (written_size w)
 
 -- another header of the same class before the same side information
 module _ (a : Inside) (w : AreFrontBytes a) (h : HeaderFields) (known : IsHeader h) (four : List ℕ)
@@ -207,15 +207,15 @@ module _ (a : Inside) (w : AreFrontBytes a) (h : HeaderFields) (known : IsHeader
   -- these bytes are the ones that their fields are written as
   pub header_written : AreFrontBytes (front_with four a.side)
   header_written = are_written h known four (own_side (class_of (header_of a)) a.side) a.side head
-      octets ((written a w).size ∙ ap side_size_of (sym same))
-      (written a w).all (padded_side-own a w)
+      octets ((written w).size ∙ ap side_size_of (sym same))
+      (written w).all (padded_side-own w)
 
   -- their fields are that header and the side information from before
   pub header_fields-written : front_view (front_with four a.side)
       ≡ record { header = h; side = side_of a }
   header_fields-written =
       written_fields h known four (own_side (class_of (header_of a)) a.side) a.side head octets
-      ((written a w).size ∙ ap side_size_of (sym same)) (written a w).all (padded_side-own a w)
+      ((written w).size ∙ ap side_size_of (sym same)) (written w).all (padded_side-own w)
       ∙ ap (λ (s : Side). record { header = h; side = s }) (ap (λ k. side_at k
       (bits (own_side (class_of (header_of a)) a.side))) same ∙ sym (side_read a))
 
@@ -259,43 +259,44 @@ pub begin_width-is : (c : ClassFields) → IsClass c → begin_width c.version �
 begin_width-is = grind (arith, each_class)
 
 -- all fields still fit with another main_data_begin
-pub fits-begin : (c : ClassFields) (s : Side) (begin : ℕ) → SideFits c s
+pub fits-begin : {c : ClassFields} {s : Side} {begin : ℕ} → SideFits c s
     → begin < 2 ^ front_width c 0 → SideFits c (record s { main_data_begin = begin })
-fits-begin c s begin fit small = grind arith
+fits-begin fit small = grind arith
 
-shaped-begin : (s : Side) (begin : ℕ) → IsShaped s → IsShaped (record s { main_data_begin = begin })
-shaped-begin s begin shape = grind arith
+shaped-begin : {s : Side} (begin : ℕ) → IsShaped s → IsShaped (record s { main_data_begin = begin })
+shaped-begin begin shape = grind arith
 
 -- changing the bits of main_data_begin changes this field alone
-pub side_at-begin : (c : ClassFields) → IsClass c → (s : Side) (begin : ℕ) (old new : List ℕ)
+pub side_at-begin : {c : ClassFields} → IsClass c → {s : Side} {begin : ℕ} {old new : List ℕ}
     → IsShaped s → SideFits c s → begin < 2 ^ front_width c 0 → old ≡ side_bits c s
     → new ≡ bits_of (begin_width c.version) begin ++ drop (begin_width c.version) old
     → side_at c new ≡ record s { main_data_begin = begin }
-side_at-begin c class s begin old new shape fit small was is =
+side_at-begin {c} class {s} {begin} shape fit small was is =
     ap (side_at c)
     (is ∙ ap (λ bs. bits_of (begin_width c.version) begin ++ drop (begin_width c.version) bs) was
     ∙ sym (begin_first c class s begin))
-    ∙ side_at-side_bits c class (record s { main_data_begin = begin }) (shaped-begin s begin shape)
-    (fits-begin c s begin fit small)
+    ∙ side_at-side_bits c class (record s { main_data_begin = begin }) (shaped-begin begin shape)
+    (fits-begin fit small)
 
 -- ---- the bytes before the area, with other bytes after them
 
-four_long : (h : HeaderFields) (four : List ℕ) → four ≡ bytes (header_bits h) → length four ≡ 4
-four_long h four is = ap length is ∙ length-bytes 4 (header_bits h) (length-header_bits h)
+four_long : (h : HeaderFields) {four : List ℕ} → four ≡ bytes (header_bits h) → length four ≡ 4
+four_long h is = ap length is ∙ length-bytes 4 (header_bits h) (length-header_bits h)
 
 -- without a check word, only the header is before the side information
-pub head-alone : (h : HeaderFields) (s : Side) (four rest : List ℕ) → four ≡ bytes (header_bits h)
-    → h.protected ≡ false → take 4 (four ++ rest) ≡ bytes (header_bits h) ++ crc_part h s
-head-alone h s four rest is open_frame =
-    grind (arith, take_at four rest 4 (four_long h four is), append-nil (bytes (header_bits h)))
+pub head-alone : (h : HeaderFields) (s : Side) {four : List ℕ} (rest : List ℕ)
+    → four ≡ bytes (header_bits h) → h.protected ≡ false
+    → take 4 (four ++ rest) ≡ bytes (header_bits h) ++ crc_part h s
+head-alone h s {four} rest is open_frame =
+    grind (arith, take_at four rest 4 (four_long h is), append-nil (bytes (header_bits h)))
 
 -- a check word is put right after the header
-pub head-word : (h : HeaderFields) (s : Side) (word : ℕ) (four frame new : List ℕ)
-    → four ≡ bytes (header_bits h) → h.protected ≡ true → word ≡ check_word_of h s →
+pub head-word : (h : HeaderFields) (s : Side) {word : ℕ} {four : List ℕ} (frame : List ℕ)
+    {new : List ℕ} → four ≡ bytes (header_bits h) → h.protected ≡ true → word ≡ check_word_of h s →
     new
     ≡ take 4 (four ++ drop 4 frame) ++ (bytes (bits_of 16 word) ++ drop 6 (four ++ drop 4 frame))
     → take 6 new ≡ bytes (header_bits h) ++ crc_part h s
-head-word h s word four frame new is protected right put =
+head-word h s {word} {four} frame is protected right put =
     let header = bytes (header_bits h) in
     let rest = drop 6 (four ++ drop 4 frame) in
     let part : bytes (bits_of 16 word) ≡ crc_part h s =
@@ -306,7 +307,7 @@ head-word h s word four frame new is protected right put =
     ap (take 6)
     (put
     ∙ ap₂ (λ (xs ys : List ℕ). xs ++ (ys ++ rest))
-    (take_at four (drop 4 frame) 4 (four_long h four is) ∙ is) part
+    (take_at four (drop 4 frame) 4 (four_long h is) ∙ is) part
     ∙ sym (append_assoc header (crc_part h s) rest))
     ∙ take_at (header ++ crc_part h s) rest 6
     (omega (
@@ -317,26 +318,26 @@ head-word h s word four frame new is protected right put =
     ))
 
 -- the first n bytes are the front and the part that was put after it
-pub put-first : (n : ℕ) (front part zeros rest new : List ℕ)
+pub put-first : {n : ℕ} (front part zeros rest : List ℕ) {new : List ℕ}
     → new ≡ front ++ ((part ++ zeros) ++ rest) → length front + length part ≡ n
     → take n new ≡ front ++ part
-put-first n front part zeros rest new is long = grind (arith, append_assoc, take_at, length-append)
+put-first front part zeros rest is long = grind (arith, append_assoc, take_at, length-append)
 
 -- the 32 bytes begin with the side information
-pub room-is : (a : Inside) → AreFrontBytes a
+pub room-is : {a : Inside} → AreFrontBytes a
     → a.side ≡ bytes (side_bits (class_of (header_of a)) (side_of a))
     ++ drop (length (bytes (side_bits (class_of (header_of a)) (side_of a)))) (replicate 32 0)
 unfolding padded_side
-room-is a w = sym (ap (λ b. b.side) w.same)
+room-is w = sym (ap (λ b. b.side) w.same)
 
 -- the side information is written in as many bytes as the class has
-pub part-size : (a : Inside) → AreFrontBytes a
+pub part-size : {a : Inside} → AreFrontBytes a
     → length (bytes (side_bits (class_of (header_of a)) (side_of a)))
     ≡ side_size_of (class_of (header_of a))
-part-size a w =
+part-size {a} w =
     let c = class_of (header_of a) in
     length-bytes (side_size_of c) (side_bits c (side_of a))
-    (length-side_bits c (written a w).class (side_of a) (shaped a))
+    (length-side_bits c (written w).class (side_of a) (shaped a))
 
 -- ---- the slot in a header's bits
 rate_put : (h : HeaderFields) (rate : ℕ)
@@ -352,11 +353,11 @@ unfolding header_bits group_bits header_numbers bits_of
 padding_put h padding = refl
 
 -- putting in bit rate index and then padding bit puts in the slot
-pub slot_put : (h : HeaderFields) (slot : SlotFields) (old middle new : List ℕ)
+pub slot_put : (h : HeaderFields) (slot : SlotFields) {old middle new : List ℕ}
     → old ≡ header_bits h → middle ≡ take 16 old ++ bits_of 4 slot.rate_index ++ drop 20 old
     → new ≡ take 22 middle ++ bits_of 1 (flag_of slot.padding) ++ drop 23 middle
     → new ≡ header_bits (record h { slot = slot })
-slot_put h slot old middle new was first second =
+slot_put h slot {middle = middle} was first second =
     let rated : HeaderFields =
     record h { slot = record { rate_index = slot.rate_index; padding = h.slot.padding } } in
     let one : middle ≡ header_bits rated =

@@ -65,23 +65,22 @@ PutsGain gain at old new = (version : Version) (g : Granule) (before after : Lis
     → new ≡ before ++ (granule_bits version (record g { global_gain = gain }) ++ after)
 
 -- the one channel of a granule gets its gain
-pub one_put : (version : Version) (channels at : ℕ) (gs hs : List Granule)
-    (before after old new : List ℕ) → channels ≡ 1 → length hs ≡ 2
+pub one_put : (version : Version) {channels at : ℕ} (gs hs : List Granule)
+    (before after : List ℕ) {old new : List ℕ} → channels ≡ 1 → length hs ≡ 2
     → PutsGain (get_or hs 0 no_granule).global_gain at old new → length gs ≡ 2 → length before ≡ at
     → old ≡ before ++ (pair_bits version channels gs ++ after) → ArePairsAlike gs hs
     → new ≡ before ++ (pair_bits version channels hs ++ after)
-one_put version channels at gs hs before after old new one two put l b e alike =
-    grind (arith, flat_one)
+one_put version gs hs before after one two put l b e alike = grind (arith, flat_one)
 
 -- both channels of a granule get their gains, the first and then the second
-pub both_put : (version : Version) (channels at next : ℕ) (gs hs : List Granule)
-    (before after old middle new : List ℕ) → channels ≡ 2 → length hs ≡ 2
+pub both_put : (version : Version) {channels at next : ℕ} (gs hs : List Granule)
+    (before after : List ℕ) {old middle new : List ℕ} → channels ≡ 2 → length hs ≡ 2
     → next ≡ at + granule_size version → PutsGain (get_or hs 0 no_granule).global_gain at old middle
     → PutsGain (get_or hs 1 no_granule).global_gain next middle new → length gs ≡ 2
     → length before ≡ at → old ≡ before ++ (pair_bits version channels gs ++ after)
     → ArePairsAlike gs hs → new ≡ before ++ (pair_bits version channels hs ++ after)
-both_put version channels at next gs hs before after old middle new both two place first second l b
-    e alike =
+both_put version {channels} {next = next} gs hs before after
+    {middle = middle} both two place first second l b e alike =
     let g0 : List ℕ = granule_bits version (get_or gs 0 no_granule) in
     let g1 : List ℕ = granule_bits version (get_or gs 1 no_granule) in
     let h0 : List ℕ = granule_bits version (get_or hs 0 no_granule) in
@@ -104,9 +103,9 @@ both_put version channels at next gs hs before after old middle new both two pla
     ∙ ap (λ bs. before ++ (bs ++ after)) (sym is)
 
 -- ---- the side information
-length-pair_bits : (version : Version) (channels : ℕ) (gs : List Granule) → length gs ≡ 2
+length-pair_bits : (version : Version) {channels : ℕ} (gs : List Granule) → length gs ≡ 2
     → channels ≤ 2 → length (pair_bits version channels gs) ≡ channels * granule_size version
-length-pair_bits version channels gs two few = grind (arith, length-flat, length-take-le)
+length-pair_bits version gs two few = grind (arith, length-flat, length-take-le)
 
 four_widths : (version : Version) (channels : ℕ) → length (front_widths_of version channels) ≡ 4
 four_widths version channels = grind arith
@@ -117,14 +116,14 @@ length-front : (version : Version) (channels m p : ℕ) (cs : List ℕ) → leng
 length-front version channels m p cs two = grind (arith, length-group_bits, four_widths)
 
 -- the granules of a frame get their gains in order
-pub all_put_gains : (c : ClassFields) → IsClass c → (t : Side) → IsShaped t
-    → (old middle new : List ℕ) (begin next : ℕ) → begin ≡ front_size c.version c.channels
+pub all_put_gains : (c : ClassFields) → IsClass c → {t : Side} → IsShaped t
+    → {old middle new : List ℕ} {begin next : ℕ} → begin ≡ front_size c.version c.channels
     → next ≡ front_size c.version c.channels + c.channels * granule_size c.version
     → PutsPair (pair_bits c.version c.channels) (get_or t.granules 0 []) begin old middle
     → PutsPair (second_pair_bits c.version c.channels) (get_or t.granules 1 []) next middle new
-    → (s : Side) → IsShaped s → old ≡ side_bits c s → HasOtherGains s t → new ≡ side_bits c t
-all_put_gains c class t t_shaped old middle new begin next begin_is next_is first second s s_shaped
-    e other =
+    → {s : Side} → IsShaped s → old ≡ side_bits c s → HasOtherGains s t → new ≡ side_bits c t
+all_put_gains c class {t} t_shaped {old} {middle} {next = next} begin_is next_is
+    first second {s} s_shaped e other =
     let v : Version = c.version in
     let ch : ℕ = c.channels in
     let front : List ℕ =
@@ -145,7 +144,7 @@ all_put_gains c class t t_shaped old middle new begin next begin_is next_is firs
     let more : length (front ++ h0) ≡ next = omega (
       arith,
       length-append front h0,
-      length-pair_bits v ch (get_or t.granules 0 []) t_shaped.first class.2,
+      length-pair_bits v (get_or t.granules 0 []) t_shaped.first class.2,
     ) in
     second (get_or s.granules 1 []) (front ++ h0) [] s_shaped.second more
     (one ∙ sym (append_assoc front h0 g1) ∙ ap (λ bs. (front ++ h0) ++ bs) (sym (append-nil g1)))
@@ -155,30 +154,30 @@ all_put_gains c class t t_shaped old middle new begin next begin_is next_is firs
 
 -- ---- a frame
 -- the bytes from a place on, where the bits of the first of them are known
-bytes_there : (place size : ℕ) (frame bs : List ℕ) → AreBytes (drop place frame)
+bytes_there : (place size : ℕ) (frame : List ℕ) {bs : List ℕ} → AreBytes (drop place frame)
     → bits (take size (drop place frame)) ≡ bs
     → drop place frame ≡ bytes bs ++ drop (place + size) frame
-bytes_there place size frame bs all e =
+bytes_there place size frame all e =
     sym (take-append-drop size (drop place frame))
     ∙ ap₂ (λ xs ys. xs ++ ys) (sym (bytes-bits (take size (drop place frame))
     (AreBelow-take 256 size (drop place frame) all)) ∙ ap bytes e) (drop-drop size place frame)
 
 -- an unprotected frame whose side bytes were replaced is the frame with this side information
-pub gains-unprotected : (h : HeaderFields) (s : Side) (old new : List ℕ) → h.protected ≡ false
-    → AreBytes new → take 4 new ≡ take 4 old
+pub gains-unprotected : (h : HeaderFields) (s : Side) (old : List ℕ) {new : List ℕ}
+    → h.protected ≡ false → AreBytes new → take 4 new ≡ take 4 old
     → drop (4 + side_size_of (class_of h)) new ≡ drop (4 + side_size_of (class_of h)) old
     → bits (take (side_size_of (class_of h)) (drop 4 new)) ≡ side_bits (class_of h) s
     → new ≡ frame_with_side h s old
-gains-unprotected h s old new is all front behind side =
+gains-unprotected h s old is all front behind side =
     grind (arith, take-append-drop, bytes_there, AreBelow-drop, frame_with_side-unprotected)
 
 -- a protected frame whose side bytes and check word were replaced is the frame with this side
 -- information
-pub gains-protected : (h : HeaderFields) (s : Side) (old middle new : List ℕ) → h.protected ≡ true
-    → AreBytes (drop 6 middle) → take 6 middle ≡ take 6 old
+pub gains-protected : (h : HeaderFields) (s : Side) (old middle : List ℕ) {new : List ℕ}
+    → h.protected ≡ true → AreBytes (drop 6 middle) → take 6 middle ≡ take 6 old
     → drop (6 + side_size_of (class_of h)) middle ≡ drop (6 + side_size_of (class_of h)) old
     → bits (take (side_size_of (class_of h)) (drop 6 middle)) ≡ side_bits (class_of h) s
     → new ≡ take 4 middle ++ (bytes (bits_of 16 (check_word_of h s)) ++ drop 6 middle)
     → new ≡ frame_with_side h s old
-gains-protected h s old middle new is all front behind side put =
+gains-protected h s old middle is all front behind side put =
     grind (arith, take-take, bytes_there, frame_with_side-protected)

@@ -10,7 +10,7 @@ use Rattle.bit_fields.proofs.GroupsLemmas.{AreBits-group_bits, group_bits-append
 use Rattle.bit_fields.proofs.GroupsLemmas.{group_bits-numbers_at_front, length-group_bits}
 use Rattle.bit_fields.proofs.GroupsLemmas.{length-NumbersFit, numbers_at-group_bits_more}
 use Rattle.bit_fields.{proofs.GroupsLemmas.NumbersFit-numbers_at, specs.Bits.{AreBits, bits_of}}
-use Rattle.bit_fields.specs.Groups.{group_bits, numbers_at, NumbersFit}
+use Rattle.bit_fields.specs.Groups.{group_bits, NumbersFit}
 use Rattle.frame_header.specs.{HeaderBits.flag_of, declared.version.Version.Version}
 use Rattle.side_info.specs.Granule.{compress_width, granule_at, granule_bits, granule_numbers}
 use Rattle.side_info.specs.Granule.{granule_of, granule_size, granule_widths, GranuleFits, is_set}
@@ -28,25 +28,25 @@ flag_of-below flag = grind arith
 
 -- ---- fields and the numbers of the groups
 -- the fields of a granule that fits are within the widths of its groups
-pub NumbersFit-granule : (version : Version) (g : Granule) → GranuleFits version g
+pub NumbersFit-granule : (version : Version) {g : Granule} → GranuleFits version g
     → NumbersFit (granule_widths version) (granule_numbers g)
 unfolding granule_numbers
-NumbersFit-granule version g h = grind (arith, flag_of-below)
+NumbersFit-granule version h = grind (arith, flag_of-below)
 
 -- a granule's numbers give the granule
 pub granule_of-numbers : (g : Granule) → granule_of (granule_numbers g) ≡ g
 unfolding granule_of granule_numbers
 granule_of-numbers g = grind (arith, is_set-flag_of)
 
-numbers_same : (version : Version) (ns : List ℕ) → NumbersFit (granule_widths version) ns
+numbers_same : (version : Version) {ns : List ℕ} → NumbersFit (granule_widths version) ns
     → length ns ≡ 9 → granule_numbers (granule_of ns) ≡ ns
 unfolding granule_of granule_numbers
-numbers_same version ns fit l = grind arith
+numbers_same version fit l = grind arith
 
 -- numbers within the widths are the numbers of the granule that they give
-pub numbers-granule_of : (version : Version) (ns : List ℕ) → NumbersFit (granule_widths version) ns
+pub numbers-granule_of : (version : Version) {ns : List ℕ} → NumbersFit (granule_widths version) ns
     → granule_numbers (granule_of ns) ≡ ns
-numbers-granule_of version ns fit = search (arith, numbers_same, length-NumbersFit)
+numbers-granule_of version fit = search (arith, numbers_same, length-NumbersFit)
 
 fields_fit : (version : Version) (ns : List ℕ) → NumbersFit (granule_widths version) ns
     → length ns ≡ 9 → GranuleFits version (granule_of ns)
@@ -82,10 +82,10 @@ unfolding granule_at
 GranuleFits-granule_at version bs h = search (arith, GranuleFits-granule_of, NumbersFit-numbers_at)
 
 -- a granule is read from its bits, whatever follows
-pub granule_at-granule_bits : (version : Version) (g : Granule) (more : List ℕ)
+pub granule_at-granule_bits : (version : Version) {g : Granule} (more : List ℕ)
     → GranuleFits version g → granule_at version (granule_bits version g ++ more) ≡ g
 unfolding granule_at granule_bits
-granule_at-granule_bits version g more h =
+granule_at-granule_bits version more h =
     search (arith, numbers_at-group_bits_more, NumbersFit-granule, granule_of-numbers)
 
 -- the granule with which bits begin is written as these bits
@@ -95,7 +95,7 @@ unfolding granule_at granule_bits
 granule_bits-granule_at version bs all h =
     grind (
       arith,
-      numbers-granule_of version (numbers_at (granule_widths version) bs)
+      numbers-granule_of version
           (NumbersFit-numbers_at (granule_widths version) bs all),
       NumbersFit-numbers_at (granule_widths
           version) bs all,

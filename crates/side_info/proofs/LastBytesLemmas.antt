@@ -39,23 +39,23 @@ unfolding granule_bits granule_numbers
 behind_gain version g gain = grind (arith, behind_three)
 
 -- the bits after global_gain are the same in granules that differ in no other field
-pub bits_behind_gain : (version : Version) (g h : Granule) → AreGranulesAlike g h
+pub bits_behind_gain : (version : Version) (g : Granule) {h : Granule} → AreGranulesAlike g h
     → drop 29 (granule_bits version h) ≡ drop 29 (granule_bits version g)
-bits_behind_gain version g h alike = grind (arith, behind_gain)
+bits_behind_gain version g alike = grind (arith, behind_gain)
 
 -- the last two bytes of a granule's bits are after global_gain
-last_16 : (version : Version) (g h : Granule) → AreGranulesAlike g h
+last_16 : (version : Version) (g : Granule) {h : Granule} → AreGranulesAlike g h
     → drop (granule_size version - 16) (granule_bits version h)
     ≡ drop (granule_size version - 16) (granule_bits version g)
-last_16 One g h alike =
-    sym (drop-drop 14 29 (granule_bits One h)) ∙ ap (drop 14) (bits_behind_gain One g h alike)
+last_16 One g {h} alike =
+    sym (drop-drop 14 29 (granule_bits One h)) ∙ ap (drop 14) (bits_behind_gain One g alike)
     ∙ drop-drop 14 29 (granule_bits One g)
-last_16 Two g h alike =
-    sym (drop-drop 18 29 (granule_bits Two h)) ∙ ap (drop 18) (bits_behind_gain Two g h alike)
+last_16 Two g {h} alike =
+    sym (drop-drop 18 29 (granule_bits Two h)) ∙ ap (drop 18) (bits_behind_gain Two g alike)
     ∙ drop-drop 18 29 (granule_bits Two g)
-last_16 TwoFive g h alike =
+last_16 TwoFive g {h} alike =
     sym (drop-drop 18 29 (granule_bits TwoFive h))
-    ∙ ap (drop 18) (bits_behind_gain TwoFive g h alike) ∙ drop-drop 18 29 (granule_bits TwoFive g)
+    ∙ ap (drop 18) (bits_behind_gain TwoFive g alike) ∙ drop-drop 18 29 (granule_bits TwoFive g)
 
 -- ---- the last granule and channel
 
@@ -109,11 +109,11 @@ unfolding side_size_of
 least_size = grind (arith, each_class)
 
 -- the last two bytes' bits are the same if the last granules differ in no field but global_gain
-last_bits : (c : ClassFields) → IsClass c → (s t : Side) → IsShaped s → IsShaped t
+last_bits : (c : ClassFields) → IsClass c → {s t : Side} → IsShaped s → IsShaped t
     → AreGranulesAlike (last_granule c s) (last_granule c t)
     → drop (8 * (side_size_of c - 2)) (side_bits c t)
     ≡ drop (8 * (side_size_of c - 2)) (side_bits c s)
-last_bits c class s t s_shaped t_shaped alike =
+last_bits c class {s} {t} s_shaped t_shaped alike =
     let least = least_size c class in
     let before = 8 * side_size_of c - granule_size c.version in
     let more = granule_size c.version - 16 in
@@ -122,25 +122,25 @@ last_bits c class s t s_shaped t_shaped alike =
     ≡ drop more (granule_bits c.version (last_granule c u)) =
     λ u shaped. ap (λ n. drop n (side_bits c u)) place ∙ sym (drop-drop more before (side_bits c u))
     ∙ ap (drop more) (last_granule-side_bits c class u shaped) in
-    last t t_shaped ∙ last_16 c.version (last_granule c s) (last_granule c t) alike
+    last t t_shaped ∙ last_16 c.version (last_granule c s) alike
     ∙ sym (last s s_shaped)
 
 -- the last two bytes are the same if the last granules differ in no field but global_gain
-pub last_bytes : (c : ClassFields) → IsClass c → (s t : Side) → IsShaped s → IsShaped t
+pub last_bytes : (c : ClassFields) → IsClass c → {s t : Side} → IsShaped s → IsShaped t
     → AreGranulesAlike (last_granule c s) (last_granule c t)
     → drop (side_size_of c - 2) (bytes (side_bits c t))
     ≡ drop (side_size_of c - 2) (bytes (side_bits c s))
-last_bytes c class s t s_shaped t_shaped alike =
+last_bytes c class s_shaped t_shaped alike =
     grind (arith, least_size, drop-bytes, length-side_bits, last_bits)
 
 -- ---- in a frame
 
 -- the bytes from within the side information on are the rest of it and the area
-behind_part : (h : HeaderFields) (n : ℕ) (frame : List ℕ) → n ≤ side_size_of (class_of h)
+behind_part : (h : HeaderFields) {n : ℕ} (frame : List ℕ) → n ≤ side_size_of (class_of h)
     → drop (side_place h.protected + n) frame
     ≡ drop n (side_part h frame) ++ drop (overhead_of (class_of h) h.protected) frame
 unfolding side_part
-behind_part h n frame within =
+behind_part h {n} frame within =
     let place = side_place h.protected in
     let size = side_size_of (class_of h) in
     let area : drop size (drop place frame) ≡ drop (overhead_of (class_of h) h.protected) frame =
@@ -152,12 +152,12 @@ behind_part h n frame within =
 
 -- From two bytes before its area on, a frame stays as it is if it gets side information whose last
 -- granule and channel differs in no field but global_gain.
-pub last_bytes-frame_with_side : (h : HeaderFields) (s : Side) (frame : List ℕ)
+pub last_bytes-frame_with_side : (h : HeaderFields) {s : Side} (frame : List ℕ)
     → IsClass (class_of h) → AreBytes frame → IsShaped s → HasRoom h frame
     → AreGranulesAlike (last_granule (class_of h) (side_in h frame)) (last_granule (class_of h) s)
     → drop (overhead_of (class_of h) h.protected - 2) (frame_with_side h s frame)
     ≡ drop (overhead_of (class_of h) h.protected - 2) frame
-last_bytes-frame_with_side h s frame class all shaped room alike =
+last_bytes-frame_with_side h {s} frame class all shaped room alike =
     let c = class_of h in
     let n = side_size_of c - 2 in
     let area = drop (overhead_of c h.protected) frame in
@@ -168,9 +168,9 @@ last_bytes-frame_with_side h s frame class all shaped room alike =
     ≡ drop n (side_part h l) ++ drop (overhead_of c h.protected) l = grind (arith, behind_part) in
     from (frame_with_side h s frame)
     ∙ ap₂ (λ (part rest : List ℕ). drop n part ++ rest)
-    (side_part-frame_with_side h s frame class shaped room)
-    (area-frame_with_side h s frame class shaped room)
+    (side_part-frame_with_side h frame class shaped room)
+    (area-frame_with_side h frame class shaped room)
     ∙ ap (λ (l : List ℕ). l ++ area)
-    (last_bytes c class (side_in h frame) s (shaped-side_in h frame) shaped alike)
+    (last_bytes c class (shaped-side_in h frame) shaped alike)
     ∙ ap (λ (l : List ℕ). drop n l ++ area) (side_there h frame class all room)
     ∙ sym (from frame)

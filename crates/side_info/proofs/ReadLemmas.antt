@@ -68,9 +68,9 @@ pub size-is : (version : Version)
 size-is version = grind arith
 
 -- preflag is all that is above the two lowest bits
-pub preflag_once : (version : Version) (last : ℕ) → last < 2 ^ (preflag_width version + 2)
+pub preflag_once : (version : Version) {last : ℕ} → last < 2 ^ (preflag_width version + 2)
     → last / 4 % 2 ≡ last / 4
-preflag_once version last small = grind (arith, pow_mono, preflag_most, mod-eq_of_lt, shr_below)
+preflag_once version small = grind (arith, pow_mono, preflag_most, mod-eq_of_lt, shr_below)
 
 module _ (version : Version) (bs : List ℕ) (at first middle last : ℕ) (all : AreBits bs)
     (enough : at + granule_size version ≤ length bs) (first_small : first < 2 ^ 29)
@@ -151,16 +151,16 @@ set_both (x ∷ y ∷ z ∷ xs) first second two = absurd (omega (arith, two))
 set_both _ first second two = absurd (omega (arith, two))
 
 -- one channel is the granule with which the bits begin; the other is all 0
-pub pair_of_one : (version : Version) (channels : ℕ) (bs : List ℕ) (first : Granule) → first
+pub pair_of_one : (version : Version) {channels : ℕ} (bs : List ℕ) {first : Granule} → first
     ≡ granule_at version bs → channels ≡ 1 → first ∷ no_granule ∷ [] ≡ pair_at version channels bs
-pair_of_one version channels bs first is one = rw (one, is) refl
+pair_of_one version bs is one = rw (one, is) refl
 
 -- two channels are two granules, the second right after the first
-pub pair_of_two : (version : Version) (channels at width : ℕ) (bs : List ℕ) (first second : Granule)
-    → width ≡ granule_size version → first ≡ granule_at version (drop at bs)
-    → second ≡ granule_at version (drop (at + width) bs) → eqb channels 1 ≡ false
-    → first ∷ second ∷ [] ≡ pair_at version channels (drop at bs)
-pair_of_two version channels at width bs first second wide is next two = grind (arith, drop-drop)
+pub pair_of_two : (version : Version) (channels at : ℕ) {width : ℕ} (bs : List ℕ)
+    {first second : Granule} → width ≡ granule_size version
+    → first ≡ granule_at version (drop at bs) → second ≡ granule_at version (drop (at + width) bs)
+    → eqb channels 1 ≡ false → first ∷ second ∷ [] ≡ pair_at version channels (drop at bs)
+pair_of_two version channels at bs wide is next two = grind (arith, drop-drop)
 
 -- ---- the whole, from its parts
 sizes : (version : Version) (channels : ℕ) → side_bytes_of version channels ≤ 32
@@ -183,7 +183,7 @@ channels-pair : (c : ClassFields) (n : ℕ) (bs : List ℕ)
 channels-pair c n bs = grind (arith, drop-drop)
 
 -- the fields before the granules, the first granule and the second are the side information
-pub side_is : (c : ClassFields) (bs : List ℕ) (front : Front) (first second : List Granule)
+pub side_is : (c : ClassFields) (bs : List ℕ) {front : Front} {first second : List Granule}
     → front ≡ front_at c.version c.channels bs
     → first ≡ pair_at c.version c.channels (drop (front_size c.version c.channels) bs)
     → second ≡ second_pair_at c.version c.channels (drop (front_size c.version c.channels
@@ -194,7 +194,7 @@ pub side_is : (c : ClassFields) (bs : List ℕ) (front : Front) (first second : 
       granules = first ∷ second ∷ [];
     }) (side_at c bs)
 unfolding side_at front_of_numbers
-side_is c bs front first second e0 e1 e2 = grind (arith, channels-pair, zero-mul, drop-drop)
+side_is c bs e0 e1 e2 = grind (arith, channels-pair, zero-mul, drop-drop)
 
 -- side information depends on version and channels alone
 pub side_at-class : (c : ClassFields) (bs : List ℕ)
@@ -203,9 +203,9 @@ unfolding side_at
 side_at-class c bs = refl
 
 -- where there are two granules, the second one is within the side information
-pub second_room : (granules front size total next : ℕ) → granules ≡ 2 → next ≡ front + size
-    → total ≡ front + (size + (granules - 1) * size) → next + size ≤ total
-second_room granules front size total next two e d = grind arith
+pub second_room : {granules : ℕ} (front size : ℕ) {total next : ℕ} → granules ≡ 2
+    → next ≡ front + size → total ≡ front + (size + (granules - 1) * size) → next + size ≤ total
+second_room front size two e d = grind arith
 
 -- the length of side information depends on version and channels alone
 pub side_size-class : (c : ClassFields)

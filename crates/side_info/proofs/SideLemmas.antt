@@ -65,10 +65,10 @@ unfolding side_at group_bits numbers_at
 front-side_at = grind (arith, each_class)
 
 -- side information that was read is written as the bits that it was read from
-pub side_bits-side_at : (c : ClassFields) → IsClass c → (bs : List ℕ) → AreBits bs
+pub side_bits-side_at : (c : ClassFields) → IsClass c → {bs : List ℕ} → AreBits bs
     → length bs ≡ 8 * side_size_of c → side_bits c (side_at c bs) ≡ bs
 unfolding side_bits
-side_bits-side_at c class bs all h =
+side_bits-side_at c class all h =
     grind (
       arith,
       widths_sum,
@@ -127,16 +127,16 @@ module _ (P : Side → Type 0)
   by_granules m p a b (gs ∷ ks ∷ []) l d e = by_first m p a b gs ks d e
   by_granules m p a b gs l d e = absurd (omega arith)
 
-  by_scfsi : (m p : ℕ) (cs : List ℕ) (gs : List (List Granule)) → length cs ≡ 2 → length gs ≡ 2
+  by_scfsi : (m p : ℕ) (cs : List ℕ) {gs : List (List Granule)} → length cs ≡ 2 → length gs ≡ 2
       → length (get_or gs 0 []) ≡ 2 → length (get_or gs 1 []) ≡ 2
       → P (record { main_data_begin = m; private_bits = p; scfsi = cs; granules = gs })
-  by_scfsi m p (a ∷ b ∷ []) gs n l d e = by_granules m p a b gs l d e
-  by_scfsi m p cs gs n l d e = absurd (omega arith)
+  by_scfsi m p (a ∷ b ∷ []) {gs} n l d e = by_granules m p a b gs l d e
+  by_scfsi m p cs n l d e = absurd (omega arith)
 
   -- what holds for all side information made of two scfsi and two by two granules holds for all
   -- whose lists are as long as the arrays
   pub each_shaped : (s : Side) → IsShaped s → P s
-  each_shaped s shaped = by_scfsi s.main_data_begin s.private_bits s.scfsi s.granules shaped.scfsi
+  each_shaped s shaped = by_scfsi s.main_data_begin s.private_bits s.scfsi shaped.scfsi
       shaped.granules shaped.first shaped.second
 
 -- what holds for each combination of version and channels and all such side information holds for
@@ -178,10 +178,10 @@ back : (c : ClassFields) (ns : List ℕ) (gs : List Granule) → NumbersFit (fro
 back c ns gs fits l =
     grind (arith, side_at-built, built, numbers_at-group_bits_more, drop_at, length-group_bits)
 
-nth : (version : Version) (gs : List Granule) (n : ℕ) → n < length gs
+nth : (version : Version) (gs : List Granule) {n : ℕ} → n < length gs
     → GranuleFits version (get_or gs n no_granule)
     → nth_granule version n (flat_map (granule_bits version) gs) ≡ get_or gs n no_granule
-nth version gs n h fits =
+nth version gs {n} h fits =
     grind (arith, append-nil (flat_map (granule_bits version) gs), nth_granule-flat version gs n)
 
 abbrev GivesBack : ClassFields → Side → Type 0
@@ -194,9 +194,9 @@ module _ (f m p a b : ℕ) (g h k l : Granule) where
       let gs : List Granule = g ∷ k ∷ [] in
       back (class_with One f 1) (m ∷ p ∷ a ∷ b ∷ []) gs
       (fits.main_data_begin, (fits.private_bits, (fits.scfsi 0, (fits.scfsi 1, tt)))) refl
-      ∙ (λ i. side_with m p a b (nth One gs 0 (omega arith) (fits.granules 0 0) i)
+      ∙ (λ i. side_with m p a b (nth One gs {n = 0} (omega arith) (fits.granules 0 0) i)
       (sym (fits.granules 0 1) i)
-      (nth One gs 1 (omega arith) (fits.granules 1 0) i) (sym (fits.granules 1 1) i))
+      (nth One gs {n = 1} (omega arith) (fits.granules 1 0) i) (sym (fits.granules 1 1) i))
 
   back_one_stereo : GivesBack (class_with One f 2) (side_with m p a b g h k l)
   unfolding side_bits granules_in built
@@ -204,9 +204,10 @@ module _ (f m p a b : ℕ) (g h k l : Granule) where
       let gs : List Granule = g ∷ h ∷ k ∷ l ∷ [] in
       back (class_with One f 2) (m ∷ p ∷ a ∷ b ∷ []) gs
       (fits.main_data_begin, (fits.private_bits, (fits.scfsi 0, (fits.scfsi 1, tt)))) refl
-      ∙ (λ i. side_with m p a b (nth One gs 0 (omega arith) (fits.granules 0 0) i) (nth One gs 1
-      (omega arith) (fits.granules 0 1) i) (nth One gs 2 (omega arith) (fits.granules 1 0) i)
-      (nth One gs 3 (omega arith) (fits.granules 1 1) i))
+      ∙ (λ i. side_with m p a b (nth One gs {n = 0} (omega arith) (fits.granules 0 0) i)
+      (nth One gs {n = 1}
+      (omega arith) (fits.granules 0 1) i) (nth One gs {n = 2} (omega arith) (fits.granules 1 0) i)
+      (nth One gs {n = 3} (omega arith) (fits.granules 1 1) i))
 
   back_two_mono : GivesBack (class_with Two f 1) (side_with m p a b g h k l)
   unfolding side_bits granules_in built
@@ -214,7 +215,7 @@ module _ (f m p a b : ℕ) (g h k l : Granule) where
       let gs : List Granule = g ∷ [] in
       back (class_with Two f 1) (m ∷ p ∷ a ∷ b ∷ []) gs
       (fits.main_data_begin, (fits.private_bits, (fits.scfsi 0, (fits.scfsi 1, tt)))) refl
-      ∙ (λ i. side_with m p a b (nth Two gs 0 (omega arith) (fits.granules 0 0) i)
+      ∙ (λ i. side_with m p a b (nth Two gs {n = 0} (omega arith) (fits.granules 0 0) i)
       (sym (fits.granules 0 1) i) (sym (fits.granules 1 0) i) (sym (fits.granules 1 1) i))
 
   back_two_stereo : GivesBack (class_with Two f 2) (side_with m p a b g h k l)
@@ -223,22 +224,23 @@ module _ (f m p a b : ℕ) (g h k l : Granule) where
       let gs : List Granule = g ∷ h ∷ [] in
       back (class_with Two f 2) (m ∷ p ∷ a ∷ b ∷ []) gs
       (fits.main_data_begin, (fits.private_bits, (fits.scfsi 0, (fits.scfsi 1, tt)))) refl
-      ∙ (λ i. side_with m p a b (nth Two gs 0 (omega arith) (fits.granules 0 0) i) (nth Two gs 1
+      ∙ (λ i. side_with m p a b (nth Two gs {n = 0} (omega arith) (fits.granules 0 0) i)
+      (nth Two gs {n = 1}
       (omega arith) (fits.granules 0 1) i) (sym (fits.granules 1 0) i) (sym (fits.granules 1 1) i))
 
 -- what fits MPEG-2.5 fits MPEG-2, and the other way round
-fits_two : (f channels : ℕ) (s : Side) → SideFits (class_with TwoFive f channels) s
+fits_two : {f channels : ℕ} {s : Side} → SideFits (class_with TwoFive f channels) s
     → SideFits (class_with Two f channels) s
-fits_two f channels s fits = grind arith
+fits_two fits = grind arith
 
-fits_two_five : (f channels : ℕ) (s : Side) → SideFits (class_with Two f channels) s
+fits_two_five : {f channels : ℕ} {s : Side} → SideFits (class_with Two f channels) s
     → SideFits (class_with TwoFive f channels) s
-fits_two_five f channels s fits = grind arith
+fits_two_five fits = grind arith
 
 back_as_two : (f channels : ℕ) (s : Side) → GivesBack (class_with Two f channels) s
     → GivesBack (class_with TwoFive f channels) s
 unfolding side_at side_bits granules_in granule_at granule_bits
-back_as_two f channels s two fits = two (fits_two f channels s fits)
+back_as_two f channels s two fits = two (fits_two fits)
 
 -- side information that fits is read from the bits that it is written as
 pub side_at-side_bits : (c : ClassFields) → IsClass c → (s : Side) → IsShaped s → SideFits c s
@@ -401,7 +403,7 @@ bits_least s = omega arith
 
 -- bytes of the right length are the side information that is read from them, which fits and is
 -- written back as these bytes
-pub IsSideOf-side_at : (c : ClassFields) (part : List ℕ) (s : Side) → IsClass c
+pub IsSideOf-side_at : {c : ClassFields} {part : List ℕ} {s : Side} → IsClass c
     → length part ≡ side_size_of c → s ≡ side_at c (bits part) → IsSideOf c part s
-IsSideOf-side_at c part s right size is =
+IsSideOf-side_at right size is =
     grind (arith, SideFits-side_at, AreBits-bits, back, side_bits-side_at, length-bits)

@@ -43,12 +43,12 @@ pub preflag_most : (version : Version) → preflag_width version ≤ 1
 preflag_most version = grind arith
 
 -- the fields up to detail fit in a word of 64 bits
-pub upper_fits : (version : Version) (g : Granule) → GranuleFits version g
-    → (compress first middle : ℕ) → compress ≡ compress_width version
+pub upper_fits : (version : Version) {g : Granule} → GranuleFits version g
+    → {compress first middle : ℕ} → compress ≡ compress_width version
     → first ≡ g.part2_3_length * 131072 + g.big_values * 256 + g.global_gain
     → middle ≡ g.scalefac_compress * 8388608 + flag_of g.window_switching * 4194304 + g.detail
     → first * (1 * 2 ^ (compress + 23) % 2 ^ 64) + middle < 2 ^ 64
-upper_fits version g fits compress first middle compress_is first_is middle_is = grind arith
+upper_fits version fits compress_is first_is middle_is = grind arith
 
 module _ (version : Version) (g : Granule) (fits : GranuleFits version g)
     (compress preflag first middle last : ℕ) (compress_is : compress ≡ compress_width version)
@@ -91,23 +91,23 @@ front_is : (begin private first second : ℕ) → FrontIs (begin ∷ private ∷
 front_is begin private first second m p cs n hm hp hs l e = grind (arith, group_bits-joined)
 
 -- the widths before the granules are the ones for one channel where there is one
-pub front_of_one : (version : Version) (channels : ℕ) → channels ≡ 1
+pub front_of_one : (version : Version) {channels : ℕ} → channels ≡ 1
     → front_widths_of version 1 ≡ front_widths_of version channels
-front_of_one version channels e = ap (front_widths_of version) (sym e)
+front_of_one version e = ap (front_widths_of version) (sym e)
 
 -- the widths before the granules are the ones for two channels otherwise
-pub front_of_two : (version : Version) (channels : ℕ) → (channels ≡ 1 → ⊥)
+pub front_of_two : (version : Version) {channels : ℕ} → (channels ≡ 1 → ⊥)
     → front_widths_of version 2 ≡ front_widths_of version channels
-front_of_two version channels h = grind arith
+front_of_two version h = grind arith
 
 -- the four fields before the granules, joined to a number, spell their bits
-pub front-group_bits : (begin private first second : ℕ) (ws : List ℕ)
-    → begin ∷ private ∷ first ∷ second ∷ [] ≡ ws → (m p : ℕ) (cs : List ℕ) (n : ℕ)
+pub front-group_bits : {begin private first second : ℕ} {ws : List ℕ}
+    → begin ∷ private ∷ first ∷ second ∷ [] ≡ ws → {m p : ℕ} (cs : List ℕ) {n : ℕ}
     → m < 2 ^ get_or ws 0 0 → p < 2 ^ get_or ws 1 0
     → ((k : ℕ) → get_or cs k 0 < 2 ^ get_or ws (2 + k) 0) → length cs ≡ 2 → n
     ≡ joined (begin ∷ private ∷ first ∷ second ∷ []) (m ∷ p ∷ get_or cs 0 0 ∷ get_or cs 1 0 ∷ [])
     → bits_of (sum ws) n ≡ group_bits ws (m ∷ p ∷ cs)
-front-group_bits begin private first second ws is m p cs n hm hp hs l e = grind (arith, front_is)
+front-group_bits is cs hm hp hs l e = grind (arith, front_is)
 
 -- ---- the words
 module _ (b0 b1 b2 : List ℕ) (front granule w : ℕ) (room : length b0 ≡ 72)
@@ -117,8 +117,8 @@ module _ (b0 b1 b2 : List ℕ) (front granule w : ℕ) (room : length b0 ≡ 72)
   -- one word and a byte are the front and one granule
   pub one_put : b2 ≡ bits_of 9 front ++ bits_of 63 granule
   one_put =
-      let p1 = put_next b0 b1 [] 0 64 w refl (omega arith) e1 in
-      let p2 = put_next b1 b2 (bits_of 64 w) 64 8 granule p1.0 (omega (arith, p1.1)) e2 in
+      let p1 = put_next b0 0 64 w refl (omega arith) e1 in
+      let p2 = put_next b1 64 8 granule p1.0 (omega (arith, p1.1)) e2 in
       sym (take_all 72 b2 (omega (arith, p1.1, p2.1)))
       ∙ p2.0
       ∙ sym (into_last w 63 55 8 granule (bits_of 9 front) refl word)
@@ -132,10 +132,9 @@ module _ (b0 b1 b2 b3 : List ℕ) (front width first second size left w x : ℕ)
   -- two words and a byte are the front and two granules
   pub two_put : b3 ≡ bits_of width front ++ (bits_of size first ++ bits_of size second)
   two_put =
-      let p1 = put_next b0 b1 [] 0 64 w refl (omega arith) e1 in
-      let p2 = put_next b1 b2 (bits_of 64 w) 64 64 x p1.0 (omega (arith, p1.1)) e2 in
-      let p3 = put_next b2 b3
-      (bits_of 64 w ++ bits_of 64 x) 128 8 second p2.0 (omega (arith, p1.1, p2.1)) e3 in
+      let p1 = put_next b0 0 64 w refl (omega arith) e1 in
+      let p2 = put_next b1 64 64 x p1.0 (omega (arith, p1.1)) e2 in
+      let p3 = put_next b2 128 8 second p2.0 (omega (arith, p1.1, p2.1)) e3 in
       sym (take_all 136 b3 (omega (arith, p1.1, p2.1, p3.1)))
       ∙ p3.0
       ∙ append_assoc (bits_of 64 w) (bits_of 64 x) (bits_of 8 second)
@@ -156,11 +155,11 @@ module _ (b0 b1 b2 b3 b4 : List ℕ) (front a b c d w x y z : ℕ) (room : lengt
   pub four_put : b4
       ≡ bits_of 20 front ++ (bits_of 59 a ++ (bits_of 59 b ++ (bits_of 59 c ++ bits_of 59 d)))
   four_put =
-      let p1 = put_next b0 b1 [] 0 64 w refl (omega arith) e1 in
-      let p2 = put_next b1 b2 (bits_of 64 w) 64 64 x p1.0 (omega (arith, p1.1)) e2 in
+      let p1 = put_next b0 0 64 w refl (omega arith) e1 in
+      let p2 = put_next b1 64 64 x p1.0 (omega (arith, p1.1)) e2 in
       let p3 =
-      put_next b2 b3 (bits_of 64 w ++ bits_of 64 x) 128 64 y p2.0 (omega (arith, p1.1, p2.1)) e3 in
-      let p4 = put_next b3 b4 (bits_of 64 w ++ bits_of 64 x ++ bits_of 64 y) 192 64 z
+      put_next b2 128 64 y p2.0 (omega (arith, p1.1, p2.1)) e3 in
+      let p4 = put_next b3 192 64 z
       p3.0 (omega (arith, p1.1, p2.1, p3.1)) e4 in
       sym (take_all 256 b4 (omega (arith, p1.1, p2.1, p3.1, p4.1)))
       ∙ p4.0
@@ -220,34 +219,34 @@ Whole version channels front gs hs = (bits_of (front_size version channels) fron
 module _ (gs hs : List Granule) (front a b : ℕ) (gs_two : length gs ≡ 2)
     (hs_two : length hs ≡ 2) where
   -- in MPEG-1 with one channel, the front and two granules are all of these bits
-  pub one_mono : (version : Version) (channels : ℕ) → version ≡ One → channels ≡ 1
+  pub one_mono : {version : Version} {channels : ℕ} → version ≡ One → channels ≡ 1
       → bits_of 59 a ≡ granule_bits One (get_or gs 0 no_granule)
       → bits_of 59 b ≡ granule_bits One (get_or hs 0 no_granule)
       → bits_of 18 front ++ (bits_of 59 a ++ bits_of 59 b) ≡ Whole version channels front gs hs
-  one_mono version channels v n left right = grind (arith, append_assoc, flat_one)
+  one_mono v n left right = grind (arith, append_assoc, flat_one)
 
   -- in MPEG-1 with two channels, the front and four granules are all of these bits
-  pub one_stereo : (version : Version) (channels c d : ℕ) → version ≡ One → channels ≡ 2
+  pub one_stereo : {version : Version} {channels : ℕ} (c d : ℕ) → version ≡ One → channels ≡ 2
       → bits_of 59 a ≡ granule_bits One (get_or gs 0 no_granule)
       → bits_of 59 b ≡ granule_bits One (get_or gs 1 no_granule)
       → bits_of 59 c ≡ granule_bits One (get_or hs 0 no_granule)
       → bits_of 59 d ≡ granule_bits One (get_or hs 1 no_granule)
       → bits_of 20 front ++ (bits_of 59 a ++ (bits_of 59 b ++ (bits_of 59 c ++ bits_of 59 d)))
       ≡ Whole version channels front gs hs
-  one_stereo version channels c d v n ea eb ec ed = grind (arith, append_assoc, flat_two)
+  one_stereo c d v n ea eb ec ed = grind (arith, append_assoc, flat_two)
 
   -- in MPEG-2 and MPEG-2.5 with one channel, the front and one granule are all of these bits
-  pub two_mono : (version : Version) (channels : ℕ) → granules_of version ≡ 1 → channels ≡ 1
+  pub two_mono : (version : Version) {channels : ℕ} → granules_of version ≡ 1 → channels ≡ 1
       → bits_of 63 a ≡ granule_bits version (get_or gs 0 no_granule)
       → bits_of 9 front ++ bits_of 63 a ≡ Whole version channels front gs hs
-  two_mono version channels one n left = grind (arith, append-nil, flat_one)
+  two_mono version one n left = grind (arith, append-nil, flat_one)
 
   -- in MPEG-2 and MPEG-2.5 with two channels, the front and two granules are all of these bits
-  pub two_stereo : (version : Version) (channels : ℕ) → granules_of version ≡ 1 → channels ≡ 2
+  pub two_stereo : (version : Version) {channels : ℕ} → granules_of version ≡ 1 → channels ≡ 2
       → bits_of 63 a ≡ granule_bits version (get_or gs 0 no_granule)
       → bits_of 63 b ≡ granule_bits version (get_or gs 1 no_granule)
       → bits_of 10 front ++ (bits_of 63 a ++ bits_of 63 b) ≡ Whole version channels front gs hs
-  two_stereo version channels one n left right = grind (arith, append-nil, flat_two)
+  two_stereo version one n left right = grind (arith, append-nil, flat_two)
 
 -- a granule has 63 bits where there is only one
 pub size_of_two : (version : Version) → granules_of version ≡ 1 → granule_size version ≡ 63
@@ -255,16 +254,16 @@ size_of_two version one = grind arith
 
 -- ---- the bytes of each class
 -- MPEG-1 with n channels has the side bytes of the class with n channels
-pub size_one : (version : Version) (channels n : ℕ) → version ≡ One → channels ≡ n
+pub size_one : {version : Version} {channels n : ℕ} → version ≡ One → channels ≡ n
     → side_size_of (class_with version 0 channels) ≡ side_size_of (class_with One 0 n)
-size_one version channels n v e = ap₂ (λ u k. side_size_of (class_with u 0 k)) v e
+size_one v e = ap₂ (λ u k. side_size_of (class_with u 0 k)) v e
 
 -- a version with one granule and n channels has the side bytes of MPEG-2 with n channels
-pub size_two : (version : Version) (channels n : ℕ) → granules_of version ≡ 1 → channels ≡ n
+pub size_two : (version : Version) {channels n : ℕ} → granules_of version ≡ 1 → channels ≡ n
     → side_size_of (class_with version 0 channels) ≡ side_size_of (class_with Two 0 n)
 unfolding side_size_of
-size_two version channels n one e = grind arith
+size_two version one e = grind arith
 
 -- channels that aren't one are two
-pub two_channels : (channels : ℕ) → 1 ≤ channels → channels ≤ 2 → (channels ≡ 1 → ⊥) → channels ≡ 2
-two_channels channels some few more = grind arith
+pub two_channels : {channels : ℕ} → 1 ≤ channels → channels ≤ 2 → (channels ≡ 1 → ⊥) → channels ≡ 2
+two_channels some few more = grind arith

@@ -30,7 +30,7 @@ pub fit-feasible : (window free : ℕ) (frames : List FrameLengths) → HasLayou
     → AllFit window (free - (free - window)) frames
 unfolding HasLayout
 fit-feasible window free frames (starts, layout) =
-    fit-layout window 0 free (free - (free - window)) frames starts (omega arith) layout
+    fit-layout window 0 free frames starts (omega arith) layout
 
 -- frames that fit in as many of the free bytes as a window holds have a layout after all of them
 pub feasible-fit : (window free : ℕ) (frames : List FrameLengths)
@@ -40,46 +40,45 @@ feasible-fit window free frames fit =
     grind (
       arith,
       starts_of window 0 free frames,
-      layout-fit window 0 free (free - (free - window))
+      layout-fit window 0 {before = free} {free = free - (free - window)}
           frames (omega arith) (omega arith) fit,
     )
 
 -- frames with a layout after at most a window of free bytes fit in these
-pub fit-within : (window free : ℕ) (frames : List FrameLengths) → free ≤ window
+pub fit-within : {window free : ℕ} (frames : List FrameLengths) → free ≤ window
     → HasLayout window free frames → AllFit window free frames
-fit-within window free frames within feasible = grind (arith, fit-feasible)
+fit-within frames within feasible = grind (arith, fit-feasible)
 
 -- frames that fit in at most a window of free bytes have a layout after these
-pub within-fit : (window free : ℕ) (frames : List FrameLengths) → free ≤ window
+pub within-fit : {window free : ℕ} (frames : List FrameLengths) → free ≤ window
     → AllFit window free frames → HasLayout window free frames
-within-fit window free frames within fit = grind (arith, feasible-fit)
+within-fit frames within fit = grind (arith, feasible-fit)
 
 -- frames with a layout after free bytes have one after more
-pub feasible-more : (window free more : ℕ) (frames : List FrameLengths) → free ≤ more
+pub feasible-more : (window : ℕ) {free more : ℕ} (frames : List FrameLengths) → free ≤ more
     → HasLayout window free frames → HasLayout window more frames
-feasible-more window free more frames less feasible =
-    grind (arith, feasible-fit, fit-more, fit-feasible)
+feasible-more window frames less feasible = grind (arith, feasible-fit, fit-more, fit-feasible)
 
 -- frames that fit after free bytes fit after more
-pub more-behind : (window free more : ℕ) (needs : List Need) → free ≤ more
+pub more-behind : (window : ℕ) {free more : ℕ} (needs : List Need) → free ≤ more
     → FitsBehind window free needs → FitsBehind window more needs
-more-behind window free more needs less fits = grind (arith, feasible-more, fits)
+more-behind window needs less fits = grind (arith, feasible-more, fits)
 
 -- a frame and then others fit if its main data have room in the
 -- free bytes and its own area, and the others fit in what it leaves
-pub cons-fits : (window free : ℕ) (need : Need) (needs : List Need) → free ≤ window
+pub cons-fits : {window free : ℕ} (need : Need) (needs : List Need) → free ≤ window
     → need.bytes ≤ free + own_slot_area need
     → FitsBehind window (free_bytes_behind window free need.bytes (own_slot_area need)) needs
     → FitsBehind window free (need ∷ needs)
 unfolding AllFit
-cons-fits window free need needs within room fits = grind (arith, within-fit, fit-within)
+cons-fits need needs within room fits = grind (arith, within-fit, fit-within)
 
 -- if a frame and then others fit, the frame has room, and the others fit after what it leaves
-pub fits-cons : (window free : ℕ) (need : Need) (needs : List Need) → free ≤ window
+pub fits-cons : {window free : ℕ} (need : Need) (needs : List Need) → free ≤ window
     → FitsBehind window free (need ∷ needs) → (need.bytes ≤ free + own_slot_area need)
     × FitsBehind window (free_bytes_behind window free need.bytes (own_slot_area need)) needs
 unfolding AllFit
-fits-cons window free need needs within fits = grind (arith, fit-within, within, fits, within-fit)
+fits-cons need needs within fits = grind (arith, fit-within, within, fits, within-fit)
 
 -- ---- how many bytes frames want
 
@@ -115,20 +114,20 @@ fit-own window free (need ∷ needs) enough within =
     )
 
 -- from any frame on at most the window is needed
-pub own-from : (window free k : ℕ) (needs : List Need) → FitsBehind window free needs
+pub own-from : {window : ℕ} (free k : ℕ) (needs : List Need) → FitsBehind window free needs
     → (own_needed (drop k needs) ≤ window)
     × AreReservesInWindow window (open_frames own_slot (drop k needs))
-own-from window free k needs fits =
-    reserve_before-from window free k own_slot own_area_of needs fits (chosen-own (drop k needs))
+own-from {window} free k needs fits =
+    reserve_before-from free k own_slot own_area_of needs fits (chosen-own (drop k needs))
 
 -- What frames need is the least number of bytes after which they fit.
-pub own-wanted : (window free : ℕ) (needs : List Need) → FitsBehind window free needs
+pub own-wanted : {window : ℕ} (free : ℕ) {needs : List Need} → FitsBehind window free needs
     → IsLeastWanted window needs (own_needed needs)
-own-wanted window free needs fits =
-    let all = own-from window free 0 needs fits in
+own-wanted {window} free {needs} fits =
+    let all = own-from free 0 needs fits in
     record {
       fits = grind (arith, within-fit, fit-own);
-      least = λ other behind. reserve_before-first window other own_slot own_area_of needs behind
+      least = λ other behind. reserve_before-first window own_slot own_area_of needs behind
           (chosen-own needs);
     }
 
@@ -138,9 +137,9 @@ unfolding HasLayout IsDataLayout
 nothing-fits window free = ([], tt)
 
 -- Frames fit after exactly the numbers of bytes that are at least what they want.
-pub fits-wanted : (window free wanted : ℕ) (needs : List Need) → IsLeastWanted window needs wanted
-    → FitsBehind window free needs ↔ (wanted ≤ free)
-fits-wanted window free wanted needs is = grind (arith, more-behind)
+pub fits-wanted : {window : ℕ} (free : ℕ) {wanted : ℕ} {needs : List Need}
+    → IsLeastWanted window needs wanted → FitsBehind window free needs ↔ (wanted ≤ free)
+fits-wanted free is = grind (arith, more-behind)
 
 -- ---- how many bytes frames leave
 
@@ -151,12 +150,12 @@ left_after window free (frame ∷ frames) =
     left_after window (free_bytes_behind window free frame.bytes frame.area) frames
 
 -- at most the window is free after frames
-pub left-within : (window free : ℕ) (frames : List FrameLengths) → free ≤ window
+pub left-within : {window : ℕ} (free : ℕ) (frames : List FrameLengths) → free ≤ window
     → left_after window free frames ≤ window
 unfolding left_after
-left-within window free [] within = within
-left-within window free (frame ∷ frames) within =
-    left-within window (free_bytes_behind window free frame.bytes frame.area) frames (omega arith)
+left-within free [] within = within
+left-within {window} free (frame ∷ frames) within =
+    left-within (free_bytes_behind window free frame.bytes frame.area) frames (omega arith)
 
 -- what is free after frames and then others is what is free after
 -- the others, beginning with what is free after the first
@@ -184,53 +183,54 @@ fit-append window free (x ∷ xs) ys all =
     grind (arith, fit-append window (free_bytes_behind window free x.bytes x.area) xs ys all.1)
 
 -- a frame without an area fits if its main data are at most the free bytes
-before-fits : (window left bytes : ℕ) → bytes ≤ left
+before-fits : (window : ℕ) {left bytes : ℕ} → bytes ≤ left
     → AllFit window left (frame_without_area bytes ∷ [])
 unfolding AllFit
-before-fits window left bytes within = (omega (arith, within), tt)
+before-fits window within = (omega (arith, within), tt)
 
-fits-before : (window left bytes : ℕ) → AllFit window left (frame_without_area bytes ∷ [])
+fits-before : (window : ℕ) {left bytes : ℕ} → AllFit window left (frame_without_area bytes ∷ [])
     → bytes ≤ left
 unfolding AllFit
-fits-before window left bytes fit = omega (arith, fit.0)
+fits-before window fit = omega (arith, fit.0)
 
 -- frames that leave bytes fit, and leave at most what is free after them
-pub leaves-fit : (window free left : ℕ) (needs : List Need) → free ≤ window
+pub leaves-fit : {window free left : ℕ} (needs : List Need) → free ≤ window
     → LeavesFree window free needs left
     → FitsBehind window free needs × (left ≤ left_after window free (map own_frame needs))
-leaves-fit window free left needs within leaves =
+leaves-fit needs within leaves =
     grind (arith, fit-append, fit-within, within, within-fit, fits-before)
 
 -- What is free after frames is the most that they leave.
-pub own-left : (window free : ℕ) (needs : List Need) → free ≤ window → FitsBehind window free needs
+pub own-left : {window free : ℕ} {needs : List Need} → free ≤ window → FitsBehind window free needs
     → IsMostLeft window free needs (left_after window free (map own_frame needs))
-own-left window free needs within fits =
+own-left within fits =
     grind (arith, left-within, within-fit, append-fit, fit-within, before-fits, leaves-fit)
 
 -- there is only one greatest number of bytes that frames leave
-pub one-left : (window free m n : ℕ) (needs : List Need) → IsMostLeft window free needs m
+pub one-left : {window free m n : ℕ} {needs : List Need} → IsMostLeft window free needs m
     → IsMostLeft window free needs n → m ≡ n
-one-left window free m n needs first second = grind arith
+one-left first second = grind arith
 
 -- the most that frames leave is what is free after them
-pub left-value : (window free left : ℕ) (needs : List Need) → free ≤ window
+pub left-value : {window free left : ℕ} {needs : List Need} → free ≤ window
     → IsMostLeft window free needs left → left ≡ left_after window free (map own_frame needs)
-left-value window free left needs within is = grind (arith, one-left, own-left, within, leaves-fit)
+left-value within is = grind (arith, one-left, own-left, within, leaves-fit)
 
 -- a frame and then others leave what the others leave after what the frame leaves
-pub left-cons : (window free left : ℕ) (need : Need) (needs : List Need) → free ≤ window
+pub left-cons : {window free left : ℕ} {need : Need} {needs : List Need} → free ≤ window
     → need.bytes ≤ free + own_slot_area need
     → IsMostLeft window (free_bytes_behind window free need.bytes (own_slot_area need)) needs left
     → IsMostLeft window free (need ∷ needs) left
 unfolding left_after
-left-cons window free left need needs within room is =
+left-cons {window} {free} {left} {need} {needs} within room
+    is =
     let behind : ℕ = free_bytes_behind window free need.bytes (own_slot_area need) in
     let less : behind ≤ window = omega arith in
-    let fits = cons-fits window free need needs within room
-    (leaves-fit window behind left needs less is.leaves).0 in
+    let fits = cons-fits need needs within room
+    (leaves-fit needs less is.leaves).0 in
     subst (IsMostLeft window free (need ∷ needs))
-    (sym (left-value window behind left needs less is))
-    (own-left window free (need ∷ needs) within fits)
+    (sym (left-value less is))
+    (own-left within fits)
 
 -- ---- frames and then others
 
@@ -243,7 +243,7 @@ fits-front window free first others fits =
 module _ (window free mid : ℕ) (first others : List Need) (within : free ≤ window)
     (is : IsMostLeft window free first mid) where
   mid-is : mid ≡ left_after window free (map own_frame first)
-  mid-is = left-value window free mid first within is
+  mid-is = left-value within is
 
   -- If all fit, the others fit after what the first leave.
   pub fits-then : FitsBehind window free (first ++ others) → FitsBehind window mid others
@@ -259,14 +259,14 @@ module _ (window free mid : ℕ) (first others : List Need) (within : free ≤ w
   left-both = grind (arith, map-append, left-append, mid-is)
 
   -- what all leave is what the others leave after what the first leave
-  pub left-then : (left : ℕ) → IsMostLeft window free (first ++ others) left
+  pub left-then : {left : ℕ} → IsMostLeft window free (first ++ others) left
       → IsMostLeft window mid others left
-  left-then left all = grind (arith, fits-then, leaves-fit, within, left-value, left-both, own-left)
+  left-then all = grind (arith, fits-then, leaves-fit, within, left-value, left-both, own-left)
 
   -- what the others leave after what the first leave is what all leave
-  pub then-left : (left : ℕ) → IsMostLeft window mid others left
+  pub then-left : {left : ℕ} → IsMostLeft window mid others left
       → IsMostLeft window free (first ++ others) left
-  then-left left behind = grind (arith, then-fits, leaves-fit, left-both, left-value, own-left)
+  then-left behind = grind (arith, then-fits, leaves-fit, left-both, left-value, own-left)
 
 -- ---- from frame to frame
 
@@ -274,7 +274,7 @@ module _ (window free mid : ℕ) (first others : List Need) (within : free ≤ w
 pub fits-drop : (window free k : ℕ) (needs : List Need) → FitsBehind window free needs
     → FitsBehind window window (drop k needs)
 fits-drop window free k needs fits =
-    within-fit window window (map own_frame (drop k needs)) (omega arith) (subst (AllFit window
+    within-fit (map own_frame (drop k needs)) (omega arith) (subst (AllFit window
     window) (drop-map own_frame k needs) (fit-after window free k (map own_frame needs) fits))
 
 -- frames that are of two classes fit with the window of
@@ -287,10 +287,10 @@ fits-in c d [] free first second fits = grind (arith, nothing-fits)
 fits-in c d (need ∷ needs) free first second fits = grind (arith, fits)
 
 -- the window of a frame that the code reads is the window of all
-pub window-read : (class own : ClassFields) (needs : List Need) (i window : ℕ) (need : Need)
-    → AreNeedsOfClass class needs → i < length needs → need ≡ get_or needs i need
+pub window-read : (class : ClassFields) {own : ClassFields} (needs : List Need) {i window : ℕ}
+    {need : Need} → AreNeedsOfClass class needs → i < length needs → need ≡ get_or needs i need
     → own ≡ class_of need.header → window ≡ window_of own.version → window ≡ window_of class.version
-window-read class own needs i window need all within is reads gives = grind (arith, same-class)
+window-read class needs all within is reads gives = grind (arith, same-class)
 
 -- no window is longer than 511 bytes
 pub window-most : (version : Version) → window_of version ≤ 511
@@ -302,29 +302,29 @@ wanted-none needs =
     grind (arith, drop_all (length needs) needs (omega arith), reserve_before-nothing own_slot)
 
 -- the place after the one before is the place itself
-pub wanted-before : (needs : List Need) (at wanted : ℕ) → 0 < at
+pub wanted-before : (needs : List Need) {at wanted : ℕ} → 0 < at
     → wanted ≡ own_needed (drop at needs) → wanted ≡ own_needed (drop (at - 1 + 1) needs)
-wanted-before needs at wanted some is = grind arith
+wanted-before needs some is = grind arith
 
 -- at the first frame what is wanted from it on is what all want
-pub wanted-all : (window : ℕ) (needs : List Need) (at wanted : ℕ) → at ≡ 0
+pub wanted-all : {window : ℕ} {needs : List Need} {at wanted : ℕ} → at ≡ 0
     → FitsBehind window window needs → wanted ≡ own_needed (drop at needs)
     → IsLeastWanted window needs wanted
-wanted-all window needs at wanted none fits is = grind (arith, own-wanted, fits)
+wanted-all none fits is = grind (arith, own-wanted, fits)
 
 module _ (window : ℕ) (needs : List Need) (i : ℕ) (need : Need) (within : i < length needs)
     (is : need ≡ get_or needs i need) where
   -- what the frames from one on want
-  pub wanted-next : (after area : ℕ) → after ≡ own_needed (drop (i + 1) needs)
+  pub wanted-next : {after area : ℕ} → after ≡ own_needed (drop (i + 1) needs)
       → area ≡ own_slot_area need → own_needed (drop i needs) ≡ (need.bytes + after) - area
-  wanted-next after area same own = grind (arith, next_need, within, own-cons, same)
+  wanted-next same own = grind (arith, next_need, within, own-cons, same)
 
   -- if frames fit, a frame and what is wanted after it have room in its area and a window
-  pub wanted-most : (free after area : ℕ) → FitsBehind window free needs → after
+  pub wanted-most : (free : ℕ) {after area : ℕ} → FitsBehind window free needs → after
       ≡ own_needed (drop (i + 1) needs) → area ≡ own_slot_area need
       → need.bytes + after ≤ window + area
-  wanted-most free after area fits same own =
-      omega (arith, wanted-next after area same own, (own-from window free i needs fits).0)
+  wanted-most free {after} {area} fits same own =
+      omega (arith, wanted-next same own, (own-from free i needs fits).0)
 
 -- `left` bytes are left before the frame at i, after which it and the
 -- others fit, and what is free after these is what is free after all.
@@ -353,17 +353,17 @@ module _ (window free : ℕ) (needs : List Need) (i : ℕ) (need : Need) (left a
   leaves-room = grind (arith, next_need, within, fits-cons)
 
   -- what is left after the frame is left before the next one
-  pub leaves-more : (next : ℕ) → next ≡ free_bytes_behind window left need.bytes area
+  pub leaves-more : {next : ℕ} → next ≡ free_bytes_behind window left need.bytes area
       → LeavesFrom window free needs (i + 1) next
   unfolding left_after
-  leaves-more next gives = grind (arith, fits-cons, next_need)
+  leaves-more gives = grind (arith, fits-cons, next_need)
 
 -- after the last frame what is left is what all frames leave
-pub leaves-all : (window free : ℕ) (needs : List Need) (i left : ℕ) → length needs ≤ i
+pub leaves-all : {window free : ℕ} {needs : List Need} {i left : ℕ} → length needs ≤ i
     → free ≤ window → FitsBehind window free needs → LeavesFrom window free needs i left
     → IsMostLeft window free needs left
 unfolding left_after
-leaves-all window free needs i left all within fits from = grind (arith, drop_all, own-left)
+leaves-all all within fits from = grind (arith, drop_all, own-left)
 
 -- ---- the laws
 
@@ -376,11 +376,11 @@ behind-left = λ window free first others within some. (
         (fits-then window free left first others within is fits)),
   )),
   (λ parts.
-      let is = own-left window free first within parts.0 in
-      let wants = own-wanted window window others some in
+      let is = own-left within parts.0 in
+      let wants = own-wanted window some in
       let left : ℕ = left_after window free (map own_frame first) in
-      then-fits window free left first others within is (more-behind window
-      (own_needed others) left others (parts.1 left (own_needed others) is wants) wants.fits)),
+      then-fits window free left first others within is
+      (more-behind window others (parts.1 left (own_needed others) is wants) wants.fits)),
 )
 
 -- what frames and then others leave is what the others leave after what the first leave
@@ -389,4 +389,4 @@ left-on = search (arith, left-then, then-left)
 
 -- frames fit after exactly the numbers of bytes that are at least what they want
 pub where-wanted : FitsWhereWanted
-where-wanted = λ window free wanted needs is. fits-wanted window free wanted needs is
+where-wanted = λ window free wanted needs is. fits-wanted free is

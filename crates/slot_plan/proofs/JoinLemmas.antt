@@ -4,7 +4,7 @@ use Rattle.std.proofs.Common.{max, None, Some, subst, sym, take, ℕ, [], ◌*�
 use Rattle.std.proofs.{Common.{◌∷◌, ◌≡◌, ◌≤◌}, lemmas.List.{length-drop, take_all}}
 use Rattle.frame_header.proofs.SlotLemmas.{window-spanned}
 use Rattle.frame_header.specs.Fields.{ClassFields, HeaderFields, IsClass, SlotFields}
-use Rattle.frame_header.specs.{Slots.{all_slots, areas_of}, Tables.{area_of, class_of, window_of}}
+use Rattle.frame_header.specs.{Slots.{all_slots, areas_of}, Tables.{class_of, window_of}}
 use Rattle.slot_plan.proofs.AreaLemmas.{class-ascend, Contains-area, lead-any, leads-span}
 use Rattle.slot_plan.proofs.FreeByteLemmas.{cons-fits, fits-cons, fits-drop, more-behind}
 use Rattle.slot_plan.proofs.PartLemmas.{class-drop, next_need}
@@ -18,18 +18,18 @@ use Rattle.slot_plan.specs.{Reserve.{greatest_number, IsLeastSlot}, declared.nee
 -- ---- the lead-in
 
 -- The slot of the lead-in is the least whose area has what the frames want.
-pub lead-slot : (window wanted : ℕ) (class : ClassFields) (needs : List Need) (slot : SlotFields)
+pub lead-slot : {window wanted : ℕ} {class : ClassFields} {needs : List Need} {slot : SlotFields}
     → IsLeastWanted window needs wanted → IsLeastSlot wanted class false all_slots slot
     → IsLeadInSlot window class needs slot
-lead-slot window wanted class needs slot is least = grind (arith, more-behind)
+lead-slot is least = grind (arith, more-behind)
 
 -- the first header, unprotected and in that slot, is the header of the lead-in
-pub lead-header : (window : ℕ) (first : Need) (needs : List Need) (slot : SlotFields)
-    (header : HeaderFields) → IsLeadInSlot window (class_of first.header) (first ∷ needs) slot
+pub lead-header : {window : ℕ} {first : Need} {needs : List Need} {slot : SlotFields}
+    {header : HeaderFields} → IsLeadInSlot window (class_of first.header) (first ∷ needs) slot
     → header ≡ record first.header { protected = false; slot = slot }
     → IsLeadInHeader window (first ∷ needs) header
 unfolding IsLeadInHeader
-lead-header window first needs slot header is gives = grind arith
+lead-header is gives = grind arith
 
 -- ---- frames that join others
 
@@ -47,28 +47,27 @@ module _ (window free wanted : ℕ) (first : Need) (needs : List Need) (slot : S
   pub fits-slot : IsLeastWanted window needs wanted
       → FitsBehind window free (need_in_slot slot first ∷ needs)
       → first.bytes + wanted ≤ free + own_slot_area (need_in_slot slot first)
-  fits-slot is fits =
-      grind (arith, fits-cons window free (need_in_slot slot first) needs within fits)
+  fits-slot is fits = grind (arith, fits-cons (need_in_slot slot first) needs within fits)
 
 module _ (window free wanted area : ℕ) (first : Need) (needs : List Need) (within : free ≤ window)
     (most : wanted ≤ window) (is : IsLeastWanted window needs wanted)
     (gives : area ≡ max ((first.bytes + wanted) - free) (own_slot_area first)) where
   -- a slot in which the frames join has at least this area
-  pub joins-area : (slot : SlotFields) → JoinsInSlot window free first needs slot
+  pub joins-area : {slot : SlotFields} → JoinsInSlot window free first needs slot
       → area ≤ own_slot_area (need_in_slot slot first)
-  joins-area slot joins = grind (arith, fits-slot, within, max-is)
+  joins-area joins = grind (arith, fits-slot, within, max-is)
 
   -- frames join in a slot with at least this area
-  pub area-joins : (slot : SlotFields) → Contains all_slots slot
+  pub area-joins : {slot : SlotFields} → Contains all_slots slot
       → area ≤ own_slot_area (need_in_slot slot first) → JoinsInSlot window free first needs slot
-  area-joins slot has enough = grind (arith, max-is, slot-fits)
+  area-joins has enough = grind (arith, max-is, slot-fits)
 
   -- The frames join in the least slot with such an area, if there is one.
-  pub least-joins : (slot : SlotFields)
+  pub least-joins : {slot : SlotFields}
       → IsLeastSlot area (class_of first.header) first.header.protected all_slots slot
       → IsJoinSlot window free (first ∷ needs) (Some slot)
   unfolding IsJoinSlot
-  least-joins slot least = grind (arith, area-joins, joins-area)
+  least-joins least = grind (arith, area-joins, joins-area)
 
   -- frames join in no slot if none has so large an area
   pub none-joins : greatest_number
@@ -78,36 +77,35 @@ module _ (window free wanted area : ℕ) (first : Need) (needs : List Need) (wit
   none-joins less slot joins =
       let class : ClassFields = class_of first.header in
       let most_area = greatest_number-most (slot_areas class first.header.protected all_slots)
-      (area_of class slot first.header.protected)
-      (Contains-area class first.header.protected all_slots slot joins.chosen) in
-      omega (arith, less, most_area, joins-area slot joins)
+      (Contains-area class first.header.protected all_slots joins.chosen) in
+      omega (arith, less, most_area, joins-area joins)
 
 -- ---- what the calls require
 
 -- the areas of all slots ascend
-pub rising-all : (class : ClassFields) (protected : Bool) (slots : List SlotFields)
+pub rising-all : {class : ClassFields} {protected : Bool} {slots : List SlotFields}
     → slots ≡ all_slots → AllPairs (λ m n. m < n) (areas_of class protected)
     → AreRisingSlots class protected slots
-rising-all class protected slots all ascend = search (arith, lead-any, class-ascend)
+rising-all all ascend = search (arith, lead-any, class-ascend)
 
 -- a lead-in of some slot has what frames that fit after a whole window want
-pub lead-enough : (class : ClassFields) (wanted : ℕ) (needs : List Need) (slots : List SlotFields)
+pub lead-enough : (class : ClassFields) {wanted : ℕ} {needs : List Need} {slots : List SlotFields}
     → IsClass class → slots ≡ all_slots
     → FitsBehind (window_of class.version) (window_of class.version) needs
     → IsLeastWanted (window_of class.version) needs wanted
     → wanted ≤ greatest_number (slot_areas class false slots)
-lead-enough class wanted needs slots known all fits is = grind (arith, leads-span, window-spanned)
+lead-enough class known all fits is = grind (arith, leads-span, window-spanned)
 
 -- the least slot is the same for equal classes and lists
-pub least-in : (m n : ℕ) (c d : ClassFields) (p q : Bool) (xs ys : List SlotFields)
-    (slot : SlotFields) → m ≡ n → c ≡ d → p ≡ q → xs ≡ ys → IsLeastSlot m c p xs slot
+pub least-in : {m n : ℕ} {c d : ClassFields} {p q : Bool} {xs ys : List SlotFields}
+    {slot : SlotFields} → m ≡ n → c ≡ d → p ≡ q → xs ≡ ys → IsLeastSlot m c p xs slot
     → IsLeastSlot n d q ys slot
-least-in m n c d p q xs ys slot same_wanted same_class same_protected same_slots least = grind arith
+least-in same_wanted same_class same_protected same_slots least = grind arith
 
 -- the greatest area is the same for equal classes and lists
-pub greatest_number-in : (c d : ClassFields) (p q : Bool) (xs ys : List SlotFields) → c ≡ d → p ≡ q
+pub greatest_number-in : {c d : ClassFields} {p q : Bool} {xs ys : List SlotFields} → c ≡ d → p ≡ q
     → xs ≡ ys → greatest_number (slot_areas c p xs) ≡ greatest_number (slot_areas d q ys)
-greatest_number-in c d p q xs ys same_class same_protected same_slots = grind arith
+greatest_number-in same_class same_protected same_slots = grind arith
 
 -- all frames but the first, as a slice
 abbrev pub others_of : List Need → List Need
@@ -118,9 +116,9 @@ pub others-are : (needs : List Need) → others_of needs ≡ drop 1 needs
 others-are needs = take_all (length needs - 1) (drop 1 needs) (omega (arith, length-drop 1 needs))
 
 -- the other frames of a list that can join fit after a whole window
-pub others-fit : (free : ℕ) (needs : List Need) → CanJoinBehind free needs
+pub others-fit : {free : ℕ} {needs : List Need} → CanJoinBehind free needs
     → FitBehindWindow (others_of needs)
-others-fit free needs can = record {
+others-fit {needs = needs} can = record {
   class = can.class;
   same = grind (arith, others-are needs, class-drop can.class needs 1 can.same);
   fits = subst (FitsBehind (window_of can.class.version) (window_of can.class.version))
@@ -136,27 +134,27 @@ pub record FirstOf (window free wanted : ℕ) (first : Need) (needs : List Need)
   pub wants : IsLeastWanted window (drop 1 needs) wanted
   pub most : wanted ≤ window
 
-one-window : (c d : ClassFields) (needs : List Need) → 0 < length needs → AreNeedsOfClass c needs
+one-window : {c d : ClassFields} (needs : List Need) → 0 < length needs → AreNeedsOfClass c needs
     → AreNeedsOfClass d needs → c ≡ d
 unfolding AreNeedsOfClass
-one-window c d [] some first second = absurd (omega (arith, some))
-one-window c d (need ∷ needs) some first second = sym first.0 ∙ second.0
+one-window [] some first second = absurd (omega (arith, some))
+one-window (need ∷ needs) some first second = sym first.0 ∙ second.0
 
 -- the first frame of a list that can join, and what the others want
-pub first-of : (class : ClassFields) (free wanted : ℕ) (first : Need) (needs : List Need)
+pub first-of : (class : ClassFields) {free wanted : ℕ} {first : Need} {needs : List Need}
     → CanJoinBehind free needs → AreNeedsOfClass class needs → first ≡ get_or needs 0 first
     → ((k : ClassFields) → AreNeedsOfClass k (others_of needs)
     → IsLeastWanted (window_of k.version) (others_of needs) wanted)
     → FirstOf (window_of class.version) free wanted first needs
-first-of class free wanted first needs can same is gives =
-    let one = one-window can.class class needs can.some can.same same in
+first-of class {free} {wanted} {first} {needs} can same is gives =
+    let one = one-window needs can.some can.same same in
     let wants =
     subst (λ l. IsLeastWanted (window_of class.version) l wanted) (others-are needs) (gives
     class (subst (AreNeedsOfClass class) (sym (others-are needs)) (class-drop class needs 1 same)))
     in
     let fits = subst (λ (k : ClassFields). FitsBehind (window_of k.version)
     (window_of k.version) needs) one can.fits in
-    let whole : needs ≡ first ∷ drop 1 needs = next_need needs 0 first can.some is in
+    let whole : needs ≡ first ∷ drop 1 needs = next_need needs can.some is in
     record {
       whole = whole;
       within = subst (λ (k : ClassFields). free ≤ window_of k.version) one can.within;
@@ -174,15 +172,15 @@ module _ (window free wanted area : ℕ) (first : Need) (needs : List Need) wher
 
   -- the least slot with what is missing, but not less than
   -- the first frame's own, is the slot in which frames join
-  pub first-joins : (slot : SlotFields) → FirstOf window free wanted first needs
+  pub first-joins : {slot : SlotFields} → FirstOf window free wanted first needs
       → area ≡ max ((first.bytes + wanted) - free) (own_slot_area first)
       → IsLeastSlot area (class_of first.header) first.header.protected all_slots slot
       → IsJoinSlot window free needs (Some slot)
-  first-joins slot of gives least =
+  first-joins {slot} of gives least =
       grind (
         arith,
         least-joins window free wanted area first (drop 1 needs) of.within of.most
-            of.wants gives slot least,
+            of.wants gives least,
       )
 
   -- frames join in no slot if none has what is missing
@@ -200,17 +198,18 @@ module _ (window free wanted area : ℕ) (first : Need) (needs : List Need) wher
 -- ---- the lead-in of frames
 
 -- the least slot with what frames want is the slot of their lead-in
-pub lead-of : (class : ClassFields) (wanted : ℕ) (first : Need) (needs : List Need)
-    (slot : SlotFields) (header : HeaderFields) → FitBehindWindow needs → 0 < length needs
+pub lead-of : (class : ClassFields) {wanted : ℕ} {first : Need} {needs : List Need}
+    {slot : SlotFields} {header : HeaderFields} → FitBehindWindow needs → 0 < length needs
     → AreNeedsOfClass class needs → first ≡ get_or needs 0 first → ((k : ClassFields)
     → AreNeedsOfClass k needs → IsLeastWanted (window_of k.version) needs wanted)
     → IsLeastSlot wanted (class_of first.header) false all_slots slot
     → header ≡ record first.header { protected = false; slot = slot }
     → IsLeadInHeader (window_of class.version) needs header
-lead-of class wanted first needs slot header fit some same is gives least made =
-    let whole : needs ≡ first ∷ drop 1 needs = next_need needs 0 first some is in
+lead-of class {wanted} {first} {needs} {slot} {header} fit
+    some same is gives least made =
+    let whole : needs ≡ first ∷ drop 1 needs = next_need needs some is in
     let wants = gives class same in
     subst (λ l. IsLeadInHeader (window_of class.version) l header) (sym whole)
-    (lead-header (window_of class.version) first (drop 1 needs) slot header
-    (lead-slot (window_of class.version) wanted (class_of first.header) (first ∷ drop 1 needs) slot
+    (lead-header
+    (lead-slot
     (subst (λ l. IsLeastWanted (window_of class.version) l wanted) whole wants) least) made)

@@ -16,11 +16,11 @@ use Rattle.slot_plan.specs.Reserve.{AreReservesInWindow, free_bytes_behind, grea
 use Rattle.slot_plan.specs.{Reserve.{open_frames, reserve_before}, declared.needs.Need.Need}
 
 -- ---- if some choice fits, there is a least one
-contains-cons : (m : ℕ) (ns : List ℕ) (n : ℕ) → Contains (m ∷ ns) n → (m ≡ n) ⊎ Contains ns n
-contains-cons m ns n h = grind arith
+contains-cons : {m : ℕ} (ns : List ℕ) {n : ℕ} → Contains (m ∷ ns) n → (m ≡ n) ⊎ Contains ns n
+contains-cons ns h = grind arith
 
-behind : (m n : ℕ) (ns : List ℕ) → Contains ns n → Contains (m ∷ ns) n
-behind m n ns c = (suc c.0, omega (arith, c.1), c.2)
+behind : (m : ℕ) {n : ℕ} (ns : List ℕ) → Contains ns n → Contains (m ∷ ns) n
+behind m ns c = (suc c.0, omega (arith, c.1), c.2)
 
 -- of a number and the numbers of a list, the least that is large enough
 record LeastOf (wanted first : ℕ) (ns : List ℕ) : Type 0 where
@@ -30,43 +30,43 @@ record LeastOf (wanted first : ℕ) (ns : List ℕ) : Type 0 where
   low : least ≤ first
   most : (other : ℕ) → Contains ns other → wanted ≤ other → least ≤ other
 
-least-stays : (wanted first m : ℕ) (ns : List ℕ) → (wanted ≤ m → first ≤ m)
+least-stays : {wanted first m : ℕ} {ns : List ℕ} → (wanted ≤ m → first ≤ m)
     → LeastOf wanted first ns → LeastOf wanted first (m ∷ ns)
-least-stays wanted first m ns not_less rest = record {
+least-stays {m = m} {ns = ns} not_less rest = record {
   least = rest.least;
   is = grind (arith, behind);
   enough = rest.enough;
   low = rest.low;
-  most = λ other has fits. elim (contains-cons m ns other has) as (λ _. rest.least ≤ other) [
+  most = λ other has fits. elim (contains-cons ns has) as (λ _. rest.least ≤ other) [
     | inl same ↦ grind arith
     | inr later ↦ rest.most other later fits
   ];
 }
 
-least-moves : (wanted first m : ℕ) (ns : List ℕ) → m < first → LeastOf wanted m ns
+least-moves : {wanted first m : ℕ} {ns : List ℕ} → m < first → LeastOf wanted m ns
     → LeastOf wanted first (m ∷ ns)
-least-moves wanted first m ns less rest = record {
+least-moves {m = m} {ns = ns} less rest = record {
   least = rest.least;
   is = grind (arith, behind);
   enough = rest.enough;
   low = omega (arith, less, rest.low);
-  most = λ other has fits. elim (contains-cons m ns other has) as (λ _. rest.least ≤ other) [
+  most = λ other has fits. elim (contains-cons ns has) as (λ _. rest.least ≤ other) [
     | inl same ↦ omega (arith, same, rest.low)
     | inr later ↦ rest.most other later fits
   ];
 }
 
-least-from : (wanted first : ℕ) (ns : List ℕ) → wanted ≤ first → LeastOf wanted first ns
-least-from wanted first [] enough = record {
+least-from : {wanted first : ℕ} (ns : List ℕ) → wanted ≤ first → LeastOf wanted first ns
+least-from {first = first} [] enough = record {
   least = first;
   is = inl refl;
   enough = enough;
   low = omega arith;
   most = grind arith;
 }
-least-from wanted first (m ∷ ns) enough =
+least-from {wanted} {first} (m ∷ ns) enough =
     elim (cases_lt m wanted) as (λ _. LeastOf wanted first (m ∷ ns)) [
-      | inl small ↦ grind (arith, least-stays, enough, least-from wanted first ns enough)
+      | inl small ↦ grind (arith, least-stays, enough, least-from ns enough)
       | inr fits ↦
           grind (
             arith,
@@ -74,31 +74,32 @@ least-from wanted first (m ∷ ns) enough =
             least-moves,
             least-stays,
             enough,
-            least-from wanted m ns fits,
-            least-from wanted first ns enough,
+            least-from ns fits,
+            least-from ns enough,
           )
     ]
 
-least-areas : (window free : ℕ) (opens : List OpenFrame) (some : List ℕ) → AreChosenAreas opens some
-    → reserve_before opens ≤ free → AreReservesInWindow window opens
+least-areas : (window : ℕ) {free : ℕ} (opens : List OpenFrame) (some : List ℕ)
+    → AreChosenAreas opens some → reserve_before opens ≤ free → AreReservesInWindow window opens
     → (areas : List ℕ) × AreLeastAreas window free opens areas
 unfolding AreChosenAreas reserve_before AreReservesInWindow AreLeastAreas
-least-areas window free [] some chosen enough within = ([], tt)
-least-areas window free (o ∷ opens) [] chosen enough within = absurd chosen
-least-areas window free (o ∷ opens) (area ∷ some) chosen enough within =
+least-areas window [] some chosen enough within = ([], tt)
+least-areas window (o ∷ opens) [] chosen enough within = absurd chosen
+least-areas window {free} (o ∷ opens) (area ∷ some) chosen enough within =
     let all : (o.bytes + reserve_before opens) - greatest_number o.areas ≤ free = enough in
     let later : reserve_before opens ≤ window = within.0 in
-    let greatest_is = Contains-greatest_number o.areas area chosen.0 in
+    let greatest_is = Contains-greatest_number o.areas {n = area} chosen.0 in
     let pick =
-    least-from ((o.bytes + reserve_before opens) - free)
-    (greatest_number o.areas) o.areas (omega arith) in
+    least-from {wanted = (o.bytes + reserve_before opens) - free}
+    {first = greatest_number o.areas} o.areas (omega arith) in
     let is = elim pick.is as (λ _. Contains o.areas pick.least) [
       | inl same ↦ subst (Contains o.areas) same greatest_is
       | inr has ↦ has
     ] in
     let fits : (o.bytes + reserve_before opens) - free ≤ pick.least = pick.enough in
     let rest = least-areas window
-    (free_bytes_behind window free o.bytes pick.least) opens some chosen.1 (omega arith) within.1 in
+    {free = free_bytes_behind window free o.bytes pick.least} opens some chosen.1 (omega arith)
+    within.1 in
     (pick.least ∷ rest.0, (is, pick.enough, pick.most, rest.1))
 
 -- ---- from the definition to the least list
@@ -108,13 +109,13 @@ unfolding AreChosenAreas
 chosen-tail o opens areas chosen = grind arith
 
 -- the frames after the first need at most a window either
-pub within-tail : (window : ℕ) (o : OpenFrame) (opens : List OpenFrame)
+pub within-tail : {window : ℕ} (o : OpenFrame) (opens : List OpenFrame)
     → AreReservesInWindow window (o ∷ opens)
     → (reserve_before opens ≤ window) × AreReservesInWindow window opens
 unfolding AreReservesInWindow
-within-tail window o opens within = within
+within-tail o opens within = within
 
-first-least : (window : ℕ) (class : ClassFields) (slot : SlotFields) (opens : List OpenFrame)
+first-least : {window : ℕ} (class : ClassFields) {slot : SlotFields} {opens : List OpenFrame}
     (some : List ℕ) → Contains all_slots slot → AreChosenAreas opens some
     → reserve_before opens ≤ window → AreReservesInWindow window opens
     → reserve_before opens ≤ area_of class slot false
@@ -123,49 +124,50 @@ first-least : (window : ℕ) (class : ClassFields) (slot : SlotFields) (opens : 
     → (rest : List ℕ) × IsLeastList window
     (open_frame (lead_in_item class all_slots) ∷ opens) (area_of class slot false ∷ rest)
 unfolding AreLeastAreas
-first-least window class slot opens some is chosen most within enough least =
-    let rest = least-areas window
-    (free_bytes_behind window 0 0 (area_of class slot false)) opens some chosen
+first-least {window} class
+    {slot} {opens} some is chosen most within enough least =
+    let rest = least-areas window opens some chosen
     (omega arith) within in (
       rest.0,
-      least-is window (open_frame (lead_in_item class all_slots) ∷ opens)
-          (area_of class slot false ∷ rest.0) (
-            Contains-area class false all_slots slot is,
-            omega arith,
-            (λ other has fits.
-                let of = slot-area class false all_slots other has in
-                let low = least of.0 of.1 (omega (arith, of.2, fits)) in
-                omega (arith, of.2, low)),
-            rest.1,
-          ),
+      least-is (
+        Contains-area class false all_slots is,
+        omega arith,
+        (λ other has fits.
+            let of = slot-area class false all_slots has in
+            let low = least of.0 of.1 (omega (arith, of.2, fits)) in
+            omega (arith, of.2, low)),
+        rest.1,
+      ),
     )
 
 -- ---- from the least list to the definition
-with-slot : (window : ℕ) (class : ClassFields) (slot : SlotFields) (opens : List OpenFrame)
-    (rest : List ℕ) → IsLeastList window (open_frame (lead_in_item class all_slots) ∷ opens)
+with-slot : {window : ℕ} (class : ClassFields) (slot : SlotFields) {opens : List OpenFrame}
+    {rest : List ℕ} → IsLeastList window (open_frame (lead_in_item class all_slots) ∷ opens)
     (area_of class slot false ∷ rest)
     → CanBeLaid window (open_frame (lead_in_item class (slot ∷ [])) ∷ opens)
 unfolding AreChosenAreas CanBeLaid frames_with_areas
-with-slot window class slot opens rest least =
+with-slot class slot {rest = rest} least =
     (area_of class slot false ∷ rest, ((zero, omega arith, refl), least.chosen.1), least.feasible)
 
 -- a slot has one area
-pub only-area : (class : ClassFields) (slot : SlotFields) (n : ℕ)
+pub only-area : (class : ClassFields) (slot : SlotFields) {n : ℕ}
     → Contains (slot_areas class false (slot ∷ [])) n → area_of class slot false ≡ n
-only-area class slot n h = grind arith
+only-area class slot h = grind arith
 
-not-before : (window : ℕ) (class : ClassFields) (slot other : SlotFields) (opens : List OpenFrame)
-    (rest areas : List ℕ) → IsLeastList window (open_frame (lead_in_item class all_slots) ∷ opens)
+not-before : {window : ℕ} (class : ClassFields) (slot : SlotFields) {other : SlotFields}
+    {opens : List OpenFrame}
+    {rest : List ℕ} (areas : List ℕ)
+    → IsLeastList window (open_frame (lead_in_item class all_slots) ∷ opens)
     (area_of class slot false ∷ rest) → Contains all_slots other → area_of class other false
     < area_of class slot false
     → AreChosenAreas (open_frame (lead_in_item class (other ∷ [])) ∷ opens) areas → HasLayout window
     0 (frames_with_areas (open_frame (lead_in_item class (other ∷ [])) ∷ opens) areas) → ⊥
 unfolding AreChosenAreas frames_with_areas IsNotBehind
-not-before window class slot other opens rest [] least is less chosen feasible = absurd chosen
-not-before window class slot other opens rest (area ∷ areas) least is less chosen feasible =
-    let same : area_of class other false ≡ area = only-area class other area chosen.0 in
+not-before class slot [] least is less chosen feasible = absurd chosen
+not-before class slot {other} (area ∷ areas) least is less chosen feasible =
+    let same : area_of class other false ≡ area = only-area class other chosen.0 in
     let has : Contains (slot_areas class false all_slots) area = subst (Contains
-    (slot_areas class false all_slots)) same (Contains-area class false all_slots other is) in
+    (slot_areas class false all_slots)) same (Contains-area class false all_slots is) in
     elim (least.least (area ∷ areas) (has, chosen.1) feasible) as (λ _. ⊥) [
       | inl before ↦ omega (arith, same)
       | inr at ↦ omega (arith, same, at.0)
@@ -188,9 +190,9 @@ module _ (window : ℕ) (choices : HeaderFields → List SlotFields) (first : Ne
       let none = reserve_before-can window (lead ∷ opens) can in
       let enough : reserve_before opens ≤ area_of class slot false =
       omega (arith, none.0, lead-reserve_before class slot opens) in
-      let within = within-tail window lead opens none.1 in
+      let within = within-tail lead opens none.1 in
       let some = chosen-tail lead opens can.0 can.1 in
-      first-least window class slot opens some.0 alone.2 some.1 within.0 within.1 enough
+      first-least class some.0 alone.2 some.1 within.0 within.1 enough
       (λ other is fits.
       elim (cases_lt (area_of class other false) (area_of class slot false))
       as (λ _. area_of class slot false ≤ area_of class other false) [
@@ -199,7 +201,7 @@ module _ (window : ℕ) (choices : HeaderFields → List SlotFields) (first : Ne
             (can-reserve_before window (open_frame (lead_in_item class (other ∷ [])) ∷ opens)
             (area_of class other false ∷ some.0) (lead-chosen class other opens some.0 some.1)
             (omega (arith, lead-reserve_before class other opens))
-            (lead-within window class other opens within.0 within.1)))
+            (lead-within class other opens within.0 within.1)))
         | inr most ↦ most
       ])
 

@@ -31,42 +31,40 @@ use Rattle.slot_plan.specs.Parts.{all_items, AreLeadIns, AreNeedsOfClass, ArePar
 use Rattle.slot_plan.specs.Parts.{IsLeadIn, item_area, lead_in_item, led_items, need_item}
 use Rattle.slot_plan.specs.Parts.{open_frame, own_frame, part_items, PlanItem, slot_areas}
 use Rattle.slot_plan.specs.Plans.{AreItemSlots, IsLedPlan, IsPlan, IsPlanFor, item_areas}
-use Rattle.slot_plan.specs.Reserve.{area_by_header, AreReservesInWindow, free_bytes_behind}
-use Rattle.slot_plan.specs.Reserve.{greatest_number, open_frames, own_area_of, reserve_before}
+use Rattle.slot_plan.specs.Reserve.{area_by_header, AreReservesInWindow, greatest_number}
+use Rattle.slot_plan.specs.Reserve.{open_frames, own_area_of, reserve_before}
 use Rattle.slot_plan.specs.declared.needs.{Need.Need, Placed.Placed}
 
 -- ---- the test finds whether there is a layout
 
 -- frames that fit in the free bytes pass the test of a layout
-pub fit-has : (window end before free : ℕ) (frames : List FrameLengths) → end ≤ before
+pub fit-has : (window end : ℕ) {before free : ℕ} (frames : List FrameLengths) → end ≤ before
     → free ≡ (before - end) - ((before - end) - window) → AllFit window free frames
     → has_layout window end before frames ≡ true
 unfolding AllFit has_layout
-fit-has window end before free [] ends is fit = refl
-fit-has window end before free (frame ∷ frames) ends is fit =
+fit-has window end [] ends is fit = refl
+fit-has window end {before} {free} (frame ∷ frames) ends is fit =
     let start : ℕ = max end (before - window) in
     let at : start ≡ end + ((before - window) - end) = max-is end (before - window) in
     let room : frame.bytes ≤ free + frame.area = fit.0 in
     let here : start + frame.bytes ≤ before + frame.area = omega arith in
     ap₂ (λ (a b : Bool). a && b) (le-leb (start + frame.bytes) (before + frame.area) here)
-    (fit-has window (start + frame.bytes) (before + frame.area)
-    (free_bytes_behind window free frame.bytes frame.area) frames here (omega arith) fit.1)
+    (fit-has window (start + frame.bytes) frames here (omega arith) fit.1)
 
 -- frames that pass the test fit
-pub has-fit : (window end before free : ℕ) (frames : List FrameLengths) → end ≤ before
+pub has-fit : (window end : ℕ) {before free : ℕ} (frames : List FrameLengths) → end ≤ before
     → free ≡ (before - end) - ((before - end) - window) → has_layout window end before frames ≡ true
     → AllFit window free frames
 unfolding AllFit has_layout
-has-fit window end before free [] ends is has = tt
-has-fit window end before free (frame ∷ frames) ends is has =
+has-fit window end [] ends is has = tt
+has-fit window end {before} {free} (frame ∷ frames) ends is has =
     let start : ℕ = max end (before - window) in
     let at : start ≡ end + ((before - window) - end) = max-is end (before - window) in
     let both = and_parts (leb (start + frame.bytes) (before + frame.area))
     (has_layout window (start + frame.bytes) (before + frame.area) frames) has in
     let here : start + frame.bytes ≤ before + frame.area = grind (arith, leb-true) in (
       omega arith,
-      has-fit window (start + frame.bytes) (before + frame.area)
-          (free_bytes_behind window free frame.bytes frame.area) frames here (omega arith) both.1,
+      has-fit window (start + frame.bytes) frames here (omega arith) both.1,
     )
 
 has-feasible : (window : ℕ) (frames : List FrameLengths) → has_layout window 0 0 frames ≡ true
@@ -76,9 +74,9 @@ has-feasible window frames has =
     grind (
       arith,
       starts_of window 0 0 frames,
-      layout-fit window 0 0 0 frames (omega arith) (omega
-          arith) (has-fit window 0 0 0 frames (omega arith) (omega arith) has),
-      has-fit window 0 0 0
+      layout-fit window 0 {before = 0} {free = 0} frames (omega arith) (omega
+          arith) (has-fit window 0 {before = 0} {free = 0} frames (omega arith) (omega arith) has),
+      has-fit window 0 {before = 0} {free = 0}
           frames (omega arith) (omega arith) has,
     )
 
@@ -137,16 +135,16 @@ FindsOf item items choices test None = (s : SlotFields) (others : List SlotField
 
 -- a slot after another has a larger area
 pub area-later : (c : ClassFields) (p : Bool) (slot : SlotFields) (slots : List SlotFields)
-    (other : SlotFields) → Ascend (slot_areas c p (slot ∷ slots)) → Contains slots other
+    {other : SlotFields} → Ascend (slot_areas c p (slot ∷ slots)) → Contains slots other
     → area_of c slot p < area_of c other p
-area-later c p slot slots other ascend is =
-    let has = Contains-area c p slots other is in
+area-later c p slot slots {other} ascend is =
+    let has = Contains-area c p slots is in
     omega
     (arith, ascend 0 (suc has.0) (area_of c other p) (omega arith) (omega (arith, has.1)), has.2)
 
 -- what comes after the first of ascending numbers ascends
-pub ascend-behind : (n : ℕ) (ns : List ℕ) → Ascend (n ∷ ns) → Ascend ns
-ascend-behind n ns ascend =
+pub ascend-behind : {n : ℕ} (ns : List ℕ) → Ascend (n ∷ ns) → Ascend ns
+ascend-behind ns ascend =
     λ i j d before lt. ascend (suc i) (suc j) d (omega (arith, before)) (omega (arith, lt))
 
 module _ (item : PlanItem) (items : List PlanItem) (test : List SlotFields → Bool) where
@@ -176,16 +174,16 @@ module _ (item : PlanItem) (items : List PlanItem) (test : List SlotFields → B
     first = first-later slot choices none t slots is;
   }
 
-  first-here : (slot : SlotFields) (choices : List SlotFields)
-      → Ascend (slot_areas item.class item.protected (slot ∷ choices)) → (slots : List SlotFields)
-      → IsFirst items (λ rest. test (slot ∷ rest)) slots → (s : SlotFields)
-      (others : List SlotFields) → Contains (slot ∷ choices) s → AreOf items others
+  first-here : {slot : SlotFields} (choices : List SlotFields)
+      → Ascend (slot_areas item.class item.protected (slot ∷ choices)) → {slots : List SlotFields}
+      → IsFirst items (λ rest. test (slot ∷ rest)) slots → {s : SlotFields}
+      {others : List SlotFields} → Contains (slot ∷ choices) s → AreOf items others
       → test (s ∷ others) ≡ true → IsNotBehind (item_area item slot ∷ areas_by items slots)
       (item_area item s ∷ areas_by items others)
   unfolding IsNotBehind
-  first-here slot choices ascend slots is s others (zero, within, at) of passes = grind arith
-  first-here slot choices ascend slots is s others (suc k, within, at) of passes = inl
-      (area-later item.class item.protected slot choices s ascend (k, omega (arith, within), at))
+  first-here choices ascend is (zero, within, at) of passes = grind arith
+  first-here {slot} choices ascend is {s} (suc k, within, at) of passes = inl
+      (area-later item.class item.protected slot choices ascend (k, omega (arith, within), at))
 
   finds-more : (slot : SlotFields) (choices : List SlotFields) (later : List (List SlotFields))
       → Ascend (slot_areas item.class item.protected (slot ∷ choices))
@@ -194,7 +192,7 @@ module _ (item : PlanItem) (items : List PlanItem) (test : List SlotFields → B
       (option_or (option_map (λ slots. slot ∷ slots) found) (find test later))
   finds-more slot choices later ascend rest None none = grind (arith, none-more)
   finds-more slot choices later ascend rest (Some slots) is =
-      grind (arith, is.of, is.passes, first-here slot choices ascend slots is)
+      grind (arith, is.of, is.passes, first-here choices ascend is)
 
   finds-of : (choices : List SlotFields) → Ascend (slot_areas item.class item.protected choices)
       → ((among : List SlotFields → Bool) → Finds items among (find among (all_lists items)))
@@ -209,21 +207,21 @@ module _ (item : PlanItem) (items : List PlanItem) (test : List SlotFields → B
       (find-map test (λ slots. slot ∷ slots) (all_lists items)) in
       subst (FindsOf item items (slot ∷ choices) test) (sym found_is)
       (finds-more slot choices later ascend (finds-of choices
-      (ascend-behind (item_area item slot) (slot_areas item.class item.protected choices) ascend)
+      (ascend-behind (slot_areas item.class item.protected choices) ascend)
       all)
       (find (λ slots. test (slot ∷ slots)) (all_lists items)) (all (λ slots. test (slot ∷ slots))))
 
-  whole-none : FindsOf item items item.choices test None → (others : List SlotFields)
+  whole-none : FindsOf item items item.choices test None → {others : List SlotFields}
       → AreOf (item ∷ items) others → test others ≡ true → ⊥
   unfolding AreOf
-  whole-none none others of passes = grind arith
+  whole-none none of passes = grind arith
 
-  whole-first : (slot : SlotFields) (slots : List SlotFields)
-      → IsFirstOf item items item.choices test slot slots → (others : List SlotFields)
+  whole-first : {slot : SlotFields} {slots : List SlotFields}
+      → IsFirstOf item items item.choices test slot slots → {others : List SlotFields}
       → AreOf (item ∷ items) others → test others ≡ true
       → IsNotBehind (areas_by (item ∷ items) (slot ∷ slots)) (areas_by (item ∷ items) others)
   unfolding AreOf areas_by
-  whole-first slot slots is others of passes = grind arith
+  whole-first is of passes = grind arith
 
   finds-whole : (found : Option (List SlotFields)) → FindsOf item items item.choices test found
       → Finds (item ∷ items) test found
@@ -262,7 +260,7 @@ of-chosen [] [] of = tt
 of-chosen [] (slot ∷ slots) of = absurd of
 of-chosen (item ∷ items) [] of = absurd of
 of-chosen (item ∷ items) (slot ∷ slots) of =
-    (Contains-area item.class item.protected item.choices slot of.0, of-chosen items slots of.1)
+    (Contains-area item.class item.protected item.choices of.0, of-chosen items slots of.1)
 
 -- the areas of a choice are the areas of a list of slots
 pub chosen-of : (items : List PlanItem) (areas : List ℕ)
@@ -273,7 +271,7 @@ chosen-of [] [] chosen = ([], tt, refl)
 chosen-of [] (area ∷ areas) chosen = absurd chosen
 chosen-of (item ∷ items) [] chosen = absurd chosen
 chosen-of (item ∷ items) (area ∷ areas) chosen =
-    let slot = slot-area item.class item.protected item.choices area chosen.0 in
+    let slot = slot-area item.class item.protected item.choices chosen.0 in
     let rest = chosen-of items areas chosen.1 in
     (slot.0 ∷ rest.0, (slot.1, rest.1), ap₂ (λ n (l : List ℕ). n ∷ l) slot.2 rest.2)
 
@@ -292,10 +290,10 @@ module _ (window : ℕ) (items : List PlanItem) where
       → passing slots ≡ true
   feasible-slots slots feasible = grind (arith, feasible-has, slots-frames)
 
-  first-list-least : (slots : List SlotFields) → AreOrdered items
+  first-list-least : {slots : List SlotFields} → AreOrdered items
       → first_list window items ≡ Some slots
       → AreOf items slots × IsLeastList window (map open_frame items) (areas_by items slots)
-  first-list-least slots ordered is =
+  first-list-least ordered is =
       grind (arith, finds, of-chosen, slots-feasible, chosen-of, feasible-slots)
 
   -- if no list is found, no choice can be laid
@@ -305,10 +303,10 @@ module _ (window : ℕ) (items : List PlanItem) where
   no-list ordered is can = grind (arith, finds, chosen-of, feasible-slots)
 
   -- if a list is found, some choice can be laid
-  pub list-can : AreOrdered items → (slots : List SlotFields) → first_list window items ≡ Some slots
+  pub list-can : AreOrdered items → {slots : List SlotFields} → first_list window items ≡ Some slots
       → CanBeLaid window (map open_frame items)
   unfolding CanBeLaid
-  list-can ordered slots is = grind (arith, first-list-least slots ordered is)
+  list-can ordered {slots} is = grind (arith, first-list-least ordered is)
 
   -- if some choice can be laid, a list is found
   pub some-list : AreOrdered items → CanBeLaid window (map open_frame items)
@@ -351,10 +349,10 @@ laid-early window items slots of =
     grind (arith, laid-from window 0 0 items slots of, of, slots-frames items slots)
 
 module _ (window : ℕ) (items : List PlanItem) (ordered : AreOrdered items) where
-  plan-laid : (slots : List SlotFields) → first_list window items ≡ Some slots
+  plan-laid : {slots : List SlotFields} → first_list window items ≡ Some slots
       → IsPlanFor window items (earliest_placement window items slots)
-  plan-laid slots is =
-      let found = first-list-least window items slots ordered is in
+  plan-laid {slots} is =
+      let found = first-list-least window items ordered is in
       let laid = laid-early window items slots found.0 in
       record {
         slots = laid.0;
@@ -363,29 +361,28 @@ module _ (window : ℕ) (items : List PlanItem) (ordered : AreOrdered items) whe
       }
 
   -- a plan is the plan that is found
-  pub plan-found : (placed : List Placed) → IsPlanFor window items placed
+  pub plan-found : {placed : List Placed} → IsPlanFor window items placed
       → least_placement window items ≡ Some placed
   unfolding CanBeLaid
-  plan-found placed plan = at (first_list window items) refl
+  plan-found {placed} plan = at (first_list window items) refl
     where
       at : (found : Option (List SlotFields)) → first_list window items ≡ found
           → option_map (earliest_placement window items) found ≡ Some placed
       at None is = absurd (no-list window items ordered is
           (item_areas items placed, plan.least.chosen, plan.least.feasible))
-      at (Some slots) is = ap Some (one_plan_for window items
-          (earliest_placement window items slots) placed ordered (plan-laid slots is) plan)
+      at (Some slots) is = ap Some (one_plan_for ordered (plan-laid is) plan)
 
   -- what is found is a plan
-  pub found-plan : (placed : List Placed) → least_placement window items ≡ Some placed
+  pub found-plan : {placed : List Placed} → least_placement window items ≡ Some placed
       → IsPlanFor window items placed
-  found-plan placed same = at (first_list window items) refl same
+  found-plan {placed} same = at (first_list window items) refl same
     where
       at : (found : Option (List SlotFields)) → first_list window items ≡ found
           → option_map (earliest_placement window items) found ≡ Some placed
           → IsPlanFor window items placed
       at None is e = absurd cc
       at (Some slots) is e =
-          subst (IsPlanFor window items) (ap (λ o. unwrap_or o placed) e) (plan-laid slots is)
+          subst (IsPlanFor window items) (ap (λ o. unwrap_or o placed) e) (plan-laid is)
 
   -- if no choice can be laid, no plan is found
   pub none-found : (CanBeLaid window (map open_frame items) → ⊥)
@@ -405,7 +402,7 @@ module _ (window : ℕ) (items : List PlanItem) (ordered : AreOrdered items) whe
   can-made can =
       let found = can-found can in
       subst (IsPlanFor window items) (sym (ap (λ o. unwrap_or o []) found.1))
-      (found-plan found.0 found.1)
+      (found-plan found.1)
 
 -- ---- the lead-ins
 
@@ -435,7 +432,7 @@ module _ (window : ℕ) (choices : HeaderFields → List SlotFields) where
       let class : ClassFields = class_of first.header in
       can-reserve_before window (map open_frame (after_any first part))
       (area_of class largest_slot false ∷ areas) (
-        Contains-area class false all_slots largest_slot
+        Contains-area class false all_slots
             (Contains-all_slots largest_slot (lit≤ tt, lit≤ tt)),
         chosen,
       ) (omega (arith, room)) (most, within)
@@ -456,37 +453,37 @@ module _ (window : ℕ) (choices : HeaderFields → List SlotFields) where
   unfolding part_items AreOf areas_by
   first-lead first part slots never of least = grind (arith, lead-first)
 
-  lead-by : (first : Need) (part : List Need) → AreInOrder choices (first ∷ part)
+  lead-by : {first : Need} (part : List Need) → AreInOrder choices (first ∷ part)
       → CanBeLaidAfter first part → (found : Option (List SlotFields))
       → first_list window (map (need_item choices) (first ∷ part)) ≡ found
       → IsLeadIn window choices (first ∷ part) (cond (is_some found) None
       (option_and_then (λ slots. slice_get slots 0) (first_list window (after_any first part))))
   unfolding IsLeadIn part_items
-  lead-by first part order can (Some slots) is = grind (arith, list-can, first, ordered_frames)
-  lead-by first part order can None is =
+  lead-by {first} part order can (Some slots) is = grind (arith, list-can, first, ordered_frames)
+  lead-by {first} part order can None is =
       let ordered : AreOrdered (after_any first part) =
       grind (arith, slots_ascend, ordered_frames, first) in
       let found = some-list window (after_any first part) ordered can in
-      let least = first-list-least window (after_any first part) found.0 ordered found.1 in
+      let least = first-list-least window (after_any first part) ordered found.1 in
       subst (λ o. IsLeadIn window choices (first ∷ part)
       (option_and_then (λ slots. slice_get slots 0) o)) (sym found.1)
       (first-lead first part found.0 (no-list window (map (need_item choices) (first ∷ part))
       (ordered_frames choices (first ∷ part) order) is) least.0 least.1)
 
-  lead-made : (first : Need) (part : List Need) → AreInOrder choices (first ∷ part)
+  lead-made : {first : Need} (part : List Need) → AreInOrder choices (first ∷ part)
       → CanBeLaidAfter first part
       → IsLeadIn window choices (first ∷ part) (lead_in_alone window choices (first ∷ part))
   unfolding lead_in_alone
-  lead-made first part order can = grind (arith, lead-by, first)
+  lead-made {first} part order can = grind (arith, lead-by, first)
 
   no-part : IsLeadIn window choices [] (lead_in_alone window choices [])
   unfolding IsLeadIn part_items lead_in_alone
   no-part = nothing-can window
 
-  lead-alone : (part : List Need) (lead_in : Option SlotFields) → AreInOrder choices part
+  lead-alone : (part : List Need) {lead_in : Option SlotFields} → AreInOrder choices part
       → IsLeadIn window choices part lead_in → lead_in_alone window choices part ≡ lead_in
-  lead-alone [] lead_in order is = search (arith, one_lead, no-part)
-  lead-alone (first ∷ part) lead_in order is = search (arith, one_lead, lead-made, after-lead)
+  lead-alone [] order is = search (arith, one_lead, no-part)
+  lead-alone (first ∷ part) order is = search (arith, one_lead, lead-made, after-lead)
 
   leads-alone : (parts : List (List Need)) (lead_ins : List (Option SlotFields))
       → AllInOrder choices parts → AreLeadIns window choices parts lead_ins
@@ -501,46 +498,45 @@ module _ (window : ℕ) (choices : HeaderFields → List SlotFields) where
   -- ---- the plan
 
   -- a plan of parts is the first of all lists with a layout
-  pub plan-least : (parts : List (List Need)) (placed : List Placed)
+  pub plan-least : {parts : List (List Need)} {placed : List Placed}
       → PartsChooseInOrder choices parts → IsPlan window choices parts placed
       → placed ≡ least_plan window choices parts
   unfolding least_plan
-  plan-least parts placed order plan =
-      grind (arith, all_in_order, plan-found, ordered_whole, leads-alone)
+  plan-least order plan = grind (arith, all_in_order, plan-found, ordered_whole, leads-alone)
 
   ordered_led : (part : List Need) → AreInOrder choices part → AreOrdered (led_items choices part)
   unfolding led_items
   ordered_led part order = grind (arith, slots_ascend, ordered_frames)
 
   -- the led plan of a part is the first list after one lead-in
-  pub led-least : (part : List Need) (placed : List Placed) → PartsChooseInOrder choices (part ∷ [])
+  pub led-least : {part : List Need} {placed : List Placed} → PartsChooseInOrder choices (part ∷ [])
       → IsLedPlan window choices part placed → placed ≡ led_plan window choices part
   unfolding led_plan
-  led-least part placed order plan =
-      let all = all_in_order choices (part ∷ []) order in
+  led-least {part} {placed} order plan =
+      let all = all_in_order (part ∷ []) order in
       sym (ap (λ o. unwrap_or o [])
-      (plan-found window (led_items choices part) (ordered_led part all.0) placed plan))
+      (plan-found window (led_items choices part) (ordered_led part all.0) plan))
 
 -- parts of one class that have layouts have a plan, which is the only one
 module _ (class : ClassFields) (choices : HeaderFields → List SlotFields) where
   abbrev window_is : ℕ
   window_is = window_of class.version
 
-  after-feasible : (first : Need) (part : List Need) → class_of first.header ≡ class
+  after-feasible : {first : Need} (part : List Need) → class_of first.header ≡ class
       → AreInOrder choices (first ∷ part)
       → HasLayout window_is window_is (map own_frame (first ∷ part))
       → CanBeLaidAfter window_is choices first part
-  after-feasible first part same order feasible =
+  after-feasible {first} part same order feasible =
       let chosen = own-chosen choices (first ∷ part) order in
       let all =
-      reserve_before-from window_is window_is 0 choices own_area_of
+      reserve_before-from window_is 0 choices own_area_of
       (first ∷ part) feasible chosen in
       let spanned =
       subst (λ k. window_of k.version ≤ area_of (class_of first.header) largest_slot false) same
       (window-spanned (class_of first.header) order.0.class) in
       after-reserve_before window_is choices first part
       (map (area_by_header own_area_of) (first ∷ part)) chosen
-      all.0 (omega (arith, all.0, leads-span (class_of first.header) window_is spanned)) all.1
+      all.0 (omega (arith, all.0, leads-span (class_of first.header) spanned)) all.1
 
   lead-feasible : (part : List Need) → AreNeedsOfClass class part → AreInOrder choices part
       → HasLayout window_is window_is (map own_frame part)
@@ -559,12 +555,12 @@ module _ (class : ClassFields) (choices : HeaderFields → List SlotFields) wher
     leads-feasible parts (λ k d lt. same (suc k) d (omega (arith, lt))) order.1 feasible.1,
   )
 
-  plan-made : (parts : List (List Need)) → All (λ part. AreNeedsOfClass class part) parts
+  plan-made : {parts : List (List Need)} → All (λ part. AreNeedsOfClass class part) parts
       → PartsChooseInOrder choices parts → ArePartsFeasible window_is parts
       → IsPlan window_is choices parts (least_plan window_is choices parts)
   unfolding least_plan
-  plan-made parts same order feasible =
-      let all = all_in_order choices parts order in
+  plan-made {parts} same order feasible =
+      let all = all_in_order parts order in
       let lead_ins : List (Option SlotFields) = map (lead_in_alone window_is choices) parts in
       let items : List PlanItem = all_items choices parts lead_ins in
       let alone = leads-feasible parts same all feasible in
@@ -581,32 +577,32 @@ module _ (class : ClassFields) (choices : HeaderFields → List SlotFields) wher
   unfolding AreNeedsOfClass led_items
   led-can part same order feasible = grind (arith, nothing-can, after-feasible)
 
-  led-made : (part : List Need) → AreNeedsOfClass class part
+  led-made : {part : List Need} → AreNeedsOfClass class part
       → PartsChooseInOrder choices (part ∷ []) → ArePartsFeasible window_is (part ∷ [])
       → IsLedPlan window_is choices part (led_plan window_is choices part)
   unfolding ArePartsFeasible led_plan
-  led-made part same order feasible =
-      let all = all_in_order choices (part ∷ []) order in
+  led-made {part} same order feasible =
+      let all = all_in_order (part ∷ []) order in
       can-made window_is (led_items choices part) (ordered_led window_is choices part all.0)
       (led-can part same all.0 feasible.0)
 
 -- parts that fit have one plan, which is the first of all lists with a layout
-pub least-plan-is : (class : ClassFields) (choices : HeaderFields → List SlotFields)
-    (parts : List (List Need)) (placed : List Placed)
+pub least-plan-is : (class : ClassFields) {choices : HeaderFields → List SlotFields}
+    {parts : List (List Need)} (placed : List Placed)
     → All (λ part. AreNeedsOfClass class part) parts → PartsChooseInOrder choices parts
     → ArePartsFeasible (window_of class.version) parts
     → IsPlan (window_of class.version) choices parts placed
     ↔ (placed ≡ least_plan (window_of class.version) choices parts)
-least-plan-is class choices parts placed same order feasible = (
-  (λ plan. plan-least (window_of class.version) choices parts placed order plan),
+least-plan-is class {choices} {parts} placed same order feasible = (
+  (λ plan. plan-least (window_of class.version) choices order plan),
   (λ is. subst (IsPlan (window_of class.version) choices parts) (sym is)
-      (plan-made class choices parts same order feasible)),
+      (plan-made class choices same order feasible)),
 )
 
 -- one part after a lead-in has one led plan, which is the first of all lists with a layout
 pub led-plan-is : LedPlanIsLeast
 led-plan-is = λ class choices part placed same order feasible. (
-  (λ plan. led-least (window_of class.version) choices part placed order plan),
+  (λ plan. led-least (window_of class.version) choices order plan),
   (λ is. subst (IsLedPlan (window_of class.version) choices part) (sym is)
-      (led-made class choices part same order feasible)),
+      (led-made class choices same order feasible)),
 )

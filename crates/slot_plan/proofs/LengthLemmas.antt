@@ -29,10 +29,10 @@ unfolding side_size_of
 overhead-most c p = omega (arith, overhead-side c p, side_most c.version c.channels)
 
 -- the entry for the bit rate index, with the padding, less what is before the area
-pub area-looked : (c : ClassFields) (s : SlotFields) (p : Bool) (by_index : List ℕ)
-    (unprotected protected n overhead : ℕ) → IsSlot s → AreLengths c by_index unprotected protected
+pub area-looked : {c : ClassFields} (s : SlotFields) (p : Bool) {by_index : List ℕ}
+    {unprotected protected n overhead : ℕ} → IsSlot s → AreLengths c by_index unprotected protected
     → n ≡ get_or by_index (s.rate_index - 1) 0 → overhead ≡ overhead_of c p
     → (overhead ≤ n + bool_byte s.padding) × ((n + bool_byte s.padding) - overhead ≡ area_of c s p)
     × (area_of c s p ≤ 1441)
-area-looked c s p by_index unprotected protected n overhead slot known entry before =
+area-looked {c} s p slot known entry before =
     grind (arith, area-is c s p known.known slot, padded c s, length-most c s known.known slot)

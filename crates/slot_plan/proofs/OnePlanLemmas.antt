@@ -32,9 +32,9 @@ equal_lists (m ∷ ms) (n ∷ ns) first second =
           ]
     ]
 
-one_least : (window : ℕ) (opens : List OpenFrame) (xs ys : List ℕ) → IsLeastList window opens xs
+one_least : {window : ℕ} {opens : List OpenFrame} {xs ys : List ℕ} → IsLeastList window opens xs
     → IsLeastList window opens ys → xs ≡ ys
-one_least window opens xs ys first second = grind (arith, equal_lists)
+one_least first second = grind (arith, equal_lists)
 
 -- ---- what is placed
 
@@ -44,8 +44,8 @@ AreOrdered [] = Unit {0}
 AreOrdered (item ∷ items) =
     Ascend (slot_areas item.class item.protected item.choices) × AreOrdered items
 
-placed_same : (p q : Placed) → p.lead_in ≡ q.lead_in → p.slot ≡ q.slot → p.begin ≡ q.begin → p ≡ q
-placed_same p q lead slot begin = grind arith
+placed_same : {p q : Placed} → p.lead_in ≡ q.lead_in → p.slot ≡ q.slot → p.begin ≡ q.begin → p ≡ q
+placed_same lead slot begin = grind arith
 
 -- placed frames with the same areas and main_data_begin are the same
 pub one_placed : (items : List PlanItem) (a b : List Placed) → AreOrdered items
@@ -60,16 +60,16 @@ one_placed (item ∷ items) (p ∷ a) [] ordered first second areas begins = abs
 one_placed (item ∷ items) (p ∷ a) (q ∷ b) ordered first second areas begins =
     let area : item_area item p.slot ≡ item_area item q.slot = ap (λ l. get_or l 0 0) areas in
     let slot =
-    one-slot item.class item.protected item.choices p.slot q.slot ordered.0 first.1 second.1 area in
+    one-slot item.class item.protected item.choices ordered.0 first.1 second.1 area in
     let begin : p.begin ≡ q.begin = ap (λ l. get_or l 0 0) begins in
     ap₂ (λ (x : Placed) (l : List Placed). x ∷ l)
-    (placed_same p q (first.0 ∙ sym second.0) slot begin)
+    (placed_same (first.0 ∙ sym second.0) slot begin)
     (one_placed items a b ordered.1 first.2 second.2 (ap (drop 1) areas) (ap (drop 1) begins))
 
 -- frames with given lead-ins have at most one plan
-pub one_plan_for : (window : ℕ) (items : List PlanItem) (a b : List Placed) → AreOrdered items
+pub one_plan_for : {window : ℕ} {items : List PlanItem} {a b : List Placed} → AreOrdered items
     → IsPlanFor window items a → IsPlanFor window items b → a ≡ b
-one_plan_for window items a b ordered first second = grind (arith, one_least, one_placed)
+one_plan_for ordered first second = grind (arith, one_least, one_placed)
 
 -- ---- the lead-ins
 
@@ -78,11 +78,11 @@ abbrev pub AreInOrder : (HeaderFields → List SlotFields) → List Need → Typ
 AreInOrder choices [] = Unit {0}
 AreInOrder choices (need ∷ needs) = ChoosesInOrder choices need × AreInOrder choices needs
 
-in_order : (choices : HeaderFields → List SlotFields) (part : List Need)
+in_order : {choices : HeaderFields → List SlotFields} (part : List Need)
     → All (ChoosesInOrder choices) part → AreInOrder choices part
-in_order choices [] all = tt
-in_order choices (need ∷ needs) all =
-    (all 0 need (omega arith), in_order choices needs (λ k d lt. all (suc k) d (omega (arith, lt))))
+in_order [] all = tt
+in_order {choices} (need ∷ needs) all =
+    (all 0 need (omega arith), in_order needs (λ k d lt. all (suc k) d (omega (arith, lt))))
 
 -- the areas of the choices ascend in each part
 abbrev pub AllInOrder : (HeaderFields → List SlotFields) → List (List Need) → Type 0
@@ -90,17 +90,17 @@ AllInOrder choices [] = Unit {0}
 AllInOrder choices (part ∷ parts) = AreInOrder choices part × AllInOrder choices parts
 
 -- choices that ascend in every part ascend in all
-pub all_in_order : (choices : HeaderFields → List SlotFields) (parts : List (List Need))
+pub all_in_order : {choices : HeaderFields → List SlotFields} (parts : List (List Need))
     → PartsChooseInOrder choices parts → AllInOrder choices parts
-all_in_order choices [] all = tt
-all_in_order choices (part ∷ parts) all = (
-  in_order choices part (all 0 part (omega arith)),
-  all_in_order choices parts (λ k d lt. all (suc k) d (omega (arith, lt))),
+all_in_order [] all = tt
+all_in_order {choices} (part ∷ parts) all = (
+  in_order part (all 0 part (omega arith)),
+  all_in_order parts (λ k d lt. all (suc k) d (omega (arith, lt))),
 )
 
 -- the areas of all slots of a class ascend
 pub slots_ascend : (c : ClassFields) → IsClass c → Ascend (slot_areas c false all_slots)
-slots_ascend c class = lead-ascend c all_slots refl (areas-ascend c class false)
+slots_ascend c class = lead-ascend c refl (areas-ascend c class false)
 
 -- a part has at most one lead-in
 pub one_lead : (window : ℕ) (choices : HeaderFields → List SlotFields) (part : List Need)
@@ -120,7 +120,7 @@ one_lead window choices (need ∷ part) (Some s) (Some t) order first second =
           elim (cases_lt (area_of class t false) (area_of class s false))
           as (λ _. Some s ≡ Some t) [
             | inl less ↦ absurd (first.3 t second.2 less second.1)
-            | inr least ↦ ap Some (one-slot class false all_slots s t
+            | inr least ↦ ap Some (one-slot class false all_slots
                 (slots_ascend class order.0.class) first.2 second.2 (omega (arith, most, least)))
           ]
     ]

@@ -21,9 +21,9 @@ use Rattle.slot_plan.specs.Reserve.{own_area_of, reserve_before, reserves_behind
 use Rattle.slot_plan.specs.declared.{needs.Need.Need, reserves.Reserves.Reserves}
 
 -- the need at i, and those after it
-pub next_need : (part : List Need) (i : ℕ) (need : Need) → i < length part
+pub next_need : (part : List Need) {i : ℕ} {need : Need} → i < length part
     → need ≡ get_or part i need → drop i part ≡ need ∷ drop (i + 1) part
-next_need part i need lt is = search (arith, drop-cons)
+next_need part lt is = search (arith, drop-cons)
 
 -- a part with an area for each frame is the frames with these areas
 pub frames-by : (choices : HeaderFields → List SlotFields) (area : HeaderFields → ℕ)
@@ -35,34 +35,34 @@ frames-by choices area [] = refl
 frames-by choices area (need ∷ part) = grind (arith, frames-by choices area part)
 
 -- if a part has a layout, no more is needed from any frame on than the window
-pub reserve_before-from : (window before k : ℕ) (choices : HeaderFields → List SlotFields)
+pub reserve_before-from : {window : ℕ} (before k : ℕ) (choices : HeaderFields → List SlotFields)
     (area : HeaderFields → ℕ) (part : List Need)
     → HasLayout window before (map (frame_by_header area) part)
     → AreChosenAreas (open_frames choices (drop k part)) (map (area_by_header area) (drop k part))
     → (reserve_before (open_frames choices (drop k part)) ≤ window)
     × AreReservesInWindow window (open_frames choices (drop k part))
-reserve_before-from window before k choices area part feasible chosen =
+reserve_before-from {window} before k choices area part feasible chosen =
     let fit : AllFit window window (drop k (map (frame_by_header area) part)) =
     fit-after window before k (map (frame_by_header area) part) feasible in
     let same =
     drop-map (frame_by_header area) k part ∙ sym (frames-by choices area (drop k part)) in
-    reserve_before-fit window window (open_frames choices (drop k part))
+    reserve_before-fit window (open_frames choices (drop k part))
     (map (area_by_header area) (drop k part))
     (omega arith) chosen (subst (AllFit window window) same fit)
 
 -- if a part has a layout after some bytes, its frames need at most these
-pub reserve_before-first : (window before : ℕ) (choices : HeaderFields → List SlotFields)
+pub reserve_before-first : (window : ℕ) {before : ℕ} (choices : HeaderFields → List SlotFields)
     (area : HeaderFields → ℕ) (part : List Need)
     → HasLayout window before (map (frame_by_header area) part)
     → AreChosenAreas (open_frames choices part) (map (area_by_header area) part)
     → reserve_before (open_frames choices part) ≤ before
 unfolding HasLayout
-reserve_before-first window before choices area part feasible chosen =
+reserve_before-first window {before} choices area part feasible chosen =
     let free : ℕ = before - (before - window) in
-    let fit = fit-layout window 0 before free
+    let fit = fit-layout window 0 before
     (map (frame_by_header area) part) feasible.0 (omega arith) feasible.1 in
     let enough =
-    (reserve_before-fit window free (open_frames choices part) (map (area_by_header area) part)
+    (reserve_before-fit free (open_frames choices part) (map (area_by_header area) part)
     (omega arith) chosen (subst (AllFit window free) (sym (frames-by choices area part)) fit)).0 in
     omega (arith, enough)
 
@@ -84,12 +84,12 @@ unfolding reserve_before
 reserve_before-cons choices need part = refl
 
 -- if what all frames need is within a window, so is what the others need
-pub within-cons : (window : ℕ) (choices : HeaderFields → List SlotFields) (need : Need)
+pub within-cons : {window : ℕ} (choices : HeaderFields → List SlotFields) (need : Need)
     (part : List Need) → AreReservesInWindow window (open_frames choices (need ∷ part))
     → (reserve_before (open_frames choices part) ≤ window)
     × AreReservesInWindow window (open_frames choices part)
 unfolding AreReservesInWindow
-within-cons window choices need part all = all
+within-cons choices need part all = all
 
 -- a choice of areas for the other frames and one for the first is a choice for all
 pub chosen-cons : (choices : HeaderFields → List SlotFields) (area : HeaderFields → ℕ) (need : Need)
@@ -124,10 +124,10 @@ unfolding AreChosenAreas
 nothing_chosen choices area = tt
 
 -- the last of the list is what the first frame needs after it
-pub popped : (behind rest : List ℕ) (last : Option ℕ) (ns : List ℕ) (n : ℕ) → behind ≡ ns ++ n ∷ []
+pub popped : {behind rest : List ℕ} {last : Option ℕ} {ns : List ℕ} {n : ℕ} → behind ≡ ns ++ n ∷ []
     → behind ≡ rest ++ option_to_list last → 0 < length (option_to_list last)
     → (last ≡ Some n) × (rest ≡ ns)
-popped behind rest last ns n is parts some = grind (arith, same_from_push)
+popped is parts some = grind (arith, same_from_push)
 
 -- ---- the frames of a part from i on have what they need
 -- what the frames from i on need, before the first and after each, is within a window
@@ -155,20 +155,21 @@ module _ (window : ℕ) (choices : HeaderFields → List SlotFields) (area : Hea
       }
 
   -- one frame earlier, what is needed is known of one more frame
-  pub reserves-more : (before i : ℕ) (behind : List ℕ) (after result : ℕ) (need : Need)
+  pub reserves-more : (before : ℕ) {i : ℕ} {behind : List ℕ} {after result : ℕ} {need : Need}
       → i < length part → need ≡ get_or part i need
       → HasLayout window before (map (frame_by_header area) part)
       → Contains (open_frame (need_item choices need)).areas (area need.header)
       → result ≡ (need.bytes + after) - greatest_number (open_frame (need_item choices need)).areas
       → ReservesFrom window choices area part (i + 1) behind after
       → ReservesFrom window choices area part i (behind ++ after ∷ []) result
-  reserves-more before i behind after result need within is feasible has gives from =
-      let here = next_need part i need within is in
+  reserves-more before
+      {i} {behind} {result = result} {need = need} within is feasible has gives from =
+      let here = next_need part within is in
       let rest : List Need = drop (i + 1) part in
       let chosen =
       subst (λ l. AreChosenAreas (open_frames choices l) (map (area_by_header area) l)) (sym here)
       (chosen-cons choices area need rest has from.chosen) in
-      let all = reserve_before-from window before i choices area part feasible chosen in
+      let all = reserve_before-from before i choices area part feasible chosen in
       let value : result ≡ reserve_before (open_frames choices (drop i part)) =
       grind (arith, reserve_before-cons) in
       record {
@@ -180,21 +181,22 @@ module _ (window : ℕ) (choices : HeaderFields → List SlotFields) (area : Hea
       }
 
   -- at the first frame, what is needed is known of all
-  pub reserves-all : (i : ℕ) (reserves : Reserves) → i ≡ 0
+  pub reserves-all : {i : ℕ} {reserves : Reserves} → i ≡ 0
       → ReservesFrom window choices area part i reserves.behind.items reserves.before
       → AreReserves window choices area part reserves
-  reserves-all i reserves none from = grind arith
+  reserves-all none from = grind arith
 
 -- ---- forwards: what the next frame needs after it
 -- the last of the list is what is needed after the frame at i, and the rest is for those after it
-pub next-wanted : (choices : HeaderFields → List SlotFields) (part : List Need) (i : ℕ)
-    (need : Need) (behind rest : List ℕ) (many : ℕ) (last : Option ℕ) (wanted : ℕ) → i < length part
+pub next-wanted : (choices : HeaderFields → List SlotFields) (part : List Need) {i : ℕ}
+    {need : Need} {behind rest : List ℕ} {many : ℕ} {last : Option ℕ} {wanted : ℕ} → i < length part
     → need ≡ get_or part i need → behind ≡ reserves_behind (open_frames choices (drop i part))
     → many ≡ length behind → behind ≡ rest ++ option_to_list last
     → ((d : ℕ) → 0 < many → last ≡ Some (get_or behind (many - 1) d)) → wanted ≡ unwrap_or last 0
     → (wanted ≡ reserve_before (open_frames choices (drop (i + 1) part)))
     × (rest ≡ reserves_behind (open_frames choices (drop (i + 1) part)))
-next-wanted choices part i need behind rest many last wanted within is all count parts value gives =
+next-wanted choices part {i} {behind = behind} {rest = rest} {many = many} {last = last} within
+    is all count parts value gives =
     let left : List Need = drop (i + 1) part in
     let ns : List ℕ = reserves_behind (open_frames choices left) in
     let whole : behind ≡ ns ++ reserve_before (open_frames choices left) ∷ [] =
@@ -205,25 +207,25 @@ next-wanted choices part i need behind rest many last wanted within is all count
     let full : 0 < length (option_to_list last) =
     subst (λ o. 0 < length (option_to_list o)) (sym (value 0 some)) (omega arith) in
     let popping =
-    popped behind rest last ns (reserve_before (open_frames choices left)) whole parts full in
+    popped whole parts full in
     (gives ∙ ap (λ o. unwrap_or o 0) popping.0, popping.1)
 
 -- the frames from i on need the first one's bytes and
 -- what those after it need, less its largest area
-pub next-reserve_before : (choices : HeaderFields → List SlotFields) (part : List Need) (i : ℕ)
-    (need : Need) → i < length part → need ≡ get_or part i need
+pub next-reserve_before : (choices : HeaderFields → List SlotFields) (part : List Need) {i : ℕ}
+    {need : Need} → i < length part → need ≡ get_or part i need
     → reserve_before (open_frames choices (drop i part))
     ≡ (need.bytes + reserve_before (open_frames choices (drop (i + 1) part)))
     - greatest_number (open_frame (need_item choices need)).areas
-next-reserve_before choices part i need within is = grind (arith, next_need, reserve_before-cons)
+next-reserve_before choices part within is = grind (arith, next_need, reserve_before-cons)
 
 -- after the frame at i at most a window is needed either
-pub next-within : (window : ℕ) (choices : HeaderFields → List SlotFields) (part : List Need) (i : ℕ)
-    (need : Need) → i < length part → need ≡ get_or part i need
+pub next-within : {window : ℕ} (choices : HeaderFields → List SlotFields) (part : List Need) {i : ℕ}
+    {need : Need} → i < length part → need ≡ get_or part i need
     → AreReservesInWindow window (open_frames choices (drop i part))
     → (reserve_before (open_frames choices (drop (i + 1) part)) ≤ window)
     × AreReservesInWindow window (open_frames choices (drop (i + 1) part))
-next-within window choices part i need within is all = grind (arith, within-cons, next_need, within)
+next-within choices part within is all = grind (arith, within-cons, next_need, within)
 
 -- ---- the parts
 -- the parts from a place on are the one there and those after it
@@ -245,10 +247,10 @@ parts-cons needs parts at from end within is next last =
     ]
 
 -- past the last place there are no parts
-pub parts-none : (needs : List Need) (parts : List ℕ) (at : ℕ) → length parts ≤ at
+pub parts-none : (needs : List Need) (parts : List ℕ) {at : ℕ} → length parts ≤ at
     → needs_in_parts needs (drop at parts) ≡ []
 unfolding needs_in_parts
-parts-none needs parts at all = ap (needs_in_parts needs) (drop_all at parts all)
+parts-none needs parts {at} all = ap (needs_in_parts needs) (drop_all at parts all)
 
 -- if all parts are feasible, so is the first, and so are the others
 pub feasible-cons : (window : ℕ) (part : List Need) (parts : List (List Need))
@@ -258,25 +260,25 @@ unfolding ArePartsFeasible
 feasible-cons window part parts all = all
 
 -- the need at i is of the class of all needs
-pub class-at : (class : ClassFields) (needs : List Need) (i : ℕ) (d : Need)
+pub class-at : {class : ClassFields} (needs : List Need) (i : ℕ) (d : Need)
     → AreNeedsOfClass class needs → i < length needs → class_of (get_or needs i d).header ≡ class
 unfolding AreNeedsOfClass
-class-at class [] i d all within = absurd (omega arith)
-class-at class (need ∷ needs) zero d all within = all.0
-class-at class (need ∷ needs) (suc i) d all within = class-at class needs i d all.1 (omega arith)
+class-at [] i d all within = absurd (omega arith)
+class-at (need ∷ needs) zero d all within = all.0
+class-at {class} (need ∷ needs) (suc i) d all within = class-at needs i d all.1 (omega arith)
 
 -- the class of all needs is the class of a need that the code reads
-pub same-class : (class : ClassFields) (needs : List Need) (i : ℕ) (need : Need)
+pub same-class : {class : ClassFields} (needs : List Need) {i : ℕ} {need : Need}
     → AreNeedsOfClass class needs → i < length needs → need ≡ get_or needs i need
     → class ≡ class_of need.header
-same-class class needs i need all within is = grind (arith, class-at, within)
+same-class needs all within is = grind (arith, class-at, within)
 
 -- the area of a slot is the area in the class of the need
-pub area-in : (class : ClassFields) (needs : List Need) (i area : ℕ) (need opened : Need)
+pub area-in : (class : ClassFields) (needs : List Need) {i area : ℕ} {need opened : Need}
     (slot : SlotFields) → AreNeedsOfClass class needs → i < length needs
     → need ≡ get_or needs i need → opened ≡ need → area ≡ area_of class slot opened.header.protected
     → area ≡ area_of (class_of need.header) slot need.header.protected
-area-in class needs i area need opened slot all within is same gives = grind (arith, same-class)
+area-in class needs slot all within is same gives = grind (arith, same-class)
 
 -- the first needs are of the class
 pub class-take : (class : ClassFields) (needs : List Need) (k : ℕ) → AreNeedsOfClass class needs
@@ -300,15 +302,15 @@ pub class-range : (class : ClassFields) (needs : List Need) (from to : ℕ)
 class-range class needs from to all = grind (arith, class-take, class-drop)
 
 -- needs of one class are of the class of their first
-pub one-class : (class : ClassFields) (needs : List Need) (d : Need) → AreNeedsOfOneClass needs
+pub one-class : {class : ClassFields} (needs : List Need) (d : Need) → AreNeedsOfOneClass needs
     → class ≡ class_of (get_or needs 0 d).header → AreNeedsOfClass class needs
 unfolding AreNeedsOfClass
-one-class class needs d all is = grind arith
+one-class needs d all is = grind arith
 
 -- the window of a need is the window of the first
-window-at : (needs : List Need) (i : ℕ) (d : Need) → AreNeedsOfOneClass needs → i < length needs
+window-at : (needs : List Need) {i : ℕ} (d : Need) → AreNeedsOfOneClass needs → i < length needs
     → window_of (get_or needs i d).header.version ≡ window_in needs
-window-at needs i d all within = grind (arith, class-at)
+window-at needs d all within = grind (arith, class-at)
 
 -- a part from one place to a later one has frames
 pub part-some : (needs : List Need) (from end : ℕ) → from < end → end ≤ length needs
@@ -316,16 +318,16 @@ pub part-some : (needs : List Need) (from end : ℕ) → from < end → end ≤ 
 part-some needs from end some within = grind (arith, length-take-le, length-drop)
 
 -- the window of the first need is the window of all
-pub window-first : (needs : List Need) (d : Need) (class : ClassFields) (window : ℕ)
+pub window-first : (needs : List Need) (d : Need) {class : ClassFields} {window : ℕ}
     → AreNeedsOfOneClass needs → 0 < length needs → class ≡ class_of (get_or needs 0 d).header
     → window ≡ window_of class.version → window ≡ window_in needs
-window-first needs d class window all some has gives = grind (arith, window-at)
+window-first needs d all some has gives = grind (arith, window-at)
 
 -- the window of the first need of parts that can be planned is the window of all
-pub planned-window : (needs : List Need) (parts : List ℕ) (d : Need) (class : ClassFields)
-    (window : ℕ) → CanBePlanned needs parts → class ≡ class_of (get_or needs 0 d).header
+pub planned-window : {needs : List Need} {parts : List ℕ} (d : Need) {class : ClassFields}
+    {window : ℕ} → CanBePlanned needs parts → class ≡ class_of (get_or needs 0 d).header
     → window ≡ window_of class.version → window ≡ window_in needs
-planned-window needs parts d class window planned has gives = grind (arith, window-first)
+planned-window d planned has gives = grind (arith, window-first)
 
 -- a part isn't empty, and ends within the needs
 pub part-bounds : (needs : List Need) (parts : List ℕ) (at end : ℕ) → AllPairs (λ m n. m < n) parts
@@ -340,19 +342,18 @@ pub range-all : (needs : List Need) → slice_range needs 0 (length needs) ≡ n
 range-all needs = take_all (length needs - 0) needs (omega arith)
 
 -- if the one part is feasible, so are all needs
-pub one-part : (needs : List Need) (window : ℕ) → window ≡ window_in needs
+pub one-part : (needs : List Need) {window : ℕ} → window ≡ window_in needs
     → ArePartsFeasible (window_in needs) (needs_in_parts needs (0 ∷ []))
     → HasLayout window window (map own_frame needs)
 unfolding ArePartsFeasible needs_in_parts
-one-part needs window is feasible = grind (arith, range-all)
+one-part needs is feasible = grind (arith, range-all)
 
 -- a part with a layout in its own slots can be placed after a lead-in of any slot
-pub placeable-own : (class lengths : ClassFields) (window : ℕ) (part : List Need) → lengths ≡ class
+pub placeable-own : {class lengths : ClassFields} {window : ℕ} {part : List Need} → lengths ≡ class
     → window ≤ area_of class largest_slot false → window ≤ most_back → 0 < length part
     → HasLayout window window (map own_frame part)
     → IsPlaceablePart window lengths all_slots own_area_of part
-placeable-own class lengths window part is spanned most some feasible =
-    grind (arith, leads-span, most, feasible-windows)
+placeable-own is spanned most some feasible = grind (arith, leads-span, most, feasible-windows)
 
 -- the part at this place has frames and a layout, and the parts after it have one too
 pub part-ready : (needs : List Need) (parts : List ℕ) (at end window : ℕ)

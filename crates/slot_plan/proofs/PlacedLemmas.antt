@@ -29,10 +29,10 @@ least-placed window free [] [] all = tt
 least-placed window free [] (p ∷ placed) all = absurd all
 least-placed window free (item ∷ items) [] all = absurd all
 least-placed window free (item ∷ items) (p ∷ placed) all = (
-  Contains-area item.class item.protected item.choices p.slot all.2.chosen,
+  Contains-area item.class item.protected item.choices all.2.chosen,
   all.2.enough,
   (λ other has fits.
-      let slot = slot-area item.class item.protected item.choices other has in
+      let slot = slot-area item.class item.protected item.choices has in
       let less : item_area item p.slot ≤ item_area item slot.0 = grind arith in
       omega (arith, slot.2, less)),
   least-placed window
@@ -64,9 +64,9 @@ begins-placed window free (item ∷ items) (p ∷ placed) all =
     (free_bytes_behind window free item.bytes (item_area item p.slot)) items placed all.3)
 
 -- frames that are placed by what is needed after them are a plan for them
-pub plan-placed : (window : ℕ) (items : List PlanItem) (placed : List Placed)
+pub plan-placed : {window : ℕ} {items : List PlanItem} {placed : List Placed}
     → AreItemsPlaced window 0 items placed → IsPlanFor window items placed
-plan-placed window items placed all =
+plan-placed all =
     grind (arith, least-placed, for-placed, least-is, begins-placed, begins-frees, fit-least)
 
 -- ---- the lead-in of a part
@@ -79,11 +79,11 @@ unfolding reserve_before greatest_number
 lead-reserve_before class slot opens = omega arith
 
 -- with a lead-in at the front, at most a window is needed anywhere
-pub lead-within : (window : ℕ) (class : ClassFields) (slot : SlotFields) (opens : List OpenFrame)
+pub lead-within : {window : ℕ} (class : ClassFields) (slot : SlotFields) (opens : List OpenFrame)
     → reserve_before opens ≤ window → AreReservesInWindow window opens
     → AreReservesInWindow window (open_frame (lead_in_item class (slot ∷ [])) ∷ opens)
 unfolding AreReservesInWindow
-lead-within window class slot opens most within = (most, within)
+lead-within class slot opens most within = (most, within)
 
 -- the area of a lead-in before a choice of areas is a choice too
 pub lead-chosen : (class : ClassFields) (slot : SlotFields) (opens : List OpenFrame)
@@ -134,31 +134,31 @@ pub places-begun : (window free : ℕ) (items : List PlanItem) (placed : List Pl
     → PlacesMore window free free items items placed placed
 places-begun window free items placed = grind (arith, append-nil)
 
-placed-cons : (window free : ℕ) (item : PlanItem) (items : List PlanItem) (p : Placed)
+placed-cons : (window : ℕ) {free : ℕ} (item : PlanItem) (items : List PlanItem) {p : Placed}
     (placed : List Placed) → p.lead_in ≡ item.lead_in → p.begin ≡ free → IsLeastSlot
     ((item.bytes + reserve_before (map open_frame items)) - free)
     item.class item.protected item.choices p.slot → AreItemsPlaced window
     (free_bytes_behind window free item.bytes (item_area item p.slot)) items placed
     → AreItemsPlaced window free (item ∷ items) (p ∷ placed)
 unfolding AreItemsPlaced
-placed-cons window free item items p placed is begin least behind = (is, begin, least, behind)
+placed-cons window item items placed is begin least behind = (is, begin, least, behind)
 
 -- a frame in the least slot with what is needed after it is one more frame placed
-pub places-more : (window free now : ℕ) (items : List PlanItem) (item : PlanItem)
-    (left : List PlanItem)
-    (old new : List Placed) (p : Placed) → p.lead_in ≡ item.lead_in → p.begin ≡ now → IsLeastSlot
+pub places-more : {window free now : ℕ} {items : List PlanItem} {item : PlanItem}
+    {left : List PlanItem}
+    {old new : List Placed} {p : Placed} → p.lead_in ≡ item.lead_in → p.begin ≡ now → IsLeastSlot
     ((item.bytes + reserve_before (map open_frame left)) - now)
     item.class item.protected item.choices p.slot
     → PlacesMore window free now items (item ∷ left) old new → PlacesMore window free
     (free_bytes_behind window now item.bytes (item_area item p.slot)) items left old (new ++ p ∷ [])
-places-more window free now items item left old new p is begin least on =
+places-more is begin least on =
     grind (arith, append_assoc, map-append, append-reserve_before, placed-cons)
 
 -- frames placed up to one, and then the others from it on, are all placed
-pub places-then : (window free now after : ℕ) (items left : List PlanItem)
-    (old mid new : List Placed) → PlacesMore window free now items left old mid
+pub places-then : {window free now after : ℕ} {items left : List PlanItem}
+    {old mid new : List Placed} → PlacesMore window free now items left old mid
     → PlacesMore window now after left [] mid new → PlacesMore window free after items [] old new
-places-then window free now after items left old mid new first second = grind (arith, append_assoc)
+places-then first second = grind (arith, append_assoc)
 
 -- ---- part by part: whatever places the parts from here on correctly places all correctly
 unfoldable pub PartsPlaced : ℕ → (HeaderFields → List SlotFields) → List (List Need)
@@ -191,14 +191,14 @@ unfolding all_items
 whole-cons choices part parts lead_in lead_ins = refl
 
 -- a part that is placed after those before it is one more part placed
-pub parts-more : (window : ℕ) (choices : HeaderFields → List SlotFields) (all : List (List Need))
-    (part : List Need) (left : List (List Need)) (free after : ℕ) (before behind : List Placed)
+pub parts-more : {window : ℕ} {choices : HeaderFields → List SlotFields} (all : List (List Need))
+    {part : List Need} (left : List (List Need)) {free after : ℕ} {before behind : List Placed}
     → PlacesPart window all_slots choices part free after before behind
     → PartsPlaced window choices all (part ∷ left) free before
     → PartsPlaced window choices all left after behind
 unfolding PartsPlaced
-parts-more window choices all part left free after before behind part_placed on lead_ins placed
-    alone rest =
+parts-more {window} {choices} all {part} left
+    {free} {before = before} {behind = behind} part_placed on lead_ins placed alone rest =
     let lead_in : Option SlotFields = part_placed.lead_in in
     let more : List Placed = part_placed.places.more in
     let none = (reserve_before-can window (map open_frame (all_items choices left lead_ins))
@@ -223,11 +223,11 @@ unfolding AreItemsPlaced all_items
 no-placed window free choices = tt
 
 -- all parts, placed in order, are the plan
-pub parts-all : (window : ℕ) (choices : HeaderFields → List SlotFields) (all : List (List Need))
-    (free : ℕ) (placed : List Placed) → PartsPlaced window choices all [] free placed
+pub parts-all : {window : ℕ} {choices : HeaderFields → List SlotFields} {all : List (List Need)}
+    (free : ℕ) {placed : List Placed} → PartsPlaced window choices all [] free placed
     → IsPlan window choices all placed
 unfolding PartsPlaced
-parts-all window choices all free placed on =
+parts-all {window} {choices} free {placed} on =
     grind (
       arith,
       no-leads window choices,
@@ -238,8 +238,8 @@ parts-all window choices all free placed on =
 
 -- ---- the next frame of a part
 -- the frame at i, in the least slot with what is needed after it, is one more frame placed
-pub places-next : (window free now next : ℕ) (choices : HeaderFields → List SlotFields)
-    (part : List Need) (i : ℕ) (need : Need) (p : Placed) (wanted : ℕ) (old new : List Placed)
+pub places-next : {window free now next : ℕ} (choices : HeaderFields → List SlotFields)
+    (part : List Need) {i : ℕ} {need : Need} {p : Placed} {wanted : ℕ} {old new : List Placed}
     → i < length part → need ≡ get_or part i need
     → wanted ≡ reserve_before (open_frames choices (drop (i + 1) part)) → p.lead_in ≡ false
     → p.begin ≡ now → IsLeastSlot ((need.bytes + wanted) - now) (class_of need.header)
@@ -248,37 +248,38 @@ pub places-next : (window free now next : ℕ) (choices : HeaderFields → List 
     → PlacesMore window free now (map (need_item choices) part)
     (map (need_item choices) (drop i part)) old new → PlacesMore window free next
     (map (need_item choices) part) (map (need_item choices) (drop (i + 1) part)) old (new ++ p ∷ [])
-places-next window free now next choices part i need p wanted old new within is wants frame begin
-    least behind on =
+places-next {window} {free} {now} choices part
+    {i} {need} {p} {old = old} {new = new} within is wants frame begin least behind on =
     let items : List PlanItem = map (need_item choices) part in
     let left : List PlanItem = map (need_item choices) (drop (i + 1) part) in
     let here : PlacesMore window free now items (need_item choices need ∷ left) old new =
     subst (λ l. PlacesMore window free now items (map (need_item choices) l) old new)
-    (next_need part i need within is) on in
+    (next_need part within is) on in
     let enough = subst (λ n. IsLeastSlot ((need.bytes + n) - now)
     (class_of need.header) need.header.protected (choices need.header) p.slot) wants least in
-    subst (λ n. PlacesMore window free n items left old (new ++ p ∷ [])) (sym behind) (places-more
-    window free now items (need_item choices need) left old new p frame begin enough here)
+    subst (λ n. PlacesMore window free n items left old (new ++ p ∷ [])) (sym behind)
+    (places-more frame begin enough here)
 
 -- ---- a part with its lead-in
 module _ (window : ℕ) (leads : List SlotFields) (choices : HeaderFields → List SlotFields)
     (area : HeaderFields → ℕ) where
   -- a part that needs nothing before it is placed without a lead-in
-  pub part-without : (part : List Need) (reserves : Reserves) (free after : ℕ)
-      (old new : List Placed) → AreReserves window choices area part reserves → reserves.before ≡ 0
+  pub part-without : {part : List Need} {reserves : Reserves} {free after : ℕ}
+      {old new : List Placed} → AreReserves window choices area part reserves → reserves.before ≡ 0
       → PlacesMore window free after (map (need_item choices) part) [] old new
       → PlacesPart window leads choices part free after old new
   unfolding IsPlacedLeadIn part_items
-  part-without part reserves free after old new are none places = grind (arith, can-reserve_before)
+  part-without are none places = grind (arith, can-reserve_before)
 
-  led-with : (first : Need) (part : List Need) (free mid after : ℕ) (p : Placed)
-      (old new : List Placed) → p.lead_in ≡ true → p.begin ≡ free → IsLeastSlot
+  led-with : {first : Need} {part : List Need} {free mid after : ℕ} {p : Placed}
+      {old new : List Placed} → p.lead_in ≡ true → p.begin ≡ free → IsLeastSlot
       (reserve_before (open_frames choices (first ∷ part))) (class_of first.header) false leads
       p.slot → mid ≡ free_bytes_behind window free 0 (area_of (class_of first.header) p.slot false)
       → PlacesMore window mid after (map (need_item choices) (first ∷ part)) [] (old ++ p ∷ []) new
       → PlacesLedPart window leads choices (first ∷ part) free after old new
   unfolding IsLeastLeadIn part_items
-  led-with first part free mid after p old new frame begin least behind places =
+  led-with {first} {part} {free} {p = p} {old = old} frame begin least behind
+      places =
       let class : ClassFields = class_of first.header in
       let items : List PlanItem = map (need_item choices) (first ∷ part) in
       let opens : List OpenFrame = map open_frame items in
@@ -286,7 +287,7 @@ module _ (window : ℕ) (leads : List SlotFields) (choices : HeaderFields → Li
       let enough = least.enough in
       let least_one : IsLeastSlot ((0 + reserve_before opens) - free) class false
       (p.slot ∷ []) p.slot = grind (arith, only_one) in
-      let begun = places-more window free free (lead ∷ items) lead items old old p frame begin
+      let begun = places-more frame begin
       least_one (places-begun window free (lead ∷ items) old) in
       let on = subst (λ n. PlacesMore window free n (lead ∷ items) items old (old ++ p ∷ []))
       (sym behind) begun in
@@ -297,29 +298,30 @@ module _ (window : ℕ) (leads : List SlotFields) (choices : HeaderFields → Li
       }
 
   -- a least lead-in and then the frames of a part place it as a led part, if the class is known
-  pub led-of : (class : ClassFields) (part : List Need) (free mid after : ℕ) (p : Placed)
-      (old new : List Placed) → 0 < length part → AreNeedsOfClass class part → p.lead_in ≡ true
+  pub led-of : {class : ClassFields} (part : List Need) {free mid after : ℕ} {p : Placed}
+      {old new : List Placed} → 0 < length part → AreNeedsOfClass class part → p.lead_in ≡ true
       → p.begin ≡ free
       → IsLeastSlot (reserve_before (open_frames choices part)) class false leads p.slot
       → mid ≡ free_bytes_behind window free 0 (area_of class p.slot false)
       → PlacesMore window mid after (map (need_item choices) part) [] (old ++ p ∷ []) new
       → PlacesLedPart window leads choices part free after old new
   unfolding AreNeedsOfClass
-  led-of class [] free mid after p old new any same frame begin least behind places = grind arith
-  led-of class (first ∷ part) free mid after p old new any same frame begin least behind places =
-      led-with first part free mid after p old new frame begin
+  led-of [] any same frame begin least behind places = grind arith
+  led-of (first ∷ part)
+      {free} {mid} {after} {p} {old} {new} any same frame begin least behind places =
+      led-with frame begin
       (subst
       (λ k. IsLeastSlot (reserve_before (open_frames choices (first ∷ part))) k false leads p.slot)
       (sym same.0) least)
       (behind ∙ ap (λ k. free_bytes_behind window free 0 (area_of k p.slot false)) (sym same.0))
       places
 
-  lead-needing : (part : List Need) (reserves : Reserves) (slot : SlotFields)
+  lead-needing : (part : List Need) {reserves : Reserves} (slot : SlotFields)
       → AreReserves window choices area part reserves → 0 < reserves.before
       → IsLeastLeadIn leads choices part slot → IsPlacedLeadIn window leads choices part (Some slot)
   unfolding IsLeastLeadIn IsPlacedLeadIn part_items
-  lead-needing [] reserves slot are some least = absurd least
-  lead-needing (first ∷ part) reserves slot are some least =
+  lead-needing [] slot are some least = absurd least
+  lead-needing (first ∷ part) {reserves} slot are some least =
       let class : ClassFields = class_of first.header in
       let opens : List OpenFrame = open_frames choices (first ∷ part) in
       let value : reserve_before opens ≡ reserves.before = sym are.before in
@@ -329,26 +331,26 @@ module _ (window : ℕ) (leads : List SlotFields) (choices : HeaderFields → Li
             (area_of class slot false ∷ map (area_by_header area) (first ∷ part))
             (lead-chosen class slot opens (map (area_by_header area) (first ∷ part)) are.chosen)
             (omega (arith, lead-reserve_before class slot opens, enough))
-            (lead-within window class slot opens (omega (arith, value, are.most)) are.within),
+            (lead-within class slot opens (omega (arith, value, are.most)) are.within),
         least,
       )
 
   -- a part whose frames need free bytes is placed with
   -- its own lead-in if it is placed as a led part
-  pub part-led : (part : List Need) (reserves : Reserves) (free after : ℕ) (old new : List Placed)
+  pub part-led : {part : List Need} {reserves : Reserves} {free after : ℕ} {old new : List Placed}
       → AreReserves window choices area part reserves → 0 < reserves.before
       → PlacesLedPart window leads choices part free after old new
       → PlacesPart window leads choices part free after old new
-  part-led part reserves free after old new are some led = search (arith, lead-needing)
+  part-led are some led = search (arith, lead-needing)
 
 -- ---- a part after a lead-in of any slot
-any-slot : (window : ℕ) (class : ClassFields) (slot : SlotFields) (items : List PlanItem)
+any-slot : (window : ℕ) {class : ClassFields} {slot : SlotFields} (items : List PlanItem)
     (placed : List Placed)
     → IsLeastSlot (reserve_before (map open_frame items)) class false all_slots slot
     → AreItemsPlaced window 0 (lead_in_item class (slot ∷ []) ∷ items) placed
     → AreItemsPlaced window 0 (lead_in_item class all_slots ∷ items) placed
 unfolding AreItemsPlaced
-any-slot window class slot items placed least all = grind arith
+any-slot window items placed least all = grind arith
 
 led-items : (window : ℕ) (choices : HeaderFields → List SlotFields) (part : List Need)
     (slot : SlotFields) (placed : List Placed) → IsLeastLeadIn all_slots choices part slot
@@ -366,12 +368,12 @@ unfolding AreItemsPlaced
 nothing_placed window free = tt
 
 -- a part that is placed after the least lead-in of any slot is its led plan
-pub led-placed : (window after : ℕ) (choices : HeaderFields → List SlotFields) (part : List Need)
-    (placed : List Placed) → PlacesLedPart window all_slots choices part 0 after [] placed
+pub led-placed : {window after : ℕ} {choices : HeaderFields → List SlotFields} {part : List Need}
+    {placed : List Placed} → PlacesLedPart window all_slots choices part 0 after [] placed
     → IsLedPlan window choices part placed
-led-placed window after choices part placed led =
+led-placed {window} {after} {choices} {part} {placed} led =
     let goes = led.places.goes [] [] reserve_before-nothing (nothing_placed window after) in
     let items : List PlanItem = part_items choices part (Some led.slot) in
     let all : AreItemsPlaced window 0 items placed = grind (arith, append-nil) in
-    plan-placed window (led_items choices part) placed
+    plan-placed
     (led-items window choices part led.slot placed led.least all)

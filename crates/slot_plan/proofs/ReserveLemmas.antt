@@ -16,17 +16,17 @@ AllFit window free (frame ∷ frames) = (frame.bytes ≤ free + frame.area)
     × AllFit window (free_bytes_behind window free frame.bytes frame.area) frames
 
 -- frames with a layout fit, if at least the bytes that the window shows are free
-pub fit-layout : (window end before free : ℕ) (frames : List FrameLengths) (starts : List ℕ)
+pub fit-layout : (window end before : ℕ) {free : ℕ} (frames : List FrameLengths) (starts : List ℕ)
     → (before - end) - ((before - end) - window) ≤ free
     → IsDataLayout window end before frames starts → AllFit window free frames
 unfolding IsDataLayout AllFit
-fit-layout window end before free [] starts some layout = tt
-fit-layout window end before free (frame ∷ frames) [] some layout = absurd layout
-fit-layout window end before free (frame ∷ frames) (start ∷ starts) some layout =
+fit-layout window end before [] starts some layout = tt
+fit-layout window end before (frame ∷ frames) [] some layout = absurd layout
+fit-layout window end before {free} (frame ∷ frames) (start ∷ starts) some layout =
     grind (
       arith,
-      fit-layout window (start + frame.bytes) (before + frame.area) (free_bytes_behind
-          window free frame.bytes frame.area) frames starts (omega arith) layout.4,
+      fit-layout window (start + frame.bytes) (before + frame.area) {free = free_bytes_behind
+          window free frame.bytes frame.area} frames starts (omega arith) layout.4,
     )
 
 -- the earliest starts
@@ -47,12 +47,12 @@ frees_of window free (frame ∷ frames) =
     free ∷ frees_of window (free_bytes_behind window free frame.bytes frame.area) frames
 
 -- if frames fit, the earliest starts are a layout
-pub layout-fit : (window end before free : ℕ) (frames : List FrameLengths) → end ≤ before
+pub layout-fit : (window end : ℕ) {before free : ℕ} (frames : List FrameLengths) → end ≤ before
     → free ≡ (before - end) - ((before - end) - window) → AllFit window free frames
     → IsDataLayout window end before frames (starts_of window end before frames)
 unfolding IsDataLayout AllFit starts_of
-layout-fit window end before free [] ends is fit = tt
-layout-fit window end before free (frame ∷ frames) ends is fit =
+layout-fit window end [] ends is fit = tt
+layout-fit window end {before} {free} (frame ∷ frames) ends is fit =
     let start : ℕ = max end (before - window) in
     let at : start ≡ end + ((before - window) - end) = max-is end (before - window) in
     let room : frame.bytes ≤ free + frame.area = fit.0 in (
@@ -60,46 +60,44 @@ layout-fit window end before free (frame ∷ frames) ends is fit =
       omega arith,
       omega arith,
       omega arith,
-      layout-fit window (start + frame.bytes) (before + frame.area)
-          (free_bytes_behind window free frame.bytes frame.area) frames (omega arith)
+      layout-fit window (start + frame.bytes) frames (omega arith)
           (omega arith) fit.1,
     )
 
 -- if frames fit, main_data_begin is the number of free bytes
-pub begins-frees : (window end before free : ℕ) (frames : List FrameLengths) → end ≤ before
+pub begins-frees : (window end : ℕ) {before free : ℕ} (frames : List FrameLengths) → end ≤ before
     → free ≡ (before - end) - ((before - end) - window) → AllFit window free frames
     → frees_of window free frames ≡ begins_of window end before frames
 unfolding AllFit frees_of begins_of
-begins-frees window end before free [] ends is fit = refl
-begins-frees window end before free (frame ∷ frames) ends is fit =
+begins-frees window end [] ends is fit = refl
+begins-frees window end {before} {free} (frame ∷ frames) ends is fit =
     let start : ℕ = max end (before - window) in
     let at : start ≡ end + ((before - window) - end) = max-is end (before - window) in
     let room : frame.bytes ≤ free + frame.area = fit.0 in
     let here : free ≡ before - start = omega arith in
-    let rest = begins-frees window (start + frame.bytes) (before + frame.area)
-    (free_bytes_behind window free frame.bytes frame.area) frames (omega arith)
+    let rest = begins-frees window (start + frame.bytes) frames (omega arith)
     (omega arith) fit.1 in
     ap (λ n. n ∷ frees_of window (free_bytes_behind window free frame.bytes frame.area) frames) here
     ∙ ap (λ l. (before - start) ∷ l) rest
 
 -- ---- choices
 -- no member is larger than the greatest
-pub greatest_number-most : (ns : List ℕ) (n : ℕ) → Contains ns n → n ≤ greatest_number ns
+pub greatest_number-most : (ns : List ℕ) {n : ℕ} → Contains ns n → n ≤ greatest_number ns
 unfolding greatest_number
-greatest_number-most [] n c = absurd (omega (arith, c.1))
-greatest_number-most (m ∷ ns) n (zero, within, at) = grind (arith, le-max_left)
-greatest_number-most (m ∷ ns) n (suc i, within, at) =
-    grind (arith, le-max_right, greatest_number-most ns n (i, omega arith, at))
+greatest_number-most [] c = absurd (omega (arith, c.1))
+greatest_number-most (m ∷ ns) (zero, within, at) = grind (arith, le-max_left)
+greatest_number-most (m ∷ ns) {n} (suc i, within, at) =
+    grind (arith, le-max_right, greatest_number-most ns (i, omega arith, at))
 
 -- a list with a member contains its greatest
-pub Contains-greatest_number : (ns : List ℕ) (n : ℕ) → Contains ns n
+pub Contains-greatest_number : (ns : List ℕ) {n : ℕ} → Contains ns n
     → Contains ns (greatest_number ns)
 unfolding greatest_number
-Contains-greatest_number [] n c = absurd (omega (arith, c.1))
-Contains-greatest_number (m ∷ []) n c = (zero, omega arith, sym (max-is m 0 ∙ omega arith))
-Contains-greatest_number (m ∷ k ∷ ns) n c =
+Contains-greatest_number [] c = absurd (omega (arith, c.1))
+Contains-greatest_number (m ∷ []) c = (zero, omega arith, sym (max-is m 0 ∙ omega arith))
+Contains-greatest_number (m ∷ k ∷ ns) c =
     let rest : Contains (k ∷ ns) (greatest_number (k ∷ ns)) =
-    Contains-greatest_number (k ∷ ns) k (zero, omega arith, refl) in
+    Contains-greatest_number (k ∷ ns) (zero, omega arith, refl) in
     elim (cases_lt m (greatest_number (k ∷ ns)))
     as (λ _. Contains (m ∷ k ∷ ns) (max m (greatest_number (k ∷ ns)))) [
       | inl less ↦
@@ -110,18 +108,19 @@ Contains-greatest_number (m ∷ k ∷ ns) n c =
     ]
 
 -- if some choice fits, at most the free bytes are needed, and never more than the window
-pub reserve_before-fit : (window free : ℕ) (opens : List OpenFrame) (areas : List ℕ) → free ≤ window
-    → AreChosenAreas opens areas → AllFit window free (frames_with_areas opens areas)
+pub reserve_before-fit : {window : ℕ} (free : ℕ) (opens : List OpenFrame) (areas : List ℕ)
+    → free ≤ window → AreChosenAreas opens areas
+    → AllFit window free (frames_with_areas opens areas)
     → (reserve_before opens ≤ free) × AreReservesInWindow window opens
 unfolding AreChosenAreas AllFit frames_with_areas reserve_before AreReservesInWindow
-reserve_before-fit window free [] areas within chosen fit = (omega arith, tt)
-reserve_before-fit window free (o ∷ opens) [] within chosen fit = absurd chosen
-reserve_before-fit window free (o ∷ opens) (area ∷ areas) within chosen fit =
+reserve_before-fit free [] areas within chosen fit = (omega arith, tt)
+reserve_before-fit free (o ∷ opens) [] within chosen fit = absurd chosen
+reserve_before-fit {window} free (o ∷ opens) (area ∷ areas) within chosen fit =
     grind (
       arith,
-      reserve_before-fit window (free_bytes_behind window free o.bytes area) opens areas
+      reserve_before-fit (free_bytes_behind window free o.bytes area) opens areas
           (omega arith) chosen.1 fit.1,
-      greatest_number-most o.areas area chosen.0,
+      greatest_number-most o.areas chosen.0,
     )
 
 -- if at most the free bytes are needed, some choice fits
@@ -138,7 +137,7 @@ fit-reserve_before window free (o ∷ opens) (area ∷ some) chosen enough withi
     let all : (o.bytes + reserve_before opens) - greatest_number o.areas ≤ free = enough in
     let rest = fit-reserve_before window
     (free_bytes_behind window free o.bytes most) opens some chosen.1 (omega arith) within.1 in
-    (most ∷ rest.0, (Contains-greatest_number o.areas area chosen.0, rest.1), (omega arith, rest.2))
+    (most ∷ rest.0, (Contains-greatest_number o.areas chosen.0, rest.1), (omega arith, rest.2))
 
 -- each area is the smallest that leaves what is needed after it
 unfoldable pub AreLeastAreas : ℕ → ℕ → List OpenFrame → List ℕ → Type 0
@@ -171,17 +170,18 @@ fit-least window free (o ∷ opens) (area ∷ areas) least =
     grind (arith, fit-least window (free_bytes_behind window free o.bytes area) opens areas least.3)
 
 -- no other choice that fits comes before it
-pub not_behind-least : (window free : ℕ) (opens : List OpenFrame) (areas others : List ℕ)
+pub not_behind-least : {window : ℕ} (free : ℕ) (opens : List OpenFrame) (areas others : List ℕ)
     → free ≤ window → AreLeastAreas window free opens areas → AreChosenAreas opens others
     → AllFit window free (frames_with_areas opens others) → IsNotBehind areas others
 unfolding AreChosenAreas AllFit frames_with_areas AreLeastAreas IsNotBehind
-not_behind-least window free [] [] [] within least chosen fit = tt
-not_behind-least window free [] [] (other ∷ others) within least chosen fit = tt
-not_behind-least window free [] (area ∷ areas) others within least chosen fit = absurd least
-not_behind-least window free (o ∷ opens) [] others within least chosen fit = absurd least
-not_behind-least window free (o ∷ opens) (area ∷ areas) [] within least chosen fit = absurd chosen
-not_behind-least window free (o ∷ opens) (area ∷ areas) (other ∷ others) within least chosen fit =
-    let rest = (reserve_before-fit window (free_bytes_behind window free o.bytes other) opens others
+not_behind-least free [] [] [] within least chosen fit = tt
+not_behind-least free [] [] (other ∷ others) within least chosen fit = tt
+not_behind-least free [] (area ∷ areas) others within least chosen fit = absurd least
+not_behind-least free (o ∷ opens) [] others within least chosen fit = absurd least
+not_behind-least free (o ∷ opens) (area ∷ areas) [] within least chosen fit = absurd chosen
+not_behind-least {window} free (o ∷ opens) (area ∷ areas)
+    (other ∷ others) within least chosen fit =
+    let rest = (reserve_before-fit (free_bytes_behind window free o.bytes other) opens others
     (omega arith) chosen.1 fit.1).0 in
     let room : o.bytes ≤ free + other = fit.0 in
     let less : area ≤ other = least.2 other chosen.0 (omega arith) in
@@ -194,7 +194,7 @@ not_behind-least window free (o ∷ opens) (area ∷ areas) (other ∷ others) w
           (frames_with_areas opens others) = grind arith in
           inr (
             same,
-            not_behind-least window (free_bytes_behind window free o.bytes area) opens areas others
+            not_behind-least (free_bytes_behind window free o.bytes area) opens areas others
                 (omega arith) least.3 chosen.1 fits,
           )
     ]
@@ -207,7 +207,7 @@ unfolding CanBeLaid HasLayout
 reserve_before-can window opens can =
     grind (
       arith,
-      fit-layout window 0 0 0 (frames_with_areas opens can.0) can.2.0 (omega arith)
+      fit-layout window 0 0 {free = 0} (frames_with_areas opens can.0) can.2.0 (omega arith)
           can.2.1,
       reserve_before-fit,
     )
@@ -223,27 +223,28 @@ can-reserve_before window opens some chosen none within =
       fit.1,
       (
         starts_of window 0 0 (frames_with_areas opens fit.0),
-        layout-fit window 0 0 0 (frames_with_areas opens fit.0) (omega arith) (omega arith) fit.2,
+        layout-fit window 0 (frames_with_areas opens fit.0) (omega arith) (omega arith) fit.2,
       ),
     )
 
 -- the smallest areas are the least list
-pub least-is : (window : ℕ) (opens : List OpenFrame) (areas : List ℕ)
+pub least-is : {window : ℕ} {opens : List OpenFrame} {areas : List ℕ}
     → AreLeastAreas window 0 opens areas → IsLeastList window opens areas
 unfolding HasLayout
-least-is window opens areas least =
+least-is {window} {opens} {areas} least =
     let fit = fit-least window 0 opens areas least in
     record {
       chosen = chosen-least window 0 opens areas least;
       feasible =
           grind (
             arith,
-            layout-fit window 0 0 0 (frames_with_areas opens areas) (omega arith) (omega
+            layout-fit window 0 {before = 0} {free = 0} (frames_with_areas opens areas)
+                (omega arith) (omega
                 arith) fit,
           );
-      least = λ others chosen feasible. not_behind-least window 0 opens areas others
+      least = λ others chosen feasible. not_behind-least {window = window} 0 opens areas others
           (omega arith) least chosen
-          (fit-layout window 0 0 0
+          (fit-layout window 0 0 {free = 0}
           (frames_with_areas opens others) feasible.0 (omega arith) feasible.1);
     }
 
@@ -286,15 +287,15 @@ append-can window xs ys first second =
 
 -- ---- fewer of the frames, and more free bytes
 -- frames that fit in free bytes fit in more
-pub fit-more : (window free more : ℕ) (frames : List FrameLengths) → free ≤ more
+pub fit-more : (window : ℕ) {free more : ℕ} (frames : List FrameLengths) → free ≤ more
     → AllFit window free frames → AllFit window more frames
 unfolding AllFit
-fit-more window free more [] less fit = tt
-fit-more window free more (frame ∷ frames) less fit =
+fit-more window [] less fit = tt
+fit-more window {free} {more} (frame ∷ frames) less fit =
     grind (
       arith,
-      fit-more window (free_bytes_behind window free frame.bytes frame.area)
-          (free_bytes_behind window more frame.bytes frame.area) frames (omega arith) fit.1,
+      fit-more window {free = free_bytes_behind window free frame.bytes frame.area}
+          {more = free_bytes_behind window more frame.bytes frame.area} frames (omega arith) fit.1,
     )
 
 fit-drop : (window : ℕ) (k : ℕ) (frames : List FrameLengths) → AllFit window window frames
@@ -303,15 +304,14 @@ unfolding AllFit
 fit-drop window zero frames fit = fit
 fit-drop window (suc k) [] fit = fit
 fit-drop window (suc k) (frame ∷ frames) fit =
-    fit-drop window k frames (fit-more window
-    (free_bytes_behind window window frame.bytes frame.area) window frames (omega arith) fit.1)
+    fit-drop window k frames (fit-more window frames (omega arith) fit.1)
 
 -- frames that can be laid after some free bytes fit from each frame on after a whole window
 pub fit-after : (window before k : ℕ) (frames : List FrameLengths) → HasLayout window before frames
     → AllFit window window (drop k frames)
 unfolding HasLayout
 fit-after window before k frames feasible = fit-drop window k frames
-    (fit-layout window 0 before window frames feasible.0 (omega arith) feasible.1)
+    (fit-layout window 0 before frames feasible.0 (omega arith) feasible.1)
 
 -- frames that fit after a whole window fit from each frame on
 pub fit-from : (window k : ℕ) (frames : List FrameLengths) → HasLayout window window frames
@@ -319,14 +319,15 @@ pub fit-from : (window k : ℕ) (frames : List FrameLengths) → HasLayout windo
 fit-from window k frames feasible = fit-after window window k frames feasible
 
 -- frames that can be laid after some free bytes can be laid after a window or more
-pub feasible-windows : (window before more : ℕ) (frames : List FrameLengths) → window ≤ more
-    → HasLayout window before frames → HasLayout window more frames
+pub feasible-windows : {window : ℕ} (before : ℕ) {more : ℕ} (frames : List FrameLengths)
+    → window ≤ more → HasLayout window before frames → HasLayout window more frames
 unfolding HasLayout
-feasible-windows window before more frames all feasible =
+feasible-windows {window} before {more} frames all feasible =
     grind (
       arith,
-      layout-fit window 0 more window frames (omega arith) (omega arith) (fit-layout
-          window 0 before window frames feasible.0 (omega arith) feasible.1),
+      layout-fit window 0 {before = more} {free = window} frames (omega arith) (omega arith)
+          (fit-layout
+          window 0 before {free = window} frames feasible.0 (omega arith) feasible.1),
       fit-layout window 0 before
-          window frames feasible.0 (omega arith) feasible.1,
+          {free = window} frames feasible.0 (omega arith) feasible.1,
     )

@@ -32,9 +32,9 @@ rise-areas c slots ascend i j before within =
       arith,
       areas-many c false slots,
       before,
-      area-at c false slots i 0 (slot_of 1 false)
+      area-at c false slots {i = i} 0 (slot_of 1 false)
           (omega (arith, before, within)),
-      area-at c false slots j 0 (slot_of 1 false) within,
+      area-at c false slots {i = j} 0 (slot_of 1 false) within,
     )
 
 -- before a place, the first slot that is long enough
@@ -56,9 +56,9 @@ pub record IsTableTo (c : ClassFields) (slots : List SlotFields) (to : ℕ)
       → IsFirstLong c slots to wanted (get_or items wanted d)
 
 -- before the first slot the table is empty
-pub table-none : (c : ClassFields) (slots items : List SlotFields) → items ≡ []
+pub table-none : (c : ClassFields) (slots : List SlotFields) {items : List SlotFields} → items ≡ []
     → IsTableTo c slots 0 items
-table-none c slots items empty = grind arith
+table-none c slots empty = grind arith
 
 -- the table of the slots before a place is no longer than the frames of the slot there
 below : (c : ClassFields) (slots items : List SlotFields) (to : ℕ) → to < length slots
@@ -122,32 +122,33 @@ table-more c slots items next to many slot within at is room gives rise so_far =
     }
 
 -- a slot that doesn't come after another is no longer
-not_longer : (c : ClassFields) (slots : List SlotFields) (i j : ℕ) → i ≤ j → j < length slots
+not_longer : (c : ClassFields) (slots : List SlotFields) {i j : ℕ} → i ≤ j → j < length slots
     → Rise c slots → long c slots i ≤ long c slots j
-not_longer c slots i j before within rise = grind (arith, cases_lt, before)
+not_longer c slots before within rise = grind (arith, cases_lt, before)
 
 -- where the list contains a slot, it has a frame of that slot's length
-found-at : (c : ClassFields) (slots : List SlotFields) (slot : SlotFields)
+found-at : (c : ClassFields) (slots : List SlotFields) {slot : SlotFields}
     (has : Contains slots slot) → long c slots has.0 ≡ length_of c slot
-found-at c slots slot has = grind (arith, get_or_default)
+found-at c slots has = grind (arith, get_or_default)
 
 -- after the last slot it is the table of all slots
-pub table-all : (slots : List SlotFields) (to : ℕ) (table : SlotTable) → 1 ≤ length slots
+pub table-all : {slots : List SlotFields} {to : ℕ} {table : SlotTable} → 1 ≤ length slots
     → to ≡ length slots → Rise table.lengths slots
     → IsTableTo table.lengths slots to table.by_length.items → IsSlotTable slots table
-table-all slots to table some all rise whole =
+table-all {slots} {to} {table} some all rise whole =
     let c : ClassFields = table.lengths in
     record {
       some = some;
       room = λ slot has.
-          omega (arith, whole.room has.0 (omega (arith, all, has.1)), found-at c slots slot has);
+          omega
+          (arith, whole.room has.0 (omega (arith, all, has.1)), found-at c slots {slot = slot} has);
       all = λ slot has.
           omega (
             arith,
-            found-at c slots slot has,
+            found-at c slots {slot = slot} has,
             whole.many (omega (arith, all, has.1)),
             all,
-            not_longer c slots has.0 (to - 1) (omega (arith, all, has.1))
+            not_longer c slots {i = has.0} {j = to - 1} (omega (arith, all, has.1))
                 (omega (arith, all, has.1)) rise,
           );
       least = λ wanted d less.
@@ -163,27 +164,31 @@ table-all slots to table some all rise whole =
             );
             enough = omega (arith, first.enough, here);
             least = λ other has fits.
-                let there = found-at c slots other has in
+                let there = found-at c slots {slot = other} has in
                 elim (cases_lt has.0 first.place) as (λ _. length_of c slot ≤ length_of c other) [
                   | inl earlier ↦ absurd (omega (arith, first.small has.0 earlier, there, fits))
-                  | inr from ↦ omega
-                      (arith, not_longer c slots first.place has.0 from has.1 rise, here, there)
+                  | inr from ↦ omega (
+                    arith,
+                    not_longer c slots {i = first.place} {j = has.0} from has.1 rise,
+                    here,
+                    there,
+                  )
                 ];
           };
     }
 
 -- the shortest frame whose area has at least `wanted` bytes has the least such area
-pub least-looked : (table : SlotTable) (slots : List SlotFields) (p : Bool) (wanted : ℕ)
-    (slot : SlotFields) → IsSlotTable slots table
+pub least-looked : {table : SlotTable} {slots : List SlotFields} {p : Bool} {wanted : ℕ}
+    {slot : SlotFields} → IsSlotTable slots table
     → IsShortestSlot table.lengths slots (wanted + overhead_of table.lengths p) slot
     → IsLeastSlot wanted table.lengths p slots slot
 unfolding area_of
-least-looked table slots p wanted slot is shortest = grind (arith, overhead-side)
+least-looked is shortest = grind (arith, overhead-side)
 
 -- the table has an entry
-table-some : (table : SlotTable) (slots : List SlotFields) → IsSlotTable slots table
+table-some : {table : SlotTable} {slots : List SlotFields} → IsSlotTable slots table
     → 0 < length table.by_length.items
-table-some table slots is =
+table-some {slots = slots} is =
     let some : 0 < length slots = omega (arith, is.some) in
     omega (
       arith,
@@ -191,24 +196,24 @@ table-some table slots is =
     )
 
 -- the last entry has the largest area
-pub last-looked : (table : SlotTable) (slots : List SlotFields) (p : Bool) → IsSlotTable slots table
+pub last-looked : {table : SlotTable} {slots : List SlotFields} (p : Bool) → IsSlotTable slots table
     → length table.by_length.items - 1 - overhead_of table.lengths p
     ≡ greatest_number (slot_areas table.lengths p slots)
 unfolding area_of
-last-looked table slots p is =
+last-looked {table} {slots} p is =
     let c : ClassFields = table.lengths in
     let areas : List ℕ = slot_areas c p slots in
     let many : ℕ = length table.by_length.items in
     let last : SlotFields = get_or table.by_length.items (many - 1) (slot_of 1 false) in
     let longest =
-    is.least (many - 1) (slot_of 1 false) (omega (arith, table-some table slots is)) in
-    let has = Contains-area c p slots last longest.chosen in
+    is.least (many - 1) (slot_of 1 false) (omega (arith, table-some is)) in
+    let has = Contains-area c p slots longest.chosen in
     let found =
-    slot-area c p slots (greatest_number areas)
-    (Contains-greatest_number areas (area_of c last p) has) in
+    slot-area c p slots
+    (Contains-greatest_number areas has) in
     omega (
       arith,
-      greatest_number-most areas (area_of c last p) has,
+      greatest_number-most areas has,
       found.2,
       is.all found.0 found.1,
       is.all last longest.chosen,
@@ -216,17 +221,17 @@ last-looked table slots p is =
     )
 
 -- the table has an entry for the length of a frame whose area is at most the largest
-pub table-within : (table : SlotTable) (slots : List SlotFields) (p : Bool) (wanted : ℕ)
+pub table-within : {table : SlotTable} {slots : List SlotFields} (p : Bool) {wanted : ℕ}
     → IsSlotTable slots table → wanted ≤ greatest_number (slot_areas table.lengths p slots)
     → wanted + overhead_of table.lengths p < length table.by_length.items
 unfolding area_of
-table-within table slots p wanted is enough =
+table-within {table} {slots} p is enough =
     let c : ClassFields = table.lengths in
     let areas : List ℕ = slot_areas c p slots in
     let first : ℕ = get_or areas 0 0 in
     let within : 0 < length areas = omega (arith, is.some, areas-many c p slots) in
     let has =
-    Contains-greatest_number areas first (0, within, get_or_default areas 0 first 0 within) in
-    let found = slot-area c p slots (greatest_number areas) has in
+    Contains-greatest_number areas (0, within, get_or_default areas 0 first 0 within) in
+    let found = slot-area c p slots has in
     omega
     (arith, enough, found.2, is.room found.0 found.1, is.all found.0 found.1, overhead-side c p)

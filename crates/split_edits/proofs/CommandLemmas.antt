@@ -39,9 +39,9 @@ use Rattle.sync_survey.specs.declared.survey_fault.SurveyFault.TheVariants.{Read
 -- ---- what is laid from one place on
 
 -- what is laid with a first piece is that piece, and then what is laid for the others
-pub first-parts : (first : LaidPart) (r : Result (List LaidPart) EditFault) (ls : List LaidPart)
+pub first-parts : {first : LaidPart} {r : Result (List LaidPart) EditFault} {ls : List LaidPart}
     → with_first first r ≡ Ok ls → (more : List LaidPart) × (r ≡ Ok more) × (first ∷ more ≡ ls)
-first-parts first r ls e = grind arith
+first-parts e = grind arith
 
 -- ---- what holds of every refusal once the input was surveyed
 
@@ -88,22 +88,21 @@ module _ {X : Type 0} (cut : Cutting X) (proper : IsProperCutting cut) where
     Hold k ls = AreStreams (pieces_from prefix k file (cut.survey s) ls)
         (map (λ (l : LaidPart). stream_laid l file (cut.survey s)) ls)
 
-    from-hold : (k : ℕ) (from : X) (tos : List X) (ls : List LaidPart)
+    from-hold : (k : ℕ) (from : X) (tos : List X) {ls : List LaidPart}
         → piece_parts_from cut file s from tos ≡ Ok ls → Hold k ls
-    from-hold k from [] ls e = let none : [] ≡ ls = cc in subst (Hold k) none tt
-    from-hold k from (to ∷ tos) ls e =
-        let parts = then_ok (cut.between from to file s)
-        (λ first. with_first first (piece_parts_from cut file s to tos)) ls e in
-        let more = first-parts parts.0 (piece_parts_from cut file s to tos) ls parts.2 in
+    from-hold k from [] {ls} e = let none : [] ≡ ls = cc in subst (Hold k) none tt
+    from-hold k from (to ∷ tos) {ls} e =
+        let parts = then_ok e in
+        let more = first-parts parts.2 in
         rw (← more.2) (
           proper.streams from to file s parts.0 octets survey_is parts.1,
-          from-hold (k + 1) to tos more.0 more.1,
+          from-hold (k + 1) to tos more.1,
         )
 
     -- all pieces that are laid hold their streams
-    pub at-hold : (places : List X) (ls : List LaidPart) → piece_parts cut file s places ≡ Ok ls
+    pub at-hold : (places : List X) {ls : List LaidPart} → piece_parts cut file s places ≡ Ok ls
         → Hold 1 ls
-    at-hold places ls e = grind (arith, from-hold)
+    at-hold places e = grind (arith, from-hold)
 
 names-made : (s : SurveyFields) (bytes : List ℕ) (pieces : List PlannedPiece)
     → map (λ (o : Output). o.name) (piece_outputs s pieces bytes) ≡ names_of_pieces pieces
@@ -113,19 +112,19 @@ names-made s bytes (piece ∷ pieces) =
 
 -- ---- what the contents of the files make of the command
 
-if-told : (files : Files) {P : Contents → Type 0} → ((f : Contents) → files ≡ Told f → P f)
+if-told : {files : Files} {P : Contents → Type 0} → ((f : Contents) → files ≡ Told f → P f)
     → IfTold files P
-if-told files at = grind arith
+if-told at = grind arith
 
-none-equal : (o : Option ℕ) (r : Result Made EditFault) → o ≡ None → equal_names_or o r ≡ r
-none-equal o r e = grind arith
+none-equal : {o : Option ℕ} (r : Result Made EditFault) → o ≡ None → equal_names_or o r ≡ r
+none-equal r e = grind arith
 
 -- the first input that has the name of a piece
-pub clash-found : {X : Type 0} (cut : Cutting X) (input prefix : List ℕ) (sheets : List (List ℕ))
-    (found other : Option ℕ) → sheets ≡ cut.more
+pub clash-found : {X : Type 0} (cut : Cutting X) (input prefix : List ℕ) {sheets : List (List ℕ)}
+    {found other : Option ℕ} → sheets ≡ cut.more
     → found ≡ clash_from (piece_names prefix) 0 (input ∷ sheets) → found ≡ other
     → clash_of (split_command cut input prefix) ≡ other
-clash-found cut input prefix sheets found other is clash e = grind arith
+clash-found cut input prefix is clash e = grind arith
 
 module _ {X : Type 0} (cut : Cutting X) (proper : IsProperCutting cut) (input prefix : List ℕ) where
   abbrev more : List (List ℕ)
@@ -134,40 +133,40 @@ module _ {X : Type 0} (cut : Cutting X) (proper : IsProperCutting cut) (input pr
   abbrev command : Command
   command = split_command cut input prefix
 
-  gives-equal : (files : Files) (place : ℕ) → clash_of command ≡ Some place
+  gives-equal : (files : Files) {place : ℕ} → clash_of command ≡ Some place
       → HasAnswer command files (Err (EqualNames place))
   unfolding split_result
-  gives-equal files place e = grind arith
+  gives-equal files e = grind arith
 
   -- if the name of an input is one of the 99, the command leaves everything as it was
-  pub equal-left : (place : ℕ) (now : Seen) → clash_of command ≡ Some place
+  pub equal-left : {place : ℕ} (now : Seen) → clash_of command ≡ Some place
       → IsCommandFault command now now (EqualNames place)
-  equal-left place now e = record { defined = gives-equal now.files place e; stays = refl }
+  equal-left {place} now e = record { defined = gives-equal now.files e; stays = refl }
 
   module _ (apart : clash_of command ≡ None) where
-    makes-where : (f : Contents) (o : Option (List ℕ)) → f input ≡ o
+    makes-where : (f : Contents) {o : Option (List ℕ)} → f input ≡ o
         → command.makes f ≡ input_pieces cut prefix (cut.places f) o
     unfolding split_result
-    makes-where f o is = grind (arith, none-equal)
+    makes-where f is = grind (arith, none-equal)
 
-    stays-touched : (old new : Files) → new ≡ old → OnlyTouches (piece_names prefix) old new
-    stays-touched old new stays = rw stays (touches_none (piece_names prefix) old)
+    stays-touched : {old new : Files} → new ≡ old → OnlyTouches (piece_names prefix) old new
+    stays-touched {old} stays = rw stays (touches_none (piece_names prefix) old)
 
-    makes-bytes : (f : Contents) (bytes : List ℕ) (r : Result SurveyFields SurveyFault)
+    makes-bytes : (f : Contents) {bytes : List ℕ} {r : Result SurveyFields SurveyFault}
         → f input ≡ Some bytes → survey_of bytes most_frames ≡ r
         → command.makes f ≡ surveyed_pieces cut prefix (cut.places f) bytes r
-    makes-bytes f bytes r held is =
-        makes-where f (Some bytes) held ∙ ap (surveyed_pieces cut prefix (cut.places f) bytes) is
+    makes-bytes f {bytes} held is =
+        makes-where f held ∙ ap (surveyed_pieces cut prefix (cut.places f) bytes) is
 
     -- the command begins with the survey of its input
     pub begins : BeginsWithSurvey command input
     begins = record {
       first = refl;
       names = apart;
-      absent = λ f is. makes-where f None is;
-      refused = λ f bytes fault held is. makes-bytes f bytes (Err fault) held is;
+      absent = λ f is. makes-where f is;
+      refused = λ f bytes fault held is. makes-bytes f held is;
       takes = λ f bytes s held is.
-          rw (makes-bytes f bytes (Ok s) held is) (takes _ (made-late cut proper prefix bytes s f));
+          rw (makes-bytes f held is) (takes _ (made-late cut proper prefix bytes s f));
     }
 
     -- ---- a surveyed input
@@ -180,29 +179,29 @@ module _ {X : Type 0} (cut : Cutting X) (proper : IsProperCutting cut) (input pr
 
     module _ (s : SurveyFields) (old : Seen) (there : IsFileThere old.files input) (survey_is :
         (bytes : List ℕ) → Holds old.files input bytes → survey_of bytes most_frames ≡ Ok s) where
-      makes-then : (f : Contents) → old.files ≡ Told f
+      makes-then : {f : Contents} → old.files ≡ Told f
           → (bytes : List ℕ) × (f input ≡ Some bytes) × (survey_of bytes most_frames ≡ Ok s)
           × (command.makes f ≡ then_made (cut.places f) (places_result cut prefix bytes s))
-      makes-then f told =
-          let held = there_holds f input (rw told at there) in
+      makes-then {f} told =
+          let held = there_holds f (rw told at there) in
           let sound = survey_is held.0 (rw told held.1) in
-          (held.0, held.1, sound, makes-bytes f held.0 (Ok s) held.1 sound)
+          (held.0, held.1, sound, makes-bytes f held.1 sound)
 
       behind-takes : IfTold old.files (λ f. TakesMemory (command.makes f))
-      behind-takes = if-told old.files (λ f told. let made = makes-then f told in
+      behind-takes = if-told (λ f told. let made = makes-then told in
           rw made.3 (takes _ (made-late cut proper prefix made.0 s f)))
 
       -- no fault of the definition comes before the sheet that could not be read
       behind-before : IfTold old.files (λ f. IfErr (command.makes f) (IsNotBefore (Input 1 Read)))
-      behind-before = if-told old.files (λ f told. let made = makes-then f told in
+      behind-before = if-told (λ f told. let made = makes-then told in
           rw made.3 (made-before cut proper prefix made.0 s f))
 
       -- if there are no places, the command is refused
       places-refused : (fault : EditFault) → SaysPlaces cut old.files (Err fault)
           → HasAnswer command old.files (Err fault)
       places-refused fault none =
-          if-told old.files (λ f told.
-          let made = makes-then f told in
+          if-told (λ f told.
+          let made = makes-then told in
           made.3 ∙ ap (λ p. then_made p (places_result cut prefix made.0 s)) (rw told at none))
 
       module _ (new : Seen) (fault : EditFault) where
@@ -222,7 +221,7 @@ module _ {X : Type 0} (cut : Cutting X) (proper : IsProperCutting cut) (input pr
           };
           shorter = λ l. record {
             ended = lost_name (input ∷ more) 1 (first_at more) l;
-            touches = stays-touched old.files new.files l.files;
+            touches = stays-touched l.files;
           };
           unwritten = λ k w. absurd w;
           unsent = λ w. absurd w;
@@ -232,12 +231,12 @@ module _ {X : Type 0} (cut : Cutting X) (proper : IsProperCutting cut) (input pr
       -- ---- these positions
 
       module _ (places : List X) (are : SaysPlaces cut old.files (Ok places)) where
-        makes-at : (f : Contents) → old.files ≡ Told f
+        makes-at : {f : Contents} → old.files ≡ Told f
             → (bytes : List ℕ) × (f input ≡ Some bytes) × (survey_of bytes most_frames ≡ Ok s)
             × (cut.places f ≡ Ok places)
             × (command.makes f ≡ places_result cut prefix bytes s places)
-        makes-at f told =
-            let made = makes-then f told in
+        makes-at {f} told =
+            let made = makes-then told in
             let here : cut.places f ≡ Ok places = rw told at are in (
               made.0,
               made.1,
@@ -246,11 +245,11 @@ module _ {X : Type 0} (cut : Cutting X) (proper : IsProperCutting cut) (input pr
               made.3 ∙ ap (λ p. then_made p (places_result cut prefix made.0 s)) here,
             )
 
-        range-refused : (fault : EditFault) → ((bytes : List ℕ) → Holds old.files input bytes
+        range-refused : {fault : EditFault} → ((bytes : List ℕ) → Holds old.files input bytes
             → piece_parts cut bytes s places ≡ Err fault) → HasAnswer command old.files (Err fault)
-        range-refused fault none =
-            if-told old.files (λ f told.
-            let made = makes-at f told in
+        range-refused none =
+            if-told (λ f told.
+            let made = makes-at told in
             made.4 ∙ ap (λ r. then_made r (pieces_result prefix made.0 (cut.survey s)))
             (none made.0 (subst (λ fs. Holds fs input made.0) (sym told) made.1)))
 
@@ -259,11 +258,12 @@ module _ {X : Type 0} (cut : Cutting X) (proper : IsProperCutting cut) (input pr
             → HoldsStreams command old.files
         unfolding input_streams
         split-streams octets =
-            if-told old.files (λ f told. λ whole is.
-            let made = makes-at f told in
+            if-told {files = old.files} (λ f told. λ whole is.
+            let made = makes-at {f = f} told in
             let t = cut.survey s in
             let parts =
-            then_ok (piece_parts cut made.0 s places) (pieces_result prefix made.0 t) whole
+            then_ok {r = piece_parts cut made.0 s places} {make =
+            pieces_result prefix made.0 t} {b = whole}
             (sym made.4 ∙ is) in
             let same : record { outputs = pieces_from prefix 1 made.0 t parts.0; text = [] }
             ≡ whole = cc in
@@ -274,11 +274,12 @@ module _ {X : Type 0} (cut : Cutting X) (proper : IsProperCutting cut) (input pr
             ∙ ap (places_streams cut made.0 s) made.3
             ∙ ap (laid_streams made.0 t) parts.1 in
             record {
-              sources = ((made.0, made.1, survey_of-sound made.0 most_frames s made.2), tt);
+              sources = ((made.0, made.1, survey_of-sound made.0 most_frames {s = s} made.2), tt);
               streams = subst (λ (m : Made). AreStreams m.outputs (command.streams f)) same
                   (subst (AreStreams (pieces_from prefix 1 made.0 t parts.0)) (sym streams)
                   (at-hold cut proper prefix made.0 s (octets made.0 (subst
-                  (λ fs. Holds fs input made.0) (sym told) made.1)) made.2 places parts.0 parts.1));
+                  (λ fs. Holds fs input made.0) (sym told) made.1)) made.2 places
+                  {ls = parts.0} parts.1));
             })
 
         -- the pieces, all or some of which were written
@@ -291,10 +292,10 @@ module _ {X : Type 0} (cut : Cutting X) (proper : IsProperCutting cut) (input pr
           abbrev made : List ℕ → Made
           made bytes = record { outputs = piece_outputs laid_survey pieces bytes; text = [] }
 
-          makes-pieces : (f : Contents) → old.files ≡ Told f →
+          makes-pieces : {f : Contents} → old.files ≡ Told f →
               (bytes : List ℕ) × (Holds old.files input bytes) × (command.makes f ≡ Ok (made bytes))
-          makes-pieces f told =
-              let at = makes-at f told in
+          makes-pieces {f} told =
+              let at = makes-at told in
               let holds = subst (λ fs. Holds fs input at.0) (sym told) at.1 in (
                 at.0,
                 holds,
@@ -305,14 +306,14 @@ module _ {X : Type 0} (cut : Cutting X) (proper : IsProperCutting cut) (input pr
               )
 
           none-before : (P : EditFault → Type 0) → IfTold old.files (λ f. IfErr (command.makes f) P)
-          none-before P = if-told old.files (λ f told. rw (makes-pieces f told).2 tt)
+          none-before P = if-told (λ f told. rw (makes-pieces told).2 tt)
 
           whole : (new : Files) → ((bytes : List ℕ) → Holds old.files input bytes
               → new ≡ with_outputs (piece_outputs laid_survey pieces bytes) old.files)
               → IfTold old.files (λ f. (made : Made) × (command.makes f ≡ Ok made)
               × (new ≡ Told (written_files made.outputs f)))
           unfolding with_outputs
-          whole new all = if-told old.files (λ f told. let makes = makes-pieces f told in (
+          whole new all = if-told (λ f told. let makes = makes-pieces told in (
             made makes.0,
             makes.2,
             subst (λ fs. new ≡ with_outputs (piece_outputs laid_survey pieces makes.0) fs) told
@@ -323,24 +324,23 @@ module _ {X : Type 0} (cut : Cutting X) (proper : IsProperCutting cut) (input pr
           pub pieces-to-write : IsToWrite command (names_of_pieces pieces) old.files
           pieces-to-write = record {
             free = apart;
-            made = if-told old.files (λ f told. let makes = makes-pieces f told in
+            made = if-told (λ f told. let makes = makes-pieces told in
                 (made makes.0, makes.2, names-made laid_survey makes.0 pieces));
             front = ap (λ n. take n (piece_names prefix))
                 (length-map pieces (λ (p : PlannedPiece). string_bytes p.name))
                 ∙ sym (names-prefix prefix laid_survey pieces few named);
           }
 
-          names-touched : (before after : Files) → OnlyTouches (names_of_pieces pieces) before after
+          names-touched : {before after : Files} → OnlyTouches (names_of_pieces pieces) before after
               → OnlyTouches (piece_names prefix) before after
-          names-touched before after only =
-              touches_more (names_of_pieces pieces) (piece_names prefix) before after
+          names-touched {before} {after} only =
+              touches_more
               (λ other. names-all prefix laid_survey pieces (λ name. other ≢ name) few named) only
 
-          first-touched : (k : ℕ) (new : Files)
+          first-touched : (k : ℕ) {new : Files}
               → OnlyTouches (take (k + 1) (names_of_pieces pieces)) old.files new
               → OnlyTouches (take (k + 1) (piece_names prefix)) old.files new
-          first-touched k new touches = touches_more (take (k + 1) (names_of_pieces pieces))
-              (take (k + 1) (piece_names prefix)) old.files new (λ other. names-first prefix
+          first-touched k {new} touches = touches_more (λ other. names-first prefix
               laid_survey pieces (λ name. other ≢ name) k few named) touches
 
           part : (k : ℕ) (new : Files)
@@ -348,7 +348,7 @@ module _ {X : Type 0} (cut : Cutting X) (proper : IsProperCutting cut) (input pr
               → IsWrittenTo command k old.files new
           unfolding with_part
           part k new h = record {
-            made = if-told old.files (λ f told. let makes = makes-pieces f told in
+            made = if-told (λ f told. let makes = makes-pieces told in
                 let part = h.files makes.0 makes.1 in (
                   made makes.0,
                   makes.2,
@@ -358,15 +358,15 @@ module _ {X : Type 0} (cut : Cutting X) (proper : IsProperCutting cut) (input pr
                       ≡ with_part k part.1 (piece_outputs laid_survey pieces makes.0) fs)
                       told part.2,
                 ));
-            touches = first-touched k new h.touches;
+            touches = first-touched k h.touches;
           }
 
-          unfinished : (k : ℕ) (new : Files)
+          unfinished : {k : ℕ} {new : Files}
               → IsUnfinishedPart (pieces_of input laid_survey pieces) k old.files new
               → IsOutputUnfinished command k old.files new
           unfolding with_part
-          unfinished k new h = record {
-            made = if-told old.files (λ f told. let makes = makes-pieces f told in
+          unfinished {k} {new} h = record {
+            made = if-told (λ f told. let makes = makes-pieces told in
                 let part = h.files makes.0 makes.1 in (
                   made makes.0,
                   makes.2,
@@ -377,7 +377,7 @@ module _ {X : Type 0} (cut : Cutting X) (proper : IsProperCutting cut) (input pr
                       ≡ with_part k part.1 (piece_outputs laid_survey pieces makes.0) fs)
                       told part.3,
                 ));
-            touches = first-touched k new h.touches;
+            touches = first-touched k h.touches;
           }
 
           split-left-here : (new : Seen) (fault : EditFault)
@@ -396,11 +396,11 @@ module _ {X : Type 0} (cut : Cutting X) (proper : IsProperCutting cut) (input pr
             shorter = λ l. let ended = rw l.is at l.ended in record {
               ended = rw l.is
                   (record { rose = ended.rose; counts = ended.counts; untold = ended.untold });
-              touches = names-touched old.files new.files only;
+              touches = names-touched only;
             };
             unwritten = λ k w. record {
-              rose = rw (← (name-here prefix laid_survey pieces k few w.within named)) w.rose;
-              files = inl (unfinished k new.files w.files);
+              rose = rw (← (name-here prefix laid_survey pieces few w.within named)) w.rose;
+              files = inl (unfinished w.files);
             };
             unsent = λ w. absurd w;
             no_memory = λ w. absurd w;
@@ -436,8 +436,7 @@ module _ {X : Type 0} (cut : Cutting X) (proper : IsProperCutting cut) (input pr
                 → IsCommandDone command old new
             split-done wrote touches counts = record {
               made = whole places are pieces named laid few new.files (rw stays at wrote);
-              touches = names-touched places are pieces named laid few
-                  old.files new.files (rw stays at touches);
+              touches = names-touched places are pieces named laid few (rw stays at touches);
               counts = counts ∙ ap (λ (m : Seen). m.counts) stays;
             }
 
@@ -493,6 +492,6 @@ module _ {X : Type 0} (cut : Cutting X) (input prefix : List ℕ) where
   range-numbers fault h = grind arith
 
   -- a fault of the second pass has the right numbers
-  pub pieces-numbers : (count : ℕ) (fault : EditFault) → count < 100 → HasPiecesNumbers count fault
+  pub pieces-numbers : {count : ℕ} (fault : EditFault) → count < 100 → HasPiecesNumbers count fault
       → HasNumbers (split_command cut input prefix) fault
-  pieces-numbers count fault most is = grind (arith, names-length)
+  pieces-numbers fault most is = grind (arith, names-length)

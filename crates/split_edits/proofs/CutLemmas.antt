@@ -57,9 +57,9 @@ as-all : (P : EditFault → Type 0) (r : Result (List Place) EditFault) → IfEr
 as-all P r is = grind arith
 
 -- nothing is refused if the test holds
-unless-test : (P : EditFault → Type 0) (refusal : Refusal) → P (Refused refusal) → (test : Bool)
+unless-test : (P : EditFault → Type 0) {refusal : Refusal} → P (Refused refusal) → (test : Bool)
     → IfSome (cond test None (Some refusal)) (λ r. P (Refused r))
-unless-test P refusal is test = grind arith
+unless-test P is test = grind arith
 
 -- ---- cut at positions
 
@@ -70,18 +70,19 @@ module _ (P : EditFault → Type 0)
   unfolding laying_part cut_choice
   frames-all from to file s = grind (arith, then_all, refusal_or-all, unless-test)
 
-frames-hold : (from to : Place) (file : List ℕ) (s : SurveyFields) (laid : LaidPart)
+frames-hold : (from to : Place) (file : List ℕ) {s : SurveyFields} {laid : LaidPart}
     → survey_of file most_frames ≡ Ok s → cut_part from to file s ≡ Ok laid
     → HoldsStream (file_laid laid file s) (stream_laid laid file s)
 unfolding laying_part cut_choice chosen_file chosen_stream
-frames-hold from to file s laid surveyed e =
+frames-hold from to file {s} {laid} surveyed e =
     let parts =
-    then_ok (cut_choice from to file s) (planned_part (first_planning own_choice) s) laid e in
+    then_ok {r = cut_choice from to file s} {make = planned_part (first_planning own_choice) s} {b =
+    laid} e in
     let same : own_slots_part parts.0 s ≡ laid = cc in
     let right = with_right None (replicate 36 0) (frame_at s.class (length s.frames) from)
-    (frame_at s.class (length s.frames) to) s parts.0 refl parts.1 in
+    (frame_at s.class (length s.frames) to) {s = s} {chosen = parts.0} refl parts.1 in
     rw (← same) (chosen-holds parts.0 file s
-    (survey-had file most_frames s surveyed) right.some right.within right.extension)
+    (survey-had {file = file} most_frames {s = s} surveyed) right.some right.within right.extension)
 
 -- the cutting at positions is proper
 pub points-proper : (points : Points) → IsProperCutting (cutting_of points)
@@ -96,17 +97,17 @@ points-refusal points fault is = grind arith
 -- the chosen frames in the slots of their plan, given the known survey
 module _ (from to : Place) (file : List ℕ) (s known : SurveyFields) (same : known ≡ s) where
   -- these are what is laid from the one place to the other
-  pub frames-laid : (chosen : Chosen) (laid : LaidPart) → cut_choice from to file known ≡ Ok chosen
+  pub frames-laid : {chosen : Chosen} {laid : LaidPart} → cut_choice from to file known ≡ Ok chosen
       → laid ≡ placed_part chosen (first_plan own_choice known.class (chosen_needs chosen known))
       → cut_part from to file s ≡ Ok laid
   unfolding laying_part
-  frames-laid chosen laid chose is = grind arith
+  frames-laid chose is = grind arith
 
   -- if the frames are refused, what is laid is refused
-  pub frames-refused : (fault : EditFault) → cut_choice from to file known ≡ Err fault
+  pub frames-refused : {fault : EditFault} → cut_choice from to file known ≡ Err fault
       → cut_part from to file s ≡ Err fault
   unfolding laying_part
-  frames-refused fault chose = grind arith
+  frames-refused chose = grind arith
 
 -- ---- cut at places of samples
 
@@ -117,19 +118,18 @@ module _ (P : EditFault → Type 0)
   unfolding exact_part file_span
   exact-all from to file s = grind (arith, then_all, refusal_or-all, unless-test)
 
-exact-hold : (from to : ExactPlace) (file : List ℕ) (s : SurveyFields) (laid : LaidPart)
+exact-hold : (from to : ExactPlace) (file : List ℕ) {s : SurveyFields} {laid : LaidPart}
     → survey_of file most_frames ≡ Ok s → exact_part from to file s ≡ Ok laid → HoldsStream
     (file_laid laid file (survey_without_head s)) (stream_laid laid file (survey_without_head s))
 unfolding exact_part
-exact-hold from to file s laid surveyed e =
+exact-hold from to file {s} {laid} surveyed e =
     let head = fields_of_head file s.head in
     let parts =
-    then_ok (file_span from to head s)
-    (λ span. Ok (span_piece head span file (survey_without_head s))) laid e in
+    then_ok e in
     let same : span_piece head parts.0 file (survey_without_head s) ≡ laid = cc in
     rw (← same) (piece-holds head (head_long file s.head) parts.0 file (survey_without_head s)
-    (survey_without_head-relaid file s surveyed)
-    (span-survey_without_head s parts.0 (span-there from to head s parts.0 parts.1)))
+    (survey_without_head-relaid surveyed)
+    (span-survey_without_head (span-there from to head parts.1)))
 
 -- the cutting at places of samples is proper
 pub exact-points-proper : (points : ExactPoints) → IsProperCutting (exact_cutting_of points)
@@ -152,18 +152,18 @@ span_same from to head s = grind (arith, survey_without_head-length)
 module _ (from to : ExactPlace) (file : List ℕ) (s known : SurveyFields)
     (same : known ≡ survey_without_head s)
     (head : Option Info) (head_is : head ≡ fields_of_head file s.head) where
-  found : (r : Result Span EditFault) → file_span from to head known ≡ r
+  found : {r : Result Span EditFault} → file_span from to head known ≡ r
       → file_span from to (fields_of_head file s.head) s ≡ r
-  found r is = grind (arith, span_same)
+  found is = grind (arith, span_same)
 
   -- the piece of the span is what is laid from the one place to the other
-  pub exact-laid-is : (span : Span) (laid : LaidPart) → file_span from to head known ≡ Ok span
+  pub exact-laid-is : {span : Span} {laid : LaidPart} → file_span from to head known ≡ Ok span
       → laid ≡ span_piece head span file known → exact_part from to file s ≡ Ok laid
   unfolding exact_part
-  exact-laid-is span laid is piece = grind (arith, found)
+  exact-laid-is is piece = grind (arith, found)
 
   -- if the span is refused, what is laid is refused
-  pub exact-laid-refused : (fault : EditFault) → file_span from to head known ≡ Err fault
+  pub exact-laid-refused : {fault : EditFault} → file_span from to head known ≡ Err fault
       → exact_part from to file s ≡ Err fault
   unfolding exact_part
-  exact-laid-refused fault is = grind (arith, found)
+  exact-laid-refused is = grind (arith, found)

@@ -71,9 +71,9 @@ pub record Stands (input : List ℕ) (old new : Files) : Type 0 where
   pub before : (bytes : List ℕ) → Holds new input bytes → Holds old input bytes
   pub after : (bytes : List ℕ) → Holds old input bytes → Holds new input bytes
 
-stands-beside : (input name : List ℕ) (old new : Files) → input ≢ name → IsFileThere old input
+stands-beside : {input name : List ℕ} {old new : Files} → input ≢ name → IsFileThere old input
     → LeavesAllBut (name ∷ []) old new → Stands input old new
-stands-beside input name old new apart there only = grind arith
+stands-beside apart there only = grind arith
 
 -- ---- pieces that were written
 
@@ -86,9 +86,9 @@ pub record Wrote (s : SurveyFields) (input : List ℕ) (done : List PlannedPiece
   pub stands : Stands input old now
 
 -- before the first output nothing was written
-pub none-wrote : (s : SurveyFields) (input : List ℕ) (files : Files) → IsFileThere files input
+pub none-wrote : (s : SurveyFields) {input : List ℕ} {files : Files} → IsFileThere files input
     → Wrote s input [] files files
-none-wrote s input files there = record {
+none-wrote s {files = files} there = record {
   files = λ bytes holds. none-written files;
   touches = touches_none [] files;
   stands =
@@ -113,15 +113,14 @@ module _ (s : SurveyFields) (input : List ℕ) (all : List PlannedPiece) (k : �
   touched = rw (
     more,
     map-append (λ (p : PlannedPiece). string_bytes p.name) done (piece ∷ []),
-  ) (touches_both (names_of_pieces done)
-      (string_bytes piece.name ∷ []) old now new wrote.touches touches)
+  ) (touches_both wrote.touches touches)
 
   touched-here : OnlyTouches (take (k + 1) (names_of_pieces all)) old new
   touched-here = rw (take-map (λ (p : PlannedPiece). string_bytes p.name) (k + 1) all) touched
 
   -- only the names of the pieces were touched
   pub all-touched : OnlyTouches (names_of_pieces all) old new
-  all-touched = touches_more (take (k + 1) (names_of_pieces all)) (names_of_pieces all) old new
+  all-touched = touches_more
       (λ other apart. All-take (λ name. other ≢ name) (k + 1) (names_of_pieces all) apart)
       touched-here
 
@@ -131,7 +130,7 @@ module _ (s : SurveyFields) (input : List ℕ) (all : List PlannedPiece) (k : �
       → Wrote s input (take (k + 1) all) old new
   more-wrote apart whole =
       let beside =
-      stands-beside input (string_bytes piece.name) now new apart wrote.stands.there
+      stands-beside apart wrote.stands.there
       touches.others in
       record {
         files = grind (arith, more-written, more, map-append);
@@ -155,22 +154,22 @@ module _ (s : SurveyFields) (input : List ℕ) (all : List PlannedPiece) (k : �
   few : (bytes : List ℕ) → k < length (piece_outputs s all bytes)
   few bytes = omega (arith, ap length (out bytes), length-drop k (piece_outputs s all bytes))
 
-  place-is : (place : ℕ) → place ≡ length done → place ≡ k
-  place-is place is = omega (arith, is, length-take k all, ap length next, length-drop k all)
+  place-is : {place : ℕ} → place ≡ length done → place ≡ k
+  place-is is = omega (arith, is, length-take k all, ap length next, length-drop k all)
 
-  name-here : (place : ℕ) → place ≡ length done
+  name-here : {place : ℕ} → place ≡ length done
       → slice_index_or (names_of_pieces all) place [] ≡ string_bytes piece.name
-  name-here place is =
-      let here : place ≡ k + 0 = omega (arith, place-is place is) in
+  name-here {place} is =
+      let here : place ≡ k + 0 = omega (arith, place-is is) in
       ap (λ n. slice_index_or (names_of_pieces all) n []) here
       ∙ sym (get_or-drop k (names_of_pieces all) 0 [])
       ∙ ap (λ (l : List (List ℕ)). slice_index_or l 0 [])
       (drop-map (λ (p : PlannedPiece). string_bytes p.name) k all ∙ ap names_of_pieces next)
 
   part-written : ((bytes : List ℕ) → Holds now input bytes
-      → HoldsPrefix (string_bytes piece.name) (piece_made s piece bytes) now new) → (place : ℕ)
+      → HoldsPrefix (string_bytes piece.name) (piece_made s piece bytes) now new) → {place : ℕ}
       → place ≡ length done → IsWrittenPart (pieces_of input s all) place old new
-  part-written begun_output place is = rw (place-is place is) (record {
+  part-written begun_output {place} is = rw (place-is is) (record {
     files = λ bytes holds. let part = part-of k _ _ (output_of bytes s piece) now new input bytes
         (out bytes) old holds (now-is bytes holds)
         (begun_output bytes (wrote.stands.after bytes holds)) in
@@ -179,9 +178,9 @@ module _ (s : SurveyFields) (input : List ℕ) (all : List PlannedPiece) (k : �
   })
 
   part-unfinished : ((bytes : List ℕ) → Holds now input bytes
-      → HoldsLess (string_bytes piece.name) (piece_made s piece bytes) now new) → (place : ℕ)
+      → HoldsLess (string_bytes piece.name) (piece_made s piece bytes) now new) → {place : ℕ}
       → place ≡ length done → IsUnfinishedPart (pieces_of input s all) place old new
-  part-unfinished begun_output place is = rw (place-is place is) (record {
+  part-unfinished begun_output {place} is = rw (place-is is) (record {
     files = λ bytes holds. let part = less-of k _ _ (output_of bytes s piece) now new input bytes
         (out bytes) old holds (now-is bytes holds)
         (begun_output bytes (wrote.stands.after bytes holds)) in
@@ -191,34 +190,34 @@ module _ (s : SurveyFields) (input : List ℕ) (all : List PlannedPiece) (k : �
 
   -- if the pass of the next piece failed, the fault is one of the pieces, and the pieces before it
   -- are whole
-  pub pieces-fault : (fault : PassFault) (place : ℕ) (before between after : Counts)
+  pub pieces-fault : (fault : PassFault) {place : ℕ} {before between : Counts} (after : Counts)
       → place ≡ length done → between ≡ before → IsPassFault (piece_made s piece) (input ∷ [])
       (string_bytes piece.name) (seen_folder now between) (seen_folder new after)
       (pass_edit_fault 0 0 fault)
       → IsPiecesFault (pieces_of input s all) (seen_folder old before) (seen_folder new after)
       (pass_edit_fault 0 place fault)
-  pieces-fault Read place before between after is same h =
+  pieces-fault Read {place} after is same h =
       record {
         is = refl;
         rose = grind arith;
         place = place;
-        files = part-written h.files place is;
+        files = part-written h.files is;
       }
-  pieces-fault (Shrunk first second) place before between after is same h = record {
+  pieces-fault (Shrunk first second) after is same h = record {
     first = first;
     second = second;
     is = refl;
     ended = grind (arith, after, touches_told);
   }
-  pieces-fault Write place before between after is same h =
+  pieces-fault Write {place} after is same h =
       record {
         within = omega (
           arith,
-          place-is place is,
+          place-is is,
           ap length next,
           length-drop k all,
           length-map all (λ (p : PlannedPiece). string_bytes p.name),
         );
         rose = grind (arith, name-here);
-        files = part-unfinished h.1.files place is;
+        files = part-unfinished h.1.files is;
       }

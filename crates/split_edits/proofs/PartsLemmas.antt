@@ -10,9 +10,8 @@ use Rattle.laying.specs.Laid.{LaidPart}
 use Rattle.outside.specs.Files.{Contents}
 use Rattle.requests.specs.Names.{piece_names}
 use Rattle.split_edits.specs.Cutting.{Cutting, equal_names_or, input_pieces, piece_parts}
-use Rattle.split_edits.specs.Cutting.{pieces_from, pieces_result, places_result, split_command}
-use Rattle.split_edits.specs.Cutting.{split_result, surveyed_pieces}
-use Rattle.split_edits.specs.Split.{cue_sheet_places, places_to_end}
+use Rattle.split_edits.specs.Cutting.{pieces_from, places_result, split_command, split_result}
+use Rattle.split_edits.specs.{Cutting.surveyed_pieces, Split.{cue_sheet_places, places_to_end}}
 use Rattle.sync_survey.specs.{Faults.SurveyFields, Survey.survey_of}
 use Rattle.sync_survey.specs.declared.survey_fault.SurveyFault.{SurveyFault}
 
@@ -21,8 +20,8 @@ use Rattle.sync_survey.specs.declared.survey_fault.SurveyFault.{SurveyFault}
 abbrev of_made : Made → Result Made EditFault
 of_made made = Ok made
 
-ok-made : (a b : Made) → of_made a ≡ of_made b → a ≡ b
-ok-made a b e = cc
+ok-made : {a b : Made} → of_made a ≡ of_made b → a ≡ b
+ok-made e = cc
 
 -- the file, its survey, the places, and what is laid between them
 pub record IsSplit {P : Type 0} (cut : Cutting P) (files : Contents) (input : List ℕ) : Type 0 where
@@ -46,14 +45,13 @@ module _ {P : Type 0} (cut : Cutting P) (files : Contents) (prefix input : List 
   abbrev pub Splits : Made → Type 0
   Splits made = (is : IsSplit cut files input) × (made_in cut files prefix input is ≡ made)
 
-  placed-parts : (file : List ℕ) (s : SurveyFields) (made : Made) → files input ≡ Some file
+  placed-parts : {file : List ℕ} {s : SurveyFields} {made : Made} → files input ≡ Some file
       → survey_of file most_frames ≡ Ok s
       → then_made (cut.places files) (places_result cut prefix file s) ≡ Ok made → Splits made
-  placed-parts file s made there surveyed e =
-      let one = then_ok (cut.places files) (places_result cut prefix file s) made e in
+  placed-parts {file} {s} {made} there surveyed e =
+      let one = then_ok e in
       let two =
-      then_ok (piece_parts cut file s one.0)
-      (pieces_result prefix file (cut.survey s)) made one.2 in (
+      then_ok one.2 in (
         record {
           file = file;
           survey = s;
@@ -64,30 +62,30 @@ module _ {P : Type 0} (cut : Cutting P) (files : Contents) (prefix input : List 
           laid = two.0;
           picked = two.1;
         },
-        ok-made _ made two.2,
+        ok-made two.2,
       )
 
-  where-parts : (o : Option (List ℕ)) (made : Made) → files input ≡ o
+  where-parts : (o : Option (List ℕ)) {made : Made} → files input ≡ o
       → input_pieces cut prefix (cut.places files) o ≡ Ok made → Splits made
-  where-parts None made there e = absurd cc
-  where-parts (Some file) made there e = at (survey_of file most_frames) refl e
+  where-parts None there e = absurd cc
+  where-parts (Some file) {made} there e = at (survey_of file most_frames) refl e
     where
       at : (r : Result SurveyFields SurveyFault) → survey_of file most_frames ≡ r
           → surveyed_pieces cut prefix (cut.places files) file r ≡ Ok made → Splits made
       at (Err fault) surveyed e = absurd cc
-      at (Ok s) surveyed e = placed-parts file s made there surveyed e
+      at (Ok s) surveyed e = placed-parts there surveyed e
 
-  equal-parts : (clash : Option ℕ) (made : Made)
+  equal-parts : (clash : Option ℕ) {made : Made}
       → equal_names_or clash (input_pieces cut prefix (cut.places files) (files input)) ≡ Ok made
       → (clash ≡ None) × Splits made
-  equal-parts (Some place) made e = absurd cc
-  equal-parts None made e = (refl, where-parts (files input) made refl e)
+  equal-parts (Some place) e = absurd cc
+  equal-parts None {made} e = (refl, where-parts (files input) refl e)
 
   -- a split that isn't refused has no clash, and these pieces were made
-  pub split-parts : (made : Made) → (split_command cut input prefix).makes files ≡ Ok made
+  pub split-parts : {made : Made} → (split_command cut input prefix).makes files ≡ Ok made
       → (clash_from (piece_names prefix) 0 (input ∷ cut.more) ≡ None) × Splits made
   unfolding split_result
-  split-parts made e = equal-parts (clash_from (piece_names prefix) 0 (input ∷ cut.more)) made e
+  split-parts {made} e = equal-parts (clash_from (piece_names prefix) 0 (input ∷ cut.more)) e
 
 -- ---- a cue sheet
 
@@ -100,10 +98,10 @@ pub record IsCue (o : Option (List ℕ)) (places : List Place) : Type 0 where
   pub read : cue_of bytes ≡ Ok starts
   pub all : starts ++ End ∷ [] ≡ places
 
-end-parts : (r : Result (List Place) CueFault) (places : List Place) → places_to_end r ≡ Ok places
+end-parts : (r : Result (List Place) CueFault) {places : List Place} → places_to_end r ≡ Ok places
     → (starts : List Place) × (r ≡ Ok starts) × (starts ++ End ∷ [] ≡ places)
-end-parts (Ok starts) places e = (starts, refl, cc)
-end-parts (Err fault) places e = absurd cc
+end-parts (Ok starts) e = (starts, refl, cc)
+end-parts (Err fault) e = absurd cc
 
 -- the positions are those that the bytes of the sheet list
 by-sheet : (o : Option (List ℕ))
@@ -111,13 +109,13 @@ by-sheet : (o : Option (List ℕ))
 by-sheet o = refl
 
 -- places that are read from a sheet have these parts
-pub cue-parts : (o : Option (List ℕ)) (places : List Place) → cue_sheet_places o ≡ Ok places
+pub cue-parts : {o : Option (List ℕ)} {places : List Place} → cue_sheet_places o ≡ Ok places
     → IsCue o places
-cue-parts o places e =
+cue-parts {o} {places} e =
     let one =
-    then_ok (sheet_in o) (λ bytes. places_to_end (cue_of bytes)) places (sym (by-sheet o) ∙ e) in
-    let is = sheet-is o one.0 one.1 in
-    let parts = end-parts (cue_of one.0) places one.2 in
+    then_ok (sym (by-sheet o) ∙ e) in
+    let is = sheet-is one.1 in
+    let parts = end-parts (cue_of one.0) one.2 in
     record {
       bytes = one.0;
       there = is.there;
@@ -129,11 +127,11 @@ cue-parts o places e =
     }
 
 -- places with these parts are the places that are read from the sheet
-pub parts-cue : (o : Option (List ℕ)) (places : List Place) → IsCue o places
+pub parts-cue : {o : Option (List ℕ)} {places : List Place} → IsCue o places
     → cue_sheet_places o ≡ Ok places
-parts-cue o places is =
+parts-cue {o} is =
     by-sheet o
     ∙ ap (λ (r : Result (List ℕ) EditFault). then_made r (λ bytes. places_to_end (cue_of bytes)))
-    (is-sheet o is.bytes (record { there = is.there; small = is.small }))
+    (is-sheet (record { there = is.there; small = is.small }))
     ∙ ap places_to_end is.read
     ∙ ap Ok is.all

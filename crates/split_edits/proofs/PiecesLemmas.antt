@@ -36,26 +36,26 @@ module _ {P : Type 0} (cut : Cutting P) (file : List ℕ) (s : SurveyFields) (in
     (before : laid_before done (piece_parts_from cut file s from (drop index rest)) ≡ whole) where
   module _ (to : P) (next : drop index rest ≡ to ∷ drop (index + 1) rest) where
     -- one more pair of places is laid
-    pub place-laid : (first : LaidPart) → cut.between from to file s ≡ Ok first
+    pub place-laid : {first : LaidPart} → cut.between from to file s ≡ Ok first
         → laid_before (done ++ first ∷ []) (piece_parts_from cut file s to (drop (index + 1) rest))
         ≡ whole
-    place-laid first is = grind (arith, before-first)
+    place-laid is = grind (arith, before-first)
 
     -- a pair of places that is refused refuses all
-    pub place-refused : (fault : EditFault) → cut.between from to file s ≡ Err fault
+    pub place-refused : {fault : EditFault} → cut.between from to file s ≡ Err fault
         → whole ≡ Err fault
-    place-refused fault is = sym (rw (next, is) at before)
+    place-refused is = sym (rw (next, is) at before)
 
   -- if no place is left, all pieces are laid
   pub places-laid : length rest ≤ index → whole ≡ Ok done
   places-laid all = sym (rw (drop_all index rest all) at before) ∙ ap Ok (append-nil done)
 
 -- all pieces are what is laid from the first place on
-pub laid-is : {P : Type 0} (cut : Cutting P) (file : List ℕ) (s : SurveyFields) (from : P)
+pub laid-is : {P : Type 0} (cut : Cutting P) (file : List ℕ) (s : SurveyFields) {from : P}
     (places : List P) → 2 ≤ length places → from ≡ get_or places 0 from
     → piece_parts cut file s places
     ≡ piece_parts_from cut file s from (take (length places - 1) (drop 1 places))
-laid-is cut file s from places some is = grind (arith, take_all)
+laid-is cut file s places some is = grind (arith, take_all)
 
 -- a fault of a pair of places is a fault of all
 pub fault-of-all : {M A B C : Type 0} → (B → C) → M ⊎ (A × B) → M ⊎ (A × C)
@@ -69,15 +69,15 @@ match_err r P Q is q = grind arith
 -- ---- the names
 
 -- one more piece has the next number in its name
-pub pieces-push : (prefix : List ℕ) (s : SurveyFields) (k n : ℕ) (pieces : List PlannedPiece)
+pub pieces-push : (prefix : List ℕ) {s : SurveyFields} (k : ℕ) {n : ℕ} (pieces : List PlannedPiece)
     (piece : PlannedPiece) → ArePieces prefix s k pieces → n ≡ k + length pieces
     → string_bytes piece.name ≡ piece_name prefix n → IsWritableSelection s piece.selected
     → ArePieces prefix s k (pieces ++ piece ∷ [])
-pieces-push prefix s k n [] piece are is named writable = grind arith
-pieces-push prefix s k n (first ∷ pieces) piece are is named writable =
+pieces-push prefix k [] piece are is named writable = grind arith
+pieces-push prefix {s} k {n} (first ∷ pieces) piece are is named writable =
     grind (
       arith,
-      pieces-push prefix s (k + 1) n pieces piece are.2 (omega (arith, is)) named
+      pieces-push prefix (k + 1) pieces piece are.2 (omega (arith, is)) named
           writable,
     )
 
@@ -90,27 +90,28 @@ outputs-are prefix s k (piece ∷ pieces) bytes are =
     grind (arith, outputs-are prefix s (k + 1) pieces bytes are.2)
 
 -- an input that has no piece's name
-other-name : (prefix input : List ℕ) (k : ℕ) → list_any (bytes_eq input) (piece_names prefix)
+other-name : (prefix : List ℕ) {input : List ℕ} {k : ℕ}
+    → list_any (bytes_eq input) (piece_names prefix)
     ≡ false → 1 ≤ k → k ≤ 99 → input ≢ piece_name prefix k
-other-name prefix input k none from to same =
+other-name prefix {input} {k} none from to same =
     let before : k - 1 + 1 ≡ k = omega arith in
     let found = list_any_at (bytes_eq input) (piece_names prefix) (k - 1) []
-    (omega (arith, names-length prefix)) (ap (bytes_eq input) (name-at prefix (k - 1) []
+    (omega (arith, names-length prefix)) (ap (bytes_eq input) (name-at prefix []
     (omega arith) ∙ ap (piece_name prefix) before ∙ sym same) ∙ bytes_eq_same input) in
     let both : true ≡ false = sym found ∙ none in
     absurd cc
 
 -- pieces none of which has the input's name can be written
-pub can-be-written : (prefix input : List ℕ) (s : SurveyFields) (k : ℕ) (pieces : List PlannedPiece)
-    → list_any (bytes_eq input) (piece_names prefix) ≡ false → 1 ≤ k → k + length pieces ≤ 100
-    → ArePieces prefix s k pieces → CanPiecesBeWritten input s pieces
-can-be-written prefix input s k [] none from to are = grind (arith, All-nil)
-can-be-written prefix input s k (piece ∷ pieces) none from to are =
+pub can-be-written : (prefix : List ℕ) {input : List ℕ} {s : SurveyFields} (k : ℕ)
+    (pieces : List PlannedPiece) → list_any (bytes_eq input) (piece_names prefix) ≡ false → 1 ≤ k
+    → k + length pieces ≤ 100 → ArePieces prefix s k pieces → CanPiecesBeWritten input s pieces
+can-be-written prefix k [] none from to are = grind (arith, All-nil)
+can-be-written prefix {input} {s} k (piece ∷ pieces) none from to are =
     grind (
       arith,
       All-cons,
       other-name,
-      can-be-written prefix input s (k + 1) pieces none (omega
+      can-be-written prefix (k + 1) pieces none (omega
           arith) (omega (arith, to)) are.2,
     )
 
@@ -130,10 +131,10 @@ unfolding piece_names
 names-prefix prefix s pieces few are = search (arith, names-are, take-map-range_with_len)
 
 -- the name of the piece at a place is the one that the prefix gives it
-pub name-here : (prefix : List ℕ) (s : SurveyFields) (pieces : List PlannedPiece) (k : ℕ)
+pub name-here : (prefix : List ℕ) (s : SurveyFields) (pieces : List PlannedPiece) {k : ℕ}
     → length pieces ≤ 99 → k < length (names_of_pieces pieces) → ArePieces prefix s 1 pieces
     → slice_index_or (names_of_pieces pieces) k [] ≡ slice_index_or (piece_names prefix) k []
-name-here prefix s pieces k few within are = grind (arith, names-prefix, get_or-take, length-map)
+name-here prefix s pieces few within are = grind (arith, names-prefix, get_or-take, length-map)
 
 All-first : {X : Type 0} (P : X → Type 0) (m n : ℕ) (xs : List X) → All P (take m xs)
     → All P (take m (take n xs))

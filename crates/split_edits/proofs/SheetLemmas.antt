@@ -12,9 +12,9 @@ use Rattle.split_edits.specs.{Cutting.ArePlaces, Split.{places_in, places_to_end
 use Rattle.split_edits.specs.Steps.{HasCueSheetNumbers, IsCueSheetFault}
 
 -- a sheet whose bytes can't be read lists no positions
-read-places : (bytes : List ℕ) (fault : EditFault) → sheet_read bytes ≡ Err fault
+read-places : (bytes : List ℕ) {fault : EditFault} → sheet_read bytes ≡ Err fault
     → places_in bytes ≡ Err fault
-read-places bytes fault is = ap (λ r. then_made r (λ read. places_to_end (cue_of read))) is
+read-places bytes is = ap (λ r. then_made r (λ read. places_to_end (cue_of read))) is
 
 module _ (name : List ℕ) (old new : Seen) (fault : EditFault) where
   -- a sheet that can't be read is a fault of the sheet

@@ -39,10 +39,11 @@ module _ (rows now front : List Row) (i : ℕ) (d : Row) (size : length front �
 -- ---- lost frames become empty ones
 
 -- emptying the frame at i, after those before it, is having emptied one more
-pub emptied-step : (rows now : List Row) (i : ℕ) (d : Row) (new : Row) → i < length rows
-    → now ≡ map emptied_row (take i rows) ++ drop i rows → new ≡ emptied_row (get_or now i d)
+pub emptied-step : (rows : List Row) {now : List Row} {i : ℕ} (d : Row) {new : Row}
+    → i < length rows → now ≡ map emptied_row (take i rows) ++ drop i rows
+    → new ≡ emptied_row (get_or now i d)
     → set now i new ≡ map emptied_row (take (i + 1) rows) ++ drop (i + 1) rows
-emptied-step rows now i d new within is one =
+emptied-step rows {now} {i} d within is one =
     let front = map emptied_row (take i rows) in
     let size : length front ≡ i = grind (arith, length-map, length-take-le) in
     ap (set now i) (one ∙ ap emptied_row (here-is rows now front i d size within is))
@@ -75,39 +76,40 @@ module _ (rows : List Row) where
 
   -- ---- from the first frame that has main data and isn't lost
 
-  ended_before : (i j : ℕ) → i ≤ j → data_end_before None rows j ≡ 0
+  ended_before : {i j : ℕ} → i ≤ j → data_end_before None rows j ≡ 0
       → data_end_before None rows i ≡ 0
-  ended_before i j le none = grind (arith, empty-none, none-empty, none)
+  ended_before le none = grind (arith, empty-none, none-empty, none)
 
-  none_lost_by : (i j : ℕ) (r : Row) → i ≤ j → (zero : Bool)
+  none_lost_by : {i j : ℕ} (r : Row) → i ≤ j → {zero : Bool}
       → (data_end_before None rows j == 0) ≡ zero → 1 ≤ data_end_before None rows i
       → (zero && points_too_far (place None rows j) r) ≡ false
-  none_lost_by i j r le h is some = grind (arith, ended_before, eqb-true)
+  none_lost_by r le is some = grind (arith, ended_before, eqb-true)
 
-  none_lost : (i j : ℕ) (r : Row) → i ≤ j → 1 ≤ data_end_before None rows i
+  none_lost : {i j : ℕ} (r : Row) → i ≤ j → 1 ≤ data_end_before None rows i
       → is_lost None rows j r ≡ false
-  none_lost i j r le some = none_lost_by i j r le (data_end_before None rows j == 0) refl some
+  none_lost {i} {j} r le some = none_lost_by r le refl some
 
   or_false : (b : Bool) → (b || false) ≡ b
   or_false b = grind arith
 
-  rest_stays : (i n : ℕ) (xs : List Row) → i ≤ n → 1 ≤ data_end_before None rows i
+  rest_stays : {i n : ℕ} (xs : List Row) → i ≤ n → 1 ≤ data_end_before None rows i
       → apart_from n xs ≡ xs
-  rest_stays i n [] le some = refl
-  rest_stays i n (x ∷ xs) le some =
-      grind (arith, none_lost, or_false, rest_stays i (n + 1) xs (omega (arith, le)) some)
+  rest_stays [] le some = refl
+  rest_stays {i} {n} (x ∷ xs) le some =
+      grind (arith, none_lost, or_false, rest_stays {i = i} {n = n + 1} xs (omega (arith, le)) some)
 
   -- no frame from this one on is lost
   pub apart-stays : (i : ℕ) → 1 ≤ data_end_before None rows i
       → apart_from 0 (take i rows) ++ drop i rows ≡ apart_rows rows
   unfolding apart_rows
   apart-stays i some =
-      grind (arith, rest_stays i i (drop i rows) (omega arith) some, apart_split 0 i rows)
+      grind
+      (arith, rest_stays {i = i} {n = i} (drop i rows) (omega arith) some, apart_split 0 i rows)
 
   -- ---- the next frame
 
-  sum_by_min : (n sum : ℕ) → sum ≡ min n (2 ^ 64 - 1) → sum < 65535 → sum ≡ n
-  sum_by_min n sum is lt = grind (arith, ltb-true, min-eq_left, ltb-false, min-eq_right)
+  sum_by_min : {n sum : ℕ} → sum ≡ min n (2 ^ 64 - 1) → sum < 65535 → sum ≡ n
+  sum_by_min is lt = grind (arith, ltb-true, min-eq_left, ltb-false, min-eq_right)
 
   -- The frames before frame i are marked, and each of them is silent or lost; `areas` is the sum of
   -- their areas, if no main_data_begin is greater.
@@ -122,14 +124,14 @@ module _ (rows : List Row) where
   unfolding data_end_before place
   marked-none = grind arith
 
-  far_by : (areas at begin : ℕ) (far few : Bool) → ltb at begin ≡ far → ltb areas 65535 ≡ few
+  far_by : {areas at begin : ℕ} {far few : Bool} → ltb at begin ≡ far → ltb areas 65535 ≡ few
       → areas ≤ at → (areas < 65535 → areas ≡ at) → begin ≤ 65535 → ltb areas begin ≡ far
-  far_by areas at begin far few is short le exact near = grind arith
+  far_by is short le exact near = grind arith
 
-  end_more : (i : ℕ) (r : Row) → slice_get rows i ≡ Some r → data_end_before None rows (suc i)
+  end_more : (i : ℕ) {r : Row} → slice_get rows i ≡ Some r → data_end_before None rows (suc i)
       ≡ data_end_after (place None rows i) (data_end_before None rows i) (Some r)
   unfolding data_end_before
-  end_more i r is = ap (data_end_after (place None rows i) (data_end_before None rows i)) is
+  end_more i is = ap (data_end_after (place None rows i) (data_end_before None rows i)) is
 
   module _ (now : List Row) (areas i : ℕ) (d : Row) (to : AreMarkedTo now areas i)
       (within : i < length rows) (new : Row)
@@ -176,11 +178,11 @@ module _ (rows : List Row) where
     empty_same = ap₂ (λ (q : Row) b. is_silent q || b) here_same far_same
 
     -- the frame is silent or lost, and the next one may be lost
-    pub marked-next : (sum : ℕ)
+    pub marked-next : {sum : ℕ}
         → (is_silent (get_or now i d) || points_too_far areas (get_or now i d)) ≡ true
         → sum ≡ min (areas + own_area (get_or now i d).header) (2 ^ 64 - 1)
         → AreMarkedTo (set now i new) sum (i + 1)
-    marked-next sum empty is =
+    marked-next empty is =
         grind (
           arith,
           here_same,
@@ -193,9 +195,9 @@ module _ (rows : List Row) where
           sum_by_min,
         )
 
-    loud_end : (silent far : Bool) → is_silent here ≡ silent → (silent || far) ≡ false
+    loud_end : {silent : Bool} (far : Bool) → is_silent here ≡ silent → (silent || far) ≡ false
         → 1 ≤ cond (silent || far) 0 (end_of_data (place None rows i) here)
-    loud_end silent far is kept = grind (arith, loud-end)
+    loud_end far is kept = grind (arith, loud-end)
 
     -- the frame has main data and isn't lost, so no later one is lost
     pub marked-last : (is_silent (get_or now i d) || points_too_far areas (get_or now i d)) ≡ false
@@ -203,7 +205,7 @@ module _ (rows : List Row) where
     marked-last kept = grind (arith, loud_end, empty_same, rows_next, apart-stays, end_next)
 
   -- all were marked
-  pub marked-all : (now : List Row) (areas i : ℕ) → AreMarkedTo now areas i → length rows ≤ i
+  pub marked-all : {now : List Row} {areas i : ℕ} → AreMarkedTo now areas i → length rows ≤ i
       → now ≡ apart_rows rows
   unfolding apart_rows
-  marked-all now areas i to all = grind (arith, take_all, drop_all, append-nil)
+  marked-all to all = grind (arith, take_all, drop_all, append-nil)

@@ -53,10 +53,11 @@ both_of_bytes : (xs ys : List SurveyFault) → AreOfBytes xs → AreOfBytes ys �
 both_of_bytes [] ys p q = q
 both_of_bytes (x ∷ xs) ys p q = (p.0, both_of_bytes xs ys p.1 q)
 
-first_of_bytes : (xs : List SurveyFault) (fault : SurveyFault) → AreOfBytes xs
+first_of_bytes : (xs : List SurveyFault) {fault : SurveyFault} → AreOfBytes xs
     → first_of xs ≡ Some fault → IsOfBytes fault
-first_of_bytes [] fault all is = absurd cc
-first_of_bytes (x ∷ xs) fault all is = let same : x ≡ fault = cc in subst IsOfBytes same all.0
+first_of_bytes [] all is = absurd cc
+first_of_bytes (x ∷ xs) {fault} all is = let same : x ≡ fault = cc in
+    subst IsOfBytes same all.0
 
 -- ---- a frame
 
@@ -84,12 +85,12 @@ module _ (said : ℕ) (class : ClassFields) (allowed place ended count : ℕ) (r
       (one_of_bytes (count == allowed) _ tt)
 
   -- the first fault of a frame refuses the file, with the right numbers
-  pub frame_rightly : (fault : SurveyFault)
+  pub frame_rightly : {fault : SurveyFault}
       → first_of (faults_at said class allowed place ended count r) ≡ Some fault
       → RefusesRightly fault
-  frame_rightly fault is =
+  frame_rightly {fault} is =
       of_bytes_rightly fault
-      (first_of_bytes (faults_at said class allowed place ended count r) fault frame_of_bytes is)
+      (first_of_bytes (faults_at said class allowed place ended count r) frame_of_bytes is)
 
 -- ---- a file
 
@@ -108,15 +109,17 @@ frames_of_bytes file head class allowed rows =
     (λ i r. frame_of_bytes (stored_crc (drop r.offset file)) class allowed (place head rows i)
     (data_end_before head rows i) i r) 0 rows
 
-stop_of_bytes : (at : ℕ) (item : Item) (fault : SurveyFault) → fault_at at item ≡ Some fault
+stop_of_bytes : (at : ℕ) (item : Item) {fault : SurveyFault} → fault_at at item ≡ Some fault
     → IsOfBytes fault
-stop_of_bytes at (Frame h) fault is = let same : Truncated at ≡ fault = cc in
+stop_of_bytes at (Frame h) {fault} is = let same : Truncated at ≡ fault = cc in
     subst IsOfBytes same tt
-stop_of_bytes at Free fault is = let same : FreeFormat at ≡ fault = cc in subst IsOfBytes same tt
-stop_of_bytes at (Block b) fault is = let same : Truncated at ≡ fault = cc in
+stop_of_bytes at Free {fault} is = let same : FreeFormat at ≡ fault = cc in
     subst IsOfBytes same tt
-stop_of_bytes at End fault is = absurd cc
-stop_of_bytes at _ fault is = let same : LostSync at ≡ fault = cc in subst IsOfBytes same tt
+stop_of_bytes at (Block b) {fault} is = let same : Truncated at ≡ fault = cc in
+    subst IsOfBytes same tt
+stop_of_bytes at End is = absurd cc
+stop_of_bytes at _ {fault} is = let same : LostSync at ≡ fault = cc in
+    subst IsOfBytes same tt
 
 last_of_bytes : (file : List ℕ) (frames : List PlacedFrame) (o : Option SurveyFault)
     → ((fault : SurveyFault) → o ≡ Some fault → IsOfBytes fault)
@@ -130,7 +133,7 @@ file_of_bytes : (file : List ℕ) (allowed : ℕ) (start : Start)
 unfolding faults_from walk_from
 file_of_bytes file allowed start =
     both_of_bytes _ _ (frames_of_bytes file _ (class_from start) allowed _)
-    (last_of_bytes file _ _ (λ fault is. stop_of_bytes _ _ fault is))
+    (last_of_bytes file _ _ (λ fault is. stop_of_bytes _ _ is))
 
 fits_of_bytes : (at : ℕ) (start : Start) (b : Bool) (fault : SurveyFault)
     → cond b (Ok start) (Err (Truncated at)) ≡ Err fault → IsOfBytes fault
@@ -153,27 +156,27 @@ start_of_bytes file at (Block b) fault is = let same : Truncated at ≡ fault = 
     subst IsOfBytes same tt
 start_of_bytes file at _ fault is = junk_of_bytes at _ fault is
 
-begun_of_bytes : (file : List ℕ) (fault : SurveyFault) → start_of file ≡ Err fault → IsOfBytes fault
+begun_of_bytes : (file : List ℕ) {fault : SurveyFault} → start_of file ≡ Err fault → IsOfBytes fault
 unfolding start_of
-begun_of_bytes file fault is =
+begun_of_bytes file {fault} is =
     start_of_bytes file (front_end_of file) (item_at file (front_end_of file)) fault is
 
 -- a survey that is refused is refused with the fault that was found
-pub fault_is : (o : Option SurveyFault) (fields : SurveyFields) (fault : SurveyFault)
+pub fault_is : (o : Option SurveyFault) (fields : SurveyFields) {fault : SurveyFault}
     → fault_or_survey o fields ≡ Err fault → o ≡ Some fault
-fault_is (Some f) fields fault e = cc
-fault_is None fields fault e = absurd cc
+fault_is (Some f) fields e = cc
+fault_is None fields e = absurd cc
 
-survey_cases : (file : List ℕ) (allowed : ℕ) (r : Result Start SurveyFault) (fault : SurveyFault)
+survey_cases : (file : List ℕ) (allowed : ℕ) (r : Result Start SurveyFault) {fault : SurveyFault}
     → start_of file ≡ r → survey_from_start file allowed r ≡ Err fault → IsOfBytes fault
-survey_cases file allowed (Err f) fault is e = let same : f ≡ fault = cc in
-    subst IsOfBytes same (begun_of_bytes file f is)
-survey_cases file allowed (Ok start) fault is e =
-    first_of_bytes (faults_from file allowed start) fault (file_of_bytes file allowed start)
-    (fault_is (first_of (faults_from file allowed start)) (fields_from file start) fault e)
+survey_cases file allowed (Err f) {fault} is e = let same : f ≡ fault = cc in
+    subst IsOfBytes same (begun_of_bytes file is)
+survey_cases file allowed (Ok start) {fault} is e =
+    first_of_bytes (faults_from file allowed start) (file_of_bytes file allowed start)
+    (fault_is (first_of (faults_from file allowed start)) (fields_from file start) e)
 
 -- a fault with which a survey of bytes refuses them is a fault of bytes
-pub survey_fields-of_bytes : (file : List ℕ) (allowed : ℕ) (fault : SurveyFault)
+pub survey_fields-of_bytes : (file : List ℕ) (allowed : ℕ) {fault : SurveyFault}
     → survey_fields file allowed ≡ Err fault → IsOfBytes fault
 unfolding survey_fields
-survey_fields-of_bytes file allowed fault e = survey_cases file allowed (start_of file) fault refl e
+survey_fields-of_bytes file allowed {fault} e = survey_cases file allowed (start_of file) refl e

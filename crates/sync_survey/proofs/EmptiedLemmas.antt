@@ -33,8 +33,8 @@ pub emptied_true : (r : Row) → r.lost ≡ true → emptied_row r ≡ empty_row
 emptied_true r is = ap (λ b. cond b (empty_row r) r) is
 
 -- any other frame is unchanged
-pub emptied_false : (r : Row) → r.lost ≡ false → emptied_row r ≡ r
-emptied_false r is = ap (λ b. cond b (empty_row r) r) is
+pub emptied_false : {r : Row} → r.lost ≡ false → emptied_row r ≡ r
+emptied_false {r} is = ap (λ b. cond b (empty_row r) r) is
 
 -- the empty side information has no bits of main data
 pub no_bits : payload_bits no_side ≡ 0
@@ -62,25 +62,25 @@ pub record IsKept (class : ClassFields) (place ended behind : ℕ) (r : Row) : T
 -- than those that were kept.
 module _ (class : ClassFields) (at ended behind other : ℕ) (r : Row)
     (kept : IsKept class at ended behind r) (less : other ≤ ended) where
-  stands_emptied_by : (lost : Bool) → r.lost ≡ lost → Stands at other (emptied_row r)
-  stands_emptied_by lost is = grind (arith, emptied_true, no_bytes, emptied_false)
+  stands_emptied_by : {lost : Bool} → r.lost ≡ lost → Stands at other (emptied_row r)
+  stands_emptied_by is = grind (arith, emptied_true, no_bytes, emptied_false)
 
   stands_emptied : Stands at other (emptied_row r)
-  stands_emptied = stands_emptied_by r.lost refl
+  stands_emptied = stands_emptied_by refl
 
   none_lost : lacks_data at other (emptied_row r) ≡ false
   none_lost = grind (arith, and_right, le-ltb)
 
-  kept_by : (lost : Bool) → r.lost ≡ lost → (emptied_row r).lost ≡ false
-  kept_by lost is = grind arith
+  kept_by : {lost : Bool} → r.lost ≡ lost → (emptied_row r).lost ≡ false
+  kept_by is = grind arith
 
   unmarked : (emptied_row r).lost ≡ lacks_data at other (emptied_row r)
-  unmarked = kept_by r.lost refl ∙ sym none_lost
+  unmarked = kept_by refl ∙ sym none_lost
 
-  goes_by : (silent lost : Bool) → is_silent r ≡ silent → r.lost ≡ lost
+  goes_by : {silent lost : Bool} → is_silent r ≡ silent → r.lost ≡ lost
       → cond (lost || silent) ended (end_of_data at r) ≤ behind
       → cond (is_silent (emptied_row r) || false) other (end_of_data at (emptied_row r)) ≤ behind
-  goes_by silent lost is h le = grind (arith, emptied_true, no_bits, emptied_false)
+  goes_by is h le = grind (arith, emptied_true, no_bits, emptied_false)
 
   goes : data_end_after at other (Some (emptied_row r)) ≤ behind
   goes = grind (arith, none_lost, goes_by)
@@ -91,9 +91,9 @@ pub fits_by : (class : ClassFields) (r : Row) (lost : Bool) → r.lost ≡ lost 
 fits_by class r lost is fits = grind arith
 
 -- a frame after the change was one before it
-pub some_row : (o : Option Row) (q : Row) → option_map emptied_row o ≡ Some q
+pub some_row : {o : Option Row} {q : Row} → option_map emptied_row o ≡ Some q
     → (r : Row) × (o ≡ Some r) × (emptied_row r ≡ q)
-some_row o q e = grind arith
+some_row e = grind arith
 
 -- ---- all frames
 
@@ -112,11 +112,11 @@ pub place-same : (head : Option Head) (rows : List Row) (i : ℕ)
 unfolding place
 place-same head rows i = grind (arith, take-map emptied_row i rows, areas_same (take i rows))
 
-earlier : (rows : List Row) (i : ℕ) (r : Row) → slice_get rows (suc i) ≡ Some r
+earlier : (rows : List Row) (i : ℕ) {r : Row} → slice_get rows (suc i) ≡ Some r
     → (q : Row) × (slice_get rows i ≡ Some q)
-earlier [] i r found = absurd cc
-earlier (x ∷ rows) zero r found = (x, refl)
-earlier (x ∷ rows) (suc i) r found = earlier rows i r found
+earlier [] i found = absurd cc
+earlier (x ∷ rows) zero found = (x, refl)
+earlier (x ∷ rows) (suc i) {r} found = earlier rows i found
 
 -- Frames each of which is kept, given where the main data that are kept before it end.
 module _ (head : Option Head) (class : ClassFields) (rows : List Row) (ended : ℕ → ℕ)
@@ -129,7 +129,7 @@ module _ (head : Option Head) (class : ClassFields) (rows : List Row) (ended : �
   unfolding data_end_before
   less_at zero r found = omega arith
   less_at (suc i) r found =
-      let own = earlier rows i r found in
+      let own = earlier rows i found in
       subst (λ n. data_end_after n (other i) (slice_get (map emptied_row rows) i) ≤ ended (suc i))
       (sym (place-same head rows i))
       (subst (λ o. data_end_after (place head rows i) (other i) o ≤ ended (suc i))
@@ -157,7 +157,7 @@ module _ (head : Option Head) (class : ClassFields) (rows : List Row) (ended : �
   -- with lost frames as empty ones they are well placed
   pub placed-kept : AreWellPlaced head class (map emptied_row rows)
   placed-kept i q found =
-      let own = some_row (slice_get rows i) q (sym (slice_get-map emptied_row rows i) ∙ found) in
+      let own = some_row (sym (slice_get-map emptied_row rows i) ∙ found) in
       subst (IsWellPlaced head class (map emptied_row rows) i) own.2 (placed_at i own.0 own.1)
 
 -- Frames that are well placed without a head.
@@ -172,67 +172,67 @@ module _ (head : Option Head) (class : ClassFields) (rows : List Row)
   abbrev more : ℕ
   more = head_area head
 
-  stands_at : (i : ℕ) (r : Row) → slice_get rows i ≡ Some r → r.lost ≡ false
+  stands_at : (i : ℕ) {r : Row} → slice_get rows i ≡ Some r → r.lost ≡ false
       → Stands (at i) (ended i) r
-  stands_at i r found kept = stands_by (at i) (ended i) r
-      (data-none_well (at i) (ended i) r (placed i r found).sound
+  stands_at i {r} found kept = stands_by
+      (data-none_well (placed i r found).sound
       (sym (placed i r found).mark ∙ kept))
 
   -- where the main data end after the frame, with `more` bytes before the first area and without
   -- them
-  ends_by : (at ended : ℕ) (r : Row) (silent lost : Bool) → ended ≤ at
+  ends_by : {at ended : ℕ} {r : Row} (silent : Bool) {lost : Bool} → ended ≤ at
       → (lost ≡ false → Stands at ended r)
       → (cond (lost || silent) (more + ended) (end_of_data (more + at) r)
       ≤ more + cond (silent || lost) ended (end_of_data at r))
       × (cond (silent || lost) ended (end_of_data at r) ≤ at + own_area r.header)
-  ends_by at ended r silent lost before well = grind arith
+  ends_by silent before well = grind arith
 
-  ends_at : (i : ℕ) (r : Row) → slice_get rows i ≡ Some r → ended i ≤ at i
+  ends_at : (i : ℕ) {r : Row} → slice_get rows i ≡ Some r → ended i ≤ at i
       → (cond (r.lost || is_silent r) (more + ended i) (end_of_data (more + at i) r)
       ≤ more + ended (suc i)) × (ended (suc i) ≤ at (suc i))
   unfolding data_end_before
-  ends_at i r found before = grind (arith, ends_by, before, stands_at, area-more)
+  ends_at i found before = grind (arith, ends_by, before, stands_at, area-more)
 
-  before_at : (i : ℕ) (r : Row) → slice_get rows i ≡ Some r → ended i ≤ at i
+  before_at : (i : ℕ) {r : Row} → slice_get rows i ≡ Some r → ended i ≤ at i
   unfolding data_end_before
-  before_at zero r found = omega arith
-  before_at (suc i) r found = let own = earlier rows i r found in
-      (ends_at i own.0 own.1 (before_at i own.0 own.1)).1
+  before_at zero found = omega arith
+  before_at (suc i) {r} found = let own = earlier rows i found in
+      (ends_at i own.1 (before_at i own.1)).1
 
-  kept_at : (i : ℕ) (r : Row) → slice_get rows i ≡ Some r
+  kept_at : (i : ℕ) {r : Row} → slice_get rows i ≡ Some r
       → IsKept class (more + at i) (more + ended i) (more + ended (suc i)) r
-  kept_at i r found =
+  kept_at i {r} found =
       let is = placed i r found in
-      let before = before_at i r found in
+      let before = before_at i found in
       record {
         known = is.known;
         class_is = is.class_is;
         fits = is.fits;
         before = omega (arith, before);
         stands = grind (arith, stands_at);
-        goes = (ends_at i r found before).0;
+        goes = (ends_at i found before).0;
       }
 
   -- with lost frames as empty ones, the frames are well placed with a head too
   pub placed-emptied : AreWellPlaced head class (map emptied_row rows)
   placed-emptied = placed-kept head class rows (λ i. more + ended i) (λ i r found.
       subst (λ n. IsKept class n (more + ended i) (more + ended (suc i)) r)
-      (sym (place-apart head rows i)) (kept_at i r found))
+      (sym (place-apart head rows i)) (kept_at i found))
 
 -- ---- the survey
 
-laid_one : (from to : ℕ) (r : Row) (rows : List Row) (b : Bool) → from ≤ r.offset
+laid_one : {from : ℕ} (to : ℕ) (r : Row) (rows : List Row) (b : Bool) → from ≤ r.offset
     → SideFits (class_of r.header) r.side
     → FramesAreLaid (r.offset + length_of (class_of r.header) r.header.slot) rows to
     → FramesAreLaid from (cond b (empty_row r) r ∷ rows) to
-laid_one from to r rows b low fits rest = grind (arith, SideFits-no_side (class_of r.header))
+laid_one to r rows b low fits rest = grind (arith, SideFits-no_side (class_of r.header))
 
 -- emptying lost frames leaves frames laid out
 pub laid_emptied : (from to : ℕ) (rows : List Row) → FramesAreLaid from rows to
     → FramesAreLaid from (map emptied_row rows) to
 laid_emptied from to [] laid = laid
 laid_emptied from to (r ∷ rows) laid =
-    laid_one from to r (map emptied_row rows) r.lost laid.0 laid.1
+    laid_one to r (map emptied_row rows) r.lost laid.0 laid.1
     (laid_emptied (r.offset + length_of (class_of r.header) r.header.slot) to rows laid.2)
 
 laid_from : (all : List Row) (n from to : ℕ) (rows : List Row) → FramesAreLaid from rows to

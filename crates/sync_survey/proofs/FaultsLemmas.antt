@@ -23,13 +23,13 @@ pub first-append : (xs ys : List SurveyFault)
 first-append xs ys = grind arith
 
 -- a list without a first fault is empty
-pub none-of : (xs : List SurveyFault) → first_of xs ≡ None → xs ≡ []
-none-of xs e = grind arith
+pub none-of : {xs : List SurveyFault} → first_of xs ≡ None → xs ≡ []
+none-of e = grind arith
 
 -- more faults after it don't change the first fault
-pub some-append : (xs ys : List SurveyFault) (fault : SurveyFault) → first_of xs ≡ Some fault
+pub some-append : (xs ys : List SurveyFault) {fault : SurveyFault} → first_of xs ≡ Some fault
     → first_of (xs ++ ys) ≡ Some fault
-some-append xs ys fault e = grind arith
+some-append xs ys e = grind arith
 
 -- ---- one frame
 
@@ -54,15 +54,15 @@ module _ (said allowed place ended count : ℕ) (r : Row) where
   by_parts = grind (arith, first-append)
 
   -- the fault of the check word comes first
-  pub first-word : (fault : SurveyFault) → first_of (crc_faults said r) ≡ Some fault
+  pub first-word : {fault : SurveyFault} → first_of (crc_faults said r) ≡ Some fault
       → first_of (later_faults said allowed place ended count r) ≡ Some fault
-  first-word fault is = sym by_parts ∙ rw is refl
+  first-word is = sym by_parts ∙ rw is refl
 
   -- without that, the fault of the main data comes first
-  pub first-data : (fault : SurveyFault) → first_of (crc_faults said r) ≡ None
+  pub first-data : {fault : SurveyFault} → first_of (crc_faults said r) ≡ None
       → first_of (data_faults place ended r) ≡ Some fault
       → first_of (later_faults said allowed place ended count r) ≡ Some fault
-  first-data fault none is = sym by_parts ∙ rw (none, is) refl
+  first-data none is = sym by_parts ∙ rw (none, is) refl
 
   -- without these, the fault of the number of frames comes first, if any
   pub first-count : first_of (crc_faults said r) ≡ None → first_of (data_faults place ended r)
@@ -104,10 +104,10 @@ set_last (p ∷ rows) r q = ap (λ l. p ∷ l) (set_last rows r q)
 
 module _ (head : Option Head) (rows : List Row) where
   -- more frames after it don't change the place of a frame
-  pub place-more : (more : List Row) (i : ℕ) → i ≤ length rows
+  pub place-more : (more : List Row) {i : ℕ} → i ≤ length rows
       → place head (rows ++ more) i ≡ place head rows i
   unfolding place
-  place-more more i within = grind (arith, sum_by, take-append-le, more)
+  place-more more within = grind (arith, sum_by, take-append-le, more)
 
   -- the place after one more frame is further on by its own area
   pub place-next : (r : Row) → place head (rows ++ r ∷ []) (length (rows ++ r ∷ []))
@@ -133,7 +133,7 @@ module _ (head : Option Head) (rule : ℕ → ℕ → Option Row → ℕ) (end :
       let before : i ≤ length rows = omega (arith, within) in
       one (rows ++ more) i
       ∙ ap (λ n. rule n (end (rows ++ more) i) (slice_get (rows ++ more) i))
-      (place-more head rows more i before)
+      (place-more head rows more before)
       ∙ ap (λ n. rule (place head rows i) n (slice_get (rows ++ more) i))
       (ruled-more rows more i before)
       ∙ ap (rule (place head rows i) (end rows i)) (get_more rows more i within)
@@ -147,7 +147,7 @@ module _ (head : Option Head) (rule : ℕ → ℕ → Option Row → ℕ) (end :
       ap (end (rows ++ r ∷ [])) long
       ∙ one (rows ++ r ∷ []) n
       ∙ ap (λ m. rule m (end (rows ++ r ∷ []) n) (slice_get (rows ++ r ∷ []) n))
-      (place-more head rows (r ∷ []) n (omega arith))
+      (place-more head rows (r ∷ []) (omega arith))
       ∙ ap (λ m. rule (place head rows n) m (slice_get (rows ++ r ∷ []) n))
       (ruled-more rows (r ∷ []) n (omega arith))
       ∙ ap (rule (place head rows n) (end rows n)) (get_next rows r)
@@ -186,32 +186,32 @@ enumerate-length n [] = refl
 enumerate-length n (x ∷ xs) = ap suc (enumerate-length (n + 1) xs)
 
 -- two maps that agree for each number are the same
-pub map-numbers : {X A : Type 0} (f g : ℕ → X → A) (n : ℕ) (xs : List X)
+pub map-numbers : {X A : Type 0} {f g : ℕ → X → A} (n : ℕ) (xs : List X)
     → ((i : ℕ) (x : X) → i < n + length xs → f i x ≡ g i x)
     → map (λ (p : ℕ × X). f p.0 p.1) (enumerate_from n xs)
     ≡ map (λ (p : ℕ × X). g p.0 p.1) (enumerate_from n xs)
-map-numbers f g n [] same = refl
-map-numbers f g n (x ∷ xs) same = ap₂ (λ a b. a ∷ b) (same n x (omega arith))
-    (map-numbers f g (n + 1) xs (λ i y lt. same i y (omega (arith, lt))))
+map-numbers n [] same = refl
+map-numbers {f = f} {g = g} n (x ∷ xs) same = ap₂ (λ a b. a ∷ b) (same n x (omega arith))
+    (map-numbers (n + 1) xs (λ i y lt. same i y (omega (arith, lt))))
 
 -- two maps to lists that agree for each number are the same
-pub flat_map-numbers : {X A : Type 0} (f g : ℕ → X → List A) (n : ℕ) (xs : List X)
+pub flat_map-numbers : {X A : Type 0} {f g : ℕ → X → List A} (n : ℕ) (xs : List X)
     → ((i : ℕ) (x : X) → i < n + length xs → f i x ≡ g i x)
     → flat_map (λ (p : ℕ × X). f p.0 p.1) (enumerate_from n xs)
     ≡ flat_map (λ (p : ℕ × X). g p.0 p.1) (enumerate_from n xs)
-flat_map-numbers f g n [] same = refl
-flat_map-numbers f g n (x ∷ xs) same =
+flat_map-numbers n [] same = refl
+flat_map-numbers {f = f} {g = g} n (x ∷ xs) same =
     ap₂ (λ a b. a ++ b) (same n x (omega arith))
-    (flat_map-numbers f g (n + 1) xs (λ i y lt. same i y (omega (arith, lt))))
+    (flat_map-numbers (n + 1) xs (λ i y lt. same i y (omega (arith, lt))))
 
 module _ (file : List ℕ) (head : Option Head) (class : ClassFields) (allowed : ℕ) where
   abbrev pub faults_of : List Row → ℕ → Row → List SurveyFault
   faults_of rows i r = frame_faults file head class allowed rows i r
 
   -- more frames after it don't change the faults of a frame
-  pub frame-more : (rows more : List Row) (i : ℕ) (r : Row) → i ≤ length rows
+  pub frame-more : (rows more : List Row) {i : ℕ} (r : Row) → i ≤ length rows
       → faults_of (rows ++ more) i r ≡ faults_of rows i r
-  frame-more rows more i r within = grind (arith, place-more, more, end-more)
+  frame-more rows more r within = grind (arith, place-more, more, end-more)
 
   -- the faults of these frames are unchanged, and those of the frames after them follow
   pub faults-more : (rows more : List Row) → all_faults file head class allowed (rows ++ more)
@@ -225,8 +225,8 @@ module _ (file : List ℕ) (head : Option Head) (class : ClassFields) (allowed :
       ∙ flat_map-append each (enumerate_from 0 rows) (enumerate_from (0 + length rows) more)
       ∙ ap (λ n. flat_map each (enumerate_from 0 rows) ++ flat_map each (enumerate_from n more))
       (omega arith)
-      ∙ ap (λ l. l ++ later) (flat_map-numbers (faults_of (rows ++ more)) (faults_of rows) 0 rows
-      (λ i r lt. frame-more rows more i r (omega (arith, lt))))
+      ∙ ap (λ l. l ++ later) (flat_map-numbers 0 rows
+      (λ i r lt. frame-more rows more r (omega (arith, lt))))
 
   module _ (rows : List Row) (r : Row) (none : all_faults file head class allowed rows ≡ []) where
     -- if the next frame has no fault, all have none
@@ -235,10 +235,10 @@ module _ (file : List ℕ) (head : Option Head) (class : ClassFields) (allowed :
     none_more sound = grind (arith, faults-more, frame-more, none-of)
 
     -- if the next frame has one, its first fault is the first of all
-    pub first_more : (later : List Row) (fault : SurveyFault)
+    pub first_more : (later : List Row) {fault : SurveyFault}
         → first_of (faults_of rows (length rows) r) ≡ Some fault
         → first_of (all_faults file head class allowed (rows ++ r ∷ later)) ≡ Some fault
-    first_more later fault is = grind (arith, flat_map, faults-more, some-append, frame-more)
+    first_more later is = grind (arith, flat_map, faults-more, some-append, frame-more)
 
   -- no frames have no faults
   pub faults-none : all_faults file head class allowed [] ≡ []
@@ -258,13 +258,13 @@ module _ (head : Option Head) where
   unfolding marked_rows
   marked_rows-none = refl
 
-  lost-more : (rows more : List Row) (i : ℕ) (r : Row) → i ≤ length rows
+  lost-more : (rows more : List Row) {i : ℕ} (r : Row) → i ≤ length rows
       → is_lost head (rows ++ more) i r ≡ is_lost head rows i r
-  lost-more rows more i r within = grind (arith, place-more, more, end-more)
+  lost-more rows more r within = grind (arith, place-more, more, end-more)
 
-  marked_row-more : (rows more : List Row) (i : ℕ) (r : Row) → i ≤ length rows
+  marked_row-more : (rows more : List Row) {i : ℕ} (r : Row) → i ≤ length rows
       → marked_row head (rows ++ more) i r ≡ marked_row head rows i r
-  marked_row-more rows more i r within = grind (arith, lost-more, more)
+  marked_row-more rows more r within = grind (arith, lost-more, more)
 
   -- one more frame doesn't change the marks of those before it
   pub marked_rows-push : (rows : List Row) (r : Row) → marked_rows head (rows ++ r ∷ [])
@@ -276,10 +276,10 @@ module _ (head : Option Head) where
       ap (map each) (enumerate-append 0 rows (r ∷ []))
       ∙ map-append each (enumerate_from 0 rows) (enumerate_from (0 + length rows) (r ∷ []))
       ∙ ap₂ (λ (a b : List Row). a ++ b)
-      (map-numbers (marked_row head whole) (marked_row head rows) 0 rows
-      (λ i q lt. marked_row-more rows (r ∷ []) i q (omega (arith, lt))))
+      (map-numbers 0 rows
+      (λ i q lt. marked_row-more rows (r ∷ []) q (omega (arith, lt))))
       (ap (λ q. q ∷ []) (ap (λ n. marked_row head whole n r) (omega arith)
-      ∙ marked_row-more rows (r ∷ []) (length rows) r (omega arith)))
+      ∙ marked_row-more rows (r ∷ []) r (omega arith)))
 
 -- ---- where the first frame begins
 

@@ -28,19 +28,19 @@ none-append : (at : ℕ) (xs ys : List SurveyFault) → NoneBefore at xs → Non
 none-append at [] ys p q = q
 none-append at (x ∷ xs) ys p q = (p.0, none-append at xs ys p.1 q)
 
-none-less : (low high : ℕ) (xs : List SurveyFault) → low ≤ high → NoneBefore high xs
+none-less : {low high : ℕ} (xs : List SurveyFault) → low ≤ high → NoneBefore high xs
     → NoneBefore low xs
-none-less low high [] le p = tt
-none-less low high (x ∷ xs) le p = (omega (arith, le, p.0), none-less low high xs le p.1)
+none-less [] le p = tt
+none-less {low} {high} (x ∷ xs) le p = (omega (arith, le, p.0), none-less xs le p.1)
 
 -- all of these faults are at one offset
 abbrev AreAt : ℕ → List SurveyFault → Type 0
 AreAt at [] = Unit {0}
 AreAt at (fault ∷ later) = (fault_offset fault ≡ at) × AreAt at later
 
-one_at : (at : ℕ) (b : Bool) (fault : SurveyFault) → fault_offset fault ≡ at
+one_at : {at : ℕ} (b : Bool) (fault : SurveyFault) → fault_offset fault ≡ at
     → AreAt at (fault_if_true b fault)
-one_at at b fault is = grind arith
+one_at b fault is = grind arith
 
 all_at : (at : ℕ) (xs ys : List SurveyFault) → AreAt at xs → AreAt at ys → AreAt at (xs ++ ys)
 all_at at [] ys p q = q
@@ -73,9 +73,9 @@ abbrev AreRising : ℕ → List Row → ℕ → Type 0
 AreRising at [] to = at ≤ to
 AreRising at (r ∷ rows) to = (at ≤ r.offset) × AreRising r.offset rows to
 
-rising_ends : (at : ℕ) (rows : List Row) (to : ℕ) → AreRising at rows to → at ≤ to
-rising_ends at [] to rise = rise
-rising_ends at (r ∷ rows) to rise = omega (arith, rise.0, rising_ends r.offset rows to rise.1)
+rising_ends : {at : ℕ} (rows : List Row) {to : ℕ} → AreRising at rows to → at ≤ to
+rising_ends [] rise = rise
+rising_ends (r ∷ rows) {to} rise = omega (arith, rise.0, rising_ends rows rise.1)
 
 -- each frame has faults only at its own offset
 abbrev AreOfEach : (ℕ → Row → List SurveyFault) → Type 0
@@ -84,11 +84,11 @@ AreOfEach each = (i : ℕ) (r : Row) → AreAt r.offset (each i r)
 abbrev in_turn : (ℕ → Row → List SurveyFault) → ℕ → List Row → List SurveyFault
 in_turn each n rows = flat_map (λ (p : ℕ × Row). each p.0 p.1) (enumerate_from n rows)
 
-first_at : (at : ℕ) (xs ys : List SurveyFault) (fault : SurveyFault) → AreAt at xs
+first_at : {at : ℕ} (xs ys : List SurveyFault) {fault : SurveyFault} → AreAt at xs
     → first_of (xs ++ ys) ≡ Some fault → NoneBefore at ys
     → (xs ≡ []) ⊎ ((fault_offset fault ≡ at) × NoneBefore (fault_offset fault) (xs ++ ys))
-first_at at [] ys fault all is later = inl refl
-first_at at (x ∷ xs) ys fault all is later =
+first_at [] ys all is later = inl refl
+first_at {at} (x ∷ xs) ys all is later =
     grind (arith, all.0, none-append at (x ∷ xs) ys (at_none at (x ∷ xs) all) later)
 
 module _ (each : ℕ → Row → List SurveyFault) (own : AreOfEach each) where
@@ -125,7 +125,7 @@ module _ (each : ℕ → Row → List SurveyFault) (own : AreOfEach each) where
       subst (NoneBefore (fault_offset fault)) (sym same) (least_first r.offset to
       (n + 1) rows later fault rise.1 behind last (ap first_of (sym same) ∙ is)))
       (λ found. subst (NoneBefore (fault_offset fault)) (sym regrouped) found.1)
-      (first_at r.offset here (rest ++ later) fault (own n r)
+      (first_at here (rest ++ later) (own n r)
       (ap first_of (sym regrouped) ∙ is) low)
 
 all_least : (file : List ℕ) (head : Option Head) (class : ClassFields) (allowed at to : ℕ)
@@ -147,10 +147,10 @@ rising_more : (file : List ℕ) (at : ℕ) (item : Item) (rows : List PlacedFram
     → AreRising at (rows_of file (option_to_list (frame_of_item at item) ++ rows)) to
 rising_more file at item rows to rise = grind arith
 
-rising_less : (low high : ℕ) (rows : List Row) (to : ℕ) → low ≤ high → AreRising high rows to
+rising_less : {low high : ℕ} (rows : List Row) (to : ℕ) → low ≤ high → AreRising high rows to
     → AreRising low rows to
-rising_less low high [] to le rise = omega (arith, le, rise)
-rising_less low high (r ∷ rows) to le rise = (omega (arith, le, rise.0), rise.1)
+rising_less [] to le rise = omega (arith, le, rise)
+rising_less (r ∷ rows) to le rise = (omega (arith, le, rise.0), rise.1)
 
 items_rise : (file : List ℕ) (part : Region) (from : ℕ) (ps : List PlacedItem) (to : ℕ)
     → AreEndToEnd part file from ps to → AreRising from (rows_of file (frames_of ps)) to
@@ -175,21 +175,21 @@ numbered_frames-rise file at head ps to rise = grind (arith, rise_behind)
 
 -- ---- the fault where the walk ends
 
-end_place : (file : List ℕ) (frames : List PlacedFrame) (stop : ℕ) (o : Option SurveyFault)
+end_place : (file : List ℕ) (frames : List PlacedFrame) {stop : ℕ} {o : Option SurveyFault}
     → stop ≤ length file → fault_at stop (item_at file stop) ≡ o
     → NoneBefore stop (option_to_list (end_fault file frames o))
-end_place file frames stop o within is = grind arith
+end_place file frames within is = grind arith
 
-one_only : (o : Option SurveyFault) (fault : SurveyFault) → first_of (option_to_list o) ≡ Some fault
+one_only : (o : Option SurveyFault) {fault : SurveyFault} → first_of (option_to_list o) ≡ Some fault
     → NoneBefore (fault_offset fault) (option_to_list o)
-one_only o fault e = grind arith
+one_only o e = grind arith
 
 -- the first fault of a file with this start has the smallest offset
-pub first_is_least : (file : List ℕ) (allowed : ℕ) (start : Start) (fault : SurveyFault)
+pub first_is_least : (file : List ℕ) (allowed : ℕ) (start : Start) {fault : SurveyFault}
     → start.first.offset ≤ length file → first_of (faults_from file allowed start) ≡ Some fault
     → NoneBefore (fault_offset fault) (faults_from file allowed start)
 unfolding faults_from walk_from
-first_is_least file allowed start fault within is =
+first_is_least file allowed start within is =
     grind (
       arith,
       item_run-ends Stream file start.first.offset,
@@ -203,22 +203,22 @@ first_is_least file allowed start fault within is =
 
 -- ---- the refusal of a survey
 
-start_is : (file : List ℕ) (allowed : ℕ) (start : Start) (fault : SurveyFault)
+start_is : (file : List ℕ) (allowed : ℕ) {start : Start} {fault : SurveyFault}
     (r : Result Start SurveyFault) → start_of file ≡ r → r ≡ Ok start
     → survey_from_start file allowed r
     ≡ Err fault → NoneBefore (fault_offset fault) (faults_from file allowed start)
-start_is file allowed start fault (Err f) begun same e = absurd cc
-start_is file allowed start fault (Ok s) begun same e =
+start_is file allowed (Err f) begun same e = absurd cc
+start_is file allowed {start} {fault} (Ok s) begun same e =
     let one : s ≡ start = cc in
     subst (λ t. NoneBefore (fault_offset fault) (faults_from file allowed t)) one
-    (first_is_least file allowed s fault (omega (arith, (start-first file s begun).frame.within))
-    (fault_is (first_of (faults_from file allowed s)) (fields_from file s) fault e))
+    (first_is_least file allowed s (omega (arith, (start-first begun).frame.within))
+    (fault_is (first_of (faults_from file allowed s)) (fields_from file s) e))
 
-survey_fields-first : (file : List ℕ) (allowed : ℕ) (fault : SurveyFault)
-    → survey_fields file allowed ≡ Err fault → (start : Start) → start_of file ≡ Ok start
+survey_fields-first : (file : List ℕ) (allowed : ℕ) {fault : SurveyFault}
+    → survey_fields file allowed ≡ Err fault → {start : Start} → start_of file ≡ Ok start
     → NoneBefore (fault_offset fault) (faults_from file allowed start)
 unfolding survey_fields
-survey_fields-first file allowed fault e start begun = grind (arith, start_is)
+survey_fields-first file allowed e begun = grind (arith, start_is)
 
 none_at_all : (xs : List SurveyFault) → NoneBefore 0 xs
 none_at_all [] = tt
@@ -228,16 +228,16 @@ none_at_all (x ∷ xs) = (omega arith, none_at_all xs)
 nowhere : (fault : SurveyFault) → (fault_offset fault ≡ 0) ⊎ (kind_of fault ≡ IsRefused)
 nowhere fault = grind arith
 
-long_by : (file : List ℕ) (allowed : ℕ) (fault : SurveyFault) (start : Start) (b : Bool)
+long_by : (file : List ℕ) (allowed : ℕ) {fault : SurveyFault} {start : Start} (b : Bool)
     → start_of file ≡ Ok start → cond b (Err (TooLong (length file))) (survey_fields file allowed)
     ≡ Err fault → NoneBefore (fault_offset fault) (faults_from file allowed start)
-long_by file allowed fault start b begun e = grind (arith, none_at_all, survey_fields-first)
+long_by file allowed b begun e = grind (arith, none_at_all, survey_fields-first)
 
-of_file : (file : List ℕ) (allowed : ℕ) (fault : SurveyFault) (start : Start)
+of_file : (file : List ℕ) (allowed : ℕ) {fault : SurveyFault} {start : Start}
     → start_of file ≡ Ok start → survey_of file allowed ≡ Err fault
     → NoneBefore (fault_offset fault) (faults_from file allowed start)
 unfolding survey_of
-of_file file allowed fault start begun is = grind (arith, long_by)
+of_file file allowed begun is = grind (arith, long_by)
 
 abbrev IsFirstOf : Files → List ℕ → ℕ → SurveyFault → Type 0
 IsFirstOf files name allowed fault = (bytes : List ℕ) → Holds files name bytes → (start : Start)

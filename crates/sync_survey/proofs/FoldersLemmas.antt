@@ -19,10 +19,10 @@ use Rattle.sync_survey.specs.declared.surveys.Survey.{Survey}
 
 -- ---- the survey of a short file, and of one that is too long
 
-too_long : (file : List ℕ) (allowed size : ℕ) → size ≡ length file → longest_file < size
+too_long : (file : List ℕ) (allowed : ℕ) {size : ℕ} → size ≡ length file → longest_file < size
     → survey_of file allowed ≡ Err (TooLong size)
 unfolding survey_of
-too_long file allowed size is long = grind arith
+too_long file allowed is long = grind arith
 
 -- the survey of a file that isn't too long is the survey of its bytes
 pub survey_of-short : (file : List ℕ) (allowed : ℕ) → length file ≤ longest_file
@@ -36,24 +36,24 @@ octets_bytes bytes all = AreBytes-from_slice bytes (λ i. record { fits = all i 
 
 -- ---- what a look shows
 
-take_fewer : (m n : ℕ) (xs : List ℕ) → n ≡ min (length xs) m → (short : Bool)
+take_fewer : (m : ℕ) {n : ℕ} (xs : List ℕ) → n ≡ min (length xs) m → {short : Bool}
     → leb (length xs) m ≡ short → take n xs ≡ take m xs
-take_fewer m n xs is short e = grind (arith, leb-true, take_all, leb-false)
+take_fewer m xs is e = grind (arith, leb-true, take_all, leb-false)
 
 -- what was read at an offset shows the file there
-pub shown : (file : List ℕ) (at left wanted size : ℕ) (given : List ℕ) → size ≡ length file
+pub shown : {file : List ℕ} {at left wanted size : ℕ} {given : List ℕ} → size ≡ length file
     → left ≡ size - at → wanted ≡ min left look_size → given ≡ take wanted (drop at file)
     → Shows file at given left
-shown file at left wanted size given whole is many bytes = record {
-  front_is = bytes ∙ take_fewer look_size wanted (drop at file) (omega
-      (arith, whole, is, many, length-drop at file)) (leb (length (drop at file)) look_size) refl;
+shown {file} {at} {wanted = wanted} whole is many bytes = record {
+  front_is = bytes ∙ take_fewer look_size (drop at file) (omega
+      (arith, whole, is, many, length-drop at file)) refl;
   left_is = omega (arith, whole, is);
 }
 
 -- equal bytes show the file, too
 pub shown_in : {file front given : List ℕ} {at left : ℕ} → front ≡ given → Shows file at given left
     → Shows file at front left
-shown_in {file = file} {at = at} {left = left} same shows =
+shown_in {file} {at = at} {left = left} same shows =
     subst (λ front. Shows file at front left) (sym same) shows
 
 -- ---- after calls that left the files and all counts
@@ -80,9 +80,9 @@ read_more before reads = grind arith
 -- what a look showed after the reads, it showed of the file as it was before them
 pub still_shown : {feed : Fed} {name : List ℕ} {files now : Files} {old new : Counts}
     {front given : List ℕ} {at left : ℕ} → HasRead feed name files now old new → front ≡ given
-    → ((bytes : List ℕ) → Holds now name bytes → Shows bytes at given left) → (bytes : List ℕ)
+    → ((bytes : List ℕ) → Holds now name bytes → Shows bytes at given left) → {bytes : List ℕ}
     → Holds files name bytes → Shows bytes at front left
-still_shown {name = name} before same shows bytes holds =
+still_shown {name = name} before same shows {bytes} holds =
     shown_in same (shows bytes (subst (λ f. Holds f name bytes) (sym before.files) holds))
 
 -- a frame that is whole in what is left at an offset is whole from any earlier offset on
@@ -122,59 +122,58 @@ survey_ends {name = name} {allowed = allowed} {old = old} {new = new} (Err f) is
 
 -- if no count changed, only reads were counted
 pub only_reads_equal : {before after : Counts} → after ≡ before → OnlyReads before after
-only_reads_equal {before = before} same =
-    subst (OnlyReads before) (sym same) (only_reads_same before)
+only_reads_equal {before} same = subst (OnlyReads before) (sym same) (only_reads_same before)
 
 -- a file whose stream doesn't begin has the fault of its start
-pub survey_fields-by : (file : List ℕ) (allowed : ℕ) (fault : SurveyFault)
+pub survey_fields-by : (file : List ℕ) (allowed : ℕ) {fault : SurveyFault}
     → start_of file ≡ Err fault → survey_fields file allowed ≡ Err fault
 unfolding survey_fields
-survey_fields-by file allowed fault is = ap (survey_from_start file allowed) is
+survey_fields-by file allowed is = ap (survey_from_start file allowed) is
 
 -- ---- the refusals
 
 module _ (name : List ℕ) (files : Files) (allowed : ℕ) (before after : Counts) where
   -- a file that is too long is refused with its length
-  pub long_refusal : (size : ℕ) → IsFileThere files name
+  pub long_refusal : {size : ℕ} → IsFileThere files name
       → ((bytes : List ℕ) → Holds files name bytes → size ≡ length bytes) → longest_file < size
       → after ≡ before → IsSurveyRefusal name files allowed before after (TooLong size)
-  long_refusal size there is long same = grind (arith, too_long)
+  long_refusal there is long same = grind (arith, too_long)
 
   -- any file may be refused when out of memory
-  pub memory_refusal : (size : ℕ) → HasLength files name size → after ≡ before
+  pub memory_refusal : {size : ℕ} → HasLength files name size → after ≡ before
       → IsSurveyRefusal name files allowed before after Memory
-  memory_refusal size known same = grind arith
+  memory_refusal known same = grind arith
 
-  kind_refusal : (fault : SurveyFault) → RefusesRightly fault
+  kind_refusal : {fault : SurveyFault} → RefusesRightly fault
       → RefusesBytes name files allowed before after fault
       → IsSurveyRefusal name files allowed before after fault
-  kind_refusal fault rightly refuses = grind arith
+  kind_refusal rightly refuses = grind arith
 
   -- a fault of the file's bytes refuses it
-  pub bytes_refusal : (size : ℕ) (fault : SurveyFault) → HasLength files name size → after ≡ before
+  pub bytes_refusal : {size : ℕ} {fault : SurveyFault} → HasLength files name size → after ≡ before
       → RefusesRightly fault
       → ((bytes : List ℕ) → Holds files name bytes → survey_fields bytes allowed ≡ Err fault)
       → IsSurveyRefusal name files allowed before after fault
-  bytes_refusal size fault known same rightly refused = grind (arith, kind_refusal, survey_of-short)
+  bytes_refusal known same rightly refused = grind (arith, kind_refusal, survey_of-short)
 
   -- a fault before the first frame refuses the file
-  pub start_refusal : (size : ℕ) (fault : SurveyFault) → HasLength files name size → after ≡ before
+  pub start_refusal : {size : ℕ} {fault : SurveyFault} → HasLength files name size → after ≡ before
       → RefusesRightly fault
       → ((bytes : List ℕ) → Holds files name bytes → start_of bytes ≡ Err fault)
       → IsSurveyRefusal name files allowed before after fault
-  start_refusal size fault known same rightly none = search (arith, bytes_refusal, survey_fields-by)
+  start_refusal known same rightly none = search (arith, bytes_refusal, survey_fields-by)
 
 -- a result that is a start is the start of the file
-pub start_ok : (r : Result Start SurveyFault) (files : Files) (name : List ℕ)
+pub start_ok : {r : Result Start SurveyFault} (files : Files) (name : List ℕ)
     → ((bytes : List ℕ) → Holds files name bytes → start_of bytes ≡ r)
     → IfOk r (λ s. (bytes : List ℕ) → Holds files name bytes → start_of bytes ≡ Ok s)
-start_ok r files name is = grind arith
+start_ok files name is = grind arith
 
 -- a result that is an error is such a refusal
-pub start_err : (r : Result Start SurveyFault) (name : List ℕ) (files : Files)
-    (before after : Counts) (size : ℕ) → HasLength files name size → after ≡ before
+pub start_err : (r : Result Start SurveyFault) {name : List ℕ} {files : Files}
+    {before after : Counts} {size : ℕ} → HasLength files name size → after ≡ before
     → IfErr r RefusesRightly → ((bytes : List ℕ) → Holds files name bytes → start_of bytes ≡ r)
     → IfErr r (λ fault. (allowed : ℕ) → IsSurveyRefusal name files allowed before after fault)
-start_err (Ok s) name files before after size known same rightly is = tt
-start_err (Err fault) name files before after size known same rightly is =
-    λ allowed. start_refusal name files allowed before after size fault known same rightly is
+start_err (Ok s) known same rightly is = tt
+start_err (Err fault) {name} {files} {before} {after} {size} known same rightly is =
+    λ allowed. start_refusal name files allowed before after known same rightly is

@@ -14,15 +14,15 @@ pub record IsPassedTo (file : List ℕ) (blocks : List Piece) (at : ℕ) : Type 
   pub stop : (item_run Front file at).stop ≡ front_end_of file
 
 -- at the beginning no blocks were passed
-pub passed_none : (file : List ℕ) (blocks : List Piece) → blocks ≡ [] → IsPassedTo file blocks 0
+pub passed_none : (file : List ℕ) {blocks : List Piece} → blocks ≡ [] → IsPassedTo file blocks 0
 unfolding front_end_of
-passed_none file blocks none = grind arith
+passed_none file none = grind arith
 
 -- passing an item of the front adds it, if it is a block
-pub passed_more : (file : List ℕ) (blocks later : List Piece) (at size : ℕ) (item : Item)
+pub passed_more : {file : List ℕ} {blocks later : List Piece} {at size : ℕ} {item : Item}
     → IsPassedTo file blocks at → Passes Front file at item size
     → later ≡ blocks ++ option_to_list (block_of_item at item) → IsPassedTo file later (at + size)
-passed_more file blocks later at size item so_far passes kept = grind (arith, append_assoc)
+passed_more so_far passes kept = grind (arith, append_assoc)
 
 -- the blocks are the blocks of the front, which ends here
 pub record IsFrontPassed (file : List ℕ) (blocks : List Piece) (at : ℕ) : Type 0 where
@@ -30,39 +30,39 @@ pub record IsFrontPassed (file : List ℕ) (blocks : List Piece) (at : ℕ) : Ty
   pub end : at ≡ front_end_of file
 
 -- if no further item of the front begins, the front was passed
-pub passed_all : (file : List ℕ) (blocks : List Piece) (at : ℕ) → IsPassedTo file blocks at
+pub passed_all : {file : List ℕ} {blocks : List Piece} {at : ℕ} → IsPassedTo file blocks at
     → whole_item_at Front file at ≡ None → IsFrontPassed file blocks at
-passed_all file blocks at so_far none = grind (arith, item_run-stopped_run, append-nil)
+passed_all so_far none = grind (arith, item_run-stopped_run, append-nil)
 
 -- at the end of the file, the front was passed
-pub passed_end : (file : List ℕ) (blocks : List Piece) (at size : ℕ) → size ≡ length file
+pub passed_end : {file : List ℕ} {blocks : List Piece} {at size : ℕ} → size ≡ length file
     → size ≤ at → IsPassedTo file blocks at → IsFrontPassed file blocks at
-passed_end file blocks at size is past so_far = grind (arith, passed_all, whole_item_at-past)
+passed_end is past so_far = grind (arith, passed_all, whole_item_at-past)
 
 -- ---- blocks that follow each other
 
-laid_push : (from : ℕ) (blocks : List Piece) (to later : ℕ) (b : Piece)
+laid_push : (from : ℕ) (blocks : List Piece) {to later : ℕ} (b : Piece)
     → BlocksAreLaid from blocks to → to ≤ b.offset → b.offset + b.block.length ≤ later
     → BlocksAreLaid from (blocks ++ b ∷ []) later
-laid_push from [] to later b laid low high = (omega (arith, laid, low), high)
-laid_push from (p ∷ blocks) to later b laid low high =
-    (laid.0, laid_push (p.offset + p.block.length) blocks to later b laid.1 low high)
+laid_push from [] b laid low high = (omega (arith, laid, low), high)
+laid_push from (p ∷ blocks) {to} {later} b laid low high =
+    (laid.0, laid_push (p.offset + p.block.length) blocks b laid.1 low high)
 
 -- blocks that end before an offset end before any later one
-pub pieces_later : (from : ℕ) (blocks : List Piece) (to later : ℕ) → BlocksAreLaid from blocks to
+pub pieces_later : (from : ℕ) (blocks : List Piece) {to later : ℕ} → BlocksAreLaid from blocks to
     → to ≤ later → BlocksAreLaid from blocks later
-pieces_later from [] to later laid low = omega (arith, laid, low)
-pieces_later from (p ∷ blocks) to later laid low =
-    (laid.0, pieces_later (p.offset + p.block.length) blocks to later laid.1 low)
+pieces_later from [] laid low = omega (arith, laid, low)
+pieces_later from (p ∷ blocks) {to} {later} laid low =
+    (laid.0, pieces_later (p.offset + p.block.length) blocks laid.1 low)
 
-laid_none : (from : ℕ) (blocks : List Piece) (to later : ℕ) → BlocksAreLaid from blocks to
+laid_none : (from : ℕ) (blocks : List Piece) {to later : ℕ} → BlocksAreLaid from blocks to
     → to ≤ later → BlocksAreLaid from (blocks ++ []) later
-laid_none from blocks to later laid low = grind (arith, append-nil, pieces_later)
+laid_none from blocks laid low = grind (arith, append-nil, pieces_later)
 
-laid_by : (blocks : List Piece) (at size : ℕ) (item : Item) → BlocksAreLaid 0 blocks at
+laid_by : (blocks : List Piece) (at : ℕ) {size : ℕ} (item : Item) → BlocksAreLaid 0 blocks at
     → size_of item ≤ size
     → BlocksAreLaid 0 (blocks ++ option_to_list (block_of_item at item)) (at + size)
-laid_by blocks at size item laid least = grind (arith, laid_push, laid_none)
+laid_by blocks at item laid least = grind (arith, laid_push, laid_none)
 
 -- one more block follows those before it
 pub blocks_more : (blocks later : List Piece) (at size : ℕ) (item : Item)
@@ -71,5 +71,5 @@ pub blocks_more : (blocks later : List Piece) (at size : ℕ) (item : Item)
 blocks_more blocks later at size item laid least kept = grind (arith, laid_by)
 
 -- no blocks are laid out
-pub blocks_none : (blocks : List Piece) → blocks ≡ [] → BlocksAreLaid 0 blocks 0
-blocks_none blocks none = subst (λ l. BlocksAreLaid 0 l 0) (sym none) (omega arith)
+pub blocks_none : {blocks : List Piece} → blocks ≡ [] → BlocksAreLaid 0 blocks 0
+blocks_none none = subst (λ l. BlocksAreLaid 0 l 0) (sym none) (omega arith)

@@ -36,18 +36,18 @@ module _ (part : Region) (file : List ℕ) where
   -- ---- from where to where
 
   -- items end to end end no earlier than they begin
-  pub ends-rise : (from : ℕ) (ps : List PlacedItem) (to : ℕ)
+  pub ends-rise : (from : ℕ) (ps : List PlacedItem) {to : ℕ}
       → AreEndToEnd part file from ps to → from ≤ to
-  ends-rise from [] to ends = omega (arith, ends)
-  ends-rise from (p ∷ ps) to ends =
-      omega (arith, ends.0, ends-rise (p.offset + size_of p.item) ps to ends.2)
+  ends-rise from [] ends = omega (arith, ends)
+  ends-rise from (p ∷ ps) {to} ends =
+      omega (arith, ends.0, ends-rise (p.offset + size_of p.item) ps ends.2)
 
   -- items end to end end within the file, if they begin there
-  pub ends-within : (from : ℕ) (ps : List PlacedItem) (to : ℕ)
+  pub ends-within : (from : ℕ) (ps : List PlacedItem) {to : ℕ}
       → AreEndToEnd part file from ps to → from ≤ length file → to ≤ length file
-  ends-within from [] to ends within = omega (arith, ends, within)
-  ends-within from (p ∷ ps) to ends within = ends-within
-      (p.offset + size_of p.item) ps to
+  ends-within from [] ends within = omega (arith, ends, within)
+  ends-within from (p ∷ ps) {to} ends within = ends-within
+      (p.offset + size_of p.item) ps
       ends.2 (whole_item_at-is part file p.offset p.item ends.1).within
 
 -- ---- bytes that are items
@@ -71,15 +71,15 @@ items_of ps = map (λ p. p.item) ps
 
 module _ (part : Region) (file : List ℕ) where
   -- bytes that are items are as many as the items have
-  pub items-length : (from : ℕ) (ps : List PlacedItem) (to : ℕ) (bytes : List ℕ)
+  pub items-length : (from : ℕ) (ps : List PlacedItem) {to : ℕ} (bytes : List ℕ)
       → AreEndToEnd part file from ps to → AreItems part (items_of ps) bytes
       → from + length bytes ≡ to
-  items-length from [] to bytes ends are = omega (arith, ends, ap length are)
-  items-length from (p ∷ ps) to bytes ends are =
+  items-length from [] bytes ends are = omega (arith, ends, ap length are)
+  items-length from (p ∷ ps) {to} bytes ends are =
       grind (
         arith,
         length-append,
-        items-length (p.offset + size_of p.item) ps to are.1 ends.2 are.5,
+        items-length (p.offset + size_of p.item) ps are.1 ends.2 are.5,
       )
 
   -- the bytes of items of a file are these items
@@ -171,11 +171,11 @@ module _ (part : Region) (file : List ℕ) where
       )
 
   -- they are the run there, if no further item of the part begins after them
-  pub items-item_run : (at : ℕ) (items : List Item) (bytes behind : List ℕ)
+  pub items-item_run : {at : ℕ} (items : List Item) (bytes behind : List ℕ)
       → AreItems part items bytes → at ≤ length file → drop at file ≡ bytes ++ behind
       → whole_item_at part file (at + length bytes) ≡ None
       → item_run part file at ≡ record { items = placed at items; stop = at + length bytes }
-  items-item_run at items bytes behind are within is none = search (arith, item_run-only, items-end)
+  items-item_run items bytes behind are within is none = search (arith, item_run-only, items-end)
 
 -- ---- frames and blocks among them
 
@@ -225,39 +225,40 @@ pub blocks-nearer : (gap : ℕ) (ps : List PlacedItem)
     → blocks_of (map (nearer gap) ps) ≡ map (nearer_piece gap) (blocks_of ps)
 blocks-nearer gap ps = blocks-by (λ at. at - gap) ps
 
-one_mapped : (f g : Piece → Piece) (at : ℕ) (item : Item) (ys : List Piece)
+one_mapped : {f g : Piece → Piece} {at : ℕ} (item : Item) (ys : List Piece)
     → ((p : Piece) → p.offset ≡ at → f p ≡ g p) → map f ys ≡ map g ys
     → map f (cons_option (block_of_item at item) ys)
     ≡ map g (cons_option (block_of_item at item) ys)
-one_mapped f g at item ys same rest = grind arith
+one_mapped item ys same rest = grind arith
 
 -- two changes that agree for blocks between two offsets agree for the blocks that are there
-pub blocks-between : (part : Region) (f g : Piece → Piece) (file : List ℕ) (low high from : ℕ)
-    (ps : List PlacedItem) (to : ℕ) → ((p : Piece) → low ≤ p.offset → p.offset < high → f p ≡ g p)
+pub blocks-between : (part : Region) {f g : Piece → Piece} (file : List ℕ) {low high : ℕ} (from : ℕ)
+    (ps : List PlacedItem) {to : ℕ} → ((p : Piece) → low ≤ p.offset → p.offset < high → f p ≡ g p)
     → AreEndToEnd part file from ps to → low ≤ from → to ≤ high
     → map f (blocks_of ps) ≡ map g (blocks_of ps)
-blocks-between part f g file low high from [] to same ends begin end = refl
-blocks-between part f g file low high from (p ∷ ps) to same ends begin end =
+blocks-between part file from [] same ends begin end = refl
+blocks-between part {f} {g} file {low} {high} from (p ∷ ps)
+    {to} same ends begin end =
     let size = size_of p.item in
     let some = (whole_item_at-is part file p.offset p.item ends.1).some in
-    let rise : p.offset + size ≤ to = ends-rise part file (p.offset + size) ps to ends.2 in
-    one_mapped f g p.offset p.item (blocks_of ps)
+    let rise : p.offset + size ≤ to = ends-rise part file (p.offset + size) ps ends.2 in
+    one_mapped p.item (blocks_of ps)
     (λ q here. same q (omega (arith, here, ends.0, begin)) (omega (arith, here, some, rise, end)))
-    (blocks-between part f g file low high
-    (p.offset + size) ps to same ends.2 (omega (arith, ends.0, begin)) end)
+    (blocks-between part file
+    (p.offset + size) ps same ends.2 (omega (arith, ends.0, begin)) end)
 
 frame_count : (at : ℕ) (item : Item) (xs : List PlacedFrame)
     → length (cons_option (frame_of_item at item) xs) ≤ 1 + length xs
 frame_count at item xs = grind arith
 
 -- there are no more frames than bytes
-pub frames-few : (part : Region) (file : List ℕ) (from : ℕ) (ps : List PlacedItem) (to : ℕ)
+pub frames-few : (part : Region) (file : List ℕ) (from : ℕ) (ps : List PlacedItem) {to : ℕ}
     → AreEndToEnd part file from ps to → from + length (frames_of ps) ≤ to
-frames-few part file from [] to ends = omega (arith, ends)
-frames-few part file from (p ∷ ps) to ends =
+frames-few part file from [] ends = omega (arith, ends)
+frames-few part file from (p ∷ ps) {to} ends =
     grind (
       arith,
       whole_item_at-is,
       frame_count,
-      frames-few part file (p.offset + size_of p.item) ps to ends.2,
+      frames-few part file (p.offset + size_of p.item) ps ends.2,
     )

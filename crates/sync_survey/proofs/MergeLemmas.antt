@@ -17,14 +17,14 @@ module _ {A B : Type 0} (first_at : A → ℕ) (second_at : B → ℕ) (old : Me
   met (Some (First a)) new meets =
       let key : Entry A B → ℕ = entry_offset first_at second_at in
       ap (λ fs. merged_list key (map First fs) (map Second (seconds_left old))) meets.0.firsts
-      ∙ merged_own key (First a) (map First (firsts_left new)) (map Second (seconds_left old))
+      ∙ merged_own key (map First (firsts_left new)) (map Second (seconds_left old))
       (from_map key Second (first_at a) (seconds_left old) meets.1)
       ∙ ap (λ ss. First a ∷ merged_list key (map First (firsts_left new)) (map Second ss))
       (sym meets.0.seconds)
   met (Some (Second b)) new meets =
       let key : Entry A B → ℕ = entry_offset first_at second_at in
       ap (λ ss. merged_list key (map First (firsts_left old)) (map Second ss)) meets.0.seconds
-      ∙ merged_other key (map First (firsts_left old)) (Second b) (map Second (seconds_left new))
+      ∙ merged_other key (map First (firsts_left old)) (map Second (seconds_left new))
       (after_map key First (second_at b) (firsts_left old) meets.1)
       ∙ ap (λ fs. Second b ∷ merged_list key (map First fs) (map Second (seconds_left new)))
       (sym meets.0.firsts)

@@ -19,10 +19,10 @@ use Rattle.tag_blocks.specs.declared.block.Kind.{Kind}
 -- ---- the first byte of a header
 
 -- eleven ones begin with a byte of ones
-sync_byte : (byte next : ℕ) (rest : List ℕ) → byte < 256
+sync_byte : {byte : ℕ} (next : ℕ) (rest : List ℕ) → byte < 256
     → group 0 11 (bits (byte ∷ next ∷ rest)) ≡ 2047 → byte ≡ 255
 unfolding group
-sync_byte byte next rest below sync =
+sync_byte {byte} next rest below sync =
     let eight : length (bits_of 8 byte) ≡ 8 = length-bits_of 8 byte in
     let behind = bits (next ∷ rest) in
     let front : take 11 (bits (byte ∷ next ∷ rest)) ≡ bits_of 8 byte ++ take 3 behind =
@@ -40,24 +40,24 @@ readable_sync : (h : List ℕ) → is_readable h ≡ true → group 0 11 h ≡ 2
 unfolding is_readable
 readable_sync h is = grind (arith, eqb-true, and_parts)
 
-readable_cases : (h : List ℕ) (b : Bool) → is_readable h ≡ b → header_in h ≢ Err No
+readable_cases : (h : List ℕ) {b : Bool} → is_readable h ≡ b → header_in h ≢ Err No
     → is_readable h ≡ true
-readable_cases h b is header = grind (arith, header_in-no)
+readable_cases h is header = grind (arith, header_in-no)
 
 -- bytes that don't begin with ff are no header
-no_header_by : (b : Bool) (r : Result HeaderFields NotHeader) → (b ≡ true → r ≡ Err No)
+no_header_by : {b : Bool} {r : Result HeaderFields NotHeader} → (b ≡ true → r ≡ Err No)
     → cond b r (Err No) ≡ Err No
-no_header_by b r none = grind arith
+no_header_by none = grind arith
 
-result_cases : (r : Result HeaderFields NotHeader) → (r ≢ Err No → ⊥) → r ≡ Err No
-result_cases r not = grind arith
+result_cases : {r : Result HeaderFields NotHeader} → (r ≢ Err No → ⊥) → r ≡ Err No
+result_cases not = grind arith
 
 four_bytes : (bytes : List ℕ) → get_or bytes 0 0 < 255 → 4 ≤ length bytes
     → header_at (take 4 bytes) ≡ Err No
 unfolding header_at
 four_bytes (a ∷ b ∷ rest) below long =
-    result_cases _ (λ header. let ones = sync_byte a b (take 2 rest) (omega (arith, below))
-    (readable_sync _ (readable_cases _ _ refl header)) in omega (arith, ones, below))
+    result_cases (λ header. let ones = sync_byte b (take 2 rest) (omega (arith, below))
+    (readable_sync _ (readable_cases _ refl header)) in omega (arith, ones, below))
 four_bytes _ below long = absurd (omega (arith, long))
 
 -- bytes that don't begin with ff begin with no header
@@ -70,34 +70,34 @@ no_header bytes below = grind (arith, no_header_by, four_bytes, leb-true)
 below_ones : (kind : Kind) → first_byte kind < 255
 below_ones kind = grind arith
 
-block_front-below : (bytes : List ℕ) (b : TagBlock) → block_front bytes ≡ Some b
+block_front-below : (bytes : List ℕ) {b : TagBlock} → block_front bytes ≡ Some b
     → get_or bytes 0 0 < 255
-block_front-below bytes b is = omega (arith, block_front-first bytes b is, below_ones b.kind)
+block_front-below bytes {b} is = omega (arith, block_front-first bytes is, below_ones b.kind)
 
-option_cases : (o : Option TagBlock) → ((b : TagBlock) → o ≡ Some b → ⊥) → o ≡ None
-option_cases o not = grind arith
+option_cases : {o : Option TagBlock} → ((b : TagBlock) → o ≡ Some b → ⊥) → o ≡ None
+option_cases not = grind arith
 
 no_block : (bytes : List ℕ) → get_or bytes 0 0 ≡ 0 → block_front bytes ≡ None
 no_block bytes first = grind (arith, option_cases, block_front-not_zero)
 
 -- ---- one item
 
-byte_item-nothing : (bytes : List ℕ) → bytes ≢ [] → take 1 bytes ≢ 0 ∷ []
+byte_item-nothing : {bytes : List ℕ} → bytes ≢ [] → take 1 bytes ≢ 0 ∷ []
     → byte_item bytes ≡ Nothing
-byte_item-nothing bytes some other = grind arith
+byte_item-nothing some other = grind arith
 
 byte_item-zero : (bytes : List ℕ) → take 1 bytes ≡ 0 ∷ []
     → (get_or bytes 0 0 ≡ 0) × (byte_item bytes ≡ Zero)
 byte_item-zero bytes first = grind arith
 
 -- an item with which bytes begin is the one that the definition finds
-pub stands-only : (bytes : List ℕ) (item : Item) → IsItemFront bytes item → item ≡ item_front bytes
+pub stands-only : (bytes : List ℕ) {item : Item} → IsItemFront bytes item → item ≡ item_front bytes
 unfolding item_front
-stands-only bytes item here =
+stands-only bytes here =
     grind (arith, no_header, block_front-below, byte_item-zero, no_block, byte_item-nothing)
 
 -- an item at an offset of a file is the one that the definition finds there
 pub stands-only_at : (file : List ℕ) (at : ℕ) (item : Item) → IsItemFront (drop at file) item
     → item ≡ item_at file at
 unfolding item_at
-stands-only_at file at item here = stands-only (drop at file) item here
+stands-only_at file at item here = stands-only (drop at file) here

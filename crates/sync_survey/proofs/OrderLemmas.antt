@@ -7,9 +7,9 @@ use Rattle.sync_survey.specs.Order.{ordered_list, RisesBy}
 module _ {A : Type 0} (key : A → ℕ) where
   -- ---- one entry put in
 
-  put_first : (t : A) (ts : List A) → RisesBy key (key t) ts → ordered_insert key t ts ≡ t ∷ ts
-  put_first t [] rises = refl
-  put_first t (u ∷ us) rises = rw (le-ltb (key u) (key t) rises.0) refl
+  put_first : {t : A} (ts : List A) → RisesBy key (key t) ts → ordered_insert key t ts ≡ t ∷ ts
+  put_first [] rises = refl
+  put_first {t} (u ∷ us) rises = rw (le-ltb (key u) (key t) rises.0) refl
 
   merged_nil : (ts : List A) → merged_list key ts [] ≡ ts
   unfolding merged_list
@@ -19,33 +19,33 @@ module _ {A : Type 0} (key : A → ℕ) where
   -- ---- two lists as one
 
   -- an entry of the first list that isn't after the others comes first
-  pub merged_own : (t : A) (ts us : List A) → IsFirstFrom key (key t) us
+  pub merged_own : {t : A} (ts us : List A) → IsFirstFrom key (key t) us
       → merged_list key (t ∷ ts) us ≡ t ∷ merged_list key ts us
   unfolding merged_list
-  merged_own t ts us le = grind arith
+  merged_own ts us le = grind arith
 
   -- one of the others that is before the first list comes first
-  pub merged_other : (ts : List A) (u : A) (us : List A) → IsFirstAfter key (key u) ts
+  pub merged_other : (ts : List A) {u : A} (us : List A) → IsFirstAfter key (key u) ts
       → merged_list key ts (u ∷ us) ≡ u ∷ merged_list key ts us
   unfolding merged_list
-  merged_other ts u us lt = grind arith
+  merged_other ts us lt = grind arith
 
-  rises_after : (at from : ℕ) (ts : List A) → RisesBy key from ts → at < from
+  rises_after : {at from : ℕ} (ts : List A) → RisesBy key from ts → at < from
       → IsFirstAfter key at ts
-  rises_after at from ts rises lt = grind arith
+  rises_after ts rises lt = grind arith
 
   -- an entry at or before both lists is put before them
-  put_before : (t : A) (ts us : List A) → RisesBy key (key t) ts → RisesBy key (key t) us
+  put_before : {t : A} (ts us : List A) → RisesBy key (key t) ts → RisesBy key (key t) us
       → ordered_insert key t (merged_list key ts us) ≡ t ∷ merged_list key ts us
   unfolding merged_list
-  put_before t [] us rises behind = put_first t us behind
-  put_before t (s ∷ ts) [] rises behind = rw (le-ltb (key s) (key t) rises.0) refl
-  put_before t (s ∷ ts) (u ∷ us) rises behind = grind (arith, le-ltb)
+  put_before {t} [] us rises behind = put_first us behind
+  put_before {t} (s ∷ ts) [] rises behind = rw (le-ltb (key s) (key t) rises.0) refl
+  put_before (s ∷ ts) (u ∷ us) rises behind = grind (arith, le-ltb)
 
   -- entries that rise from a number on rise from any lesser one
-  pub rises_from : (from to : ℕ) (ts : List A) → from ≤ to → RisesBy key to ts → RisesBy key from ts
-  rises_from from to [] le rises = tt
-  rises_from from to (t ∷ ts) le rises = (omega (arith, le, rises.0), rises.1)
+  pub rises_from : {from to : ℕ} (ts : List A) → from ≤ to → RisesBy key to ts → RisesBy key from ts
+  rises_from [] le rises = tt
+  rises_from (t ∷ ts) le rises = (omega (arith, le, rises.0), rises.1)
 
   put_merged : (t : A) (ts us : List A) (from : ℕ) → RisesBy key (key t) ts → RisesBy key from us
       → ordered_insert key t (merged_list key ts us) ≡ merged_list key (t ∷ ts) us

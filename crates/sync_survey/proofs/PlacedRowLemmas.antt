@@ -29,8 +29,8 @@ use Rattle.sync_survey.specs.declared.runs.Region.TheVariants.{Stream}
 
 -- ---- the same class
 
-class-sound : (c d : ClassFields) → not (same_class c d) ≡ false → c ≡ d
-class-sound c d e = same_class-is c d (not-false (same_class c d) e)
+class-sound : {c d : ClassFields} → not (same_class c d) ≡ false → c ≡ d
+class-sound {c} {d} e = same_class-is (not-false (same_class c d) e)
 
 -- ---- one more frame
 
@@ -42,25 +42,25 @@ pub record ArePlacedTo (head : Option Head) (class : ClassFields) (rows : List R
   pub ended_is : ended ≡ data_end_before head rows (length rows)
 
 -- before the first frame the place is after the head's area
-pub placed_none : (head : Option Head) (class : ClassFields) (place_now : ℕ)
+pub placed_none : {head : Option Head} (class : ClassFields) {place_now : ℕ}
     → place_now ≡ head_area head → ArePlacedTo head class [] place_now 0
 unfolding data_end_before
-placed_none head class place_now is = grind (arith, place-none)
+placed_none class is = grind (arith, place-none)
 
 -- the same frames have the same place and end
-pub placed_same : (head : Option Head) (class : ClassFields) (old new : List Row)
-    (before behind : ReservoirState) → new ≡ old → behind ≡ before
+pub placed_same : {head : Option Head} {class : ClassFields} {old new : List Row}
+    {before behind : ReservoirState} → new ≡ old → behind ≡ before
     → ArePlacedTo head class old before.place before.ended
     → ArePlacedTo head class new behind.place behind.ended
-placed_same head class old new before behind same stays placed = grind arith
+placed_same same stays placed = grind arith
 
 -- a frame is well placed, given place and end
-pub placed_by : (head : Option Head) (class : ClassFields) (rows : List Row) (i : ℕ) (r : Row)
-    (place_now ended : ℕ) → place_now ≡ place head rows i → ended ≡ data_end_before head rows i
+pub placed_by : {head : Option Head} {class : ClassFields} {rows : List Row} {i : ℕ} {r : Row}
+    {place_now ended : ℕ} → place_now ≡ place head rows i → ended ≡ data_end_before head rows i
     → IsHeader r.header → class_of r.header ≡ class → SideFits class r.side
     → r.lost ≡ lacks_data place_now ended r → data_faults place_now ended r ≡ []
     → IsWellPlaced head class rows i r
-placed_by head class rows i r place_now ended at ends known same fits mark none = grind arith
+placed_by at ends known same fits mark none = grind arith
 
 -- frames before more are still well placed
 placed_before : (head : Option Head) (class : ClassFields) (rows more : List Row) (i : ℕ) (r : Row)
@@ -78,10 +78,10 @@ module _ (head : Option Head) (class : ClassFields) (said allowed : ℕ) (r : Ro
   frame = record r { lost = lacks_data place_now ended r }
 
   sound : IsSound said class allowed place_now ended count r
-  sound = faults-none_sound said class allowed place_now ended count r (none-of _ none)
+  sound = faults-none_sound said class allowed place_now ended count r (none-of none)
 
   class_is : class_of r.header ≡ class
-  class_is = class-sound (class_of r.header) class sound.same
+  class_is = class-sound sound.same
 
   last : IsWellPlaced head class (rows ++ frame ∷ []) (length rows) frame
   last = grind (arith, placed_by, place-more, end-more, class_is, sound-no_data, sound)
@@ -156,22 +156,22 @@ module _ (head : Option Head) (rows : List Row) where
       grind (arith, found-marked_rows, behind-marked, place-marked_rows, end-marked_rows i)
 
   -- what is made of a frame that may be there was made of one that is
-  pub from_some : (f : Row → Row) (o : Option Row) (q : Row) → option_map f o ≡ Some q
+  pub from_some : {f : Row → Row} {o : Option Row} {q : Row} → option_map f o ≡ Some q
       → (r : Row) × (o ≡ Some r) × (f r ≡ q)
-  from_some f o q e = grind arith
+  from_some e = grind arith
 
-row_fits : (file : List ℕ) (ps : List PlacedFrame) (i : ℕ) (r : Row) → IsClass (class_of r.header)
+row_fits : (file : List ℕ) (ps : List PlacedFrame) (i : ℕ) {r : Row} → IsClass (class_of r.header)
     → slice_get (rows_of file ps) i ≡ Some r → SideFits (class_of r.header) r.side
-row_fits file [] i r class is = absurd cc
-row_fits file (p ∷ ps) zero r class is = grind (arith, fits-side_in)
-row_fits file (p ∷ ps) (suc i) r class is = row_fits file ps i r class is
+row_fits file [] i class is = absurd cc
+row_fits file (p ∷ ps) zero class is = grind (arith, fits-side_in)
+row_fits file (p ∷ ps) (suc i) {r} class is = row_fits file ps i class is
 
-class-start : (file : List ℕ) (start : Start) → start_of file ≡ Ok start
+class-start : (file : List ℕ) {start : Start} → start_of file ≡ Ok start
     → IsClass (class_from start)
-class-start file start is =
+class-start file {start} is =
     let h = start.first.header in
-    IsClass-class_of h (header_front-in_range _ h
-    (stands-at file start.first.offset (Frame h) (start-first file start is).frame.is))
+    IsClass-class_of (header_front-in_range _
+    (stands-at file start.first.offset (Frame h) (start-first is).frame.is))
 
 -- the headers of items that follow end to end
 AllKnown : List PlacedFrame → Type 0
@@ -201,40 +201,39 @@ numbered_frames-known : (head : Option Head) (ps : List PlacedFrame) → AllKnow
 unfolding AllKnown
 numbered_frames-known head ps all = grind arith
 
-row_known : (file : List ℕ) (ps : List PlacedFrame) (i : ℕ) (r : Row) → AllKnown ps
+row_known : (file : List ℕ) (ps : List PlacedFrame) (i : ℕ) {r : Row} → AllKnown ps
     → slice_get (rows_of file ps) i ≡ Some r → IsHeader r.header
 unfolding AllKnown
-row_known file [] i r all is = absurd cc
-row_known file (p ∷ ps) zero r all is = grind arith
-row_known file (p ∷ ps) (suc i) r all is = row_known file ps i r all.1 is
+row_known file [] i all is = absurd cc
+row_known file (p ∷ ps) zero all is = grind arith
+row_known file (p ∷ ps) (suc i) {r} all is = row_known file ps i all.1 is
 
-well_placed : (file : List ℕ) (allowed : ℕ) (start : Start) (head : Option Head)
+well_placed : (file : List ℕ) {allowed : ℕ} {start : Start} {head : Option Head}
     (ps : List PlacedFrame) → start_of file ≡ Ok start → AllKnown ps
     → AreSound file head (class_from start) allowed (rows_of file ps)
     → AreWellPlaced head (class_from start) (marked_rows head (rows_of file ps))
-well_placed file allowed start head ps begins all sound = λ i q found.
+well_placed file {allowed} {start} {head} ps begins all sound =
+    λ i q found.
     let rows : List Row = rows_of file ps in
-    let parts = from_some head rows (marked_row head rows i) (slice_get rows i) q
+    let parts = from_some head rows
     (sym (found-marked_rows head rows i) ∙ found) in
     let r : Row = parts.0 in
     let here = sound i r parts.1 in
-    let same = class-sound (class_of r.header) (class_from start) here.same in
+    let same = class-sound here.same in
     let fits =
-    row_fits file ps i r (subst IsClass (sym same) (class-start file start begins)) parts.1 in
+    row_fits file ps i (subst IsClass (sym same) (class-start file begins)) parts.1 in
     subst (IsWellPlaced head (class_from start) (marked_rows head rows) i) parts.2
-    (placed_by head (class_from start) (marked_rows head rows) i (marked_row head rows i r)
-    (place head
-    rows i) (data_end_before head rows i) (sym (place-marked_rows head rows i))
+    (placed_by (sym (place-marked_rows head rows i))
     (sym (end-marked_rows head rows i))
-    (row_known file ps i r all parts.1) same (subst (λ c. SideFits c r.side) same fits) refl
+    (row_known file ps i all parts.1) same (subst (λ c. SideFits c r.side) same fits) refl
     (sound-no_data _ (class_from start) allowed (place head rows i)
     (data_end_before head rows i) i r here))
 
 -- the frames of a file without fault are well placed
-pub survey_fields-placed : (file : List ℕ) (allowed : ℕ) (s : SurveyFields)
+pub survey_fields-placed : (file : List ℕ) (allowed : ℕ) {s : SurveyFields}
     → survey_fields file allowed ≡ Ok s → AreWellPlaced s.head s.class s.frames
-survey_fields-placed file allowed s e =
-    let parts = survey_fields-parts file allowed s e in
+survey_fields-placed file allowed {s} e =
+    let parts = survey_fields-parts e in
     let start = parts.0 in
     let head = head_of file start.first in
     let stream = stream_run file start in
@@ -242,4 +241,4 @@ survey_fields-placed file allowed s e =
     start.first.offset stream.items stream.stop (item_run-ends Stream file start.first.offset)) in
     let sound = all_faults-none_sound file head (class_from start) allowed _ parts.1.frames in
     subst (λ (t : SurveyFields). AreWellPlaced t.head t.class t.frames) parts.2
-    (well_placed file allowed start head (frames_from file start) parts.1.start_is all sound)
+    (well_placed file (frames_from file start) parts.1.start_is all sound)

@@ -54,21 +54,21 @@ pub record IsBegun (file : List ℕ) (start : Start) (head : Option Head) : Type
   pub head_is : head ≡ head_of file start.first
 
 -- the first frame is an item of the stream at its offset
-pub first_of_stream : (file : List ℕ) (start : Start) → start_of file ≡ Ok start
+pub first_of_stream : (file : List ℕ) {start : Start} → start_of file ≡ Ok start
     → whole_item_at Stream file start.first.offset ≡ Some (Frame start.first.header)
-first_of_stream file start is =
-    let frame = (start-first file start is).frame in
+first_of_stream file {start} is =
+    let frame = (start-first is).frame in
     whole_item_at-whole Stream file start.first.offset (Frame start.first.header)
     frame.is frame.belongs frame.within
 
 module _ (file : List ℕ) (start : Start) (head : Option Head) (allowed : ℕ)
     (begun : IsBegun file start head) where
   -- before the first numbered frame nothing of the stream was met
-  pub surveyed_none : (blocks : List Piece) (place_now : ℕ)
+  pub surveyed_none : {blocks : List Piece} {place_now : ℕ}
       → blocks ≡ blocks_of (item_run Front file 0).items → place_now ≡ head_area head →
       IsSurveyedTo file start head allowed [] blocks place_now 0 (numbered_offset start.first head)
-  surveyed_none blocks place_now are is =
-      let first = first_of_stream file start begun.start_is in record {
+  surveyed_none are is =
+      let first = first_of_stream file begun.start_is in record {
         frames = ap (rows_of file) (numbered_frames-run file start head first);
         pieces = ap₂ (λ (xs ys : List Piece). xs ++ ys) are (numbered-blocks file start head first);
         stop = numbered-stop file start head first;
@@ -84,9 +84,9 @@ module _ (file : List ℕ) (start : Start) (head : Option Head) (allowed : ℕ) 
   class = class_from start
 
   -- a zero byte, or several, were passed
-  pub passed_zeros : (size : ℕ) → Passes Stream file at Zero size
+  pub passed_zeros : {size : ℕ} → Passes Stream file at Zero size
       → IsSurveyedTo file start head allowed rows blocks place_now ended (at + size)
-  passed_zeros size passes = record {
+  passed_zeros passes = record {
     frames = ap (λ l. rows ++ rows_of file l) (sym passes.frames) ∙ so_far.frames;
     pieces = ap (λ l. blocks ++ l) (sym passes.blocks) ∙ so_far.pieces;
     stop = sym passes.stop ∙ so_far.stop;
@@ -96,10 +96,10 @@ module _ (file : List ℕ) (start : Start) (head : Option Head) (allowed : ℕ) 
   }
 
   -- a block was kept
-  pub passed_block : (piece : Piece) (size : ℕ) → piece.offset ≡ at
+  pub passed_block : {piece : Piece} {size : ℕ} → piece.offset ≡ at
       → Passes Stream file at (Block piece.block) size
       → IsSurveyedTo file start head allowed rows (blocks ++ piece ∷ []) place_now ended (at + size)
-  passed_block piece size here passes = record {
+  passed_block {piece} {size} here passes = record {
     frames = ap (λ l. rows ++ rows_of file l) (sym passes.frames) ∙ so_far.frames;
     pieces = append_assoc blocks (piece ∷ []) _ ∙ ap (λ l. blocks ++ l) (ap (λ n. record {
       offset = n;
@@ -164,10 +164,10 @@ module _ (file : List ℕ) (start : Start) (head : Option Head) (allowed : ℕ) 
     first_fault h size fault passes is =
         let r = row_of file (record { offset = at; header = h }) in
         let later = rows_of file (frames_of (item_run Stream file (at + size)).items) in
-        survey-frame file allowed start head _ _ _ (found _ _ _ refl refl refl) fault
+        survey-frame file allowed start head _ _ _ (found _ _ _ refl refl refl)
         (ap (λ l. first_of (all_faults file head class allowed l))
         (sym so_far.frames ∙ ap (λ l. rows ++ rows_of file l) passes.frames)
-        ∙ first_more file head class allowed rows r so_far.none later fault
+        ∙ first_more file head class allowed rows r so_far.none later
         (ap first_of (sym (frame_by r)) ∙ is))
 
     -- all frames that were met are all that there are
@@ -200,12 +200,11 @@ module _ (file : List ℕ) (start : Start) (head : Option Head) (allowed : ℕ) 
     ended_at past = ap (fault_at at) (sym (stands-only_at file at End (drop_all at file past)))
 
     frames_cases : (frames : List PlacedFrame) → (rows ≡ rows_of file frames)
-        → (o : Option SurveyFault) → o ≡ None
+        → {o : Option SurveyFault} → o ≡ None
         → (rows ≡ [] → end_fault file frames o ≡ Some (NoFrame (length file)))
         × ((rows ≡ [] → ⊥) → end_fault file frames o ≡ None)
-    frames_cases [] are o none =
-        ((λ empty. ap (end_fault file []) none), (λ some. absurd (some are)))
-    frames_cases (p ∷ ps) are o none =
+    frames_cases [] are none = ((λ empty. ap (end_fault file []) none), (λ some. absurd (some are)))
+    frames_cases (p ∷ ps) are none =
         ((λ empty. absurd cc), (λ some. ap (end_fault file (p ∷ ps)) none))
 
     -- if no frame was met before the end of the file, that is the fault
@@ -215,7 +214,7 @@ module _ (file : List ℕ) (start : Start) (head : Option Head) (allowed : ℕ) 
         let none = whole_item_at-past Stream file at past in
         survey-stopped file allowed start head _ _ _ (found _ _ at refl refl (all_met none).2)
         (NoFrame (length file)) (none_of_all none)
-        ((frames_cases _ (all_met none).0 _ (ended_at past)).0 empty)
+        ((frames_cases _ (all_met none).0 (ended_at past)).0 empty)
 
     -- if a frame was met before the end of the file, the file has this survey
     pub whole : length file ≤ at → (rows ≡ [] → ⊥)
@@ -224,5 +223,5 @@ module _ (file : List ℕ) (start : Start) (head : Option Head) (allowed : ℕ) 
         let none = whole_item_at-past Stream file at past in
         survey-whole file allowed start head _ _ _
         (found _ blocks at refl (all_met none).1 (all_met none).2) (none_of_all none)
-        ((frames_cases _ (all_met none).0 _ (ended_at past)).1 some)
+        ((frames_cases _ (all_met none).0 (ended_at past)).1 some)
         ∙ ap (λ l. Ok (told_by file start head l blocks)) (sym (all_met none).0)

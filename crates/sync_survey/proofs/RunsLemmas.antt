@@ -6,10 +6,10 @@ use Rattle.std.proofs.lemmas.{Bool.{and_parts, leb-true}, List.{drop-drop, take-
 use Rattle.std.{proofs.lemmas.List.Elements.filter_map-append, specs.List.cons_option}
 use Rattle.sync_survey.{proofs.ItemsLemmas.size-some, specs.Items.{item_at, item_fits, size_of}}
 use Rattle.sync_survey.specs.Runs.{AreEndToEnd, belongs, block_of_item, blocks_of, bytes_of_items}
-use Rattle.sync_survey.specs.Runs.{frame_of_item, frames_of, item_bytes_in, item_if_whole, item_run}
-use Rattle.sync_survey.specs.Runs.{ItemRun, PlacedItem, run_onward, run_up_to, run_with_item}
-use Rattle.sync_survey.specs.{Runs.{stopped_run, whole_item_at}, declared.items.Item.Item}
-use Rattle.sync_survey.specs.declared.runs.Region.{Region, TheVariants.Front}
+use Rattle.sync_survey.specs.Runs.{frame_of_item, frames_of, item_bytes_in, item_run, ItemRun}
+use Rattle.sync_survey.specs.Runs.{PlacedItem, run_onward, run_up_to, run_with_item, stopped_run}
+use Rattle.sync_survey.specs.{Runs.whole_item_at, declared.{items.Item.Item, runs.Region.Region}}
+use Rattle.sync_survey.specs.declared.runs.Region.TheVariants.{Front}
 
 -- ---- one item
 
@@ -21,8 +21,8 @@ pub record IsItemOf (part : Region) (file : List ℕ) (at : ℕ) (item : Item) :
   pub some : 0 < size_of item
 
 -- what is given only if it is whole is whole, and is the item
-pub whole_cases : (b : Bool) (i j : Item) → cond b (Some i) None ≡ Some j → (b ≡ true) × (i ≡ j)
-whole_cases b i j e = grind arith
+pub whole_cases : {b : Bool} {i j : Item} → cond b (Some i) None ≡ Some j → (b ≡ true) × (i ≡ j)
+whole_cases e = grind arith
 
 run_onward-same : (at : ℕ) (next later : ℕ → ItemRun) (o : Option Item)
     → ((item : Item) → o ≡ Some item → next (at + size_of item) ≡ later (at + size_of item))
@@ -99,9 +99,9 @@ module _ (part : Region) (file : List ℕ) where
   item_run-step at = grind (arith, enough (length file) (suc (length file)), one_more (length file))
 
   -- if an item is at the offset, the run begins with it
-  pub item_run-next : (at : ℕ) (item : Item) → whole_item_at part file at ≡ Some item
+  pub item_run-next : {at : ℕ} {item : Item} → whole_item_at part file at ≡ Some item
       → item_run part file at ≡ run_with_item at item (item_run part file (at + size_of item))
-  item_run-next at item is = item_run-step at ∙ ap (run_onward at (item_run part file)) is
+  item_run-next {at} is = item_run-step at ∙ ap (run_onward at (item_run part file)) is
 
   -- if none is there, the run stops
   pub item_run-stopped_run : (at : ℕ) → whole_item_at part file at ≡ None
@@ -151,12 +151,12 @@ module _ (part : Region) (file : List ℕ) where
   item_run-last from = last_up_to (length file) from (omega arith)
 
   -- items that follow end to end, with no further one after them, are the run
-  pub item_run-only : (from : ℕ) (ps : List PlacedItem) (to : ℕ)
+  pub item_run-only : (from : ℕ) (ps : List PlacedItem) {to : ℕ}
       → AreEndToEnd part file from ps to → whole_item_at part file to ≡ None
       → item_run part file from ≡ record { items = ps; stop = to }
-  item_run-only from [] to ends none = grind (arith, item_run-stopped_run)
-  item_run-only from (p ∷ ps) to ends none =
-      grind (arith, item_run-next, item_run-only (p.offset + size_of p.item) ps to ends.2 none)
+  item_run-only from [] ends none = grind (arith, item_run-stopped_run)
+  item_run-only from (p ∷ ps) {to} ends none =
+      grind (arith, item_run-next, item_run-only (p.offset + size_of p.item) ps ends.2 none)
 
   -- items that follow end to end and the bytes after them are the file's bytes from their beginning
   -- on
@@ -198,30 +198,31 @@ unfolding item_run
 front-frames file from = front_up_to (length file) file from
 
 -- the frame, if any, at the offset comes first of the frames
-pub frames-next : (part : Region) (file : List ℕ) (at : ℕ) (item : Item)
+pub frames-next : (part : Region) (file : List ℕ) (at : ℕ) {item : Item}
     → whole_item_at part file at ≡ Some item →
     frames_of (item_run part file at).items
     ≡ option_to_list (frame_of_item at item)
     ++ frames_of (item_run part file (at + size_of item)).items
-frames-next part file at item is = grind (arith, item_run-next, is, cons_list)
+frames-next part file at is = grind (arith, item_run-next, is, cons_list)
 
 -- the block, if any, at the offset comes first of the blocks
-pub blocks-next : (part : Region) (file : List ℕ) (at : ℕ) (item : Item)
+pub blocks-next : (part : Region) (file : List ℕ) (at : ℕ) {item : Item}
     → whole_item_at part file at ≡ Some item →
     blocks_of (item_run part file at).items
     ≡ option_to_list (block_of_item at item)
     ++ blocks_of (item_run part file (at + size_of item)).items
-blocks-next part file at item is = grind (arith, item_run-next, is, cons_list)
+blocks-next part file at is = grind (arith, item_run-next, is, cons_list)
 
 -- one more item was kept
-pub kept_more : {X : Type 0} (old here kept rest later item_if_whole : List X) → kept ≡ old ++ here
-    → rest ≡ here ++ later → old ++ rest ≡ item_if_whole → kept ++ later ≡ item_if_whole
-kept_more old here kept rest later item_if_whole e e' e'' = grind (arith, append_assoc)
+pub kept_more : {X : Type 0} (old here : List X) {kept rest : List X} (later : List X)
+    {item_if_whole : List X} → kept ≡ old ++ here → rest ≡ here ++ later
+    → old ++ rest ≡ item_if_whole → kept ++ later ≡ item_if_whole
+kept_more old here later e e' e'' = grind (arith, append_assoc)
 
 -- if nothing is left to keep, all was kept
-pub kept_whole : {X : Type 0} (kept rest item_if_whole : List X) → rest ≡ []
+pub kept_whole : {X : Type 0} {kept rest item_if_whole : List X} → rest ≡ []
     → kept ++ rest ≡ item_if_whole → kept ≡ item_if_whole
-kept_whole kept rest item_if_whole nothing e = grind (arith, append-nil)
+kept_whole nothing e = grind (arith, append-nil)
 
 -- the frames of two joined lists of items are those of the first and then those of the second
 pub frames-append : (ps qs : List PlacedItem) → frames_of (ps ++ qs) ≡ frames_of ps ++ frames_of qs

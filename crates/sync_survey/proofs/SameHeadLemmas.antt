@@ -10,9 +10,9 @@ use Rattle.sync_survey.specs.{Walk.{frame_bytes, head_of}, declared.places.Head.
 use Rattle.sync_survey.specs.declared.places.PlacedFrame.{PlacedFrame}
 
 -- what is the same from one place on is the same from each later one
-drop_later : (place from : ℕ) (xs ys : List ℕ) → from ≤ place → drop from xs ≡ drop from ys
+drop_later : {place from : ℕ} (xs ys : List ℕ) → from ≤ place → drop from xs ≡ drop from ys
     → drop place xs ≡ drop place ys
-drop_later place from xs ys within same =
+drop_later {place} {from} xs ys within same =
     let split : place ≡ from + (place - from) = omega (arith, within) in
     let there : (l : List ℕ) → drop place l ≡ drop (place - from) (drop from l) =
     λ l. ap (λ n. drop n l) split ∙ sym (drop-drop (place - from) from l) in

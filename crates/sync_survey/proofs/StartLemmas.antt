@@ -24,19 +24,19 @@ abbrev pub first_of : (ℕ → Option PlacedFrame) → ℕ → ℕ → Option Pl
 first_of stands count from = slice_get (filter_map stands (range_with_len from count)) 0
 
 -- nothing is at the first offset
-nothing_here : (o : Option PlacedFrame) (rest : List PlacedFrame) → o ≡ None
+nothing_here : {o : Option PlacedFrame} (rest : List PlacedFrame) → o ≡ None
     → slice_get (cons_option o rest) 0 ≡ slice_get rest 0
-nothing_here o rest none = ap (λ x. slice_get (cons_option x rest) 0) none
+nothing_here rest none = ap (λ x. slice_get (cons_option x rest) 0) none
 
 -- if nothing is found at any offset, there is no first
-pub first_of-none : (stands : ℕ → Option PlacedFrame) (count from : ℕ)
+pub first_of-none : {stands : ℕ → Option PlacedFrame} (count : ℕ) {from : ℕ}
     → ((at : ℕ) → from ≤ at → at < from + count → stands at ≡ None)
     → first_of stands count from ≡ None
-first_of-none stands zero from none = refl
-first_of-none stands (suc n) from none =
-    nothing_here (stands from) (filter_map stands (range_with_len (from + 1) n))
+first_of-none zero none = refl
+first_of-none {stands} (suc n) {from} none =
+    nothing_here (filter_map stands (range_with_len (from + 1) n))
     (none from (omega arith) (omega arith))
-    ∙ first_of-none stands n (from + 1)
+    ∙ first_of-none n
     (λ at low high. none at (omega (arith, low)) (omega (arith, high)))
 
 -- this is at an offset, and there is nothing at an earlier one
@@ -76,19 +76,20 @@ first_of-nothing stands zero from found at low high = absurd (omega (arith, low,
 first_of-nothing stands (suc n) from found at low high = is_nothing stands n from at (stands from)
     refl found (λ later. first_of-nothing stands n (from + 1) later at) (stands at) refl low high
 
-is_found : (stands : ℕ → Option PlacedFrame) (n from : ℕ) (p : PlacedFrame) (o : Option PlacedFrame)
-    → stands from ≡ o
+is_found : {stands : ℕ → Option PlacedFrame} (n : ℕ) {from : ℕ} {p : PlacedFrame}
+    {o : Option PlacedFrame} → stands from ≡ o
     → slice_get (cons_option o (filter_map stands (range_with_len (from + 1) n))) 0 ≡ Some p →
     (first_of stands n (from + 1) ≡ Some p
     → (at : ℕ) × IsFirstAt stands (from + 1) ((from + 1) + n) at p)
     → (at : ℕ) × IsFirstAt stands from (from + suc n) at p
-is_found stands n from p o is found behind = grind arith
+is_found n is found behind = grind arith
 
 -- the first is at its offset, with nothing before it
-pub first_of-is : (stands : ℕ → Option PlacedFrame) (count from : ℕ) (p : PlacedFrame)
+pub first_of-is : {stands : ℕ → Option PlacedFrame} (count : ℕ) {from : ℕ} {p : PlacedFrame}
     → first_of stands count from ≡ Some p → (at : ℕ) × IsFirstAt stands from (from + count) at p
-first_of-is stands zero from p found = absurd cc
-first_of-is stands (suc n) from p found = grind (arith, is_found, first_of-is stands n (from + 1) p)
+first_of-is zero found = absurd cc
+first_of-is {stands} (suc n) {from} {p} found =
+    grind (arith, is_found, first_of-is {stands = stands} n {from = from + 1} {p = p})
 
 -- ---- anchored frames
 
@@ -114,26 +115,27 @@ anchored_item-cases file at (Frame h) p is e = anchor_cases file at h _ p is ref
 anchored_item-cases file at _ p is e = absurd cc
 
 -- what passes the test of anchored frames is one
-pub anchored_frame-is : (file : List ℕ) (at : ℕ) (p : PlacedFrame) → anchored_frame file at ≡ Some p
+pub anchored_frame-is : {file : List ℕ} {at : ℕ} {p : PlacedFrame} → anchored_frame file at ≡ Some p
     → IsAnchoredAt file at p
 unfolding anchored_frame
-anchored_frame-is file at p e = anchored_item-cases file at (item_at file at) p refl e
+anchored_frame-is {file} {at} {p} e = anchored_item-cases file at (item_at file at) p refl e
 
 -- the anchored frame that the code meets first is the one that is defined
-pub first_anchored-some : (count : ℕ) (file : List ℕ) (from at : ℕ) (p : PlacedFrame) → from ≤ at
+pub first_anchored-some : (count : ℕ) (file : List ℕ) {from at : ℕ} {p : PlacedFrame} → from ≤ at
     → at < from + count → anchored_frame file at ≡ Some p
     → ((earlier : ℕ) → from ≤ earlier → earlier < at → anchored_frame file earlier ≡ None) →
     first_anchored count file from ≡ Some p
 unfolding first_anchored
-first_anchored-some count file from at p low high here none = first_of-some (anchored_frame file)
+first_anchored-some count file {from} {at} {p} low high here none =
+    first_of-some (anchored_frame file)
     count from at p (record { low = low; high = high; here = here; none = none })
 
 -- without an anchored frame at any offset there is no first one
-pub first_anchored-none : (count : ℕ) (file : List ℕ) (from : ℕ)
+pub first_anchored-none : (count : ℕ) (file : List ℕ) {from : ℕ}
     → ((at : ℕ) → from ≤ at → at < from + count → anchored_frame file at ≡ None)
     → first_anchored count file from ≡ None
 unfolding first_anchored
-first_anchored-none count file from none = first_of-none (anchored_frame file) count from none
+first_anchored-none count file {from} none = first_of-none count none
 
 -- the frame at the smallest offset of the range at which there is an anchored one; none if there is
 -- none
@@ -142,9 +144,9 @@ IsFirstAnchored file from to r = MatchOption r ((at : ℕ) → from ≤ at → a
     → is_anchored file at ≡ false) (λ p. IsLeastOffset (is_anchored file) from to p.offset)
 
 -- the first anchored frame is at the smallest offset
-least_at : (file : List ℕ) (from to at : ℕ) (p : PlacedFrame)
+least_at : (file : List ℕ) {from to at : ℕ} {p : PlacedFrame}
     → IsFirstAt (anchored_frame file) from to at p → IsLeastOffset (is_anchored file) from to at
-least_at file from to at p first = grind (arith, is_some)
+least_at file first = grind (arith, is_some)
 
 -- the first anchored frame has no other before it
 pub first_anchored-least : (count : ℕ) (file : List ℕ) (from : ℕ) (r : Option PlacedFrame)
@@ -153,18 +155,18 @@ unfolding first_anchored
 first_anchored-least count file from None found =
     λ at low high. ap is_some (first_of-nothing (anchored_frame file) count from found at low high)
 first_anchored-least count file from (Some p) found =
-    let first = first_of-is (anchored_frame file) count from p found in
+    let first = first_of-is count found in
     subst (IsLeastOffset (is_anchored file) from (from + count))
-    (sym (anchored_frame-is file first.0 p first.1.here).offset)
-    (least_at file from (from + count) first.0 p first.1)
+    (sym (anchored_frame-is first.1.here).offset)
+    (least_at file first.1)
 
 -- the first anchored frame is a whole frame of the stream
-pub first_anchored-frame : (count : ℕ) (file : List ℕ) (from : ℕ) (p : PlacedFrame)
+pub first_anchored-frame : (count : ℕ) {file : List ℕ} (from : ℕ) {p : PlacedFrame}
     → first_anchored count file from ≡ Some p → IsItemOf Stream file p.offset (Frame p.header)
 unfolding first_anchored
-first_anchored-frame count file from p found =
-    let first = first_of-is (anchored_frame file) count from p found in
-    (anchored_frame-is file first.0 p first.1.here).frame
+first_anchored-frame count {file} from {p} found =
+    let first = first_of-is count found in
+    (anchored_frame-is first.1.here).frame
 
 -- ---- the first frame
 
@@ -188,7 +190,7 @@ behind_cases file front_end None s is e = absurd cc
 behind_cases file front_end (Some p) s is e =
     let same : record { front_end = front_end; first = p } ≡ s = cc in
     subst (IsFirstFrame file) same (record {
-      frame = first_anchored-frame longest_junk file (front_end + 1) p is;
+      frame = first_anchored-frame longest_junk (front_end + 1) is;
       least = inr (first_anchored-least longest_junk file (front_end + 1) (Some p) is);
     })
 
@@ -200,43 +202,43 @@ start_cases file at (Block b) s is e = absurd cc
 start_cases file at _ s is e = behind_cases file at _ s refl e
 
 -- the first frame of a stream is whole, and none is before it
-pub start-first : (file : List ℕ) (s : Start) → start_of file ≡ Ok s → IsFirstFrame file s
+pub start-first : {file : List ℕ} {s : Start} → start_of file ≡ Ok s → IsFirstFrame file s
 unfolding start_of
-start-first file s e = search (arith, start_cases)
+start-first e = search (arith, start_cases)
 
 -- ---- where the front ends
 
-front_cases : (file : List ℕ) (at : ℕ) (item : Item) (s : Start) → start_at file at item ≡ Ok s
+front_cases : (file : List ℕ) {at : ℕ} (item : Item) {s : Start} → start_at file at item ≡ Ok s
     → s.front_end ≡ at
-front_cases file at item s e = grind arith
+front_cases file item e = grind arith
 
 -- the start says where the front of the file ends
-pub start-front : (file : List ℕ) (s : Start) → start_of file ≡ Ok s
+pub start-front : (file : List ℕ) {s : Start} → start_of file ≡ Ok s
     → s.front_end ≡ front_end_of file
 unfolding start_of
-start-front file s e = front_cases file (front_end_of file) (item_at file (front_end_of file)) s e
+start-front file {s} e = front_cases file (item_at file (front_end_of file)) e
 
 -- ---- a frame that a look shows
 
 module _ (file : List ℕ) (at : ℕ) (front : List ℕ) (left : ℕ)
     (shows : Shows file at front left) where
-  none_by : (item : Item) → item_at file at ≡ item
+  none_by : {item : Item} → item_at file at ≡ item
       → ((h : HeaderFields) → item ≡ Frame h → has_anchor file at h ≡ false)
       → anchored_frame file at ≡ None
   unfolding anchored_frame
-  none_by item is without = grind arith
+  none_by is without = grind arith
 
   -- if no frame is here, none is anchored
-  pub shown_none : (item : Item) → item ≡ item_front front
+  pub shown_none : {item : Item} → item ≡ item_front front
       → ((h : HeaderFields) → item ≡ Frame h → ⊥) → anchored_frame file at ≡ None
-  shown_none item is none = none_by item (sym (item_at-shown file at front left shows) ∙ sym is)
+  shown_none {item} is none = none_by (sym (item_at-shown file at front left shows) ∙ sym is)
       (λ h e. absurd (none h e))
 
   -- a frame that isn't whole isn't anchored
-  pub shown_over : (h : HeaderFields) → item_front front ≡ Frame h
+  pub shown_over : {h : HeaderFields} → item_front front ≡ Frame h
       → left < length_of (class_of h) h.slot → anchored_frame file at ≡ None
-  shown_over h is past =
-      none_by (Frame h) (sym (item_at-shown file at front left shows) ∙ is) (λ g e.
+  shown_over {h} is past =
+      none_by (sym (item_at-shown file at front left shows) ∙ is) (λ g e.
       let same : h ≡ g = cc in
       let over : item_fits file at (Frame h) ≡ false =
       grind (arith, item_fits-left, lt-leb) in
@@ -244,13 +246,13 @@ module _ (file : List ℕ) (at : ℕ) (front : List ℕ) (left : ℕ)
       && is_anchor (class_of h) (item_at file (at + length_of (class_of h) h.slot))) over))
 
   -- a whole frame with this item after it is anchored if the item is an anchor
-  pub shown_before : (h : HeaderFields) (behind : Item) → item_front front ≡ Frame h
+  pub shown_before : {h : HeaderFields} {behind : Item} → item_front front ≡ Frame h
       → length_of (class_of h) h.slot ≤ left → length_of (class_of h) h.slot ≤ 4064
       → behind ≡ item_front (drop (length_of (class_of h) h.slot) front)
       → anchored_frame file at ≡ cond (is_anchor (class_of h) behind)
       (Some (record { offset = at; header = h })) None
   unfolding anchored_frame
-  shown_before h behind is within few end =
+  shown_before is within few end =
       grind (arith, item_fits-left, le-leb, item_at-behind, item_at-shown file at front left shows)
 
 -- ---- where the search ends
@@ -261,19 +263,19 @@ pub anchored_frame-past : (file : List ℕ) (at : ℕ) → length file ≤ at
 unfolding anchored_frame
 anchored_frame-past file at past = grind (arith, stands-only_at file at End (drop_all at file past))
 
-none_by_end : (file : List ℕ) (from to at : ℕ)
+none_by_end : (file : List ℕ) {from to at : ℕ}
     → ((earlier : ℕ) → from ≤ earlier → earlier < to → anchored_frame file earlier ≡ None) → from
     ≤ at → (to ≤ at → length file ≤ at) → (b : Bool) → leb to at ≡ b → anchored_frame file at ≡ None
-none_by_end file from to at none low end true e = grind (arith, anchored_frame-past, leb-true)
-none_by_end file from to at none low end false e = none at low (leb-false to at e)
+none_by_end file none low end true e = grind (arith, anchored_frame-past, leb-true)
+none_by_end file {to = to} {at = at} none low end false e = none at low (leb-false to at e)
 
 -- no anchored frame is before the end of the file or of the search
-pub none_anchored : (file : List ℕ) (size from to : ℕ) → size ≡ length file
+pub none_anchored : (file : List ℕ) {size from to : ℕ} → size ≡ length file
     → min size (from + longest_junk) ≤ to
     → ((earlier : ℕ) → from ≤ earlier → earlier < to → anchored_frame file earlier ≡ None)
     → first_anchored longest_junk file from ≡ None
-none_anchored file size from to is end none =
-    grind (arith, first_anchored-none, none_by_end file from to, none)
+none_anchored file {from = from} {to = to} is end none =
+    grind (arith, first_anchored-none, none_by_end file {from = from} {to = to}, none)
 
 -- ---- the start, given what is where the front ends
 

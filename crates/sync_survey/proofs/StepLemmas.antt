@@ -43,42 +43,42 @@ pub item_header : (front : List ℕ) (item : Item) → item ≡ item_front front
 item_header front item is h frame = grind (arith, header_front-in_range, stands)
 
 -- what precedes a frame's area is within the frame
-pub overhead_few : (front : List ℕ) (item : Item) (h : HeaderFields) → item ≡ item_front front
+pub overhead_few : (front : List ℕ) {item : Item} {h : HeaderFields} → item ≡ item_front front
     → item ≡ Frame h → overhead_of (class_of h) h.protected ≤ length_of (class_of h) h.slot
-overhead_few front item h is frame = overhead-within h (item_header front item is h frame)
+overhead_few front {item} {h} is frame = overhead-within (item_header front item is h frame)
 
 -- a header anywhere is the header of a frame with few bytes
-pub length_few : (front : List ℕ) (h : HeaderFields) → item_front front ≡ Frame h
+pub length_few : (front : List ℕ) {h : HeaderFields} → item_front front ≡ Frame h
     → length_of (class_of h) h.slot ≤ 1441
-length_few front h is = grind (arith, item_header, length-most, IsClass-class_of)
+length_few front is = grind (arith, item_header, length-most, IsClass-class_of)
 
 -- a look at a whole frame shows all that precedes the area
-pub room_shown : (front : List ℕ) (h : HeaderFields) (left : ℕ) → item_front front ≡ Frame h
+pub room_shown : (front : List ℕ) {h : HeaderFields} {left : ℕ} → item_front front ≡ Frame h
     → size_of (Frame h) ≤ left → length front ≡ min look_size left → ReachArea h front
-room_shown front h left is within many = grind (arith, overhead_few, length_few)
+room_shown front is within many = grind (arith, overhead_few, length_few)
 
 -- a look at a frame that is passed shows all that precedes the area
 pub room_passed : {front : List ℕ} {left : ℕ} {step : Step} → PassesFront front left step
     → length front ≡ min look_size left → (h : HeaderFields) → step.item ≡ Frame h
     → ReachArea h front
 room_passed {front} {left} passes many h frame =
-    room_shown front h left (sym passes.item ∙ frame)
+    room_shown front (sym passes.item ∙ frame)
     (omega (arith, ap size_of frame, passes.least, passes.within)) many
 
 -- a frame of the class, if it is whole, is passed
-pub frame_passes : (class : ClassFields) (front : List ℕ) (h : HeaderFields) {size left : ℕ}
+pub frame_passes : (class : ClassFields) {front : List ℕ} {h : HeaderFields} {size left : ℕ}
     → header_of_class class (header_front front) ≡ Some h → size ≡ length_of class h.slot
     → size ≤ left → PassesFront front left (record { item = Frame h; size = size })
-frame_passes class front h {size} is size_is within =
-    let read = some_of_class class (header_front front) h is in
-    let item : item_front front ≡ Frame h = frame_of_header front h read.0 in
+frame_passes class {front} {h} {size} is size_is within =
+    let read = some_of_class (header_front front) is in
+    let item : item_front front ≡ Frame h = frame_of_header front read.0 in
     let own : size ≡ size_of (Frame h) = size_is ∙ ap (λ d. length_of d h.slot) (sym read.1) in
     record {
       item = sym item;
       zeros = λ e. cc;
       own = λ _. own;
       least = omega (arith, own);
-      most = λ g frame. omega (arith, length_few front h item);
+      most = λ g frame. omega (arith, length_few front item);
       some = omega (arith, own, some_by front Stream (Frame h) read.0 refl);
       within = within;
     }
@@ -89,10 +89,11 @@ module _ (file : List ℕ) (at : ℕ) (front : List ℕ) (left : ℕ) (shows : S
     (h : HeaderFields) (few : overhead_of (class_of h) h.protected ≤ look_size) where
   -- the row of a frame that is read from a look is the row of the file
   pub row_shown : row_in at h front ≡ row_of file (record { offset = at; header = h })
-  row_shown = grind (arith, side_in-take h look_size (drop at file) few)
+  row_shown = grind (arith, side_in-take h (drop at file) few)
 
   word_shown : stored_crc front ≡ stored_crc (drop at file)
-  word_shown = ap stored_crc shows.front_is ∙ stored_crc-take look_size (drop at file) (omega arith)
+  word_shown =
+      ap stored_crc shows.front_is ∙ stored_crc-take {len = look_size} (drop at file) (omega arith)
 
   faults_shown : (class : ClassFields) (allowed place ended count : ℕ)
       → first_of (faults_at (stored_crc front) class allowed place ended count (row_in at h front))
@@ -131,14 +132,14 @@ module _ (file : List ℕ) (start : Start) (head : Option Head) (allowed : ℕ) 
       → IsSurveyedTo file start head allowed rows pieces place ended (at + size) → IsOn new size
   same rows pieces place ended new size rows_are pieces_are place_is ended_is there = grind arith
 
-  blocks_kept : (blocks : List Piece) (new : SurveySoFar) (size : ℕ) → KeepsBlocks blocks old new
+  blocks_kept : {blocks : List Piece} {new : SurveySoFar} (size : ℕ) → KeepsBlocks blocks old new
       → IsSurveyedTo file start head allowed frames
       (old.pieces.items ++ blocks) old.before.place old.before.ended (at + size) → IsOn new size
-  blocks_kept blocks new size keeps there = grind (arith, same)
+  blocks_kept size keeps there = grind (arith, same)
 
-  none_kept : (item : Item) (new : SurveySoFar) (size : ℕ) → Passes Stream file at Zero size
+  none_kept : (item : Item) {new : SurveySoFar} {size : ℕ} → Passes Stream file at Zero size
       → KeepsBlocks [] old new → IsOn new size
-  none_kept item new size passes keeps = grind (arith, blocks_kept, append-nil, passed_zeros)
+  none_kept item passes keeps = grind (arith, blocks_kept, append-nil, passed_zeros)
 
   -- the frame is kept with the mark that its number gives
   mark_is : (r : Row) → record r { lost = lacks_data old.before.place old.before.ended r }
@@ -170,9 +171,9 @@ module _ (file : List ℕ) (start : Start) (head : Option Head) (allowed : ℕ) 
       (keeps.ended ∙ ap (λ r. data_end_after old.before.place old.before.ended (Some r)) row))
 
   -- what is neither a frame nor a block is passed like a zero byte
-  as_zero : (item : Item) (size : ℕ) → Passes Stream file at item size → frame_of_item at item
+  as_zero : {item : Item} {size : ℕ} → Passes Stream file at item size → frame_of_item at item
       ≡ None → block_of_item at item ≡ None → Passes Stream file at Zero size
-  as_zero item size passes no_frame no_block = grind arith
+  as_zero passes no_frame no_block = grind arith
 
   -- an item that is passed and kept takes the survey past it
   pub kept : (item : Item) (new : SurveySoFar) (size : ℕ) → few_before item
@@ -224,16 +225,16 @@ laid_push from (q ∷ rows) to later r laid fits low high =
     )
 
 -- frames that end before an offset end before any later one
-pub laid_later : (from : ℕ) (rows : List Row) (to later : ℕ) → FramesAreLaid from rows to
+pub laid_later : (from : ℕ) (rows : List Row) {to later : ℕ} → FramesAreLaid from rows to
     → to ≤ later → FramesAreLaid from rows later
-laid_later from [] to later laid low = omega (arith, laid, low)
-laid_later from (q ∷ rows) to later laid low =
+laid_later from [] laid low = omega (arith, laid, low)
+laid_later from (q ∷ rows) {to} {later} laid low =
     grind (
       arith,
       rows,
       low,
       laid_later (q.offset + length_of (class_of q.header) q.header.slot)
-          rows to later laid.2 low,
+          rows laid.2 low,
     )
 
 -- the area is within the frame
@@ -275,8 +276,8 @@ module _ (head : Option Head) (first : ℕ) (class : ClassFields) (allowed at : 
 -- ---- how many frames there are
 
 -- a frame without fault is not the first past the number that is allowed
-fewer : (n allowed : ℕ) → (n == allowed) ≡ false → n ≤ allowed → n < allowed
-fewer n allowed differ few = grind (arith, cases_lt, true≢false, eq-eqb)
+fewer : {n allowed : ℕ} → (n == allowed) ≡ false → n ≤ allowed → n < allowed
+fewer differ few = grind (arith, cases_lt, true≢false, eq-eqb)
 
 -- a frame that was kept leaves no more frames than are allowed
 pub few_more : (class : ClassFields) (allowed at : ℕ) (front : List ℕ) (old new : SurveySoFar)
@@ -302,11 +303,11 @@ pass_refusal name files allowed before after size fault class at bytes left old 
     stops (inr (inl is)) = search (arith, bytes_refusal, same, fault_rightly)
 pass_refusal name files allowed before after size fault class at bytes left old known same faulty
     stops (inr (inr is)) =
-    bytes_refusal name files allowed before after size fault known same
+    bytes_refusal name files allowed before after known same
     is.rightly (λ file holds. stops file holds is)
 
 -- rows that follow each other end after they begin
-pub laid_end : (from : ℕ) (rows : List Row) (to : ℕ) → FramesAreLaid from rows to → from ≤ to
-laid_end from [] to laid = laid
-laid_end from (r ∷ rows) to laid =
-    grind (arith, laid_end (r.offset + length_of (class_of r.header) r.header.slot) rows to laid.2)
+pub laid_end : (from : ℕ) (rows : List Row) {to : ℕ} → FramesAreLaid from rows to → from ≤ to
+laid_end from [] laid = laid
+laid_end from (r ∷ rows) {to} laid =
+    grind (arith, laid_end (r.offset + length_of (class_of r.header) r.header.slot) rows laid.2)

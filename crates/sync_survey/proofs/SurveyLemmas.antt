@@ -19,9 +19,9 @@ use Rattle.sync_survey.specs.declared.survey_fault.SurveyFault.{SurveyFault}
 -- ---- a frame is longer than what precedes its area
 
 -- what precedes a frame's area is within the frame
-pub overhead-within : (h : HeaderFields) → IsHeader h
+pub overhead-within : {h : HeaderFields} → IsHeader h
     → overhead_of (class_of h) h.protected ≤ length_of (class_of h) h.slot
-overhead-within h fields = grind (arith, overhead-most, area_some, IsClass-class_of)
+overhead-within fields = grind (arith, overhead-most, area_some, IsClass-class_of)
 
 -- ---- the survey
 
@@ -37,10 +37,10 @@ told_by file start head rows blocks = record {
   length = length file;
 }
 
-survey-by : (file : List ℕ) (allowed : ℕ) (r : Result Start SurveyFault) → start_of file ≡ r
+survey-by : (file : List ℕ) (allowed : ℕ) {r : Result Start SurveyFault} → start_of file ≡ r
     → survey_fields file allowed ≡ survey_from_start file allowed r
 unfolding survey_fields
-survey-by file allowed r is = ap (survey_from_start file allowed) is
+survey-by file allowed is = ap (survey_from_start file allowed) is
 
 module _ (file : List ℕ) (allowed : ℕ) (start : Start) (head : Option Head)
     (frames : List PlacedFrame) (blocks : List Piece) (stop : ℕ)
@@ -60,31 +60,30 @@ module _ (file : List ℕ) (allowed : ℕ) (start : Start) (head : Option Head)
 
   fields-are : fields_from file start ≡ fields
   unfolding fields_from
-  fields-are = grind (arith, walk-is file start head frames blocks stop found)
+  fields-are = grind (arith, walk-is found)
 
   -- if a frame is at fault, its first fault is the file's
-  pub survey-frame : (fault : SurveyFault) → first_of of_frames ≡ Some fault
+  pub survey-frame : {fault : SurveyFault} → first_of of_frames ≡ Some fault
       → survey_fields file allowed ≡ Err fault
-  survey-frame fault is =
-      grind (arith, survey-by file allowed (Ok start) found.start_is, faults-are)
+  survey-frame is = grind (arith, survey-by file allowed found.start_is, faults-are)
 
-  last-fault : first_of of_frames ≡ None → (o : Option SurveyFault) → end ≡ o
+  last-fault : first_of of_frames ≡ None → {o : Option SurveyFault} → end ≡ o
       → first_of (faults_from file allowed start) ≡ first_of (option_to_list o)
-  last-fault none o is = grind (arith, faults-are, none-of, none)
+  last-fault none is = grind (arith, faults-are, none-of, none)
 
   -- if no frame is at fault, but the walk stops before the end or has no frame, that is the file's
   -- fault
   pub survey-stopped : (fault : SurveyFault) → first_of of_frames ≡ None → end ≡ Some fault
       → survey_fields file allowed ≡ Err fault
   survey-stopped fault none is =
-      survey-by file allowed (Ok start) found.start_is
-      ∙ ap (λ o. fault_or_survey o (fields_from file start)) (last-fault none (Some fault) is)
+      survey-by file allowed found.start_is
+      ∙ ap (λ o. fault_or_survey o (fields_from file start)) (last-fault none is)
 
   -- if nothing is at fault, the file has this survey
   pub survey-whole : first_of of_frames ≡ None → end ≡ None → survey_fields file allowed ≡ Ok fields
   survey-whole none is =
-      survey-by file allowed (Ok start) found.start_is
-      ∙ ap₂ fault_or_survey (last-fault none None is) fields-are
+      survey-by file allowed found.start_is
+      ∙ ap₂ fault_or_survey (last-fault none is) fields-are
 
 -- ---- what a survey says of its file
 
@@ -95,15 +94,15 @@ pub record IsSurveyed (file : List ℕ) (allowed : ℕ) (s : SurveyFields) : Typ
   pub fields_are : fields_from file start ≡ s
   pub none : first_of (faults_from file allowed start) ≡ None
 
-start_cases : (file : List ℕ) (allowed : ℕ) (s : SurveyFields) (r : Result Start SurveyFault)
+start_cases : {file : List ℕ} {allowed : ℕ} {s : SurveyFields} {r : Result Start SurveyFault}
     → start_of file ≡ r → survey_from_start file allowed r ≡ Ok s → IsSurveyed file allowed s
-start_cases file allowed s r begins e = grind arith
+start_cases begins e = grind arith
 
 -- a survey without fault has a start, and no fault from there on
-pub survey_fields-is : (file : List ℕ) (allowed : ℕ) (s : SurveyFields)
+pub survey_fields-is : {file : List ℕ} {allowed : ℕ} {s : SurveyFields}
     → survey_fields file allowed ≡ Ok s → IsSurveyed file allowed s
 unfolding survey_fields
-survey_fields-is file allowed s e = start_cases file allowed s (start_of file) refl e
+survey_fields-is {file} {allowed} {s} e = start_cases refl e
 
 last_none : (xs : List SurveyFault) (o : Option SurveyFault)
     → first_of (xs ++ option_to_list o) ≡ None → o ≡ None
@@ -124,12 +123,12 @@ pub record IsWalked (file : List ℕ) (s : SurveyFields) (start : Start) : Type 
 walk_fault : (file : List ℕ) (start : Start) → (walk_from file start).fault ≡ None
     → drop (stream_run file start).stop file ≡ []
 unfolding walk_from
-walk_fault file start none = nothing_left file (stream_run file start).stop (no_fault file _ _ none)
+walk_fault file start none = nothing_left file (stream_run file start).stop (no_fault file _ none)
 
-walked_by : (file : List ℕ) (start : Start) → drop (stream_run file start).stop file ≡ []
+walked_by : {file : List ℕ} {start : Start} → drop (stream_run file start).stop file ≡ []
     → IsWalked file (fields_from file start) start
 unfolding fields_from walk_from
-walked_by file start left = grind arith
+walked_by left = grind arith
 
 end_none : (file : List ℕ) (allowed : ℕ) (start : Start)
     → first_of (faults_from file allowed start) ≡ None → (walk_from file start).fault ≡ None
@@ -137,6 +136,6 @@ unfolding faults_from
 end_none file allowed start none = last_none _ _ none
 
 -- the frames and the head of a survey without fault are those of the walk
-pub walked : (file : List ℕ) (allowed : ℕ) (s : SurveyFields) (is : IsSurveyed file allowed s)
+pub walked : {file : List ℕ} {allowed : ℕ} {s : SurveyFields} (is : IsSurveyed file allowed s)
     → IsWalked file s is.start
-walked file allowed s is = grind (arith, walked_by, walk_fault, end_none)
+walked is = grind (arith, walked_by, walk_fault, end_none)

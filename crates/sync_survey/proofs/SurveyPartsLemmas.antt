@@ -44,44 +44,45 @@ pub record IsRead (file : List ℕ) (allowed : ℕ) (start : Start) : Type 0 whe
       (fault_at (stream_run file start).stop (item_at file (stream_run file start).stop)) ≡ None
 
 -- a file without fault has the survey that its start gives
-pub survey_fields-told : (file : List ℕ) (allowed : ℕ) (start : Start) → IsRead file allowed start
+pub survey_fields-told : {file : List ℕ} {allowed : ℕ} {start : Start} → IsRead file allowed start
     → survey_fields file allowed ≡ Ok (told_from file start)
-survey_fields-told file allowed start read = grind (arith, survey-whole)
+survey_fields-told read = grind (arith, survey-whole)
 
-empty_parts : (xs ys : List SurveyFault) → xs ++ ys ≡ [] → (xs ≡ []) × (ys ≡ [])
-empty_parts [] ys e = (refl, e)
-empty_parts (x ∷ xs) ys e = absurd cc
+empty_parts : (xs : List SurveyFault) {ys : List SurveyFault} → xs ++ ys ≡ []
+    → (xs ≡ []) × (ys ≡ [])
+empty_parts [] e = (refl, e)
+empty_parts (x ∷ xs) e = absurd cc
 
-no_last : (o : Option SurveyFault) → option_to_list o ≡ [] → o ≡ None
-no_last o e = grind arith
+no_last : {o : Option SurveyFault} → option_to_list o ≡ [] → o ≡ None
+no_last e = grind arith
 
 fields_from-told : (file : List ℕ) (start : Start) → fields_from file start ≡ told_from file start
 unfolding fields_from walk_from
 fields_from-told file start = refl
 
-is_read : (file : List ℕ) (allowed : ℕ) (start : Start) → start_of file ≡ Ok start
+is_read : {file : List ℕ} {allowed : ℕ} {start : Start} → start_of file ≡ Ok start
     → faults_from file allowed start ≡ [] → IsRead file allowed start
 unfolding faults_from walk_from
-is_read file allowed start is none = grind (arith, empty_parts, no_last)
+is_read is none = grind (arith, empty_parts, no_last)
 
 -- a survey without fault has a start and is the survey that this gives
-pub survey_fields-parts : (file : List ℕ) (allowed : ℕ) (s : SurveyFields)
+pub survey_fields-parts : {file : List ℕ} {allowed : ℕ} {s : SurveyFields}
     → survey_fields file allowed ≡ Ok s
     → (start : Start) × IsRead file allowed start × (told_from file start ≡ s)
-survey_fields-parts file allowed s e =
-    let is = survey_fields-is file allowed s e in (
+survey_fields-parts {file} {allowed} {s} e =
+    let is = survey_fields-is e in (
       is.start,
-      is_read file allowed is.start is.begins (none-of _ is.none),
+      is_read is.begins (none-of is.none),
       sym (fields_from-told file is.start) ∙ is.fields_are,
     )
 
 -- ---- a frame without fault
 
-nothing_false : (b : Bool) (fault : SurveyFault) → b ≡ false → fault_if_true b fault ≡ []
-nothing_false b fault e = ap (λ x. fault_if_true x fault) e
+nothing_false : {b : Bool} (fault : SurveyFault) → b ≡ false → fault_if_true b fault ≡ []
+nothing_false fault e = ap (λ x. fault_if_true x fault) e
 
-empty_both : (xs ys : List SurveyFault) → xs ≡ [] → ys ≡ [] → xs ++ ys ≡ []
-empty_both xs ys e f = ap₂ (λ (us vs : List SurveyFault). us ++ vs) e f
+empty_both : {xs ys : List SurveyFault} → xs ≡ [] → ys ≡ [] → xs ++ ys ≡ []
+empty_both e f = ap₂ (λ (us vs : List SurveyFault). us ++ vs) e f
 
 -- main data are where they may be
 pub record StandWell (place ended : ℕ) (r : Row) : Type 0 where
@@ -98,18 +99,18 @@ pub record IsSound (said : ℕ) (class : ClassFields) (allowed place ended count
   pub main : lacks_data place ended r ≡ false → StandWell place ended r
   pub few : (count == allowed) ≡ false
 
-own-none_well : (place ended : ℕ) (r : Row) → own_faults place ended r ≡ []
+own-none_well : {place ended : ℕ} {r : Row} → own_faults place ended r ≡ []
     → StandWell place ended r
-own-none_well place ended r none = grind arith
+own-none_well none = grind arith
 
-well-no_own : (place ended : ℕ) (r : Row) → StandWell place ended r → own_faults place ended r ≡ []
-well-no_own place ended r well = grind (arith, empty_both, nothing_false)
+well-no_own : {place ended : ℕ} {r : Row} → StandWell place ended r → own_faults place ended r ≡ []
+well-no_own well = grind (arith, empty_both, nothing_false)
 
-unless-none : (b : Bool) (xs : List SurveyFault) → cond b [] xs ≡ [] → b ≡ false → xs ≡ []
-unless-none b xs none is = grind arith
+unless-none : {b : Bool} {xs : List SurveyFault} → cond b [] xs ≡ [] → b ≡ false → xs ≡ []
+unless-none none is = grind arith
 
-none-unless : (b : Bool) (xs : List SurveyFault) → (b ≡ false → xs ≡ []) → cond b [] xs ≡ []
-none-unless b xs none = grind arith
+none-unless : {b : Bool} {xs : List SurveyFault} → (b ≡ false → xs ≡ []) → cond b [] xs ≡ []
+none-unless none = grind arith
 
 module _ (said : ℕ) (class : ClassFields) (allowed place ended count : ℕ) (r : Row) where
   -- a frame without fault is sound
@@ -130,9 +131,9 @@ module _ (said : ℕ) (class : ClassFields) (allowed place ended count : ℕ) (r
   sound-no_data sound = grind (arith, none-unless, well-no_own)
 
 -- main data without a fault are where they may be, unless the frame is lost
-pub data-none_well : (place ended : ℕ) (r : Row) → data_faults place ended r ≡ []
+pub data-none_well : {place ended : ℕ} {r : Row} → data_faults place ended r ≡ []
     → lacks_data place ended r ≡ false → StandWell place ended r
-data-none_well place ended r none is = grind (arith, own-none_well, unless-none)
+data-none_well none is = grind (arith, own-none_well, unless-none)
 
 -- ---- all frames
 
@@ -148,19 +149,19 @@ AreSound file head class allowed rows =
 
 -- if the lists made of all of these are empty, each of them is
 none_each : (each : ℕ → Row → List SurveyFault) (n : ℕ) (rows : List Row)
-    → flat_map (λ (p : ℕ × Row). each p.0 p.1) (enumerate_from n rows) ≡ [] → (i : ℕ) (r : Row)
+    → flat_map (λ (p : ℕ × Row). each p.0 p.1) (enumerate_from n rows) ≡ [] → (i : ℕ) {r : Row}
     → slice_get rows i ≡ Some r → each (n + i) r ≡ []
-none_each each n [] none i r is = absurd cc
-none_each each n (q ∷ rows) none zero r is = grind (arith, empty_parts)
-none_each each n (q ∷ rows) none (suc i) r is = ap (λ m. each m r) (omega arith)
-    ∙ none_each each (n + 1) rows (empty_parts (each n q) _ none).1 i r is
+none_each each n [] none i is = absurd cc
+none_each each n (q ∷ rows) none zero is = grind (arith, empty_parts)
+none_each each n (q ∷ rows) none (suc i) {r} is = ap (λ m. each m r) (omega arith)
+    ∙ none_each each (n + 1) rows (empty_parts (each n q) none).1 i is
 
 each_none : (each : ℕ → Row → List SurveyFault) (n : ℕ) (rows : List Row)
     → ((i : ℕ) (r : Row) → slice_get rows i ≡ Some r → each (n + i) r ≡ [])
     → flat_map (λ (p : ℕ × Row). each p.0 p.1) (enumerate_from n rows) ≡ []
 each_none each n [] none = refl
 each_none each n (q ∷ rows) none =
-    empty_both (each n q) _ (ap (λ m. each m q) (omega arith) ∙ none zero q refl)
+    empty_both (ap (λ m. each m q) (omega arith) ∙ none zero q refl)
     (each_none each (n + 1) rows (λ i r is. ap (λ m. each m r) (omega arith) ∙ none (suc i) r is))
 
 module _ (file : List ℕ) (head : Option Head) (class : ClassFields) (allowed : ℕ)
@@ -173,7 +174,7 @@ module _ (file : List ℕ) (head : Option Head) (class : ClassFields) (allowed :
       faults-none_sound (stored_crc (drop r.offset file)) class allowed (place head rows i)
       (data_end_before head rows i) i r
       (ap (λ m. frame_faults file head class allowed rows m r) (sym (zero-add i))
-      ∙ none_each (frame_faults file head class allowed rows) 0 rows none i r is)
+      ∙ none_each (frame_faults file head class allowed rows) 0 rows none i is)
 
   -- sound frames have no fault
   pub sound-no_all_faults : AreSound file head class allowed rows
@@ -188,10 +189,10 @@ module _ (file : List ℕ) (head : Option Head) (class : ClassFields) (allowed :
 -- ---- however many frames are allowed
 
 -- sound frames are sound for any allowed number that isn't below their own
-pub sound_allowed : (file : List ℕ) (head : Option Head) (class : ClassFields) (allowed other : ℕ)
+pub sound_allowed : (file : List ℕ) (head : Option Head) {class : ClassFields} {allowed other : ℕ}
     (rows : List Row) → length rows ≤ other → AreSound file head class allowed rows
     → AreSound file head class other rows
-sound_allowed file head class allowed other rows few sound = λ i r is.
+sound_allowed file head {other = other} rows few sound = λ i r is.
     let here = sound i r is in
     record {
       same = here.same;
@@ -205,37 +206,37 @@ numbered_frames-few : (head : Option Head) (frames : List PlacedFrame)
 numbered_frames-few head frames = grind arith
 
 -- there are no more frames than bytes
-pub numbered-few : (file : List ℕ) (start : Start) → start_of file ≡ Ok start
+pub numbered-few : (file : List ℕ) {start : Start} → start_of file ≡ Ok start
     → length (rows_of file (frames_from file start)) ≤ length file
-numbered-few file start is =
+numbered-few file {start} is =
     let stream = stream_run file start in
     let first = start.first.offset in
-    let frame = (start-first file start is).frame in
+    let frame = (start-first is).frame in
     let ends = item_run-ends Stream file first in
     omega (
       arith,
       length-map (frames_from file start) (row_of file),
       numbered_frames-few (head_of file start.first) (frames_of stream.items),
-      frames-few Stream file first stream.items stream.stop ends,
-      ends-within Stream file first stream.items stream.stop ends (omega (arith, frame.within)),
+      frames-few Stream file first stream.items ends,
+      ends-within Stream file first stream.items ends (omega (arith, frame.within)),
     )
 
 -- a file without fault has none if any number of frames greater than the number of its bytes is
 -- allowed
-pub survey_fields-allowed : (file : List ℕ) (allowed other : ℕ) (s : SurveyFields)
+pub survey_fields-allowed : (file : List ℕ) (allowed : ℕ) {other : ℕ} {s : SurveyFields}
     → length file < other → survey_fields file allowed ≡ Ok s → survey_fields file other ≡ Ok s
-survey_fields-allowed file allowed other s many e =
-    let parts = survey_fields-parts file allowed s e in
+survey_fields-allowed file allowed {other} {s} many e =
+    let parts = survey_fields-parts e in
     let start = parts.0 in
     let read = parts.1 in
     let rows = rows_of file (frames_from file start) in
     let sound = all_faults-none_sound file (head_of file start.first)
     (class_from start) allowed rows read.frames in
-    survey_fields-told file other start (record {
+    survey_fields-told (record {
       start_is = read.start_is;
       frames = sound-no_all_faults file (head_of file start.first) (class_from start) other rows
-          (sound_allowed file (head_of file start.first) (class_from start) allowed other rows
-          (omega (arith, many, numbered-few file start read.start_is)) sound);
+          (sound_allowed file (head_of file start.first) rows
+          (omega (arith, many, numbered-few file read.start_is)) sound);
       end = read.end;
     })
     ∙ ap Ok parts.2
@@ -245,7 +246,8 @@ pub survey_fields-stream : (file : List ℕ) (allowed : ℕ) (s : SurveyFields)
     → survey_fields file allowed ≡ Ok s → HoldsStream file (stream_of_survey file s)
 unfolding stream_of
 survey_fields-stream file allowed s e =
-    grind (arith, survey_fields-allowed file allowed (length file + 1) s (omega arith) e)
+    grind
+    (arith, survey_fields-allowed file allowed {other = length file + 1} {s = s} (omega arith) e)
 
 -- a file whose end has no fault has a frame
 pub some_frames : (file : List ℕ) (frames : List PlacedFrame) (o : Option SurveyFault)

@@ -32,7 +32,7 @@ pub numbered_frames-run : (file : List ℕ) (start : Start) (head : Option Head)
     frames_of (item_run Stream file (numbered_offset start.first head)).items
     ≡ numbered_frames head (frames_of (stream_run file start).items)
 numbered_frames-run file start head first =
-    grind (arith, frames-next Stream file start.first.offset (Frame start.first.header) first)
+    grind (arith, frames-next Stream file start.first.offset first)
 
 -- the blocks from the first numbered frame on are the blocks of the stream
 pub numbered-blocks : (file : List ℕ) (start : Start) (head : Option Head)
@@ -40,14 +40,13 @@ pub numbered-blocks : (file : List ℕ) (start : Start) (head : Option Head)
     blocks_of (item_run Stream file (numbered_offset start.first head)).items
     ≡ blocks_of (stream_run file start).items
 numbered-blocks file start head first =
-    grind (arith, blocks-next Stream file start.first.offset (Frame start.first.header) first)
+    grind (arith, blocks-next Stream file start.first.offset first)
 
 -- a run from there stops where the stream does
 pub numbered-stop : (file : List ℕ) (start : Start) (head : Option Head)
     → whole_item_at Stream file start.first.offset ≡ Some (Frame start.first.header) →
     (item_run Stream file (numbered_offset start.first head)).stop ≡ (stream_run file start).stop
-numbered-stop file start head first =
-    grind (arith, item_run-next Stream file start.first.offset (Frame start.first.header) first)
+numbered-stop file start head first = grind (arith, item_run-next Stream file first)
 
 -- ---- the whole walk
 
@@ -61,8 +60,8 @@ pub record IsFound (file : List ℕ) (start : Start) (head : Option Head) (frame
   pub stop_is : stop ≡ (stream_run file start).stop
 
 -- what was found is what the walk over the file finds
-pub walk-is : (file : List ℕ) (start : Start) (head : Option Head) (frames : List PlacedFrame)
-    (blocks : List Piece) (stop : ℕ) → IsFound file start head frames blocks stop →
+pub walk-is : {file : List ℕ} {start : Start} {head : Option Head} {frames : List PlacedFrame}
+    {blocks : List Piece} {stop : ℕ} → IsFound file start head frames blocks stop →
     walk_from file start ≡ record {
       start = start;
       head = head;
@@ -72,18 +71,18 @@ pub walk-is : (file : List ℕ) (start : Start) (head : Option Head) (frames : L
           end_fault file frames (fault_at stop (item_at file stop));
     }
 unfolding walk_from
-walk-is file start head frames blocks stop found = grind arith
+walk-is found = grind arith
 
 -- ---- where the walk ends
 
-at_end : (rest : List ℕ) (at : ℕ) (item : Item) → IsItemFront rest item → fault_at at item ≡ None
+at_end : {rest : List ℕ} (at : ℕ) (item : Item) → IsItemFront rest item → fault_at at item ≡ None
     → rest ≡ []
-at_end rest at item here e = grind arith
+at_end at item here e = grind arith
 
 -- a file without fault at its end has none where the walk stops
-pub no_fault : (file : List ℕ) (frames : List PlacedFrame) (o : Option SurveyFault)
+pub no_fault : (file : List ℕ) (frames : List PlacedFrame) {o : Option SurveyFault}
     → end_fault file frames o ≡ None → o ≡ None
-no_fault file frames o e = grind arith
+no_fault file frames e = grind arith
 
 stop_by : (bytes : List ℕ) (at : ℕ) (item : Item) (r d : SurveyFault) → IsItemFront bytes item
     → 0 < length bytes → r ≡ unwrap_or (fault_at at item) d → fault_at at item ≡ Some r
@@ -106,11 +105,11 @@ ReachesTo file start to =
     bytes_of_items file (stream_run file start).items ++ drop to file ≡ drop start.first.offset file
 
 -- if nothing is at fault, they reach to the end of the file
-pub reach-end : (file : List ℕ) (start : Start) (frames : List PlacedFrame) (stop : ℕ)
+pub reach-end : (file : List ℕ) (start : Start) (frames : List PlacedFrame) {stop : ℕ}
     → stop ≡ (stream_run file start).stop
     → end_fault file frames (fault_at stop (item_at file stop)) ≡ None
     → ReachesTo file start (length file)
-reach-end file start frames stop is none =
+reach-end file start frames is none =
     grind (
       arith,
       nothing_left,
@@ -123,12 +122,12 @@ reach-end file start frames stop is none =
 -- ---- a head that a look shows
 
 -- a look at the first frame shows the head that the file has
-pub head_shown : (file : List ℕ) (p : PlacedFrame) (front : List ℕ) (left : ℕ)
+pub head_shown : {file : List ℕ} (p : PlacedFrame) {front : List ℕ} {left : ℕ}
     → Shows file p.offset front left → length_of (class_of p.header) p.header.slot ≤ look_size
     → option_map (λ at. record { offset = p.offset; header = p.header; text_at = at }) (head_text_of
     p.header (take (length_of (class_of p.header) p.header.slot) front)) ≡ head_of file p
 unfolding head_of
-head_shown file p front left shows few =
+head_shown {file} p shows few =
     let size = length_of (class_of p.header) p.header.slot in
     ap (λ l. option_map (λ at. record { offset = p.offset; header = p.header; text_at = at })
     (head_text_of p.header l))

@@ -54,57 +54,55 @@ kinds Ape Ape e = refl
 kinds _ _ e = absurd (omega arith)
 
 -- bytes begin with one kind at most
-pub one_kind : (j k : Kind) (bytes : List ℕ) → begins j bytes ≡ true → begins k bytes ≡ true → j ≡ k
-one_kind j k bytes is also = kinds j k (sym (begins-first j bytes is) ∙ begins-first k bytes also)
+pub one_kind : {j k : Kind} (bytes : List ℕ) → begins j bytes ≡ true → begins k bytes ≡ true → j ≡ k
+one_kind {j} {k} bytes is also =
+    kinds j k (sym (begins-first j bytes is) ∙ begins-first k bytes also)
 
 -- ---- the block of a kind
 
-block_of_kind-kind : (kind : Kind) (bytes : List ℕ) (b : Block) → block_of_kind kind bytes ≡ Some b
+block_of_kind-kind : {kind : Kind} (bytes : List ℕ) {b : Block} → block_of_kind kind bytes ≡ Some b
     → (begins kind bytes ≡ true) × (record { kind = kind; length = length_of_kind kind bytes } ≡ b)
-block_of_kind-kind kind bytes b is = cond_some (begins kind bytes) _ b is
+block_of_kind-kind {kind} bytes {b} is = cond_some (begins kind bytes) _ b is
 
 -- a block of this kind with which bytes begin is the block of its own kind
-block_of_kind-own : (kind : Kind) (bytes : List ℕ) (b : Block) → block_of_kind kind bytes ≡ Some b
+block_of_kind-own : (kind : Kind) (bytes : List ℕ) {b : Block} → block_of_kind kind bytes ≡ Some b
     → block_of_kind b.kind bytes ≡ Some b
-block_of_kind-own kind bytes b is = subst (λ k. block_of_kind k bytes ≡ Some b)
-    (ap (λ (x : Block). x.kind) (block_of_kind-kind kind bytes b is).1) is
+block_of_kind-own kind bytes {b} is = subst (λ k. block_of_kind k bytes ≡ Some b)
+    (ap (λ (x : Block). x.kind) (block_of_kind-kind bytes is).1) is
 
-some_cases : (bytes : List ℕ) (b : Block) (x y z : Option Block) → block_of_kind Id3v2 bytes ≡ x
-    → block_of_kind Id3v1 bytes ≡ y → block_of_kind Ape bytes ≡ z
+some_cases : (bytes : List ℕ) {b : Block} (x y : Option Block) {z : Option Block}
+    → block_of_kind Id3v2 bytes ≡ x → block_of_kind Id3v1 bytes ≡ y → block_of_kind Ape bytes ≡ z
     → option_or (option_or x y) z ≡ Some b → block_of_kind b.kind bytes ≡ Some b
-some_cases bytes b (Some x) y z first second third is = block_of_kind-own Id3v2 bytes b (first ∙ is)
-some_cases bytes b None (Some y) z first second third is =
-    block_of_kind-own Id3v1 bytes b (second ∙ is)
-some_cases bytes b None None z first second third is = block_of_kind-own Ape bytes b (third ∙ is)
+some_cases bytes {b} (Some x) y first second third is = block_of_kind-own Id3v2 bytes (first ∙ is)
+some_cases bytes {b} None (Some y) first second third is =
+    block_of_kind-own Id3v1 bytes (second ∙ is)
+some_cases bytes {b} None None first second third is = block_of_kind-own Ape bytes (third ∙ is)
 
 -- the block with which bytes begin is the block of its kind
-pub block_front-own : (bytes : List ℕ) (b : Block) → block_front bytes ≡ Some b
+pub block_front-own : (bytes : List ℕ) {b : Block} → block_front bytes ≡ Some b
     → block_of_kind b.kind bytes ≡ Some b
 unfolding block_front
-block_front-own bytes b is =
-    some_cases bytes b (block_of_kind Id3v2 bytes) (block_of_kind Id3v1 bytes)
-    (block_of_kind Ape bytes) refl refl refl is
+block_front-own bytes {b} is =
+    some_cases bytes (block_of_kind Id3v2 bytes) (block_of_kind Id3v1 bytes) refl refl refl is
 
 -- the block with which bytes begin is of a kind with which they begin, and has the length of this
 -- kind
-pub block_front-begins : (bytes : List ℕ) (b : Block) → block_front bytes ≡ Some b
+pub block_front-begins : (bytes : List ℕ) {b : Block} → block_front bytes ≡ Some b
     → (begins b.kind bytes ≡ true) × (length_of_kind b.kind bytes ≡ b.length)
-block_front-begins bytes b is =
-    let parts = block_of_kind-kind b.kind bytes b (block_front-own bytes b is) in
+block_front-begins bytes {b} is =
+    let parts = block_of_kind-kind bytes (block_front-own bytes is) in
     (parts.0, ap (λ (x : Block). x.length) parts.1)
 
-none_cases : (x y z : Option Block) → option_or (option_or x y) z ≡ None
+none_cases : (x y : Option Block) {z : Option Block} → option_or (option_or x y) z ≡ None
     → (x ≡ None) × (y ≡ None) × (z ≡ None)
-none_cases (Some b) y z e = absurd cc
-none_cases None (Some b) z e = absurd cc
-none_cases None None z e = (refl, refl, e)
+none_cases (Some b) y e = absurd cc
+none_cases None (Some b) e = absurd cc
+none_cases None None e = (refl, refl, e)
 
 none_of : (bytes : List ℕ) → block_front bytes ≡ None → (block_of_kind Id3v2 bytes ≡ None)
     × (block_of_kind Id3v1 bytes ≡ None) × (block_of_kind Ape bytes ≡ None)
 unfolding block_front
-none_of bytes none =
-    none_cases (block_of_kind Id3v2 bytes) (block_of_kind Id3v1 bytes)
-    (block_of_kind Ape bytes) none
+none_of bytes none = none_cases (block_of_kind Id3v2 bytes) (block_of_kind Id3v1 bytes) none
 
 -- where no block begins, none of any kind does
 pub block_front-none : (kind : Kind) (bytes : List ℕ) → block_front bytes ≡ None
@@ -113,34 +111,34 @@ block_front-none Id3v2 bytes none = (none_of bytes none).0
 block_front-none Id3v1 bytes none = (none_of bytes none).1
 block_front-none Ape bytes none = (none_of bytes none).2
 
-any_cases : (kind : Kind) (bytes : List ℕ) (b : Block) → block_of_kind kind bytes ≡ Some b
+any_cases : (kind : Kind) (bytes : List ℕ) {b : Block} → block_of_kind kind bytes ≡ Some b
     → (o : Option Block) → block_front bytes ≡ o → o ≡ Some b
-any_cases kind bytes b is None none = sym (block_front-none kind bytes none) ∙ is
-any_cases kind bytes b is (Some other) some =
-    let own = block_front-own bytes other some in
+any_cases kind bytes is None none = sym (block_front-none kind bytes none) ∙ is
+any_cases kind bytes is (Some other) some =
+    let own = block_front-own bytes some in
     let same : other.kind ≡ kind = grind (arith, one_kind, block_of_kind-kind) in
     sym own ∙ ap (λ k. block_of_kind k bytes) same ∙ is
 
 -- a block of any kind with which bytes begin is their block: the order in which kinds are tried
 -- doesn't matter
-pub block_front-any : (kind : Kind) (bytes : List ℕ) (b : Block) → block_of_kind kind bytes ≡ Some b
+pub block_front-any : (kind : Kind) (bytes : List ℕ) {b : Block} → block_of_kind kind bytes ≡ Some b
     → block_front bytes ≡ Some b
-block_front-any kind bytes b is = any_cases kind bytes b is (block_front bytes) refl
+block_front-any kind bytes {b} is = any_cases kind bytes is (block_front bytes) refl
 
 -- a block begins with the first byte of its kind
-pub block_front-first : (bytes : List ℕ) (b : Block) → block_front bytes ≡ Some b
+pub block_front-first : (bytes : List ℕ) {b : Block} → block_front bytes ≡ Some b
     → get_or bytes 0 0 ≡ first_byte b.kind
-block_front-first bytes b is = begins-first b.kind bytes (block_front-begins bytes b is).0
+block_front-first bytes {b} is = begins-first b.kind bytes (block_front-begins bytes is).0
 
 first_byte-below : (kind : Kind) → (0 < first_byte kind) × (first_byte kind < 255)
 first_byte-below Id3v2 = (omega arith, omega arith)
 first_byte-below _ = (omega arith, omega arith)
 
 -- no block begins with a zero
-pub block_front-not_zero : (bytes : List ℕ) (b : Block) → block_front bytes ≡ Some b
+pub block_front-not_zero : (bytes : List ℕ) {b : Block} → block_front bytes ≡ Some b
     → get_or bytes 0 0 ≢ 0
-block_front-not_zero bytes b is =
-    λ zero. omega (arith, zero, block_front-first bytes b is, (first_byte-below b.kind).0)
+block_front-not_zero bytes {b} is =
+    λ zero. omega (arith, zero, block_front-first bytes is, (first_byte-below b.kind).0)
 
 -- ---- the length
 
@@ -150,86 +148,86 @@ least_as Id3v2 bytes = omega arith
 least_as _ bytes = omega arith
 
 -- a block has at least 10 bytes
-pub block_front-least : (bytes : List ℕ) (b : Block) → block_front bytes ≡ Some b → 10 ≤ b.length
-block_front-least bytes b is =
-    omega (arith, (block_front-begins bytes b is).1, least_as b.kind bytes)
+pub block_front-least : (bytes : List ℕ) {b : Block} → block_front bytes ≡ Some b → 10 ≤ b.length
+block_front-least bytes {b} is =
+    omega (arith, (block_front-begins bytes is).1, least_as b.kind bytes)
 
 -- ---- only the first 32 bytes matter
 
-long_cases : (k n : ℕ) (bytes : List ℕ) → k ≤ n → (a b : Bool) → leb k (length (take n bytes)) ≡ a
+long_cases : {k n : ℕ} (bytes : List ℕ) → k ≤ n → (a b : Bool) → leb k (length (take n bytes)) ≡ a
     → leb k (length bytes) ≡ b → a ≡ b
-long_cases k n bytes within true false e f = absurd (omega (
+long_cases {k} {n} bytes within true false e f = absurd (omega (
   arith,
   leb-true k (length (take n bytes)) e,
   leb-false k (length bytes) f,
   length-take n bytes,
 ))
-long_cases k n bytes within false true e f = absurd (omega (
+long_cases {k} {n} bytes within false true e f = absurd (omega (
   arith,
   leb-false k (length (take n bytes)) e,
   leb-true k (length bytes) f,
   length-take n bytes,
 ))
-long_cases k n bytes within _ _ e f = refl
+long_cases bytes within _ _ e f = refl
 
 -- whether bytes are long enough is seen from their first bytes, if there are enough of these
-pub long_take : (k n : ℕ) (bytes : List ℕ) → k ≤ n
+pub long_take : {k n : ℕ} (bytes : List ℕ) → k ≤ n
     → leb k (length (take n bytes)) ≡ leb k (length bytes)
-long_take k n bytes within = long_cases k n bytes within _ _ refl refl
+long_take {k} {n} bytes within = long_cases bytes within _ _ refl refl
 
 -- bytes within the first n are the same in these n alone
-pub part_take : (at many n : ℕ) (bytes : List ℕ) → at + many ≤ n
+pub part_take : (at many : ℕ) {n : ℕ} (bytes : List ℕ) → at + many ≤ n
     → take many (drop at (take n bytes)) ≡ take many (drop at bytes)
-part_take at many n bytes within =
+part_take at many {n} bytes within =
     let split : n ≡ at + (n - at) = omega arith in
     ap (λ k. take many (drop at (take k bytes))) split ∙ ap (take many)
     (drop-take at (n - at) bytes) ∙ take-take many (n - at) (drop at bytes) (omega arith)
 
 -- whether bytes begin with a text is seen from the first bytes
-pub text_take : (text : List ℕ) (n : ℕ) (bytes : List ℕ) → length text ≤ n
+pub text_take : (text : List ℕ) {n : ℕ} (bytes : List ℕ) → length text ≤ n
     → begins_with text (take n bytes) ≡ begins_with text bytes
-text_take text n bytes within = ap (bytes_eq text) (take-take (length text) n bytes within)
+text_take text {n} bytes within = ap (bytes_eq text) (take-take (length text) n bytes within)
 
-begins-take : (kind : Kind) (n : ℕ) (bytes : List ℕ) → 32 ≤ n
+begins-take : (kind : Kind) {n : ℕ} (bytes : List ℕ) → 32 ≤ n
     → begins kind (take n bytes) ≡ begins kind bytes
 unfolding is_id3v2 is_id3v1 is_ape
-begins-take Id3v2 n bytes within =
+begins-take Id3v2 {n} bytes within =
     rw (
-      long_take 10 n bytes (omega arith),
-      text_take (codes "ID3") n bytes (omega arith),
+      long_take {k = 10} {n = n} bytes (omega arith),
+      text_take (codes "ID3") {n = n} bytes (omega arith),
       get_or-take n bytes 3 0 (omega arith),
       get_or-take n bytes 4 0 (omega arith),
-      part_take 6 4 n bytes (omega arith),
+      part_take 6 4 {n = n} bytes (omega arith),
     ) refl
-begins-take Id3v1 n bytes within = text_take (codes "TAG") n bytes (omega arith)
-begins-take Ape n bytes within =
+begins-take Id3v1 {n} bytes within = text_take (codes "TAG") {n = n} bytes (omega arith)
+begins-take Ape {n} bytes within =
     rw (
-      long_take 32 n bytes within,
-      text_take (codes "APETAGEX") n bytes (omega arith),
-      part_take 8 4 n bytes (omega arith),
-      part_take 12 4 n bytes (omega arith),
-      part_take 20 4 n bytes (omega arith),
+      long_take {k = 32} {n = n} bytes within,
+      text_take (codes "APETAGEX") {n = n} bytes (omega arith),
+      part_take 8 4 {n = n} bytes (omega arith),
+      part_take 12 4 {n = n} bytes (omega arith),
+      part_take 20 4 {n = n} bytes (omega arith),
     ) refl
 
-length_of_kind-take : (kind : Kind) (n : ℕ) (bytes : List ℕ) → 32 ≤ n
+length_of_kind-take : (kind : Kind) {n : ℕ} (bytes : List ℕ) → 32 ≤ n
     → length_of_kind kind (take n bytes) ≡ length_of_kind kind bytes
 unfolding id3v2_length ape_length
-length_of_kind-take Id3v2 n bytes within =
-    rw (part_take 6 4 n bytes (omega arith), get_or-take n bytes 5 0 (omega arith)) refl
-length_of_kind-take Id3v1 n bytes within = refl
-length_of_kind-take Ape n bytes within = rw (part_take 12 4 n bytes (omega arith)) refl
+length_of_kind-take Id3v2 {n} bytes within =
+    rw (part_take 6 4 {n = n} bytes (omega arith), get_or-take n bytes 5 0 (omega arith)) refl
+length_of_kind-take Id3v1 bytes within = refl
+length_of_kind-take Ape {n} bytes within = rw (part_take 12 4 {n = n} bytes (omega arith)) refl
 
-block_of_kind-take : (kind : Kind) (n : ℕ) (bytes : List ℕ) → 32 ≤ n
+block_of_kind-take : (kind : Kind) {n : ℕ} (bytes : List ℕ) → 32 ≤ n
     → block_of_kind kind (take n bytes) ≡ block_of_kind kind bytes
-block_of_kind-take kind n bytes within =
-    rw (begins-take kind n bytes within, length_of_kind-take kind n bytes within) refl
+block_of_kind-take kind {n} bytes within =
+    rw (begins-take kind bytes within, length_of_kind-take kind bytes within) refl
 
 -- only the first 32 bytes matter
-pub block_front-take : (n : ℕ) (bytes : List ℕ) → 32 ≤ n
+pub block_front-take : {n : ℕ} (bytes : List ℕ) → 32 ≤ n
     → block_front (take n bytes) ≡ block_front bytes
 unfolding block_front
-block_front-take n bytes within = rw (
-  block_of_kind-take Id3v2 n bytes within,
-  block_of_kind-take Id3v1 n bytes within,
-  block_of_kind-take Ape n bytes within,
+block_front-take {n} bytes within = rw (
+  block_of_kind-take Id3v2 bytes within,
+  block_of_kind-take Id3v1 bytes within,
+  block_of_kind-take Ape bytes within,
 ) refl

@@ -32,11 +32,11 @@ pub items_length-cons : (item : TagItem) (items : List TagItem)
 items_length-cons item items = sum_by-cons item_length item items
 
 -- one item more adds its bytes
-pub items_more : (items : List TagItem) (i : ℕ) (d item : TagItem) (old before new : List ℕ)
-    → item ≡ get_or items i d → i < length items → before ≡ old ++ items_bytes (take i items)
-    → new ≡ before ++ item_bytes item → new ≡ old ++ items_bytes (take (i + 1) items)
-items_more items i d item old before new is less so_far added =
-    grind (arith, flat_map_more, is, take_more)
+pub items_more : (items : List TagItem) {i : ℕ} (d : TagItem) {item : TagItem} (old : List ℕ)
+    {before new : List ℕ} → item ≡ get_or items i d → i < length items
+    → before ≡ old ++ items_bytes (take i items) → new ≡ before ++ item_bytes item
+    → new ≡ old ++ items_bytes (take (i + 1) items)
+items_more items d old is less so_far added = grind (arith, flat_map_more, is, take_more)
 
 -- items have as many bytes as their lengths say together
 pub length-items_bytes : (items : List TagItem) → length (items_bytes items) ≡ items_length items
@@ -61,13 +61,13 @@ octets-take _ _ octets i = omega arith
 pub little_bytes-ape_number : (at : ℕ) (bytes : List ℕ) → AreByteValues bytes
     → at + 4 ≤ length bytes → little_bytes 4 (ape_number at bytes) ≡ take 4 (drop at bytes)
 little_bytes-ape_number at bytes octets within =
-    little_bytes-little_number (take 4 (drop at bytes))
+    little_bytes-little_number
     (length-take-le 4 (drop at bytes) (omega (arith, length-drop at bytes)))
     (octets-take 4 (drop at bytes) (octets-drop at bytes octets))
 
 -- a number of 32 bits is read from the bytes that it is written as
-pub little_number-little_bytes : (n : ℕ) → n < 2 ^ 32 → little_number 4 (little_bytes 4 n) ≡ n
-little_number-little_bytes n below = grind (arith, append-nil)
+pub little_number-little_bytes : {n : ℕ} → n < 2 ^ 32 → little_number 4 (little_bytes 4 n) ≡ n
+little_number-little_bytes below = grind (arith, append-nil)
 
 -- ---- an item with which bytes begin
 
@@ -79,9 +79,9 @@ pub record Stands (bytes : List ℕ) : Type 0 where
   pub zero_behind : get_or bytes (8 + key_length bytes) 0 ≡ 0
 
 -- if an item is whole, all the conditions hold
-pub has_whole_item-parts : (bytes : List ℕ) → has_whole_item bytes ≡ true → Stands bytes
+pub has_whole_item-parts : {bytes : List ℕ} → has_whole_item bytes ≡ true → Stands bytes
 unfolding has_whole_item
-has_whole_item-parts bytes is =
+has_whole_item-parts is =
     let three = and_parts _ _ is in
     let two = and_parts _ _ three.0 in
     let one = and_parts _ _ two.0 in
@@ -93,13 +93,13 @@ has_whole_item-parts bytes is =
     }
 
 -- if all the conditions hold, an item is whole
-pub has_whole_item-from : (bytes : List ℕ) → Stands bytes → true ≡ has_whole_item bytes
+pub has_whole_item-from : {bytes : List ℕ} → Stands bytes → true ≡ has_whole_item bytes
 unfolding has_whole_item
-has_whole_item-from bytes s = grind (arith, and_from, le-leb, eq-eqb)
+has_whole_item-from s = grind (arith, and_from, le-leb, eq-eqb)
 
 -- if not all the conditions hold, no item is whole
-pub has_whole_item-not : (bytes : List ℕ) → (Stands bytes → ⊥) → false ≡ has_whole_item bytes
-has_whole_item-not bytes none = grind (arith, false_from_ne_true, has_whole_item-parts)
+pub has_whole_item-not : {bytes : List ℕ} → (Stands bytes → ⊥) → false ≡ has_whole_item bytes
+has_whole_item-not none = grind (arith, false_from_ne_true, has_whole_item-parts)
 
 -- an item is as long as the bytes before its value plus its value
 pub length-front : (bytes : List ℕ) → has_whole_item bytes ≡ true
@@ -111,7 +111,7 @@ length-front bytes is =
 -- an item that is whole is within the bytes
 pub within-front : (bytes : List ℕ) → has_whole_item bytes ≡ true
     → item_length (tag_item_front bytes) ≤ length bytes
-within-front bytes is = omega (arith, length-front bytes is, (has_whole_item-parts bytes is).within)
+within-front bytes is = omega (arith, length-front bytes is, (has_whole_item-parts is).within)
 
 joined : (a b key value rest : List ℕ)
     → (a ++ (b ++ (key ++ (0 ∷ value)))) ++ rest ≡ a ++ (b ++ (key ++ (0 ∷ (value ++ rest))))
@@ -121,13 +121,13 @@ split : (n : ℕ) (bytes : List ℕ) → bytes ≡ take n bytes ++ drop n bytes
 split n bytes = sym (take-append-drop n bytes)
 
 -- the parts of an item and what is after it, in order
-parts_of : (bytes : List ℕ) → has_whole_item bytes ≡ true
+parts_of : {bytes : List ℕ} → has_whole_item bytes ≡ true
     → bytes ≡ take 4 bytes ++ (take 4 (drop 4 bytes)
     ++ (take (key_length bytes) (drop 8 bytes) ++ (0 ∷ (take (ape_number 0 bytes)
     (drop (value_place bytes) bytes) ++ drop (value_place bytes + ape_number 0 bytes) bytes))))
-parts_of bytes is =
+parts_of {bytes} is =
     let k : ℕ = key_length bytes in
-    let parts = has_whole_item-parts bytes is in
+    let parts = has_whole_item-parts is in
     let value : drop (9 + k) bytes
     ≡ take (ape_number 0 bytes) (drop (9 + k) bytes) ++ drop (9 + k + ape_number 0 bytes) bytes =
     grind (
@@ -146,11 +146,11 @@ parts_of bytes is =
     (key ∙ ap (λ l. take k (drop 8 bytes) ++ l) (zeroed ∙ ap (λ l. 0 ∷ l) value)))
 
 -- the bytes begin with the bytes of the item that is read from them
-pub bytes-front : (bytes : List ℕ) → AreByteValues bytes → has_whole_item bytes ≡ true
+pub bytes-front : {bytes : List ℕ} → AreByteValues bytes → has_whole_item bytes ≡ true
     → bytes ≡ item_bytes (tag_item_front bytes) ++ drop (item_length (tag_item_front bytes)) bytes
 unfolding item_bytes tag_item_front
-bytes-front bytes octets is =
-    let parts = has_whole_item-parts bytes is in
+bytes-front {bytes} octets is =
+    let parts = has_whole_item-parts is in
     let size : little_bytes 4 (length (take (ape_number 0 bytes) (drop (value_place bytes) bytes)))
     ≡ take 4 bytes =
     ap (little_bytes 4) (length-take-le (ape_number 0 bytes) (drop (value_place bytes) bytes)
@@ -162,7 +162,7 @@ bytes-front bytes octets is =
     let value : List ℕ = take (ape_number 0 bytes) (drop (value_place bytes) bytes) in
     let rest : drop (value_place bytes + ape_number 0 bytes) bytes
     ≡ drop (item_length (tag_item_front bytes)) bytes = grind (arith, length-front, is) in
-    parts_of bytes is
+    parts_of is
     ∙ ap (λ l. take 4 bytes ++ (take 4 (drop 4 bytes) ++ (key ++ (0 ∷ (value ++ l))))) rest
     ∙ sym (joined (take 4 bytes) (take 4 (drop 4 bytes)) key value
     (drop (item_length (tag_item_front bytes)) bytes))
@@ -189,7 +189,7 @@ unfolding is_item tag_item_front
 is_item-front bytes octets is =
     grind (
       arith,
-      has_whole_item-parts bytes is,
+      has_whole_item-parts is,
       is,
       length-prefix_len is_key_char (drop 8 bytes),
       length-take (ape_number 0 bytes) (drop (value_place bytes) bytes),
@@ -215,9 +215,9 @@ pub record IsItem (item : TagItem) : Type 0 where
   pub flags : item.flags < 2 ^ 32
 
 -- what passes the test of items is an item
-pub is_item-parts : (item : TagItem) → is_item item ≡ true → IsItem item
+pub is_item-parts : {item : TagItem} → is_item item ≡ true → IsItem item
 unfolding is_item
-is_item-parts item is =
+is_item-parts is =
     let two = and_parts _ _ is in
     let one = and_parts _ _ two.0 in
     let key = and_parts _ _ one.0 in
@@ -252,19 +252,19 @@ drop-shown : (item : TagItem) (rest : List ℕ)
 unfolding shown
 drop-shown item rest = refl
 
-key-shown : (item : TagItem) (rest : List ℕ) → IsItem item
+key-shown : {item : TagItem} (rest : List ℕ) → IsItem item
     → key_length (shown item rest) ≡ length item.key
-key-shown item rest is = grind (arith, drop-shown, prefix_len-key)
+key-shown rest is = grind (arith, drop-shown, prefix_len-key)
 
-size-shown : (item : TagItem) (rest : List ℕ) → IsItem item
+size-shown : {item : TagItem} (rest : List ℕ) → IsItem item
     → ape_number 0 (shown item rest) ≡ length item.value
 unfolding shown
-size-shown item rest is = little_number-little_bytes (length item.value) is.value
+size-shown {item} rest is = little_number-little_bytes is.value
 
-flags-shown : (item : TagItem) (rest : List ℕ) → IsItem item
+flags-shown : {item : TagItem} (rest : List ℕ) → IsItem item
     → ape_number 4 (shown item rest) ≡ item.flags
 unfolding shown
-flags-shown item rest is = little_number-little_bytes item.flags is.flags
+flags-shown {item} rest is = little_number-little_bytes is.flags
 
 length-shown : (item : TagItem) (rest : List ℕ)
     → length (shown item rest) ≡ item_length item + length rest
@@ -292,39 +292,39 @@ value-shown item rest =
           (item.value ++ rest)) (length item.key) refl,
     )
 
-has_whole_item-shown : (item : TagItem) (rest : List ℕ) → IsItem item
+has_whole_item-shown : {item : TagItem} (rest : List ℕ) → IsItem item
     → has_whole_item (shown item rest) ≡ true
 unfolding has_whole_item
-has_whole_item-shown item rest is =
+has_whole_item-shown rest is =
     grind (arith, key-shown, is, size-shown, zero-shown, and_from, le-leb, length-shown)
 
-front-shown : (item : TagItem) (rest : List ℕ) → IsItem item
+front-shown : {item : TagItem} (rest : List ℕ) → IsItem item
     → tag_item_front (shown item rest) ≡ item
 unfolding tag_item_front
-front-shown item rest is =
+front-shown rest is =
     grind (arith, key-shown, is, size-shown, flags-shown, value-shown, drop-shown, take_at)
 
 -- an item is read from its bytes, whatever follows
-pub tag_item_of-item_bytes : (item : TagItem) (rest : List ℕ) → is_item item ≡ true
+pub tag_item_of-item_bytes : {item : TagItem} (rest : List ℕ) → is_item item ≡ true
     → tag_item_of (item_bytes item ++ rest) ≡ Some item
-tag_item_of-item_bytes item rest is =
+tag_item_of-item_bytes rest is =
     grind (arith, is_item-parts, is, shown-is, has_whole_item-shown, front-shown)
 
 -- ---- the next item
 
-admitted_cases : (met is : Bool) (other item : TagItem) → is_undo other ≡ is
+admitted_cases : (met is : Bool) {other item : TagItem} → is_undo other ≡ is
     → cond (met && is) None (Some other) ≡ Some item
     → (Some other ≡ Some item) × ((met && is) ≡ false)
-admitted_cases true true other item own e = absurd cc
-admitted_cases _ _ other item own e = (e, refl)
+admitted_cases true true own e = absurd cc
+admitted_cases _ _ own e = (e, refl)
 
-some_same : (a b : TagItem) → Some a ≡ Some b → a ≡ b
-some_same a b e = cc
+some_same : {a b : TagItem} → Some a ≡ Some b → a ≡ b
+some_same e = cc
 
-next_cases : (met : Bool) (o : Option TagItem) (item : TagItem) → next_if_admitted met o ≡ Some item
+next_cases : (met : Bool) (o : Option TagItem) {item : TagItem} → next_if_admitted met o ≡ Some item
     → (o ≡ Some item) × ((met && is_undo item) ≡ false)
-next_cases met None item e = absurd cc
-next_cases met (Some other) item e = grind (arith, admitted_cases, some_same)
+next_cases met None e = absurd cc
+next_cases met (Some other) e = grind (arith, admitted_cases, some_same)
 
 -- the next item is there, and isn't a second undo item
 pub record IsNext (met : Bool) (bytes : List ℕ) (item : TagItem) : Type 0 where
@@ -333,21 +333,21 @@ pub record IsNext (met : Bool) (bytes : List ℕ) (item : TagItem) : Type 0 wher
   pub admitted : (met && is_undo item) ≡ false
 
 -- if there is a next item, it is whole and not a second undo item
-pub next_item-is : (met : Bool) (bytes : List ℕ) (item : TagItem) → next_item met bytes ≡ Some item
+pub next_item-is : {met : Bool} {bytes : List ℕ} {item : TagItem} → next_item met bytes ≡ Some item
     → IsNext met bytes item
-next_item-is met bytes item next =
-    let cases = next_cases met (tag_item_of bytes) item next in
+next_item-is {met} {bytes} {item} next =
+    let cases = next_cases met (tag_item_of bytes) next in
     let here = cond_some (has_whole_item bytes) (tag_item_front bytes) item cases.0 in
     record { stands_there = here.0; is = here.1; admitted = cases.1 }
 
 -- the next item is within the bytes
-pub next_item-within : (met : Bool) (bytes : List ℕ) (item : TagItem)
+pub next_item-within : (met : Bool) (bytes : List ℕ) {item : TagItem}
     → next_item met bytes ≡ Some item → item_length item ≤ length bytes
-next_item-within met bytes item next = grind (arith, next_item-is, within-front)
+next_item-within met bytes next = grind (arith, next_item-is, within-front)
 
-admit : (met : Bool) (item : TagItem) (o : Option TagItem) → o ≡ Some item
+admit : (met : Bool) {item : TagItem} {o : Option TagItem} → o ≡ Some item
     → (met && is_undo item) ≡ false → next_if_admitted met o ≡ Some item
-admit met item o is none = ap (next_if_admitted met) is ∙ rw none refl
+admit met is none = ap (next_if_admitted met) is ∙ rw none refl
 
 -- ---- items end to end
 
@@ -358,10 +358,10 @@ unfolding tag_items_from
 one_more most met bytes = refl
 
 -- the items from here on are the next one and the items after it
-pub tag_items_from-next : (most : ℕ) (met : Bool) (bytes : List ℕ) (item : TagItem)
+pub tag_items_from-next : (most : ℕ) (met : Bool) (bytes : List ℕ) {item : TagItem}
     → next_item met bytes ≡ Some item → tag_items_from (suc most) met bytes
     ≡ item ∷ tag_items_from most (met || is_undo item) (drop (item_length item) bytes)
-tag_items_from-next most met bytes item next = grind (arith, one_more, most)
+tag_items_from-next most met bytes next = grind (arith, one_more, most)
 
 -- if there is no next item, there are no items
 pub tag_items_from-none : (most : ℕ) (met : Bool) (bytes : List ℕ) → next_item met bytes ≡ None
@@ -376,16 +376,17 @@ unfolding tag_items_from
 tag_items_from-zero met bytes = refl
 
 -- a step of the loop over items, with one item more
-pub read_more : (whole items : List TagItem) (count at passed : ℕ) (met : Bool) (bytes : List ℕ)
-    (item : TagItem) → at < count
+pub read_more : {whole : List TagItem} (items : List TagItem) {count at : ℕ} (passed : ℕ)
+    (met : Bool) (bytes : List ℕ)
+    {item : TagItem} → at < count
     → whole ≡ items ++ tag_items_from (count - at) met (drop passed bytes)
     → next_item met (drop passed bytes) ≡ Some item → whole ≡ (items ++ (item ∷ []))
     ++ tag_items_from (count - (at + 1)) (met || is_undo item)
     (drop (passed + item_length item) bytes)
-read_more whole items count at passed met bytes item more is next =
+read_more items {count} {at} passed met bytes {item} more is next =
     let left : count - at ≡ suc (count - (at + 1)) = omega (arith, more) in
     is ∙ ap (λ n. items ++ tag_items_from n met (drop passed bytes)) left
-    ∙ ap (λ l. items ++ l) (tag_items_from-next (count - (at + 1)) met (drop passed bytes) item next
+    ∙ ap (λ l. items ++ l) (tag_items_from-next (count - (at + 1)) met (drop passed bytes) next
     ∙ ap (λ b. item ∷ tag_items_from (count - (at + 1)) (met || is_undo item) b)
     (drop-drop (item_length item) passed bytes))
     ∙ sym (append_assoc items (item ∷ [])
@@ -393,14 +394,14 @@ read_more whole items count at passed met bytes item more is next =
     (drop (passed + item_length item) bytes)))
 
 -- if there is no next item, the items so far are all
-pub read_none : (whole items : List TagItem) (left : ℕ) (met : Bool) (bytes : List ℕ)
+pub read_none : {whole items : List TagItem} (left : ℕ) (met : Bool) (bytes : List ℕ)
     → whole ≡ items ++ tag_items_from left met bytes → next_item met bytes ≡ None → items ≡ whole
-read_none whole items left met bytes is none = grind (arith, is, tag_items_from-none, append-nil)
+read_none left met bytes is none = grind (arith, is, tag_items_from-none, append-nil)
 
 -- if as many items were read as there may be, they are all
-pub read_all : (whole items : List TagItem) (count at : ℕ) (met : Bool) (bytes : List ℕ)
+pub read_all : {whole items : List TagItem} {count at : ℕ} (met : Bool) (bytes : List ℕ)
     → count ≤ at → whole ≡ items ++ tag_items_from (count - at) met bytes → items ≡ whole
-read_all whole items count at met bytes done is = grind (arith, is, tag_items_from-zero, append-nil)
+read_all met bytes done is = grind (arith, is, tag_items_from-zero, append-nil)
 
 -- ---- what items that follow end to end are
 
@@ -443,11 +444,11 @@ pub record AreRead (met : Bool) (bytes : List ℕ) (items : List TagItem) : Type
 read_nothing : (met : Bool) (bytes : List ℕ) → AreRead met bytes []
 read_nothing met bytes = record { all = refl; front = refl; few = at_most_one met }
 
-read_one : (met : Bool) (bytes : List ℕ) (item : TagItem) (items : List TagItem)
+read_one : {met : Bool} {bytes : List ℕ} {item : TagItem} {items : List TagItem}
     → AreByteValues bytes → IsNext met bytes item
     → AreRead (met || is_undo item) (drop (item_length item) bytes) items
     → AreRead met bytes (item ∷ items)
-read_one met bytes item items octets next rest =
+read_one {met} {bytes} {item} {items} octets next rest =
     let here : is_item item ≡ true = grind (arith, is_item-front) in
     let front : bytes ≡ item_bytes item ++ drop (item_length item) bytes =
     grind (arith, bytes-front) in
@@ -463,26 +464,25 @@ read_one met bytes item items octets next rest =
       );
     }
 
-read_cases : (most : ℕ) (met : Bool) (bytes : List ℕ) → AreByteValues bytes
+read_cases : (most : ℕ) {met : Bool} {bytes : List ℕ} → AreByteValues bytes
     → ((m : Bool) (b : List ℕ) → AreByteValues b → AreRead m b (tag_items_from most m b))
     → (o : Option TagItem) → next_item met bytes ≡ o
     → AreRead met bytes (tag_items_from (suc most) met bytes)
-read_cases most met bytes octets fewer None none = subst (AreRead met bytes)
+read_cases most {met} {bytes} octets fewer None none = subst (AreRead met bytes)
     (sym (tag_items_from-none (suc most) met bytes none)) (read_nothing met bytes)
-read_cases most met bytes octets fewer (Some item) next =
-    subst (AreRead met bytes) (sym (tag_items_from-next most met bytes item next))
-    (read_one met bytes item
-    (tag_items_from most (met || is_undo item) (drop (item_length item) bytes))
-    octets (next_item-is met bytes item next)
+read_cases most {met} {bytes} octets fewer (Some item) next =
+    subst (AreRead met bytes) (sym (tag_items_from-next most met bytes next))
+    (read_one
+    octets (next_item-is next)
     (fewer (met || is_undo item) (drop (item_length item) bytes)
     (octets-drop (item_length item) bytes octets)))
 
 -- what is read are items with whose bytes the bytes begin, and at most one is an undo item
-pub tag_items_from-read : (most : ℕ) (met : Bool) (bytes : List ℕ) → AreByteValues bytes
+pub tag_items_from-read : (most : ℕ) (met : Bool) {bytes : List ℕ} → AreByteValues bytes
     → AreRead met bytes (tag_items_from most met bytes)
-tag_items_from-read zero met bytes octets = grind (arith, tag_items_from-zero, read_nothing)
-tag_items_from-read (suc most) met bytes octets = read_cases most met bytes octets
-    (λ m b all. tag_items_from-read most m b all) (next_item met bytes) refl
+tag_items_from-read zero met octets = grind (arith, tag_items_from-zero, read_nothing)
+tag_items_from-read (suc most) met {bytes} octets = read_cases most octets
+    (λ m b all. tag_items_from-read most m all) (next_item met bytes) refl
 
 -- items are read from their bytes
 pub tag_items_from-items_bytes : (met : Bool) (items : List TagItem) → list_all is_item items ≡ true
@@ -495,7 +495,7 @@ tag_items_from-items_bytes met (item ∷ items) all few =
     (omega (arith, few, undos-cons item items)) in
     let next : next_item met (items_bytes (item ∷ items)) ≡ Some item =
     grind (arith, admit, tag_item_of-item_bytes) in
-    tag_items_from-next (length items) met (items_bytes (item ∷ items)) item next
+    tag_items_from-next (length items) met (items_bytes (item ∷ items)) next
     ∙ ap (λ l. item ∷ l) (ap (tag_items_from (length items) (met || is_undo item))
     (drop_at (item_bytes item) (items_bytes items) (item_length item) (length-item_bytes item))
     ∙ tag_items_from-items_bytes (met || is_undo item) items parts.1 less.1)
@@ -505,7 +505,7 @@ pub tag_items_from-within : (most : ℕ) (met : Bool) (bytes : List ℕ) → Are
     → items_length (tag_items_from most met bytes) ≤ length bytes
 tag_items_from-within most met bytes octets =
     let items : List TagItem = tag_items_from most met bytes in
-    let read = tag_items_from-read most met bytes octets in
+    let read = tag_items_from-read most met octets in
     omega (
       arith,
       ap length read.front,
@@ -529,37 +529,36 @@ or_assoc : (a b c : Bool) → ((a || b) || c) ≡ (a || (b || c))
 or_assoc true b c = refl
 or_assoc false b c = refl
 
-stopped_here : (most : ℕ) (met : Bool) (bytes : List ℕ) → (0 < most → next_item met bytes ≡ None)
+stopped_here : {most : ℕ} {met : Bool} {bytes : List ℕ} → (0 < most → next_item met bytes ≡ None)
     → IsStopped most met bytes []
-stopped_here most met bytes none = record {
+stopped_here {met = met} {bytes = bytes} none = record {
   few = omega arith;
   last = λ less. ap (λ m. next_item m bytes) (or_false met) ∙ none less;
 }
 
-stopped_later : (most : ℕ) (met : Bool) (bytes : List ℕ) (item : TagItem) (items : List TagItem)
+stopped_later : {most : ℕ} {met : Bool} {bytes : List ℕ} {item : TagItem} {items : List TagItem}
     → IsStopped most (met || is_undo item) (drop (item_length item) bytes) items
     → IsStopped (suc most) met bytes (item ∷ items)
-stopped_later most met bytes item items rest = record {
+stopped_later rest = record {
   few = omega (arith, rest.few);
   last = grind (arith, or_assoc, items_length-cons, drop-drop);
 }
 
-stop_cases : (most : ℕ) (met : Bool) (bytes : List ℕ)
+stop_cases : {most : ℕ} {met : Bool} {bytes : List ℕ}
     → ((m : Bool) (b : List ℕ) → IsStopped most m b (tag_items_from most m b))
     → (o : Option TagItem) → next_item met bytes ≡ o
     → IsStopped (suc most) met bytes (tag_items_from (suc most) met bytes)
-stop_cases most met bytes fewer None none = grind (arith, most, tag_items_from-none, stopped_here)
-stop_cases most met bytes fewer (Some item) next =
-    subst (IsStopped (suc most) met bytes) (sym (tag_items_from-next most met bytes item next))
-    (stopped_later most met bytes item (tag_items_from most (met || is_undo item)
-    (drop (item_length item) bytes)) (fewer (met || is_undo item) (drop (item_length item) bytes)))
+stop_cases {most} fewer None none = grind (arith, most, tag_items_from-none, stopped_here)
+stop_cases {most} {met} {bytes} fewer (Some item) next =
+    subst (IsStopped (suc most) met bytes) (sym (tag_items_from-next most met bytes next))
+    (stopped_later (fewer (met || is_undo item) (drop (item_length item) bytes)))
 
 -- reading continues up to the most items there may be, or until there is no next one
 pub tag_items_from-stopped : (most : ℕ) (met : Bool) (bytes : List ℕ)
     → IsStopped most met bytes (tag_items_from most met bytes)
 tag_items_from-stopped zero met bytes = grind (arith, tag_items_from-zero, stopped_here)
 tag_items_from-stopped (suc most) met bytes =
-    stop_cases most met bytes (λ m b. tag_items_from-stopped most m b) (next_item met bytes) refl
+    stop_cases (λ m b. tag_items_from-stopped most m b) (next_item met bytes) refl
 
 -- ---- no other items are read
 
@@ -570,15 +569,15 @@ only_none (suc most) met bytes last = tag_items_from-none (suc most) met bytes (
 
 -- items with whose bytes the bytes begin, and after which there is no next one, are the items that
 -- are read
-pub tag_items_from-only : (most : ℕ) (met : Bool) (items : List TagItem) (bytes rest : List ℕ)
-    → list_all is_item items ≡ true → length items ≤ most
+pub tag_items_from-only : (most : ℕ) (met : Bool) (items : List TagItem) {bytes : List ℕ}
+    (rest : List ℕ) → list_all is_item items ≡ true → length items ≤ most
     → cond met 1 0 + length (filter is_undo items) ≤ 1 → bytes ≡ items_bytes items ++ rest
     → (length items < most → next_item (met || list_any is_undo items) rest ≡ None)
     → tag_items_from most met bytes ≡ items
-tag_items_from-only most met [] bytes rest all few one front last =
+tag_items_from-only most met [] rest all few one front last =
     grind (arith, only_none, most, front, or_false)
-tag_items_from-only zero met (item ∷ items) bytes rest all few one front last = grind (arith, few)
-tag_items_from-only (suc most) met (item ∷ items) bytes rest all few one front last =
+tag_items_from-only zero met (item ∷ items) rest all few one front last = grind (arith, few)
+tag_items_from-only (suc most) met (item ∷ items) {bytes} rest all few one front last =
     let parts = and_parts (is_item item) (list_all is_item items) all in
     let less = few_less met (is_undo item) (length (filter is_undo items))
     (omega (arith, one, undos-cons item items)) in
@@ -587,8 +586,8 @@ tag_items_from-only (suc most) met (item ∷ items) bytes rest all few one front
     let next : next_item met bytes ≡ Some item = grind (arith, admit, tag_item_of-item_bytes) in
     let behind : drop (item_length item) bytes ≡ items_bytes items ++ rest =
     grind (arith, drop_at, length-item_bytes) in
-    tag_items_from-next most met bytes item next
-    ∙ ap (λ l. item ∷ l) (tag_items_from-only most (met || is_undo item) items
-    (drop (item_length item) bytes) rest parts.1 (omega (arith, few)) less.1 behind
+    tag_items_from-next most met bytes next
+    ∙ ap (λ l. item ∷ l) (tag_items_from-only most
+    (met || is_undo item) items rest parts.1 (omega (arith, few)) less.1 behind
     (λ fewer. ap (λ m. next_item m rest) (or_assoc met (is_undo item) (list_any is_undo items))
     ∙ last (omega (arith, fewer))))

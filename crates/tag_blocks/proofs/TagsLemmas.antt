@@ -28,8 +28,8 @@ use Rattle.tag_blocks.specs.declared.{block.Kind.TheVariants.Ape, tag_fault.TagF
 -- ---- lengths
 
 -- the items of a tag have at most 2,097,024 bytes
-pub items_length-most : (tag : TagFields) → IsTag tag → items_length tag.items ≤ 2097024
-items_length-most tag is = omega (arith, items_length-parts tag.items, is.others, is.own)
+pub items_length-most : {tag : TagFields} → IsTag tag → items_length tag.items ≤ 2097024
+items_length-most {tag} is = omega (arith, items_length-parts tag.items, is.others, is.own)
 
 -- an item has 11 bytes or more
 pub count-few : (items : List TagItem) → list_all is_item items ≡ true
@@ -41,12 +41,12 @@ count-few (item ∷ items) all =
       arith,
       count-few items parts.1,
       items_length-cons item items,
-      (is_item-parts item parts.0).least,
+      (is_item-parts parts.0).least,
     )
 
 -- a tag has fewer than 2 ^ 32 items
-pub count-most : (tag : TagFields) → IsTag tag → length tag.items < 2 ^ 32
-count-most tag is = omega (arith, items_length-most tag is, count-few tag.items is.items)
+pub count-most : {tag : TagFields} → IsTag tag → length tag.items < 2 ^ 32
+count-most {tag} is = omega (arith, items_length-most is, count-few tag.items is.items)
 
 length-end_bytes : (size count flags : ℕ) → length (end_bytes size count flags) ≡ 32
 unfolding end_bytes
@@ -70,26 +70,26 @@ pub record IsEnd (size count flags : ℕ) (bytes rest : List ℕ) : Type 0 where
   pub reserved : is_reserved bytes ≡ true
   pub behind : drop 32 bytes ≡ rest
 
-end_bytes-parts : (size count flags : ℕ) (rest : List ℕ) → size < 2 ^ 32 → count < 2 ^ 32
+end_bytes-parts : {size count flags : ℕ} (rest : List ℕ) → size < 2 ^ 32 → count < 2 ^ 32
     → flags < 2 ^ 32 → IsEnd size count flags (end_bytes size count flags ++ rest) rest
 unfolding end_bytes
-end_bytes-parts size count flags rest s n f = record {
+end_bytes-parts {size} {count} {flags} rest s n f = record {
   long = grind (arith, le-leb, count, length-append, length-end_bytes);
   text = refl;
   version = refl;
-  size_is = little_number-little_bytes size s;
-  count_is = little_number-little_bytes count n;
-  flags_is = little_number-little_bytes flags f;
+  size_is = little_number-little_bytes s;
+  count_is = little_number-little_bytes n;
+  flags_is = little_number-little_bytes f;
   reserved = refl;
   behind = refl;
 }
 
 -- ---- a tag that was written is read again
 
-is_footer-end : (size count flags : ℕ) (bytes : List ℕ) → IsEnd size count flags bytes []
+is_footer-end : {size count flags : ℕ} {bytes : List ℕ} → IsEnd size count flags bytes []
     → are_footer_flags flags ≡ true → is_footer size count bytes ≡ true
 unfolding is_footer
-is_footer-end size count flags bytes is bits = grind (arith, and_from, eq-eqb, count, bits)
+is_footer-end {count = count} is bits = grind (arith, and_from, eq-eqb, count, bits)
 
 -- the block has the header, the items and the footer of a tag, each in its place
 pub record AreParts (tag : TagFields) (block : List ℕ) : Type 0 where
@@ -109,18 +109,18 @@ unfolding tag_bytes
 tag_bytes-is tag = refl
 
 -- the bytes of a tag have its header, items and footer, each in its place
-pub tag_bytes-parts : (tag : TagFields) → IsTag tag → AreParts tag (tag_bytes tag)
-tag_bytes-parts tag is =
+pub tag_bytes-parts : {tag : TagFields} → IsTag tag → AreParts tag (tag_bytes tag)
+tag_bytes-parts {tag} is =
     let size : ℕ = tag_size tag in
     let count : ℕ = length tag.items in
     let footer : List ℕ = end_bytes size count tag.footer_flags in
     let block : List ℕ = tag_bytes tag in
-    let s : size < 2 ^ 32 = omega (arith, items_length-most tag is) in
-    let n : count < 2 ^ 32 = count-most tag is in
+    let s : size < 2 ^ 32 = omega (arith, items_length-most is) in
+    let n : count < 2 ^ 32 = count-most is in
     let header : IsEnd size count tag.header_flags block (items_bytes tag.items ++ footer) =
     subst (λ b. IsEnd size count tag.header_flags b (items_bytes tag.items ++ footer))
-    (sym (tag_bytes-is tag)) (end_bytes-parts size count
-    tag.header_flags (items_bytes tag.items ++ footer) s n (ltb-true _ _ is.header_number)) in
+    (sym (tag_bytes-is tag))
+    (end_bytes-parts (items_bytes tag.items ++ footer) s n (ltb-true _ _ is.header_number)) in
     let place : footer_place block ≡ 32 + items_length tag.items =
     omega (arith, length-tag_bytes tag) in
     let many : footer_place block - 32 ≡ items_length tag.items = omega (arith, place) in
@@ -134,16 +134,15 @@ tag_bytes-parts tag is =
       items = grind (arith, take_at, footer, length-items_bytes);
       behind = behind;
       footer = subst (λ b. IsEnd size count tag.footer_flags b []) (append-nil footer ∙ sym behind)
-          (end_bytes-parts size count tag.footer_flags [] s n (ltb-true _ _ is.footer_number));
+          (end_bytes-parts [] s n (ltb-true _ _ is.footer_number));
     }
 
 -- header, items and footer, appended to nothing in order, are the bytes of the tag
-pub tag_bytes-added : (tag : TagFields) (size count : ℕ) (nothing header items whole : List ℕ)
+pub tag_bytes-added : (tag : TagFields) {size count : ℕ} {nothing header items whole : List ℕ}
     → size ≡ tag_size tag → count ≡ length tag.items → nothing ≡ [] → header
     ≡ nothing ++ end_bytes size count tag.header_flags → items ≡ header ++ items_bytes tag.items
     → whole ≡ items ++ end_bytes size count tag.footer_flags → whole ≡ tag_bytes tag
-tag_bytes-added tag size count nothing header items whole size_is count_is first second third
-    fourth =
+tag_bytes-added tag size_is count_is first second third fourth =
     fourth ∙ rw (third, second, first, size_is, count_is) (append_assoc (end_bytes (tag_size tag)
     (length tag.items) tag.header_flags) (items_bytes tag.items)
     (end_bytes (tag_size tag) (length tag.items) tag.footer_flags) ∙ sym (tag_bytes-is tag))
@@ -197,10 +196,10 @@ unfolding tag_of
 tag_of-whole block good counted placed footed = rw (good, counted, placed, footed) refl
 
 -- the bytes of a tag are read as that tag
-pub tag_of-tag_bytes : (tag : TagFields) → IsTag tag → tag_of (tag_bytes tag) ≡ Ok tag
-tag_of-tag_bytes tag is =
+pub tag_of-tag_bytes : {tag : TagFields} → IsTag tag → tag_of (tag_bytes tag) ≡ Ok tag
+tag_of-tag_bytes {tag} is =
     let block : List ℕ = tag_bytes tag in
-    let parts = tag_bytes-parts tag is in
+    let parts = tag_bytes-parts is in
     let count : ape_count block ≡ length tag.items = parts.header.count_is in
     let items : tag_items_of block ≡ tag.items = grind (arith, count, tag_items_from-items_bytes) in
     let counted : (length (tag_items_of block) == ape_count block) ≡ true =
@@ -214,24 +213,22 @@ tag_of-tag_bytes tag is =
 
 -- ---- what was written is a block
 
-is_ape-end : (size count flags : ℕ) (bytes rest : List ℕ) → IsEnd size count flags bytes rest
+is_ape-end : {size count flags : ℕ} {bytes rest : List ℕ} → IsEnd size count flags bytes rest
     → 32 ≤ size → are_header_flags flags ≡ true → is_ape bytes ≡ true
 unfolding is_ape
-is_ape-end size count flags bytes rest is most bits =
-    grind (arith, and_parts, bits, and_from, eq-eqb, le-leb, most)
+is_ape-end is most bits = grind (arith, and_parts, bits, and_from, eq-eqb, le-leb, most)
 
 -- the bytes of a tag begin with an APEv2 block that is as long as they are
-pub block_front-tag_bytes : (tag : TagFields) → IsTag tag
+pub block_front-tag_bytes : {tag : TagFields} → IsTag tag
     → block_front (tag_bytes tag) ≡ Some (record { kind = Ape; length = length (tag_bytes tag) })
 unfolding ape_length
-block_front-tag_bytes tag is =
+block_front-tag_bytes {tag} is =
     let block : List ℕ = tag_bytes tag in
-    let parts = tag_bytes-parts tag is in
-    let here : is_ape block ≡ true = is_ape-end (tag_size tag)
-    (length tag.items) tag.header_flags block _ parts.header (omega arith) is.header_bits in
+    let parts = tag_bytes-parts is in
+    let here : is_ape block ≡ true = is_ape-end parts.header (omega arith) is.header_bits in
     let long : 32 + ape_size block ≡ length block =
     omega (arith, parts.header.size_is, length-tag_bytes tag) in
-    block_front-any Ape block (record { kind = Ape; length = length block }) (rw (here, long) refl)
+    block_front-any Ape block (rw (here, long) refl)
 
 -- ---- a block that is a tag, written again
 
@@ -246,9 +243,9 @@ six : (bytes : List ℕ)
     ++ (take 4 (drop 16 bytes) ++ (take 4 (drop 20 bytes) ++ take 8 (drop 24 bytes)))))
 six bytes = grind (arith, take-add, drop-drop)
 
-glued : (a b c d e f g h i j k l : List ℕ) → a ≡ g → b ≡ h → c ≡ i → d ≡ j → e ≡ k → f ≡ l
+glued : {a b c d e f g h i j k l : List ℕ} → a ≡ g → b ≡ h → c ≡ i → d ≡ j → e ≡ k → f ≡ l
     → a ++ (b ++ (c ++ (d ++ (e ++ f)))) ≡ g ++ (h ++ (i ++ (j ++ (k ++ l))))
-glued a b c d e f g h i j k l first second third fourth fifth sixth = grind arith
+glued first second third fourth fifth sixth = grind arith
 
 end_bytes-back : (bytes : List ℕ) → AreByteValues bytes → 32 ≤ length bytes
     → begins_with (codes "APETAGEX") bytes ≡ true → ape_version bytes ≡ 2000 → is_reserved bytes
@@ -268,7 +265,7 @@ end_bytes-back bytes octets long text version reserved =
     let zero : take 8 (drop 24 bytes) ≡ replicate 8 0 =
     zeros (take 8 (drop 24 bytes)) reserved ∙ ap (λ k. replicate k 0)
     (length-take-le 8 (drop 24 bytes) (omega (arith, long, length-drop 24 bytes))) in
-    six bytes ∙ glued _ _ _ _ _ _ _ _ _ _ _ _ front number size count flags zero
+    six bytes ∙ glued front number size count flags zero
 
 -- a block that `block_at` takes as an APEv2 block of its own length
 pub record IsBlock (block : List ℕ) : Type 0 where
@@ -281,11 +278,11 @@ pub record IsBlock (block : List ℕ) : Type 0 where
 
 -- a block for which `block_at` returns its own length begins with an APEv2 header that gives this
 -- length
-pub block_front-is : (block : List ℕ)
+pub block_front-is : {block : List ℕ}
     → block_front block ≡ Some (record { kind = Ape; length = length block }) → IsBlock block
 unfolding is_ape ape_length
-block_front-is block is =
-    let both = block_front-begins block (record { kind = Ape; length = length block }) is in
+block_front-is {block} is =
+    let both = block_front-begins block is in
     let five = and_parts _ _ both.0 in
     let four = and_parts _ _ five.0 in
     let three = and_parts _ _ four.0 in
@@ -310,10 +307,10 @@ pub record IsFooter (size count : ℕ) (footer : List ℕ) : Type 0 where
   pub reserved : is_reserved footer ≡ true
 
 -- what passes the test of footers is a footer
-pub is_footer-parts : (size count : ℕ) (footer : List ℕ) → is_footer size count footer ≡ true
+pub is_footer-parts : {size count : ℕ} {footer : List ℕ} → is_footer size count footer ≡ true
     → IsFooter size count footer
 unfolding is_footer
-is_footer-parts size count footer is =
+is_footer-parts is =
     let five = and_parts _ _ is in
     let four = and_parts _ _ five.0 in
     let three = and_parts _ _ four.0 in
@@ -343,10 +340,10 @@ part-octets block octets =
     octets-take (footer_place block - 32) (drop 32 block) (octets-drop 32 block octets)
 
 -- the items of a block without fault are the items of a tag
-pub IsTag-in : (block : List ℕ) → IsWhole block → IsTag (tag_in block)
-IsTag-in block whole =
+pub IsTag-in : {block : List ℕ} → IsWhole block → IsTag (tag_in block)
+IsTag-in {block} whole =
     let read =
-    tag_items_from-read (ape_count block) false (item_part block)
+    tag_items_from-read (ape_count block) false
     (part-octets block whole.octets) in
     let sum = items_length-parts (tag_items_of block) in
     record {
@@ -362,20 +359,20 @@ IsTag-in block whole =
           (drop (footer_place block) block) (octets-drop (footer_place block) block whole.octets));
     }
 
-none_left : (n : ℕ) (bytes : List ℕ) → length bytes ≤ n → drop n bytes ≡ []
-none_left n bytes few = nil_from_length (drop n bytes) (omega (arith, few, length-drop n bytes))
+none_left : {n : ℕ} (bytes : List ℕ) → length bytes ≤ n → drop n bytes ≡ []
+none_left {n} bytes few = nil_from_length (drop n bytes) (omega (arith, few, length-drop n bytes))
 
-up_to : (end n : ℕ) → 32 + n ≡ end → 32 + (end - 32) ≡ end
-up_to end n is = omega (arith, is)
+up_to : {end : ℕ} (n : ℕ) → 32 + n ≡ end → 32 + (end - 32) ≡ end
+up_to n is = omega (arith, is)
 
 -- the bytes of the tag of a block without fault are the block
-pub tag_bytes-in : (block : List ℕ) → IsWhole block → tag_bytes (tag_in block) ≡ block
+pub tag_bytes-in : {block : List ℕ} → IsWhole block → tag_bytes (tag_in block) ≡ block
 unfolding tag_bytes
-tag_bytes-in block whole =
+tag_bytes-in {block} whole =
     let items : List TagItem = tag_items_of block in
     let end : ℕ = footer_place block in
     let footer : List ℕ = drop end block in
-    let foot = is_footer-parts (ape_size block) (ape_count block) footer whole.footer in
+    let foot = is_footer-parts whole.footer in
     let size : items_length items + 32 ≡ ape_size block =
     omega (arith, whole.place, whole.is.long) in
     let header : end_bytes (items_length items + 32) (length items) (ape_flags block)
@@ -386,7 +383,7 @@ tag_bytes-in block whole =
     (sym (end_bytes-back footer (octets-drop end block whole.octets) (omega (arith, short))
     foot.text foot.version foot.reserved) ∙ take_all 32 footer (omega (arith, short))) in
     let read =
-    tag_items_from-read (ape_count block) false (item_part block)
+    tag_items_from-read (ape_count block) false
     (part-octets block whole.octets) in
     let wide : length (item_part block) ≡ items_length items = omega (
       arith,
@@ -400,7 +397,7 @@ tag_bytes-in block whole =
     let split : item_part block ++ footer ≡ drop 32 block =
     grind (
       arith,
-      up_to end (items_length items) whole.place,
+      up_to (items_length items) whole.place,
       items,
       drop-drop (end - 32) 32
           block,
@@ -451,7 +448,7 @@ module _ (block : List ℕ) (items : List TagItem) (many long count : ℕ) where
       → is_footer (ape_size block) (ape_count block) (drop (footer_place block) block) ≡ true
       → IsWhole block
   whole_found is octets most found good place footer = record {
-    is = block_front-is block is;
+    is = block_front-is is;
     octets = octets;
     most = most;
     reserved = found.reserved;
@@ -461,8 +458,8 @@ module _ (block : List ℕ) (items : List TagItem) (many long count : ℕ) where
   }
 
 -- the tag of a block without fault is the one in it
-pub tag_of-in : (block : List ℕ) → IsWhole block → tag_of block ≡ Ok (tag_in block)
-tag_of-in block whole = grind (arith, tag_of-whole, eq-eqb)
+pub tag_of-in : {block : List ℕ} → IsWhole block → tag_of block ≡ Ok (tag_in block)
+tag_of-in whole = grind (arith, tag_of-whole, eq-eqb)
 
 -- the items of a block leave room for header and footer
 pub found-within : (block : List ℕ) → AreByteValues block → 64 ≤ length block
@@ -479,47 +476,46 @@ found-within block octets long =
 -- an APEv2 block has at least 64 bytes
 pub block-long : (block : List ℕ)
     → block_front block ≡ Some (record { kind = Ape; length = length block }) → 64 ≤ length block
-block-long block is = let here = block_front-is block is in omega (arith, here.room, here.long)
+block-long block is = let here = block_front-is is in omega (arith, here.room, here.long)
 
 -- ---- the place of a fault is in the block
 
-fault_cases : (block : List ℕ) (a b c d : Bool) (items_long : ℕ) (tag : TagFields) (place : ℕ)
+fault_cases : (block : List ℕ) (a b c d : Bool) (items_long : ℕ) (tag : TagFields) {place : ℕ}
     → 64 ≤ length block → 64 + items_long ≤ length block → cond (not a) (Err (TagFault.BadTag 24))
     (cond (not b) (Err (TagFault.BadTag (32 + items_long))) (cond (not c) (Err (TagFault.BadTag
     (32 + items_long))) (cond (not d) (Err (TagFault.BadTag (footer_place block))) (Ok tag))))
     ≡ Err (TagFault.BadTag place) → place < length block
-fault_cases block false b c d n tag place long within e = grind (arith, place, long)
-fault_cases block true true true false n tag place long within e = grind (arith, place, long)
-fault_cases block true true true true n tag place long within e = absurd cc
-fault_cases block true _ _ d n tag place long within e = grind (arith, place)
+fault_cases block false b c d n tag {place} long within e = grind (arith, place, long)
+fault_cases block true true true false n tag {place} long within e = grind (arith, place, long)
+fault_cases block true true true true n tag long within e = absurd cc
+fault_cases block true _ _ d n tag {place} long within e = grind (arith, place)
 
 -- a fault is at a byte of the block
-pub place-within : (block : List ℕ) (place : ℕ) → AreByteValues block → 64 ≤ length block
+pub place-within : (block : List ℕ) {place : ℕ} → AreByteValues block → 64 ≤ length block
     → tag_of block ≡ Err (TagFault.BadTag place) → place < length block
 unfolding tag_of
-place-within block place octets long e =
+place-within block {place} octets long e =
     grind (arith, fault_cases, place, long, found-within, octets)
 
 -- ---- a block that is a tag has no fault
 
-ok_cases : (a b c d : Bool) (x y z w : TagFault) (t tag : TagFields) → cond (not a) (Err x)
+ok_cases : (a b c d : Bool) (x y z w : TagFault) {t tag : TagFields} → cond (not a) (Err x)
     (cond (not b) (Err y) (cond (not c) (Err z) (cond (not d) (Err w) (Ok t)))) ≡ Ok tag
     → (a ≡ true) × (b ≡ true) × (c ≡ true) × (d ≡ true) × (t ≡ tag)
-ok_cases true true true true x y z w t tag e = (refl, refl, refl, refl, cc)
-ok_cases _ _ _ _ x y z w t tag e = absurd cc
+ok_cases true true true true x y z w e = (refl, refl, refl, refl, cc)
+ok_cases _ _ _ _ x y z w e = absurd cc
 
 -- a block that is read as a tag has no fault, and the tag is the one in it
-pub tag_of-ok : (block : List ℕ) (tag : TagFields) → AreByteValues block
+pub tag_of-ok : {block : List ℕ} {tag : TagFields} → AreByteValues block
     → block_front block ≡ Some (record { kind = Ape; length = length block })
     → length block ≤ 1048576 → tag_of block ≡ Ok tag → IsWhole block × (tag_in block ≡ tag)
 unfolding tag_of
-tag_of-ok block tag octets is most e =
+tag_of-ok {block} {tag} octets is most e =
     let parts = ok_cases (is_reserved block) (length (tag_items_of block) == ape_count block)
     (32 + items_length (tag_items_of block) == footer_place block)
-    (is_footer (ape_size block) (ape_count block) (drop (footer_place block) block)) _ _ _ _
-    (tag_in block) tag e in (
+    (is_footer (ape_size block) (ape_count block) (drop (footer_place block) block)) _ _ _ _ e in (
       record {
-        is = block_front-is block is;
+        is = block_front-is is;
         octets = octets;
         most = most;
         reserved = parts.0;

@@ -15,18 +15,18 @@ use Rattle.tag_blocks.specs.declared.undo.UndoItem.TheVariants.{Found, Missing}
 
 -- ---- where it is
 
-found_cases : (b : Bool) (k at : ℕ) → cond b (Some k) None ≡ Some at → (b ≡ true) × (k ≡ at)
-found_cases true k at e = (refl, cc)
-found_cases false k at e = absurd cc
+found_cases : (b : Bool) {k at : ℕ} → cond b (Some k) None ≡ Some at → (b ≡ true) × (k ≡ at)
+found_cases true e = (refl, cc)
+found_cases false e = absurd cc
 
 missed_cases : (b : Bool) (k : ℕ) → cond b (Some k) None ≡ None → b ≡ false
 missed_cases true k e = absurd cc
 missed_cases false k e = refl
 
 -- the index of the undo item is among the items
-pub position-some : (items : List TagItem) (at : ℕ) → position is_undo items ≡ Some at
+pub position-some : (items : List TagItem) {at : ℕ} → position is_undo items ≡ Some at
     → (position_or_len is_undo items < length items) × (position_or_len is_undo items ≡ at)
-position-some items at e = grind (arith, found_cases, ltb-true)
+position-some items e = grind (arith, found_cases, ltb-true)
 
 -- if there is no undo item, its index is past the items
 pub position-none : (items : List TagItem) → position is_undo items ≡ None
@@ -55,14 +55,14 @@ with_undo-set undo [] d within = absurd (omega (arith, within))
 with_undo-set undo (item ∷ items) d within =
     set_cases undo item items d (is_undo item) refl within (λ less. with_undo-set undo items d less)
 
-add_cases : (undo : Undo) (item : TagItem) (items : List TagItem) (is : Bool) → is_undo item ≡ is
+add_cases : (undo : Undo) {item : TagItem} {items : List TagItem} (is : Bool) → is_undo item ≡ is
     → length (item ∷ items) ≤ position_or_len is_undo (item ∷ items)
     → (length items ≤ position_or_len is_undo items
     → (with_undo undo items ≡ items ++ (new_undo_item undo ∷ [])) × (without_undo items ≡ items))
     → (with_undo undo (item ∷ items) ≡ (item ∷ items) ++ (new_undo_item undo ∷ []))
     × (without_undo (item ∷ items) ≡ item ∷ items)
-add_cases undo item items true own past rest = grind (arith, own)
-add_cases undo item items false own past rest = grind (arith, own)
+add_cases undo true own past rest = grind (arith, own)
+add_cases undo false own past rest = grind (arith, own)
 
 -- if there is no undo item, a new one is added, and none is removed
 pub with_undo-added : (undo : Undo) (items : List TagItem)
@@ -70,7 +70,7 @@ pub with_undo-added : (undo : Undo) (items : List TagItem)
     → (with_undo undo items ≡ items ++ (new_undo_item undo ∷ [])) × (without_undo items ≡ items)
 with_undo-added undo [] past = (refl, refl)
 with_undo-added undo (item ∷ items) past =
-    add_cases undo item items (is_undo item) refl past (λ more. with_undo-added undo items more)
+    add_cases undo (is_undo item) refl past (λ more. with_undo-added undo items more)
 
 remove_cases : (item : TagItem) (items : List TagItem) (is : Bool) → is_undo item ≡ is
     → position_or_len is_undo (item ∷ items) < length (item ∷ items)
@@ -175,9 +175,9 @@ pub others-with_undo : (undo : Undo) (items : List TagItem)
 others-with_undo undo [] = other-cons (new_undo_item undo) [] true (new-is undo)
 others-with_undo undo (item ∷ items) = grind (arith, others_cases, others-with_undo undo items)
 
-one_item : (item : TagItem) (items : List TagItem) → is_undo item ≡ true → length item.value ≡ 11
+one_item : {item : TagItem} {items : List TagItem} → is_undo item ≡ true → length item.value ≡ 11
     → undo_items items ≡ [] → HasOne (item ∷ items)
-one_item item items own value none =
+one_item {item} {items} own value none =
     let here : undo_items (item ∷ items) ≡ item ∷ [] = grind (arith, undo-cons, own, none) in
     record {
       one = omega (arith, ap length here);
@@ -192,7 +192,7 @@ own_cases : (undo : Undo) (item : TagItem) (items : List TagItem) (is : Bool) �
 own_cases undo item items true own few rest =
     let none : undo_items items ≡ [] = grind (arith, nil_from_length, undo-cons, own) in
     rw own
-    (one_item (record item { value = undo_text undo }) items (changed-is undo item ∙ own) refl none)
+    (one_item (changed-is undo item ∙ own) refl none)
 own_cases undo item items false own few rest =
     let behind = rest (omega (arith, few, ap length (undo-cons item items false own))) in
     let same : undo_items (item ∷ with_undo undo items) ≡ undo_items (with_undo undo items) =
@@ -204,14 +204,14 @@ own_cases undo item items false own few rest =
 
 with_undo-one : (undo : Undo) (items : List TagItem) → length (undo_items items) ≤ 1
     → HasOne (with_undo undo items)
-with_undo-one undo [] few = one_item (new_undo_item undo) [] (new-is undo) refl refl
+with_undo-one undo [] few = one_item (new-is undo) refl refl
 with_undo-one undo (item ∷ items) few =
     own_cases undo item items (is_undo item) refl few (λ less. with_undo-one undo items less)
 
 -- a tag with an undo item put in is a tag
-pub IsTag-with_undo : (undo : Undo) (tag : TagFields) → IsTag tag
+pub IsTag-with_undo : (undo : Undo) {tag : TagFields} → IsTag tag
     → IsTag (record tag { items = with_undo undo tag.items })
-IsTag-with_undo undo tag is =
+IsTag-with_undo undo {tag} is =
     let one = with_undo-one undo tag.items is.one in
     record {
       items = with_undo-all undo tag.items is.items;
@@ -232,19 +232,19 @@ pub record AreWithout (items left : List TagItem) : Type 0 where
   pub others : other_items left ≡ other_items items
   pub none : undo_items left ≡ []
 
-without_cases : (item : TagItem) (items : List TagItem) (is : Bool) → is_undo item ≡ is
+without_cases : {item : TagItem} {items : List TagItem} (is : Bool) → is_undo item ≡ is
     → list_all is_item (item ∷ items) ≡ true → length (undo_items (item ∷ items)) ≤ 1
     → (list_all is_item items ≡ true → length (undo_items items) ≤ 1
     → AreWithout items (without_undo items))
     → AreWithout (item ∷ items) (without_undo (item ∷ items))
-without_cases item items true own all few rest =
+without_cases {item} {items} true own all few rest =
     let parts = and_parts (is_item item) (list_all is_item items) all in
     rw own (record {
       all = parts.1;
       others = sym (other-cons item items true own);
       none = grind (arith, nil_from_length, undo-cons, own);
     })
-without_cases item items false own all few rest =
+without_cases {item} {items} false own all few rest =
     let parts = and_parts (is_item item) (list_all is_item items) all in
     let behind = rest parts.1 (omega (arith, few, ap length (undo-cons item items false own))) in
     rw own (record {
@@ -257,13 +257,13 @@ without_cases item items false own all few rest =
 pub without_undo-parts : (items : List TagItem) → list_all is_item items ≡ true
     → length (undo_items items) ≤ 1 → AreWithout items (without_undo items)
 without_undo-parts [] all few = record { all = refl; others = refl; none = refl }
-without_undo-parts (item ∷ items) all few = without_cases item items (is_undo item) refl all few
+without_undo-parts (item ∷ items) all few = without_cases (is_undo item) refl all few
     (λ rest less. without_undo-parts items rest less)
 
 -- a tag without its undo item is a tag
-pub IsTag-without_undo : (tag : TagFields) → IsTag tag
+pub IsTag-without_undo : {tag : TagFields} → IsTag tag
     → IsTag (record tag { items = without_undo tag.items })
-IsTag-without_undo tag is =
+IsTag-without_undo {tag} is =
     let left = without_undo-parts tag.items is.items is.one in
     record {
       items = left.all;
@@ -279,43 +279,44 @@ IsTag-without_undo tag is =
 -- ---- by the place that was found
 
 -- removing the item at the index of the undo item gives the items without it
-pub removed : (items left : List TagItem) (at : ℕ) → position is_undo items ≡ Some at
-    → left ≡ take at items ++ drop (at + 1) items → left ≡ without_undo items
-removed items left at found is = grind (arith, position-some, without_undo-removed)
+pub removed : (items : List TagItem) {left : List TagItem} {at : ℕ} → position is_undo items
+    ≡ Some at → left ≡ take at items ++ drop (at + 1) items → left ≡ without_undo items
+removed items found is = grind (arith, position-some, without_undo-removed)
 
 -- items without an undo item stay as they are
-pub none_removed : (items : List TagItem) → position is_undo items ≡ None
+pub none_removed : {items : List TagItem} → position is_undo items ≡ None
     → items ≡ without_undo items
-none_removed items none = sym ((with_undo-added
+none_removed {items} none = sym ((with_undo-added
     (record { left = pos 0; right = pos 0; wrap = false }) items (position-none items none)).1)
 
 -- setting the value at the index of the undo item puts the undo in
-pub replaced : (undo : Undo) (items changed : List TagItem) (at : ℕ) (item : TagItem)
-    → position is_undo items ≡ Some at → item ≡ get_or items at item → changed
+pub replaced : (undo : Undo) (items : List TagItem) {changed : List TagItem} {at : ℕ}
+    {item : TagItem} → position is_undo items ≡ Some at → item ≡ get_or items at item → changed
     ≡ set items at (record item { value = undo_text undo }) → changed ≡ with_undo undo items
-replaced undo items changed at item found own is =
+replaced undo items found own is =
     grind (arith, position-some items, own, set items, set, with_undo-set)
 
 -- if there is no undo item, adding a new one at the end puts the undo in
-pub added : (undo : Undo) (items more : List TagItem) → position is_undo items ≡ None
-    → more ≡ items ++ (new_undo_item undo ∷ []) → more ≡ with_undo undo items
-added undo items more none is = is ∙ sym ((with_undo-added undo items (position-none items none)).0)
+pub added : (undo : Undo) (items : List TagItem) {more : List TagItem} → position is_undo items
+    ≡ None → more ≡ items ++ (new_undo_item undo ∷ []) → more ≡ with_undo undo items
+added undo items none is = is ∙ sym ((with_undo-added undo items (position-none items none)).0)
 
 -- ---- what the tag says then
 
-put_cases : (undo : Undo) (item : TagItem) (items : List TagItem) (place : ℕ) (is : Bool)
+put_cases : {undo : Undo} (item : TagItem) (items : List TagItem) (place : ℕ) (is : Bool)
     → is_undo item ≡ is → undo_of (undo_text undo) ≡ Some undo
     → ((p : ℕ) → undo_from p (with_undo undo items) ≡ Found undo)
     → undo_from place (with_undo undo (item ∷ items)) ≡ Found undo
-put_cases undo item items place true own text rest = rw (own, changed-is undo item, own, text) refl
-put_cases undo item items place false own text rest = grind (arith, own)
+put_cases {undo} item items place true own text rest =
+    rw (own, changed-is undo item, own, text) refl
+put_cases item items place false own text rest = grind (arith, own)
 
 -- an undo that was put in is found
-pub undo_from-with_undo : (undo : Undo) (items : List TagItem) (place : ℕ)
+pub undo_from-with_undo : {undo : Undo} (items : List TagItem) (place : ℕ)
     → undo_of (undo_text undo) ≡ Some undo → undo_from place (with_undo undo items) ≡ Found undo
-undo_from-with_undo undo [] place text = rw (new-is undo, text) refl
-undo_from-with_undo undo (item ∷ items) place text = put_cases undo item items place
-    (is_undo item) refl text (λ p. undo_from-with_undo undo items p text)
+undo_from-with_undo {undo} [] place text = rw (new-is undo, text) refl
+undo_from-with_undo {undo} (item ∷ items) place text = put_cases item items place
+    (is_undo item) refl text (λ p. undo_from-with_undo items p text)
 
 missing_cases : (item : TagItem) (items : List TagItem) (place : ℕ) (is : Bool) → is_undo item ≡ is
     → undo_items (item ∷ items) ≡ []

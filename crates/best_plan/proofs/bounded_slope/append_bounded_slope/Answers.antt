@@ -36,7 +36,6 @@ returns c =
     c.requires.near c.requires.row.choices.ascending c.requires.row.choices.most
     (omega (arith, c.saturating_add-wanted.ensures))
     (λ small. omega (arith, c.saturating_add-wanted.ensures, small))
-    c.loop-place.start c.loop-place.sums.items a.places.now.items c.loop-place.places.items
     (subst (λ n. IsNearTo a.row.window a.row.bytes wanted a.row.areas.now a.row.later.now n
     c.loop-place.start c.loop-place.sums.items a.places.now.items c.loop-place.places.items) none
     c.loop-place.invariant)

@@ -4,11 +4,10 @@ use Rattle.best_plan.proofs.rows.append_unit_slope.Goals as goal
 
 pub returns-clause-row : goal.returns-clause-row
 returns-clause-row c =
-    even-row c.args.window c.args.bytes c.args.areas.now c.args.sums.now c.add_to_all.new.sums
-    c.args.places.now.items c.append_first_areas.new.places.items
+    even-row
     c.requires.row.width c.requires.even c.requires.room c.add_to_all.ensures
     c.in_ok-append_first_areas.ensures
 
 pub returns-clause-even : goal.returns-clause-even
-returns-clause-even c = even-again c.args.sums.now c.add_to_all.new.sums c.args.bytes
+returns-clause-even c = even-again c.args.sums.now c.args.bytes
     c.requires.even c.add_to_all.ensures

@@ -25,7 +25,7 @@ best_choice-choice-requires-clause-row c = record {
     most = search rules;
     few = search rules;
     ascending = subst Ascend (sym (areas-are c))
-        (lead-ascend c.args.class c.as_slice.result.now (c.as_slice.ensures.value
+        (lead-ascend c.args.class (c.as_slice.ensures.value
         ∙ c.slots-slots.ensures.slots) (c.slots-slots.ensures.ascending false));
   };
   width = search rules;
@@ -37,8 +37,7 @@ bounds-as_slice-choice c =
     ready (goal.at.bounds-as_slice-choice c).After-as_slice-2 _ _ c.best_choice-choice.ensures in
     omega (
       arith,
-      lead-within c.args.class c.args.sums.now c.args.window c.best_choice-choice.result.sum
-          c.best_choice-choice.result.place is.0 is.1,
+      lead-within c.args.class is.0 is.1,
       ap length (c.as_slice-3.ensures.value ∙ c.slots-slots.ensures.slots),
     )
 
@@ -46,6 +45,6 @@ pub returns : goal.returns
 returns c =
     let is = ready (goal.at.returns c).After-as_slice-2 _ _ c.best_choice-choice.ensures in
     lead-by c.args.window c.args.class c.args.sums.now c.best_choice-choice.result.sum
-    c.best_choice-choice.result.place c.as_slice-3.result.now c.index-as_slice-choice.result _
+    c.best_choice-choice.result.place
     is.0 is.1 (c.as_slice-3.ensures.value ∙ c.slots-slots.ensures.slots)
     c.index-as_slice-choice.is (c.slots-slots.ensures.ascending _) refl refl refl

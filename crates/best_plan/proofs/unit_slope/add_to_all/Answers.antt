@@ -8,4 +8,4 @@ loop-sum-preserved c =
     let at = c.loop-sum in
     let within : at.sum-index < length c.args.sums.now =
     omega (arith, c.loop-sum-test.true, at.auto.sums) in
-    added-more c.args.bytes c.args.sums.now at.sums at.sum-index 0 _ within at.invariant refl
+    added-more c.args.bytes c.args.sums.now at.sums at.sum-index 0 within at.invariant refl

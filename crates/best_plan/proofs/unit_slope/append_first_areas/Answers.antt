@@ -7,6 +7,4 @@ pub loop-place-preserved : goal.loop-place-preserved
 loop-place-preserved c = search (arith, first-more)
 
 pub returns : goal.returns
-returns c =
-    first-all c.args.window c.args.bytes c.args.areas.now c.loop-place.place c.args.places.now.items
-    c.loop-place.places.items (omega (arith, c.loop-place-test.false)) c.loop-place.invariant
+returns c = first-all (omega (arith, c.loop-place-test.false)) c.loop-place.invariant

@@ -10,7 +10,7 @@ pub overflow_sub-from : goal.overflow_sub-from
 overflow_sub-from g c =
     grind (
       arith,
-      walk-open c.args.needs.now c.loop-need.need-index c.need-item.result
+      walk-open c.args.needs.now
           c.loop-need.invariant.free c.loop-need-test.true c.need-item.is c.loop-need.invariant.can,
     )
 
@@ -21,13 +21,13 @@ pub index-place-requires : goal.index-place-requires
 index-place-requires g c =
     grind (
       arith,
-      walk-open c.args.needs.now c.loop-need.need-index c.need-item.result
+      walk-open c.args.needs.now
           c.loop-need.invariant.free c.loop-need-test.true c.need-item.is c.loop-need.invariant.can,
     )
 
 pub frame_at-frame-requires-clause-place : goal.frame_at-frame-requires-clause-place
 frame_at-frame-requires-clause-place g c =
-    let front = walk-open c.args.needs.now c.loop-need.need-index c.need-item.result
+    let front = walk-open c.args.needs.now
     c.loop-need.invariant.free c.loop-need-test.true c.need-item.is c.loop-need.invariant.can in
     let place = place-is front c.loop-need.invariant.free c.len.result c.index-place.result.now
     (omega (arith, c.len.ensures)) c.index-place.ensures in
@@ -38,24 +38,23 @@ area_with-area-requires g c = grind (arith, same-class)
 
 pub free_behind-free-requires-clause-fits : goal.free_behind-free-requires-clause-fits
 free_behind-free-requires-clause-fits g c =
-    let front = walk-open c.args.needs.now c.loop-need.need-index c.need-item.result
+    let front = walk-open c.args.needs.now
     c.loop-need.invariant.free c.loop-need-test.true c.need-item.is c.loop-need.invariant.can in
     let choices = g.P.Policy.choices_of c.args.policy.now in
     let at = area-is front c.loop-need.invariant.free c.len.result c.index-place.result.now
     (omega (arith, c.len.ensures)) c.index-place.ensures
-    (item_area (need_item choices c.need-item.result) c.frame_at-frame.result.slot)
     c.frame_at-frame.ensures.area in
     omega (arith, front.choice.fits front.some, c.area_with-area.ensures.area, at)
 
 pub loop-need-preserved : goal.loop-need-preserved
 loop-need-preserved g c =
-    let front = walk-open c.args.needs.now c.loop-need.need-index c.need-item.result
+    let front = walk-open c.args.needs.now
     c.loop-need.invariant.free c.loop-need-test.true c.need-item.is c.loop-need.invariant.can in
     let choices = g.P.Policy.choices_of c.args.policy.now in
     let need = c.need-item.result in
     let slot = c.frame_at-frame.result.slot in
     let at = area-is front c.loop-need.invariant.free c.len.result c.index-place.result.now
-    (omega (arith, c.len.ensures)) c.index-place.ensures (item_area (need_item choices need) slot)
+    (omega (arith, c.len.ensures)) c.index-place.ensures
     c.frame_at-frame.ensures.area in
     let free : c.free_behind-free.result ≡ free_bytes_behind c.args.room.window c.loop-need.free
     need.bytes (item_area (need_item choices need) slot) = grind arith in
@@ -66,10 +65,7 @@ loop-need-preserved g c =
       free = c.free_behind-free.ensures.within;
       can = grind (arith, walk-next);
       goes = rw c.in_ok-push.ensures.items
-          (goes-more c.args.room.window choices c.args.room.free c.loop-need.free
-          c.free_behind-free.result c.args.needs.now c.loop-need.need-index need
-          c.frame_at-frame.result c.loop-need.places.items c.args.placed.now.items
-          c.loop-need.placed.items
+          (goes-more
           c.loop-need-test.true c.need-item.is front c.frame_at-frame.ensures.ascending at
           c.frame_at-frame.ensures.chosen c.frame_at-frame.ensures.frame
           c.frame_at-frame.ensures.begin free c.loop-need.invariant.goes);

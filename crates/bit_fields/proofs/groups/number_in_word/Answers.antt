@@ -12,8 +12,9 @@ returns c =
           grind (
             arith,
             one_shl c.args.n 64 few,
-            read_group c.args.bytes.now c.args.at c.args.n
-                c.min-first.result (c.min-first.result + 8) c.word_at.result (omega (
+            read_group c.args.bytes.now {from = c.args.at} c.args.n
+                {first = c.min-first.result} {last = c.min-first.result + 8} {window =
+                c.word_at.result} (omega (
                   arith,
                   c.min-first.ensures,
                 )) (omega (arith, c.min-first.ensures)) (omega arith) (omega

@@ -13,7 +13,7 @@ pub returns-in-Some : goal.returns-in-Some
 returns-in-Some g c =
     let task = g.E.Edit.task c.args.edit.now in
     asked_early (one_command task c.args.output.now) g.D.Folder.keeping _ refl tt refl
-    (clash_run task c.args.output.now _ _ (clash_is c.inputs-inputs.result task
+    (clash_run task c.args.output.now _ (clash_is c.inputs-inputs.result task
     c.inputs-inputs.ensures c.args.output.now c.clash.ensures c.in-Some.is))
 
 -- no names clash
@@ -29,7 +29,7 @@ module _ (g : given.Over) (c : In_default g) where
   to_write : {file : List ℕ → List ℕ} → IsMaking task file (g.D.Folder.seen c.args.folder.now).files
       → IsToWrite (one_command task c.args.output.now) (c.args.output.now ∷ [])
       (g.D.Folder.seen c.args.folder.now).files
-  to_write making = to_write_one task c.args.output.now free making
+  to_write making = to_write_one free making
 
   source : c.inputs-inputs.result.source.now ≡ task.source
   source = source_is c.inputs-inputs.result task c.inputs-inputs.ensures c.requires.proper.first
@@ -49,15 +49,14 @@ returns-in_err-ask_all g c =
     let at = (goal.at.returns-in_err-ask_all g c).In_default in
     let same = ap₂ seen_folder c.prepare.ensures.files c.in_ok-work.ensures.done in
     let stops = c.in_err-ask_all.ensures in
-    asked_stopped (to_write g at c.in_ok-work.ensures.making) _
+    asked_stopped (to_write g at c.in_ok-work.ensures.making)
     c.from_residual-in_err-ask_all.ensures.1
-    (none_fell_by_writes (rw same at c.ask_all.ensures.counts))
-    g.D.Folder.keeping stops.asked (rw same at stops.stops)
+    (none_fell_by_writes (rw same at c.ask_all.ensures.counts)) stops.asked (rw same at stops.stops)
 
 pub write_output-requires-clause-apart : goal.write_output-requires-clause-apart
 write_output-requires-clause-apart g c =
     let at = (goal.at.write_output-requires-clause-apart g c).In_default in
-    rw (source g at) (source_apart (task g at).inputs _ c.args.output.now c.requires.proper.some
+    rw (source g at) (source_apart (task g at).inputs c.requires.proper.some
     c.requires.proper.first (free g at))
 
 pub write_output-requires-clause-ready : goal.write_output-requires-clause-ready

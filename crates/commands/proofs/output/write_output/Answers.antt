@@ -26,7 +26,7 @@ returns-in-Err-clause-wrote g c =
       done = tt;
       left = rw c.of_pass.ensures
           (pass_fault _ _ _ c.requires.apart _ _ _ created (c.args.input.now ∷ []) refl 0
-          c.in-Err.fault _ (g.D.Folder.seen c.args.folder.now).counts _ _
+          c.in-Err.fault _ _
           c.in-Ok.ensures.answer.done prefix c.in-Err.ensures.cause.1);
     }
 
@@ -36,10 +36,10 @@ returns-in_default-clause-wrote g c =
     let kept = c.in_default.ensures.answer.kept in
     record {
       written = tt;
-      touches = fails_touches _ _ c.args.output.now kept;
+      touches = fails_touches kept;
       done = tt;
       left = (
         refl,
-        record { rose = c.in_default.ensures.answer.failed; files = not_begun _ _ _ _ _ kept },
+        record { rose = c.in_default.ensures.answer.failed; files = not_begun _ _ _ _ kept },
       );
     }

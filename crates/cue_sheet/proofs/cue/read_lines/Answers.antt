@@ -7,17 +7,15 @@ use Rattle.cue_sheet.proofs.cue.read_lines.Goals as goal
 
 pub returns-in-Some-clause-cue : goal.returns-in-Some-clause-cue
 returns-in-Some-clause-cue c =
-    inr (refused c.args.text.now c.loop-at.at c.loop-at.seen c.loop-at.starts.items _ _
-    c.in-Some.fault c.loop-at.invariant.0 (first_said cue_entry_in c.args.text.now c.loop-at.at
-    c.line_at-line.result.next _ _ c.line_at-line.ensures.line c.read_entry-entry.ensures)
+    inr (refused c.loop-at.invariant.0 (first_said cue_entry_in c.args.text.now c.loop-at.at
+    c.line_at-line.result.next c.line_at-line.ensures.line c.read_entry-entry.ensures)
     (λ before seen. sym c.in-Some.is ∙ c.fault.ensures before seen))
 
 pub loop-at-preserved : goal.loop-at-preserved
 loop-at-preserved c =
-    let line = first_said cue_entry_in c.args.text.now c.loop-at.at c.line_at-line.result.next _ _
+    let line = first_said cue_entry_in c.args.text.now c.loop-at.at c.line_at-line.result.next
     c.line_at-line.ensures.line c.read_entry-entry.ensures in
-    let read = goes_on c.args.text.now c.loop-at.at c.line_at-line.result.next c.loop-at.seen
-    c.behind-seen.result c.loop-at.starts.items _ c.loop-at.invariant.0 line
+    let read = goes_on c.loop-at.invariant.0 line
     (λ before seen. sym c.in_default.is ∙ c.fault.ensures before seen)
     c.behind-seen.ensures.seen in (
       subst (HaveRead c.args.text.now c.line_at-line.result.next c.behind-seen.result)
@@ -29,7 +27,7 @@ loop-at-preserved c =
 
 pub returns-then-is_empty-clause-cue : goal.returns-then-is_empty-clause-cue
 returns-then-is_empty-clause-cue c =
-    inr (ends c.args.text.now c.loop-at.at c.loop-at.seen c.loop-at.starts.items
+    inr (ends
     c.loop-at.invariant.0 c.loop-at-test.false ∙ none_are c.loop-at.starts.items
     (sym c.loop-at.starts.ok.0 ∙ eqb-true _ 0 (sym c.is_empty.ensures ∙ c.if-is_empty.true)))
 
@@ -37,13 +35,13 @@ pub returns : goal.returns
 returns c =
     let some = eqb-false _ 0 (sym c.is_empty.ensures ∙ c.if-is_empty.false) in
     let read = c.loop-at.invariant.0 in
-    let cue = ends c.args.text.now c.loop-at.at c.loop-at.seen c.loop-at.starts.items read
+    let cue = ends read
     c.loop-at-test.false
     ∙ some_are c.loop-at.starts.items (omega (arith, c.loop-at.starts.ok.0, some)) in
-    let few = starts-few (cue_entries_from c.args.text.now 0) c.loop-at.starts.items cue in
+    let few = starts-few (cue_entries_from c.args.text.now 0) cue in
     record {
       cue = cue;
-      rising = are_starts c.args.text.now c.loop-at.at c.loop-at.seen c.loop-at.starts.items read;
+      rising = are_starts read;
       some = few.0;
       most = few.1;
     }

@@ -12,17 +12,17 @@ use Rattle.cue_sheet.proofs.digits.read_number.Goals as goal
 pub returns-then-digits-least-clause-number : goal.returns-then-digits-least-clause-number
 returns-then-digits-least-clause-number c =
     elim c.then-digits-least.branch [
-      | then-digits-least-via-then-digits-least w ↦ sym (number_of_few c.args.least c.args.most
+      | then-digits-least-via-then-digits-least w ↦ sym (number_of_few c.args.most
           c.args.greatest c.args.digits.now w.if-digits-least.true)
       | then-digits-least-via-else-digits-least+then-digits-most w ↦ sym (number_of_many
-          c.args.least c.args.most c.args.greatest c.args.digits.now w.if-digits-most.true)
+          c.args.least c.args.greatest c.args.digits.now w.if-digits-most.true)
     ]
 
 pub returns-then-not-is_ascii_digit-clause-number :
     goal.returns-then-not-is_ascii_digit-clause-number
 returns-then-not-is_ascii_digit-clause-number c =
     sym (number_of_others c.args.least c.args.most c.args.greatest c.args.digits.now
-    c.loop-digit.digit-index c.loop-digit-test.true
+    c.loop-digit-test.true
     (λ within. omega (arith, c.if-not-is_ascii_digit.ensures.cases)))
 
 pub overflow_mul-number : goal.overflow_mul-number
@@ -32,7 +32,7 @@ overflow_mul-number c =
       c.requires,
       c.loop-digit.invariant.1,
       c.loop-digit.invariant.3,
-      value_of_few c.args.digits.now c.loop-digit.digit-index c.loop-digit-test.true
+      value_of_few c.args.digits.now c.loop-digit-test.true
           (omega (arith, c.requires, c.loop-digit.invariant.1)) c.loop-digit.invariant.2,
     )
 
@@ -43,7 +43,7 @@ overflow_add-number c =
       c.from.ensures,
       c.if-not-is_ascii_digit.ensures.cases,
       c.loop-digit.invariant.3,
-      value_of_few c.args.digits.now c.loop-digit.digit-index c.loop-digit-test.true
+      value_of_few c.args.digits.now c.loop-digit-test.true
           (omega (arith, c.requires, c.loop-digit.invariant.1)) c.loop-digit.invariant.2,
     )
 
@@ -73,7 +73,7 @@ returns-then-number-from-clause-number c =
     let value : c.loop-digit.number ≡ digits_value 10 digits =
     c.loop-digit.invariant.3 ∙ ap (digits_value 10) whole in
     ap Some value
-    ∙ sym (number_of_digits c.args.least c.args.most c.args.greatest digits c.loop-digit.invariant.0
+    ∙ sym (number_of_digits digits c.loop-digit.invariant.0
     c.loop-digit.invariant.1 (subst (AllDigits 10) whole c.loop-digit.invariant.2)
     (omega (arith, value, c.from-2.ensures, c.if-number-from.true)))
 
@@ -82,5 +82,5 @@ returns-else-number-from-clause-number c =
     let digits = c.args.digits.now in
     let value : c.loop-digit.number ≡ digits_value 10 digits = c.loop-digit.invariant.3
     ∙ ap (digits_value 10) (take_all c.loop-digit.digit-index digits c.loop-digit-test.false) in
-    sym (number_of_great c.args.least c.args.most c.args.greatest digits
+    sym (number_of_great c.args.least c.args.most digits
     (omega (arith, value, c.from-2.ensures, c.if-number-from.false)))

@@ -6,7 +6,7 @@ use Rattle.cue_sheet.proofs.words.next_word.Goals as goal
 
 pub returns-then-is_empty : goal.returns-then-is_empty
 returns-then-is_empty c =
-    no_next_word c.args.line.now _ (take_rest c.args.line.now c.blanks.result
+    no_next_word c.args.line.now (take_rest c.args.line.now c.blanks.result
     ∙ ap (λ n. drop n c.args.line.now) c.blanks.ensures.blanks)
     (eqb-true _ 0 (sym c.is_empty.ensures ∙ c.if-is_empty.true))
 
@@ -17,6 +17,6 @@ returns c =
     let text = take_rest line c.blanks.result ∙ ap (λ n. drop n line) c.blanks.ensures.blanks in
     let some = eqb-false _ 0 (sym c.is_empty.ensures ∙ c.if-is_empty.false) in
     let end = sym c.word_length-end.ensures.word in
-    next_word_is line t text (omega (arith, some))
+    next_word_is line text (omega (arith, some))
     ∙ ap₂ (λ word rest. word ∷ words_of rest) (ap (λ n. take n t) end)
     (ap (λ n. drop n t) end ∙ sym (take_rest t c.word_length-end.result))

@@ -19,8 +19,8 @@ with_all bytes s quality extension n some same kept count =
     rw (← same, ← kept, inside (length s.frames) some, count) refl
 
 pub kept_fields-requires-clause-exact : goal.kept_fields-requires-clause-exact
-kept_fields-requires-clause-exact g c = λ file holds. survey-had file most_frames
-    (survey_view c.args.survey.now) (c.requires.surveyed file holds)
+kept_fields-requires-clause-exact g c =
+    λ file holds. survey-had most_frames (c.requires.surveyed file holds)
 
 pub returns-clause-chosen : goal.returns-clause-chosen
 returns-clause-chosen g c bytes holds =

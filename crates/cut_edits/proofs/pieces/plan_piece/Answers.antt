@@ -23,5 +23,5 @@ returns-in_ok-parts c =
     subst (λ (b : Bool). IfOk c.plan_led.result (λ plan. entries plan ≡ span_plan b s.class needs))
     (sym on)
     (IfOk-weaker c.plan_led.result _ _ (λ plan is. led-answer (chosen_in c.args.chosen.now) s
-    there.laid.placed there.some there.within (entries plan) is.plan)
+    there.laid.placed there.some there.within is.plan)
     (rw (c.needs.ensures, c.in_ok-parts.ensures.parts) at c.plan_led.ensures))

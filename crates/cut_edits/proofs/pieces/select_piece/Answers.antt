@@ -25,7 +25,7 @@ kept_of-kept-requires-clause-leads c =
     let chosen = span_chosen None c.args.span.now in
     rw (c.placed.ensures, c.in_ok-plan.ensures)
     (with-leads chosen s
-    c.requires.laid.placed c.requires.there.some c.requires.there.within c.args.span.now refl refl)
+    c.requires.laid.placed c.requires.there.some c.requires.there.within refl refl)
 
 pub kept_of-kept-requires-clause-many : goal.kept_of-kept-requires-clause-many
 kept_of-kept-requires-clause-many c =

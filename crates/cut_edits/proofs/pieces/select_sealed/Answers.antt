@@ -5,8 +5,8 @@ use Rattle.cut_edits.{proofs.SealedLemmas.{for-whole, sealed-read}, specs.Exact.
 use Rattle.exact_span.specs.TagWord.{text_place}
 use Rattle.frame_header.specs.Fields.{ClassFields}
 use Rattle.info_header.specs.InfoFrame.{info_frame}
-use Rattle.laying.proofs.LaidLemmas.{first-there, laid-slots}
-use Rattle.laying.specs.{Laid.{frames_laid, info_laid, laid_part}, Written.info_for}
+use Rattle.laying.{proofs.LaidLemmas.{first-there, laid-slots}, specs.Laid.{frames_laid, laid_part}}
+use Rattle.laying.specs.Written.{info_for}
 use Rattle.slot_plan.specs.{Plans.entries, declared.needs.Placed.Placed}
 use Rattle.sync_survey.specs.{Faults.survey_view, Row.Row}
 use Rattle.cut_edits.proofs.pieces.select_sealed.Goals as goal
@@ -26,11 +26,10 @@ returns-clause-laid c = λ file has.
     let bytes =
     c.sealed_info_bytes-info.ensures.bytes first (frames_laid plain file s) there.1 slots in
     let whole =
-    for-whole s.class (frames_laid plain file s) plain.quality plain.extension c.has_all.ensures in
+    for-whole s.class (frames_laid plain file s) plain.quality c.has_all.ensures in
     let read =
     c.extension_in-extension.ensures ∙ ap₂ kept_at c.class.ensures c.as_slice.ensures.value
-    ∙ sealed-read s.class first.header (info_laid plain file s)
-    c.sealed_info_bytes-info.result.items
+    ∙ sealed-read first.header
     whole (c.requires.placed c.args.from first there.1).class_is bytes in
     ap (λ (e : List ℕ). record {
       from = plain.from;
@@ -54,11 +53,10 @@ returns-clause-writable c = record {
       let slots = laid-slots plain file s has c.requires.some c.requires.within c.requires.fitting
       ∙ sym (ap (map (λ (p : Placed). p.slot)) c.placed.ensures) in
       let bytes = c.sealed_info_bytes-info.ensures.bytes first frames found slots in
-      let whole = for-whole s.class frames plain.quality plain.extension c.has_all.ensures in
+      let whole = for-whole s.class frames plain.quality c.has_all.ensures in
       let read =
       c.extension_in-extension.ensures ∙ ap₂ kept_at c.class.ensures c.as_slice.ensures.value
-      ∙ sealed-read s.class first.header (info_laid plain file s)
-      c.sealed_info_bytes-info.result.items
+      ∙ sealed-read first.header
       whole (c.requires.placed c.args.from first found).class_is bytes in
       bytes ∙ ap (λ (e : List ℕ). info_frame first.header (info_for s.class frames plain.quality e))
       (sym read);

@@ -1,7 +1,6 @@
 -- What the planner returns for the chosen frames is their plan.
 use Rattle.std.proofs.lemmas.Result.{IfOk-weaker}
 use Rattle.cut_edits.{proofs.ChosenLemmas.{plan_is, rows-fit}, specs.Chosen.chosen_in}
-use Rattle.slot_plan.specs.Plans.{entries}
 use Rattle.sync_survey.specs.Faults.{survey_view}
 use Rattle.cut_edits.proofs.plans.plan_by.Goals as goal
 
@@ -16,5 +15,5 @@ returns g c =
     let there = c.requires.there in
     IfOk-weaker c.plan.result _ _
     (λ plan is. plan_is (chosen_in c.args.chosen.now) (survey_view c.args.survey.now)
-    there.laid.placed there.some there.within _ c.requires.policy (entries plan) is.plan)
+    there.laid.placed there.some there.within _ c.requires.policy is.plan)
     (rw (c.needs.ensures, c.places.ensures, c.in_ok-parts.ensures.parts) at c.plan.ensures)

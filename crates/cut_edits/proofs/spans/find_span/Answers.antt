@@ -26,7 +26,7 @@ found from to head s class played n r same count is clause = grind (arith, Match
 
 there : (from to : ExactPlace) (head : Option Info) (s : SurveyFields) (r : Result Span EditFault)
     → IsFound from to head s r → IfOk r (IsSpanIn s)
-there from to head s (Ok span) is = span-there from to head s span is
+there from to head s (Ok span) is = span-there from to head is
 there from to head s (Err fault) is = tt
 
 pub span_between-requires-clause-most : goal.span_between-requires-clause-most

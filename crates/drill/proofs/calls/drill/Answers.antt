@@ -9,7 +9,7 @@ returns-in-Ok-clause-says g c files =
     told-all c.args.seed c.args.count files (g.T.Sink.heard c.args.out.now)
     (g.T.Sink.heard c.send_summary.new.sink)
     (c.in-Ok.ensures.sent ∙ ap (sent_and_more (g.T.Sink.heard c.args.out.now).sent)
-    (text-of c.args.seed c.args.count c.in_ok-summary.summary c.in_ok-summary.ensures))
+    (text-of c.args.seed c.in_ok-summary.ensures))
     c.in-Ok.ensures.cause.done
 
 pub returns-in-Err-clause-says : goal.returns-in-Err-clause-says
@@ -18,6 +18,6 @@ returns-in-Err-clause-says g c files =
     (g.T.Sink.heard c.send_summary.new.sink)
     (subst (λ (text : List ℕ). SentPrefix text
     (g.T.Sink.heard c.args.out.now).sent (g.T.Sink.heard c.send_summary.new.sink).sent)
-    (text-of c.args.seed c.args.count c.in_ok-summary.summary c.in_ok-summary.ensures)
+    (text-of c.args.seed c.in_ok-summary.ensures)
     c.in-Err.ensures.prefix)
     c.in-Err.ensures.cause.failed

@@ -3,13 +3,12 @@ use Rattle.std.proofs.Common.{ap, arith, length, ◌*◌, ◌-◌, ◌<◌, ◌�
 use Rattle.drill.proofs.PackedLemmas.{no-lead_ins, packed-frames, packed-length}
 use Rattle.drill.{proofs.calls.summary_of.Goals.After-frames, specs.Drill.drill_stream}
 use Rattle.drill.specs.Drilled.{lead_ins_in, packed_file, packed_plan}
-use Rattle.sync_survey.specs.Faults.{survey_view}
 use Rattle.drill.proofs.calls.summary_of.Goals as goal
 
 -- the packed file has as many frames as the stream
 found : (c : After-frames) → length c.frames.result.now ≡ c.args.count
 found c = ap length c.frames.ensures ∙ packed-frames c.args.seed c.args.count
-    (omega (arith, c.requires.some)) c.requires.few (survey_view c.in_ok-survey.survey)
+    (omega (arith, c.requires.some)) c.requires.few
     c.in_ok-survey.ensures
 
 pub overflow_sub-result : goal.overflow_sub-result
@@ -28,6 +27,6 @@ returns c =
     let long : 417 * c.from-frames.result ≡ length (drill_stream c.args.seed c.args.count) =
     omega (arith, c.from-frames.ensures, c.streams_are_long.ensures c.args.seed c.args.count) in
     let size : c.length.result ≡ length (packed_file c.args.seed c.args.count) =
-    c.length.ensures ∙ packed-length (packed_file c.args.seed c.args.count)
-    (survey_view c.in_ok-survey.survey) c.in_ok-survey.ensures in
+    c.length.ensures
+    ∙ packed-length (packed_file c.args.seed c.args.count) c.in_ok-survey.ensures in
     cc

@@ -17,7 +17,7 @@ returns-clause-side c =
       scfsi = (empty i).scfsi;
       granules = c.granules-side.ensures i;
     })
-    ∙ side-drawn begin state c.four-lengths.result c.four-gains.result c.four-lengths.ensures.draws
+    ∙ side-drawn begin state c.four-lengths.ensures.draws
     (c.four-gains.ensures.draws ∙ ap (draws 4) c.four-lengths.ensures.state)
 
 pub returns-clause-state : goal.returns-clause-state

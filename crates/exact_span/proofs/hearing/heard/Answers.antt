@@ -17,7 +17,7 @@ loop-frames-preserved c =
     (c.from-samples.ensures ∙ c.samples.ensures) in
     c.loop-frames.invariant
     ∙ ap (joined_heard c.loop-frames.heard)
-    (heard-from c.args.class played written i none c.loop-frames-test.true
+    (heard-from c.args.class played written none c.loop-frames-test.true
     ∙ ap (λ h. joined_heard h rest) (sym here))
     ∙ sym (joined_heard-assoc c.loop-frames.heard c.heard_in.result rest)
     ∙ ap (λ h. joined_heard h rest) (sym c.joined-heard.ensures)

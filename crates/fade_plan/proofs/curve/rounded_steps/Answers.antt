@@ -4,11 +4,10 @@ use Rattle.fade_plan.proofs.StepsLemmas.{evenly, size_between}
 use Rattle.fade_plan.proofs.curve.rounded_steps.Goals as goal
 
 pub returns-clause-steps : goal.returns-clause-steps
-returns-clause-steps c =
-    evenly c.args.sum c.args.frames c.ranges.sum c.requires.few c.requires.small
+returns-clause-steps c = evenly c.ranges.sum c.requires.few c.requires.small
 
 pub returns-clause-most : goal.returns-clause-most
 returns-clause-most c =
     subst (λ q. unsigned_abs q ≤ 255)
-    (sym (evenly c.args.sum c.args.frames c.ranges.sum c.requires.few c.requires.small))
+    (sym (evenly c.ranges.sum c.requires.few c.requires.small))
     (size_between c.args.sum c.args.frames c.requires.small)

@@ -17,9 +17,9 @@ rounded_steps-requires-clause-small c =
     let small = c.requires.kept.sound.1 in
     let other = c.requires.behind_kept.sound.1 in
     subst (λ s. unsigned_abs s ≤ 255 * (q.frame - p.frame))
-    (sym (weighted_sum p.steps q.steps _ _ left passed small other
-    (c.weighted-left.ensures ∙ ap (λ s. s *ℤ pos left) (small_fits p.steps small))
-    (c.weighted-passed.ensures ∙ ap (λ s. s *ℤ pos passed) (small_fits q.steps other)) few))
+    (sym (weighted_sum p.steps q.steps left passed small other
+    (c.weighted-left.ensures ∙ ap (λ s. s *ℤ pos left) (small_fits small))
+    (c.weighted-passed.ensures ∙ ap (λ s. s *ℤ pos passed) (small_fits other)) few))
     (subst (λ n. unsigned_abs ((p.steps *ℤ pos left) +ℤ (q.steps *ℤ pos passed)) ≤ 255 * n) all
     (size_of_weighted p.steps q.steps left passed small other))
 

@@ -15,17 +15,17 @@ pub returns-then-is_at_fault-clause-envelope : goal.returns-then-is_at_fault-cla
 returns-then-is_at_fault-clause-envelope c =
     let at = c.loop-at in
     let entry = c.read_entry-entry.result in
-    let said = first_said fade_entry_in c.args.text.now at.at c.line_at-here.result.next _ entry
+    let said = first_said fade_entry_in c.args.text.now at.at c.line_at-here.result.next
     c.line_at-here.ensures.line c.read_entry-entry.ensures.entry in
     let wrong = ap (λ n. is_at_fault n entry) (sym (c.len.ensures ∙ at.points.ok.0))
     ∙ sym c.if-is_at_fault.ensures in
-    inr (refused c.args.text.now at.at at.line at.points.items entry _ at.invariant.0 said wrong)
+    inr (refused at.invariant.0 said wrong)
 
 pub returns-then-is_empty-clause-envelope : goal.returns-then-is_empty-clause-envelope
 returns-then-is_empty-clause-envelope c =
     grind (
       arith,
-      ends c.args.text.now c.loop-at.at c.loop-at.line c.loop-at.points.items
+      ends
           c.loop-at.invariant.0 c.loop-at-test.false,
       none_are,
       eqb-true,
@@ -36,7 +36,7 @@ returns-clause-envelope c =
     grind (
       arith,
       eqb-false,
-      ends c.args.text.now c.loop-at.at c.loop-at.line c.loop-at.points.items
+      ends
           c.loop-at.invariant.0 c.loop-at-test.false,
       some_are,
     )

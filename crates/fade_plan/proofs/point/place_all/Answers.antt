@@ -8,8 +8,8 @@ loop-point-preserved c =
     let at = c.loop-point in
     let within : at.point-index < length c.args.points.now =
     omega (arith, c.loop-point-test.true, at.auto.points) in (
-      placed_point-step c.args.class c.args.frames c.args.points.now at.points at.point-index
-          c.frame_of-point.result _ within at.invariant.0 c.frame_of-point.ensures.frame,
+      placed_point-step c.args.class c.args.frames c.args.points.now _ within
+          at.invariant.0 c.frame_of-point.ensures.frame,
       All-set IsKeptPoint at.points at.point-index _ (record {
         sound = (at.invariant.1 at.point-index _ (omega (arith, within, at.auto.points))).sound;
         frame = c.frame_of-point.ensures.most;

@@ -8,6 +8,6 @@ returns-clause-group c =
     grind (
       arith,
       one_shl c.args.width 32 (omega arith),
-      group-bits_of 32 c.args.from c.args.width
+      group-bits_of c.args.from c.args.width
           c.args.word c.requires.within,
     )

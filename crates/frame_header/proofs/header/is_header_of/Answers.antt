@@ -14,7 +14,7 @@ module _ (c : After-is_same_group-frequency) where
   own_says = says_class _ _ (AreBits-bits_of 32 c.word_of-own.result) c.word_of-own.ensures.back
 
   own_is : IsHeader c.header_with.result
-  own_is = IsHeader-read _ _ (AreBits-bits_of 32 c.word_of-own.result) c.word_of-own.ensures.back
+  own_is = IsHeader-read _ (AreBits-bits_of 32 c.word_of-own.result) c.word_of-own.ensures.back
 
   abbrev passes : Bool
   passes = c.is_same_group.result && c.is_same_group-2.result && c.is_same_group-version.result
@@ -26,7 +26,7 @@ module _ (c : After-is_same_group-frequency) where
   says pass = grind (arith, and_parts, says_same, own_says, eqb-true, leb-true)
 
 pub returns-clause-readable : goal.returns-clause-readable
-returns-clause-readable c = λ pass. readable_by _ _ (own_is c) (says c pass)
+returns-clause-readable c = λ pass. readable_by (own_is c) (says c pass)
 
 pub returns-clause-version : goal.returns-clause-version
 returns-clause-version c = grind (arith, version_by, says)

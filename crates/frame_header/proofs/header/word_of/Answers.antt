@@ -12,14 +12,13 @@ number : (c : goal.After-from-10)
 number c = grind arith
 
 pub returns-clause-bits : goal.returns-clause-bits
-returns-clause-bits c =
-    grind (arith, number c, bits_of-header_number (header_view c.header.inside) c.header.invariant)
+returns-clause-bits c = grind (arith, number c, bits_of-header_number c.header.invariant)
 
 pub returns-clause-back : goal.returns-clause-back
 returns-clause-back c =
     grind (
       arith,
       number c,
-      bits_of-header_number (header_view c.header.inside) c.header.invariant,
-      header_in-header_bits (header_view c.header.inside) c.header.invariant,
+      bits_of-header_number c.header.invariant,
+      header_in-header_bits c.header.invariant,
     )

@@ -10,7 +10,7 @@ returns-then-count-eq0 g c = record {
       let unsent = c.args.unsent.now in
       subst (λ (xs : List ℕ). AppendsWaiting c.args.name.now xs unsent files files)
       (sym (ap (λ n. unsent ++ zeros n) c.if-count-eq0.true ∙ append-nil unsent))
-      (passed_nothing files c.args.name.now unsent c.requires.there);
+      (passed_nothing unsent c.requires.there);
   prefix = search rules;
   failed = search rules;
   done = search rules;

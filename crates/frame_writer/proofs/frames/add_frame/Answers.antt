@@ -10,8 +10,8 @@ pub returns-in_err-push_made : goal.returns-in_err-push_made
 returns-in_err-push_made g c = record {
   passed = search rules;
   prefix = on_err c.from_residual.result
-      (prefix-piece c.args.name.now c.args.unsent.now _ _
-      (take (frame_area c.args.first.now) c.args.areas.now.bytes) _ _ refl
+      (prefix-piece c.args.unsent.now _
+      (take (frame_area c.args.first.now) c.args.areas.now.bytes) refl
       c.in_err-push_made.ensures.prefix);
   failed = search rules;
   done = search rules;
@@ -28,10 +28,10 @@ returns g c =
     (c.area.ensures.area ∙ ap frame_area c.first.view_is) in
     record {
       passed = ok-map c.add_first.result
-          (passed-two c.args.unsent.now front _ _ both c.in_ok-push_made.ensures.passed)
+          (passed-two c.args.unsent.now front _ both c.in_ok-push_made.ensures.passed)
           c.add_first.ensures.passed;
       prefix = err-map c.add_first.result
-          (prefix-two c.args.unsent.now front _ _ both c.in_ok-push_made.ensures.passed)
+          (prefix-two c.args.unsent.now front _ both c.in_ok-push_made.ensures.passed)
           c.add_first.ensures.prefix;
       failed = search rules;
       done = search rules;

@@ -11,4 +11,4 @@ returns-in-Some c =
     let s = survey_view c.args.survey.now in
     let is : c.into.result ≡ Refused c.in-Some.refusal = search rules in
     along_refused (steps_at_offset c.args.course s.frames) s
-    c.in-Some.refusal c.into.result (sym c.range_fault.ensures ∙ c.in-Some.is) is
+    (sym c.range_fault.ensures ∙ c.in-Some.is) is

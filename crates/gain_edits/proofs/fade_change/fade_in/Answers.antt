@@ -8,9 +8,9 @@ pub returns-in_err-curve : goal.returns-in_err-curve
 returns-in_err-curve c =
     let p = err_from_is_err_and c.from_residual.result c.from_residual.ensures.1 in
     rw (p.1, p.2)
-    (curve_fault c.args.sheet.now c.args.back (survey_view c.args.survey.now) _
+    (curve_fault c.args.sheet.now c.args.back (survey_view c.args.survey.now)
     c.in_err-curve.ensures)
 
 pub returns : goal.returns
 returns c = along_answer c.args.sheet.now c.args.back (survey_view c.args.survey.now)
-    c.in_ok-curve.curve c.in_ok-curve.ensures c.change_along.result c.change_along.ensures
+    c.in_ok-curve.ensures c.change_along.result c.change_along.ensures

@@ -16,16 +16,14 @@ pub returns-in-Some : goal.returns-in-Some
 returns-in-Some c =
     sym (c.loop-frame.invariant
     ∙ first-from (row_range_fault (steps_at_offset c.args.course.now c.args.rows.now))
-    c.args.rows.now
-    c.loop-frame.frame c.index-rows-frame.result _ (omega (arith, c.loop-frame-test.true))
+    c.args.rows.now (omega (arith, c.loop-frame-test.true))
     c.index-rows-frame.is (judged (goal.at.returns-in-Some c).After-fault_at ∙ c.in-Some.is))
 
 pub loop-frame-preserved : goal.loop-frame-preserved
 loop-frame-preserved c =
     c.loop-frame.invariant
     ∙ first-from (row_range_fault (steps_at_offset c.args.course.now c.args.rows.now))
-    c.args.rows.now
-    c.loop-frame.frame c.index-rows-frame.result _ (omega (arith, c.loop-frame-test.true))
+    c.args.rows.now (omega (arith, c.loop-frame-test.true))
     c.index-rows-frame.is (judged (goal.at.loop-frame-preserved c).After-fault_at ∙ c.in_default.is)
 
 pub returns : goal.returns

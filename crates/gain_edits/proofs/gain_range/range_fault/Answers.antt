@@ -9,12 +9,10 @@ pub first_fault-requires-clause-classed : goal.first_fault-requires-clause-class
 first_fault-requires-clause-classed c =
     let s = survey_view c.args.survey.now in
     subst (λ class. AreFramesOfClass class c.frames.result.now) (sym c.class.ensures)
-    (subst (AreFramesOfClass s.class) (sym c.frames.ensures) (out_classed s c.requires))
+    (subst (AreFramesOfClass s.class) (sym c.frames.ensures) (out_classed c.requires))
 
 pub first_fault-requires-clause-numbered : goal.first_fault-requires-clause-numbered
-first_fault-requires-clause-numbered c =
-    grind (arith, out_numbered (survey_view c.args.survey.now) c.requires)
+first_fault-requires-clause-numbered c = grind (arith, out_numbered c.requires)
 
 pub first_fault-requires-clause-few : goal.first_fault-requires-clause-few
-first_fault-requires-clause-few c =
-    grind (arith, out_few (survey_view c.args.survey.now) c.requires)
+first_fault-requires-clause-few c = grind (arith, out_few c.requires)

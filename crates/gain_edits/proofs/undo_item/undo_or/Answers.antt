@@ -2,14 +2,13 @@
 use Rattle.std.proofs.Common.{arith, sym, ◌∙◌}
 use Rattle.gain_edits.proofs.RefusalLemmas.{bad_place}
 use Rattle.moved_gains.proofs.TagEndLemmas.{tag_end-most}
-use Rattle.sync_survey.specs.Faults.{survey_view}
 use Rattle.gain_edits.proofs.undo_item.undo_or.Goals as goal
 
 pub overflow_add-at : goal.overflow_add-at
 overflow_add-at c =
     grind (
       arith,
-      tag_end-most (survey_view c.args.survey.now) c.requires,
+      tag_end-most c.requires,
       bad_place 32
-          c.args.tag.now.items c.in-Bad.place (sym c.undo.ensures ∙ c.in-Bad.is),
+          c.args.tag.now.items (sym c.undo.ensures ∙ c.in-Bad.is),
     )

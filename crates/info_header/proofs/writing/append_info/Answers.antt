@@ -13,9 +13,9 @@ returns-clause-bytes c =
     let table = c.append_table.new.into.items in
     let quality = c.append_field-3.new.into.items in
     let new = c.append.new.into.items in
-    piece-before old text new _ _ c.append_text.ensures.bytes
-    (piece-before text flags new _ _ c.append_number.ensures.bytes
-    (piece-before flags frames new _ _ c.append_field.ensures.bytes
-    (piece-before frames bytes new _ _ c.append_field-2.ensures.bytes
-    (piece-before bytes table new _ _ c.append_table.ensures.bytes
-    (piece-before table quality new _ _ c.append_field-3.ensures.bytes c.append.ensures.bytes)))))
+    piece-before old _ _ c.append_text.ensures.bytes
+    (piece-before text _ _ c.append_number.ensures.bytes
+    (piece-before flags _ _ c.append_field.ensures.bytes
+    (piece-before frames _ _ c.append_field-2.ensures.bytes
+    (piece-before bytes _ _ c.append_table.ensures.bytes
+    (piece-before table _ _ c.append_field-3.ensures.bytes c.append.ensures.bytes)))))

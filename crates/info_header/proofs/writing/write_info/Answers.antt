@@ -10,7 +10,7 @@ use Rattle.info_header.proofs.writing.write_info.Goals as goal
 pub overflow_sub-length_of : goal.overflow_sub-length_of
 overflow_sub-length_of c =
     let fit =
-    fields-fit c.class-class.result c.info_slot-slot.result c.length_of.result c.side_size.result
+    fields-fit c.class-class.result c.info_slot-slot.result
     c.info_slot-slot.ensures.room c.length_of.ensures.length c.side_size.ensures.size in
     omega (
       arith,
@@ -35,7 +35,7 @@ returns c =
     let header : c.unprotected.result ≡ info_header_of first =
     c.unprotected.ensures ∙ ap (λ s. record first { protected = false; slot = s }) slot in
     let front_is : c.bytes.result ≡ bytes (header_bits (info_header_of first)) =
-    header_bytes-is c.unprotected.result c.bytes.result c.bytes.ensures.back c.bytes.ensures.same
+    header_bytes-is c.bytes.ensures.back c.bytes.ensures.same
     ∙ ap (λ h. bytes (header_bits h)) header in
     let many : c.len.result ≡ 4 + c.side_size.result + 156 =
     omega (
@@ -49,12 +49,11 @@ returns c =
     let left : c.length_of.result - c.len.result
     ≡ area_of (class_of first) (info_slot_of (class_of first)) false - 156 =
     ap (λ k. c.length_of.result - k) many
-    ∙ zeros-left c.class-class.result c.info_slot-slot.result c.length_of.result c.side_size.result
+    ∙ zeros-left c.class-class.result c.info_slot-slot.result
     c.length_of.ensures.length c.side_size.ensures.size
     ∙ ap₂ (λ k s. area_of k s false - 156) c.class-class.ensures slot in
-    frame-is first c.args.info.now new cleared
-    c.bytes.result c.side_size.result (c.length_of.result - c.len.result) c.clear.ensures front_is
+    frame-is first c.args.info.now c.clear.ensures front_is
     (c.side_size.ensures.size ∙ ap side_size_of c.class-class.ensures) left
-    (piece-before cleared front new _ _ c.append.ensures.bytes
-    (piece-before front side new _ _ c.append_zeros.ensures.bytes
-    (piece-before side fields new _ _ c.append_info.ensures.bytes c.append_zeros-2.ensures.bytes)))
+    (piece-before cleared _ _ c.append.ensures.bytes
+    (piece-before front _ _ c.append_zeros.ensures.bytes
+    (piece-before side _ _ c.append_info.ensures.bytes c.append_zeros-2.ensures.bytes)))

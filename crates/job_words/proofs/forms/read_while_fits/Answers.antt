@@ -17,7 +17,7 @@ next c o is =
     goes_on word_kind string_bytes
     c.args.kinds.now c.args.words.now (map value_said c.loop-values.values.items)
     c.len-place.result (rw c.len-place.ensures.value c.loop-values.invariant.0) _
-    c.index-words-place.result c.as_str.result.now (option_map value_said o)
+    c.index-words-place.result
     (omega (arith, c.loop-values-test.true, c.len.ensures.value, c.len-place.ensures.value)) (omega
     (arith, c.if-len-words.true, c.len-in-loop-values.ensures.value, c.len-place.ensures.value))
     (c.as_str.ensures.value ∙ ap string_bytes c.index-words-place.is)

@@ -20,8 +20,8 @@ here c =
     ≡ plain_job_of (map string_bytes c.skip.result.now)
     = c.read_by.ensures.reading in
     ap (later_by c.count_before-front.result) reading
-    ∙ read_later (map string_bytes c.args.words.now) (map string_bytes c.skip.result.now)
-    c.count_before-front.result c.count_before-front.ensures.count
+    ∙ read_later (map string_bytes c.args.words.now) {given = map string_bytes c.skip.result.now}
+    {count = c.count_before-front.result} c.count_before-front.ensures.count
     (rw c.skip.ensures (sym (drop-map string_bytes c.count_before-front.result c.args.words.now)))
 
 pub returns-in-Ok : goal.returns-in-Ok

@@ -31,7 +31,7 @@ returns-in-Ok c =
     record {
       reading = accepted (map form_given c.args.forms.now)
           (map string_bytes c.args.words.now) c.loop-form.form-index help_form
-          c.loop-form.place (rw length-map c.loop-form-test.true) c.loop-form.invariant.0 _
+          c.loop-form.place (rw length-map c.loop-form-test.true) c.loop-form.invariant.0
           (sym (ap request_result c.in-Ok.is) ∙ here (goal.at.returns-in-Ok c).After-read);
       few = tt;
     }
@@ -42,7 +42,7 @@ loop-form-preserved c =
     grind (arith, common_steps) in (
       table_reading-more (map form_given c.args.forms.now)
           (map string_bytes c.args.words.now) c.loop-form.form-index help_form
-          c.loop-form.place (rw length-map c.loop-form-test.true) c.loop-form.invariant.0 _
+          c.loop-form.place (rw length-map c.loop-form-test.true) c.loop-form.invariant.0
           (sym (ap request_result c.in-Err.is) ∙ here (goal.at.loop-form-preserved c).After-read)
           ∙ sym (ap Err max-is),
       omega (arith, max-is, c.in-Err.ensures.few, c.loop-form.invariant.1),

@@ -13,8 +13,7 @@ use Rattle.join_edits.specs.{Join.{join_task, joined_file, joined_stream}, JoinR
 use Rattle.joined_inputs.proofs.InputLemmas.{found-input, inputs-join, join-late, named-long}
 use Rattle.joined_inputs.proofs.SourceLemmas.{inputs-making, join-numbers}
 use Rattle.joined_inputs.specs.Inputs.{AreJoinInputs, CanInputsBeJoined, input_names, input_view}
-use Rattle.joined_inputs.specs.Inputs.{InputFields, parts_of}
-use Rattle.joined_inputs.specs.Laying.{CanJoinBeWritten, join_bytes}
+use Rattle.joined_inputs.specs.{Inputs.InputFields, Laying.{CanJoinBeWritten, join_bytes}}
 use Rattle.joined_inputs.specs.declared.{inputs.JoinInput.JoinInput, work.JoinWork.JoinWork}
 use Rattle.outside.{proofs.CountsLemmas.none_fell_by_writes, specs.Files.Files}
 use Rattle.outside.specs.Seen.{Seen, seen_folder}
@@ -25,7 +24,7 @@ pub returns-in-Some : goal.returns-in-Some
 returns-in-Some g c =
     let task = join_task (map string_bytes c.args.inputs.now) in
     asked_early (one_command task c.args.output.now) g.D.Folder.keeping _ refl tt refl
-    (clash_run task c.args.output.now _ _ (sym c.clash.ensures ∙ c.in-Some.is))
+    (clash_run task c.args.output.now _ (sym c.clash.ensures ∙ c.in-Some.is))
 
 pub returns-in_err-sources : goal.returns-in_err-sources
 returns-in_err-sources g c =
@@ -38,7 +37,7 @@ returns-in_err-sources g c =
     (early_run (join_task names) output (sym c.clash.ensures ∙ c.in_default.is)
     (join-late joined_file names) _
     c.from_residual.ensures.1 refused
-    (join-numbers joined_file joined_stream output names _ _
+    (join-numbers joined_file joined_stream output names _
     (sym (length-map c.args.inputs.now string_bytes)) met.numbers)
     c.survey_all.ensures.reads.counts)
 
@@ -72,12 +71,12 @@ module _ (g : given.Over) (c : In_ok-sources g) where
       (items : known ≡ c.in_ok-sources.sources.items) (work : JoinWork)
       (ready : IsJoinReady inputs work) where
     writable : CanJoinBeWritten c.args.output.now mid (map input_view known) work
-    writable = rw (same, items) (ready-written c.args.output.now old inputs work none are ready)
+    writable = rw (same, items) (ready-written none are ready)
 
     making : IsMaking (join_task (map string_bytes c.args.inputs.now))
         (join_bytes mid (map input_view known) work) old
     making = rw (same, items, ← named)
-        (written-making c.args.output.now old inputs work some none are ready)
+        (written-making c.args.output.now some none are ready)
 
 pub prepare-requires : goal.prepare-requires
 prepare-requires g c = rw c.deref.ensures.value (can g (goal.at.prepare-requires g c).In_ok-sources)
@@ -89,7 +88,7 @@ returns-in_err-work g c =
     let stays =
     ap₂ seen_folder c.survey_all.ensures.reads.files c.in_ok-sources.ensures.reads.done in
     let found = rw (append-nil, named g at) at
-    (found-input most_frames (inputs g at) [] _ _ (are g at) (some g at) stays) in
+    (found-input most_frames (inputs g at) [] (are g at) (some g at) stays) in
     asked_early (one_command (join_task names) c.args.output.now) g.D.Folder.keeping Memory
     c.from_residual-in_err-work.ensures.1 tt c.survey_all.ensures.reads.files
     (early_run (join_task names) c.args.output.now (sym c.clash.ensures ∙ c.in_default.is)
@@ -101,8 +100,7 @@ to_write : (g : given.Over) (c : In_ok-sources g) {made : List ℕ → List ℕ}
     → IsMaking (join_task (map string_bytes c.args.inputs.now)) made (old g c)
     → IsToWrite (one_command (join_task (map string_bytes c.args.inputs.now)) c.args.output.now)
     (c.args.output.now ∷ []) (old g c)
-to_write g c making = to_write_one (join_task (map string_bytes c.args.inputs.now))
-    c.args.output.now (sym c.clash.ensures ∙ c.in_default.is) making
+to_write g c making = to_write_one (sym c.clash.ensures ∙ c.in_default.is) making
 
 pub returns-in_err-ask_all : goal.returns-in_err-ask_all
 returns-in_err-ask_all g c =
@@ -112,9 +110,8 @@ returns-in_err-ask_all g c =
     let made = making g at _ c.in_ok-sources.sources.items refl refl _
     (rw c.deref.ensures.value at c.in_ok-work.ensures) in
     let stops = c.in_err-ask_all.ensures in
-    asked_stopped (to_write g at made) _ c.from_residual-in_err-ask_all.ensures.1
-    (none_fell_by_writes (rw same at c.ask_all.ensures.counts))
-    g.D.Folder.keeping stops.asked (rw same at stops.stops)
+    asked_stopped (to_write g at made) c.from_residual-in_err-ask_all.ensures.1
+    (none_fell_by_writes (rw same at c.ask_all.ensures.counts)) stops.asked (rw same at stops.stops)
 
 pub write_joined-requires-clause-can : goal.write_joined-requires-clause-can
 write_joined-requires-clause-can g c =
@@ -150,13 +147,13 @@ returns g c =
     (λ keep. rw before at (c.in_ok-ask_all.ensures.free keep))
     (one_run (join_task names) output free _ made refl
     (one_streams (join_task names) output free _ _
-    (rw (named g at) at (inputs-making joined_file joined_stream
-    (λ _. joined_file (parts_of (old g at) (inputs g at))) (old g at) (inputs g at) (some g at)
+    (rw (named g at) at
+    (inputs-making joined_file joined_stream (old g at) (inputs g at) (some g at)
     (are g at) (λ _ _. refl)))
     (rw (named g at) at
-    (joined-hold output (old g at) (inputs g at) (none g at) (can g at) (are g at))) result)
+    (joined-hold output (old g at) (none g at) (can g at) (are g at))) result)
     (IfErr-weaker result _ _
-    (λ fault. join-numbers joined_file joined_stream output names many fault
+    (λ fault. join-numbers joined_file joined_stream output names fault
     (sym (length-map c.args.inputs.now string_bytes)))
     (rw long-now at c.write_joined.ensures.numbers))
     (rw (named-now, same) at c.write_joined.ensures.wrote)

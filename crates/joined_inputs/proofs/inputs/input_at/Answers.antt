@@ -4,4 +4,4 @@ use Rattle.joined_inputs.proofs.inputs.input_at.Goals as goal
 
 pub returns : goal.returns
 returns c = map-next input_view
-    c.args.inputs.now c.args.place c.index-inputs-place.result c.requires c.index-inputs-place.is
+    c.args.inputs.now c.requires c.index-inputs-place.is

@@ -1,6 +1,6 @@
 -- Range by range.
-use Rattle.std.proofs.Common.{ap, arith, drop, length, List, refl, rules, sym, take, ℕ, ◌+◌, ◌-◌}
-use Rattle.std.proofs.Common.{◌∙◌, ◌∷◌}
+use Rattle.std.proofs.Common.{ap, arith, drop, length, List, refl, rules, sym, take, ℕ, ◌-◌, ◌∙◌}
+use Rattle.std.proofs.Common.{◌∷◌}
 use Rattle.std.proofs.lemmas.List.{drop-drop, drop_all, length-drop, length-map, take_rest}
 use Rattle.frame_writer.specs.Frames.{Frame}
 use Rattle.joined_inputs.proofs.StepLemmas.{both-fit, cause-at, cause-named, laid-all, laid-none}
@@ -28,7 +28,7 @@ lay_range-requires-clause-stands g c =
     let left = sym (take_rest c.args.placed.now c.loop-i.at) in
     let laid = c.loop-i.invariant.laid in
     record {
-      ready = source-ready _ _ _
+      ready = source-ready
           (next-source c.range-range.ensures left laid)
           laid.target c.length.ensures (c.clear.ensures.fed _ _);
       class = next-class c.range-range.ensures left laid;
@@ -60,15 +60,15 @@ returns-in-Err g c =
     record {
       written = tt;
       prefix = part-prefix pass frames b.waiting (writing_in b) old
-          (new-behind b.writer b.waiting c.requires.new) part.0 _ part.1;
+          (new-behind b.waiting c.requires.new) part.1;
       done = tt;
       cause =
           record {
             within = grind (arith, c.loop-i-test.true, length-map);
             size = _;
-            cause = cause-named (g.R.LaidRanges.ranges c.args.ranges) c.loop-i.i _ _ _ _ _ _ _ _
+            cause = cause-named (g.R.LaidRanges.ranges c.args.ranges) c.loop-i.i _ _ _ _ _ _
                 c.range-range.ensures
-                (cause_later _ _ _ pass.output.now sofar.passed _ _ _ c.in-Err.fault sofar.files
+                (cause_later _ _ pass.output.now sofar.passed _ c.in-Err.fault sofar.files
                 c.loop-i.invariant.counts c.in-Err.ensures.gives.cause);
           };
     }
@@ -91,8 +91,8 @@ loop-i-preserved g c =
       );
       laid = next-laid c.range-range.ensures (sym left)
           c.loop-i.invariant.laid c.requires.pass.apart
-          (g.D.Folder.seen c.lay_range.new.folder).files (writing_in c.lay_range.new.buffers)
-          (drop (at + count) placed) more c.in-Ok.ensures.gives.lays c.in-Ok.ensures.stands.class
+          (g.D.Folder.seen c.lay_range.new.folder).files more
+          c.in-Ok.ensures.gives.lays c.in-Ok.ensures.stands.class
           c.in-Ok.ensures.gives.reach c.in-Ok.ensures.stands.unsettled;
       counts = c.in-Ok.ensures.gives.done ∙ c.loop-i.invariant.counts;
     }
@@ -120,9 +120,8 @@ returns-in-Ok-finish g c =
     let seen = g.D.Folder.seen in
     record {
       written = lays-written c.args.first.now.pass (frames g at) b.waiting (writing_in b)
-          (old g at) (new-behind b.writer b.waiting c.requires.new) (writing_in c.loop-i.buffers)
-          (seen c.loop-i.folder).files (laid_all g at) c.finish.new.unsent
-          (seen c.finish.new.folder).files c.in-Ok-finish.ensures.passed;
+          (old g at) (new-behind b.waiting c.requires.new) (writing_in c.loop-i.buffers)
+          (seen c.loop-i.folder).files (laid_all g at) c.in-Ok-finish.ensures.passed;
       prefix = tt;
       done = search rules;
       cause = tt;
@@ -138,8 +137,8 @@ returns-in-Err-finish g c =
     record {
       written = tt;
       prefix = lays-prefix pass (frames g at) b.waiting (writing_in b) (old g at)
-          (new-behind b.writer b.waiting c.requires.new) (writing_in c.loop-i.buffers)
-          (seen c.loop-i.folder).files (laid_all g at) (seen c.finish.new.folder).files
+          (new-behind b.waiting c.requires.new) (writing_in c.loop-i.buffers)
+          (seen c.loop-i.folder).files (laid_all g at)
           c.in-Err-finish.ensures.prefix;
       done = tt;
       cause =
@@ -147,11 +146,11 @@ returns-in-Err-finish g c =
             within = named-first c.requires.pass.are;
             size = _;
             cause =
-                cause-at (range_names (g.R.LaidRanges.ranges c.args.ranges)) 0 pass.input.now
-                _ (range_names c.requires.pass.later) _ _ _ _ _
+                cause-at (range_names (g.R.LaidRanges.ranges c.args.ranges)) 0
+                _ _ _ _ _ _
                 (ap range_names c.requires.pass.are
                 ∙ ap (λ n. n ∷ range_names c.requires.pass.later) c.requires.pass.named)
-                (cause_later _ _ _ pass.output.now sofar.passed _ _ _ c.in-Err-finish.fault
+                (cause_later _ _ pass.output.now sofar.passed _ c.in-Err-finish.fault
                 sofar.files c.loop-i.invariant.counts c.in-Err-finish.ensures.cause);
           };
     }

@@ -6,6 +6,6 @@ use Rattle.joined_inputs.proofs.surveys.name_at.Goals as goal
 pub returns : goal.returns
 returns c =
     map-next string_bytes
-    c.args.inputs.now c.args.place c.index-inputs-place.result c.requires c.index-inputs-place.is
+    c.args.inputs.now c.requires c.index-inputs-place.is
     ∙ ap (λ n. n ∷ drop (c.args.place + 1) (map string_bytes c.args.inputs.now))
     (sym c.as_str.ensures.value)

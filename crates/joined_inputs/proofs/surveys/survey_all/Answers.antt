@@ -34,8 +34,8 @@ returns-in_err-survey-clause-refused g c =
     let whole : input_names before ++ c.name_at-name.result.now ∷ drop (place + 1) names ≡ names =
     rw (inv.named, ← c.name_at-name.ensures) (take-append-drop place names) in
     err_with _ _ c.from_residual.ensures.1
-    (part-early names before c.name_at-name.result.now (drop (place + 1) names) place
-    c.loop-place.left c.first_class-first.result _ _ _ _ whole long
+    (part-early before c.name_at-name.result.now (drop (place + 1) names)
+    c.loop-place.left _ _ whole long
     (c.first_class-first.ensures
     ∙ ap (λ l. class_of_first (map input_view l)) c.deref.ensures.value)
     inv.allowed (ap₂ seen_folder inv.files inv.counts) inv.surveyed c.in_err-survey.ensures.refused)
@@ -68,7 +68,7 @@ returns-in_err-push-clause-refused g c =
     rw (named g at) (take-append-drop (place + 1) names) in
     err_with _ _ c.from_residual-in_err-push.ensures.1
     (λ _ _. rw whole at
-    (found-input most_frames (inputs g at) (drop (place + 1) names) _ _ (are g at)
+    (found-input most_frames (inputs g at) (drop (place + 1) names) (are g at)
     (omega (arith, length-append (map input_view c.loop-place.inputs.items) (next g at ∷ [])))
     (ap₂ seen_folder (c.survey_part.ensures.reads.files ∙ inv.files)
     (c.in_ok-survey.ensures.reads.done ∙ inv.counts))))

@@ -87,14 +87,14 @@ module _ (g : given.Over) (c : After-append_front g) where
           → WritesMadeBytes c.args.first.now.pass whole [] after old new
       both rest =
           let pass = c.args.first.now.pass in
-          writes_as pass whole (all mid placed is only) (writes_then pass apart begun rest)
+          writes_as pass (all mid placed is only) (writes_then pass apart begun rest)
 
       part : {new : Files} {fault : PassFault}
           → WritesPrefix c.args.first.now.pass (λ file. frames mid placed) waiting mid new fault
           → WritesPrefix c.args.first.now.pass whole [] old new fault
       part rest =
           let pass = c.args.first.now.pass in
-          appends-as_prefix _ whole (all mid placed is only) (prefix_then pass apart begun rest)
+          appends-as_prefix (all mid placed is only) (prefix_then pass apart begun rest)
 
 pub returns-in-Err : goal.returns-in-Err
 returns-in-Err g c =
@@ -110,7 +110,7 @@ returns-in-Err g c =
       cause = record {
         within = some g at;
         size = _;
-        cause = cause-at (input_names (inputs g at)) 0 _ _ _ _ _ _ _ _
+        cause = cause-at (input_names (inputs g at)) 0 _ _ _ _ _ _
             (ap input_names c.requires.join.are) c.in-Err.ensures.cause;
       };
     }
@@ -184,9 +184,9 @@ returns-in-Err-finish g c =
       cause = record {
         within = some g w;
         size = _;
-        cause = cause-at (input_names (inputs g w)) 0 _ _ _ _ _ _ _ _
+        cause = cause-at (input_names (inputs g w)) 0 _ _ _ _ _ _
             (ap input_names c.requires.join.are)
-            (cause_later _ _ _ c.args.first.now.pass.output.now front.bytes _ _ _
+            (cause_later _ _ c.args.first.now.pass.output.now front.bytes _
             c.in-Err-finish.fault front.files c.in_default.ensures.done
             (cause_behind frames.written _ _ _ _ frames.done c.in-Err-finish.fault
             c.in-Err-finish.ensures.cause));

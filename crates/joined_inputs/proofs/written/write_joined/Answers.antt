@@ -88,7 +88,7 @@ returns-in-Err-clause-wrote g c =
     let at = (goal.at.returns-in-Err-clause-wrote g c).In-Ok in
     let created = c.in-Ok.ensures.answer.created in
     let cause = c.in-Err.ensures.cause in
-    let part = appends-as_prefix _ _ (λ file holds. beside g at file) c.in-Err.ensures.prefix in
+    let part = appends-as_prefix (λ file holds. beside g at file) c.in-Err.ensures.prefix in
     record {
       written = tt;
       touches = touches_prefix _ _ _ (apart g at) _ _ _ created c.in-Err.ensures.prefix;
@@ -96,8 +96,8 @@ returns-in-Err-clause-wrote g c =
       left = rw c.of_pass.ensures
           (pass_fault _ (input_view c.input_at.result.now).name c.args.output.now (apart g at) _ _ _
           created (names g at) (ap (λ l. first_input (input_names l)) c.input_at.ensures)
-          c.in-Err.stopped.place c.in-Err.stopped.fault cause.size
-          (g.D.Folder.seen c.args.folder.now).counts _ _ c.in-Ok.ensures.answer.done part
+          c.in-Err.stopped.place c.in-Err.stopped.fault cause.size _
+          c.in-Ok.ensures.answer.done part
           cause.cause);
     }
 
@@ -107,10 +107,10 @@ returns-in_default-clause-wrote g c =
     let kept = c.in_default.ensures.answer.kept in
     record {
       written = tt;
-      touches = fails_touches _ _ c.args.output.now kept;
+      touches = fails_touches kept;
       done = tt;
       left = (
         refl,
-        record { rose = c.in_default.ensures.answer.failed; files = not_begun _ _ _ _ _ kept },
+        record { rose = c.in_default.ensures.answer.failed; files = not_begun _ _ _ _ kept },
       );
     }

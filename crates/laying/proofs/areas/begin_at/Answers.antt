@@ -7,16 +7,15 @@ pub returns-then-first-gt0-clause-over : goal.returns-then-first-gt0-clause-over
 returns-then-first-gt0-clause-over g c =
     let source = c.args.source.now in
     let files = (g.D.Folder.seen c.args.folder.now).files in
-    last-none c.args.window.now (g.S.AreaSource.way source).input files
-    (g.S.AreaSource.fields source) c.args.first
+    last-none
     (λ zeroth. omega (arith, zeroth, c.if-first-gt0.true)) c.requires.none
     (g.met.S.AreaSource.held source files c.args.buffer.now c.requires.ready).exact
 
 pub returns-in_default-clause-over : goal.returns-in_default-clause-over
 returns-in_default-clause-over g c =
     let source = c.args.source.now in
-    over-none c.args.window.now (g.S.AreaSource.way source).input
-    (g.D.Folder.seen c.args.folder.now).files (g.S.AreaSource.fields source) c.args.first
+    over-none (g.S.AreaSource.way source).input
+    (g.D.Folder.seen c.args.folder.now).files
     (omega (arith, c.if-first-gt0.false))
     (ap (λ s. s.head) (sym c.survey.ensures) ∙ sym c.head.ensures ∙ c.in_default.is)
     c.requires.none
@@ -27,7 +26,7 @@ push_area-requires-clause-within g c =
     let held =
     g.met.S.AreaSource.held source (g.D.Folder.seen c.args.folder.now).files c.args.buffer.now
     c.requires.ready in
-    head-within (g.S.AreaSource.fields source) c.in-Some.head held.laid
+    head-within held.laid
     (ap (λ s. s.head) (sym c.survey.ensures) ∙ sym c.head.ensures ∙ c.in-Some.is)
 
 pub returns-clause-over : goal.returns-clause-over
@@ -35,8 +34,7 @@ returns-clause-over g c =
     let source = c.args.source.now in
     let files = (g.D.Folder.seen c.push_area.new.folder).files in
     on_ok_weaker c.push_area.result
-    (λ read. over-head c.push_area.new.window read.area (g.S.AreaSource.way source).input files
-    (g.S.AreaSource.fields source) c.args.first c.in-Some.head
+    (λ read. over-head
     (omega (arith, c.if-first-gt0.false))
     (ap (λ s. s.head) (sym c.survey.ensures) ∙ sym c.head.ensures ∙ c.in-Some.is) read.long read.is
     (read.over [] c.requires.none)) c.push_area.ensures.area

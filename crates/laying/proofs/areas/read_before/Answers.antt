@@ -23,7 +23,7 @@ push_area-requires-clause-within g c =
     c.loop-at.invariant.ready in
     omega (
       arith,
-      laid-within s.first s.length s.frames c.loop-at.at c.index-rows-at.result held.laid.frames
+      laid-within s.first s.frames c.loop-at.at held.laid.frames
           (found g (goal.at.push_area-requires-clause-within g c).After-index-rows-at),
       c.from.ensures,
       c.offset.ensures,
@@ -36,10 +36,7 @@ loop-at-preserved g c =
     let seen = g.D.Folder.seen in
     record {
       early = omega (arith, c.loop-at-test.true);
-      over = area-next c.loop-at.window c.push_area.new.window (g.S.AreaSource.way source).input
-          (seen c.loop-at.folder).files (seen c.push_area.new.folder).files
-          (g.S.AreaSource.fields source) c.first_held-first.result c.loop-at.at
-          c.index-rows-at.result _ _
+      over = area-next
           (found g (goal.at.loop-at-preserved g c).After-index-rows-at)
           c.push_area.ensures.reads.files (c.from.ensures ∙ c.offset.ensures) c.header.ensures
           c.loop-at.invariant.over c.in_ok-push_area.ensures.area;
@@ -55,7 +52,7 @@ returns-clause-over g c =
     let input = (g.S.AreaSource.way source).input in
     let files = (g.D.Folder.seen c.loop-at.folder).files in
     let held = g.met.S.AreaSource.held source files c.loop-at.buffer c.loop-at.invariant.ready in
-    last-whole c.loop-at.window input files s c.first_held-first.result c.args.i held.there
+    last-whole files held.there
     (subst (λ (x : SurveyFields). (c.first_held-first.result ≡ 0)
     ⊎ (place x.head x.frames c.first_held-first.result + 2048 ≤ place x.head x.frames c.args.i))
     c.survey-survey.ensures c.first_held-first.ensures.held)

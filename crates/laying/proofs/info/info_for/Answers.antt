@@ -7,6 +7,6 @@ use Rattle.laying.proofs.info.info_for.Goals as goal
 pub returns-clause-info : goal.returns-clause-info
 returns-clause-info c = λ frames slots.
     fields-are c.args.class (λ (p : Placed). p.slot) c.args.placed.now frames slots
-    c.info_over.result c.args.kept.now.quality c.args.kept.now.extension c.info_over.ensures
+    c.args.kept.now.quality c.args.kept.now.extension c.info_over.ensures
     (λ table is. subst (λ (t : _). IfSome t (λ (l : List ℕ). length l ≡ 100)) is
     c.are_sized.ensures.table)

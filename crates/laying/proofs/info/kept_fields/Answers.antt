@@ -9,7 +9,7 @@ use Rattle.laying.proofs.info.kept_fields.Goals as goal
 pub returns-in-Some : goal.returns-in-Some
 returns-in-Some g c = record {
   kept = λ file holds.
-      let same = info-some file (survey_view c.args.survey.now).head c.in-Some.info
+      let same = info-some file (survey_view c.args.survey.now).head
       (sym c.in-Some.is ∙ c.in_ok-info.ensures.fields file holds) in (
         c.of.ensures.quality ∙ ap (λ (i : Info). i.quality) same,
         c.of.ensures.extension ∙ ap (λ (i : Info). i.extension) same,

@@ -36,7 +36,7 @@ main_data_with-requires-clause-few c =
     let row = c.args.row.now in
     omega (
       arith,
-      area-held (survey_view c.args.survey.now) c.args.i row
+      area-held (survey_view c.args.survey.now)
           (c.requires.placed c.args.i row c.requires.found),
       begin_is at,
       c.requires.area,
@@ -47,7 +47,7 @@ main_data_with-requires-clause-short c =
     let row = c.args.row.now in
     omega (
       arith,
-      area-held (survey_view c.args.survey.now) c.args.i row
+      area-held (survey_view c.args.survey.now)
           (c.requires.placed c.args.i row c.requires.found),
       c.requires.area,
       c.requires.few,
@@ -77,15 +77,14 @@ returns-else-lost-clause-told c = λ file passed long is.
     length-append (held ++ last) own ∙ ap (λ n. n + length own) (length-append held last) in
     let start : length held + length last - begin ≡ length main - length own - begin =
     omega (arith, all) in
-    cut-is file main c.main_data_with.result s c.args.i row
-    (length own) begin bits c.requires.found (sym c.lost.ensures ∙ c.if-lost.false) (within at)
+    cut-is file s c.requires.found (sym c.lost.ensures ∙ c.if-lost.false) (within at)
     (omega (
       arith,
       all,
       many,
       long,
       c.requires.area,
-      place-next s.head s.frames c.args.i row c.requires.found,
+      place-next s.head s.frames c.args.i c.requires.found,
     )) is c.requires.area (begin_is at) c.requires.bits
     (omega (arith, bits-least bits, size_is at)) c.main_data_with.ensures.bytes
     (subst (λ k. AreBitsPacked c.main_data_with.result bits (main_bits main k bits)) start

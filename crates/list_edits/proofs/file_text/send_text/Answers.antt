@@ -17,7 +17,7 @@ returns-in_err-survey g c =
     let text = g.K.FileText.text in
     let left = survey_left (begins text c.args.input.now) _ _ _ c.in_err-survey.ensures.refused in
     let reads = c.survey_at.ensures.reads in
-    refused_run text c.args.input.now _ _ _ c.from_residual.result _ c.from_residual.ensures.1 left
+    refused_run text _ _ c.from_residual.ensures.1 left
     c.in_err-survey.ensures.numbers reads.files reads.counts
 
 pub returns-in_err-text : goal.returns-in_err-text
@@ -30,7 +30,7 @@ returns-in_err-text g c =
     let counts = c.in_ok-survey.ensures.reads.done in
     let refused = rw (ap₂ seen_folder files counts) at c.in_err-text.ensures.refused in
     let end = c.from_residual-in_err-text in
-    refused_run text input _ _ _ end.result _ end.ensures.1
+    refused_run text _ _ end.ensures.1
     (survey_left (begins text input) _ _ _ refused) c.in_err-text.ensures.numbers
     (c.read.ensures.reads.files ∙ files)
     (rw (← counts) c.read.ensures.reads.counts)
@@ -70,7 +70,7 @@ returns-in_err-buffer g c =
     let input = c.args.input.now in
     let old = g.D.Folder.seen c.args.folder.now in
     let end = c.from_residual-in_err-buffer in
-    refused_run text input _ _ _ end.result _ end.ensures.1
+    refused_run text _ _ end.ensures.1
     (no_room text input old.files s said known.there known.surveyed (text_is g h) _ _ _
     (files_stay g h) (counts_stay g h))
     tt (files_stay g h) (only_read g h)
@@ -91,18 +91,17 @@ returns g c =
     record {
       done = told_by (λ r. OnOk r (IsCommandDone command old new))
           (λ x. is_done text input old.files s said known.there known.surveyed (text_is g h) _ _ _
-          (files_stay g h) (counts_stay g h)) tt c.tell.result fault;
+          (files_stay g h) (counts_stay g h)) tt fault;
       left = told_by (λ r. IfErr r (IsCommandFault command old new)) (λ x. tt)
           (unsent text input old.files s said known.there known.surveyed (text_is g h) _ _ _
-          (files_stay g h) (counts_stay g h)) c.tell.result fault;
+          (files_stay g h) (counts_stay g h)) fault;
       says = says text input old.files s said known.there known.surveyed (text_is g h)
           (sink.heard c.args.out.now) (sink.heard c.tell.new.out) c.tell.result fault
           c.tell.ensures.sent c.tell.ensures.prefix c.tell.ensures.cause;
-      numbers = told_by (λ r. IfErr r (HasNumbers command)) (λ x. tt) (λ none. absurd cc)
-          c.tell.result fault;
+      numbers = told_by (λ r. IfErr r (HasNumbers command)) (λ x. tt) (λ none. absurd cc) fault;
       streams = told_by (λ r. OnOk r (HoldsStreams command old.files))
           (λ x. holds_streams text input old.files s said known.there known.surveyed (text_is g h))
-          tt c.tell.result fault;
+          tt fault;
       files = files_stay g h;
       counts = only_read g h;
     }

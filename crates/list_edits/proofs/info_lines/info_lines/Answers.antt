@@ -3,10 +3,8 @@ use Rattle.std.{proofs.Common.{ap, ap₂, length, refl, [], ◌∙◌}, specs.Op
 use Rattle.std.specs.Prelude.{if◌then◌else◌}
 use Rattle.frame_header.specs.Fields.{ClassFields}
 use Rattle.list_edits.proofs.InfoLemmas.{all-lines, gains-said}
-use Rattle.list_edits.specs.InfoText.{but_line, class_line, frames_line, gain_lines, head_line}
-use Rattle.list_edits.specs.InfoText.{info_lines, is_as_said, main_data_line, played_line}
-use Rattle.list_edits.specs.InfoText.{rates_line}
-use Rattle.list_edits.specs.Totals.{file_areas, greatest_rate, least_rate, lost_count, main_data_in}
+use Rattle.list_edits.specs.InfoText.{but_line, class_line, gain_lines, info_lines, is_as_said}
+use Rattle.list_edits.specs.InfoText.{main_data_line, played_line, rates_line}
 use Rattle.list_edits.specs.Totals.{stream_length}
 use Rattle.moved_gains.specs.GainExtremes.{extremes_of, extremes_of_both}
 use Rattle.sync_survey.specs.Faults.{survey_view}
@@ -23,10 +21,8 @@ returns c =
     let counted = ap length c.frames-count.ensures in
     let bytes = stream_length s in
     let channels = ap (λ (k : ClassFields). k.channels) (c.class.view_is ∙ c.class-class.ensures) in
-    all-lines (class_line s.class) (frames_line s.class count (lost_count rows))
-    (rates_line (least_rate rows) (greatest_rate rows))
-    (main_data_line (main_data_in rows) (file_areas s)) (head_line head)
-    (is_as_said head count bytes) (but_line count bytes) (played_line head s.class count)
+    all-lines
+    (is_as_said head count bytes) (but_line count bytes)
     (gain_lines s.class.channels (extremes_of 0 rows) (extremes_of 1 rows) (extremes_of_both rows))
     (c.class_line.ensures ∙ ap class_line c.class-class.ensures)
     (c.frames_line.ensures ∙ rw (c.class-class.ensures, counted, totals.lost) refl)
@@ -37,4 +33,4 @@ returns c =
     ∙ ap₂ (λ n e. if is_as_said head n e then [] else but_line n e) counted c.stream_length.ensures)
     (c.played_line.ensures ∙ ap₂ (λ k n. played_line head k n) c.class-class.ensures counted)
     (c.gain_lines-left.ensures
-    ∙ gains-said rows _ _ _ _ channels totals.left totals.right)
+    ∙ gains-said rows channels totals.left totals.right)

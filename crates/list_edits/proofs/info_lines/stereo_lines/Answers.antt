@@ -6,6 +6,6 @@ use Rattle.list_edits.proofs.info_lines.stereo_lines.Goals as goal
 
 pub returns : goal.returns
 returns c =
-    three-lines _ _ _ c.channel_line.ensures c.channel_line-2.ensures
+    three-lines c.channel_line.ensures c.channel_line-2.ensures
     (c.both_line.ensures
     ∙ ap (λ (g : Option Gains). codes "both: " ++ both_text g) c.joined.ensures)

@@ -4,7 +4,7 @@ use Rattle.list_edits.proofs.ListingLemmas.{last_failed, last_more, prefix_behin
 use Rattle.list_edits.proofs.ListingLemmas.{said_more, said_none, sent_behind}
 use Rattle.list_edits.proofs.list_file.send_listing.Given.{Over}
 use Rattle.list_edits.specs.Listing.{listing, summary, thing_line}
-use Rattle.list_edits.specs.Things.{ordered_things, things_left, things_of}
+use Rattle.list_edits.specs.Things.{ordered_things, things_of}
 use Rattle.outside.{proofs.BufferOutputLemmas.on_err, specs.BufferOutput.{SendsWaiting, SentPrefix}}
 use Rattle.sync_survey.specs.Faults.{survey_view}
 use Rattle.list_edits.proofs.list_file.send_listing.Goals as goal
@@ -34,9 +34,7 @@ returns-in_err-push-clause-prefix g c =
     on_err c.from_residual.result
     (said_failed thing_line (ordered_things (things_of (survey_view c.args.survey.now)))
     (summary (survey_view c.args.survey.now).class (length (survey_view c.args.survey.now).frames))
-    (things_left c.loop-things.things)
-    (things_left c.set_next_line.new.things) next.thing c.loop-things.buffer _
-    _ _ c.loop-things.invariant.listed next.first
+    c.loop-things.invariant.listed next.first
     (subst (λ line. SentPrefix (c.loop-things.buffer ++ line)
     (g.T.Sink.heard c.loop-things.out).sent (g.T.Sink.heard c.push.new.sink).sent)
     (c.bytes.ensures ∙ sym next.line) c.in_err-push.ensures.prefix))
@@ -47,7 +45,6 @@ returns-in_err-push-2-clause-prefix g c =
     on_err c.from_residual-in_err-push-2.result
     (last_failed thing_line (ordered_things (things_of (survey_view c.args.survey.now)))
     (summary (survey_view c.args.survey.now).class (length (survey_view c.args.survey.now).frames))
-    (things_left c.loop-things.things) c.loop-things.buffer _ _ _
     c.loop-things.invariant.listed (c.set_next_line.ensures.none c.loop-things-test.false)
     (subst (λ line. SentPrefix (c.loop-things.buffer ++ line)
     (g.T.Sink.heard c.loop-things.out).sent (g.T.Sink.heard c.push-2.new.sink).sent)
@@ -62,7 +59,6 @@ unfolding listing
 all_listed g c =
     last_more thing_line (ordered_things (things_of (survey_view c.args.survey.now)))
     (summary (survey_view c.args.survey.now).class (length (survey_view c.args.survey.now).frames))
-    (things_left c.loop-things.things) c.loop-things.buffer c.push-2.new.self _ _ _
     c.loop-things.invariant.listed (c.set_next_line.ensures.none c.loop-things-test.false)
     (subst (λ line. SendsWaiting (c.loop-things.buffer ++ line) c.push-2.new.self
     (g.T.Sink.heard c.loop-things.out).sent (g.T.Sink.heard c.push-2.new.sink).sent)

@@ -9,7 +9,7 @@ loop-row-init c =
     let header = c.before-headers.ensures in
     let side = c.none-sides.ensures in
     record {
-      before = at-first c.args.rows.now _ c.bit_rate.result _ _ c.requires.some c.index-rows-0.is
+      before = at-first c.requires.some c.index-rows-0.is
           c.bit_rate.ensures header side;
       areas = omega (arith, ap (λ (h : HeaderTotals). h.areas) header);
       lengths = omega (arith, ap (λ (h : HeaderTotals). h.lengths) header);
@@ -29,5 +29,5 @@ returns c =
     let headers = c.loop-row.headers in
     let sides = c.loop-row.sides in
     let met = rw none at before.before in
-    all-met rows headers sides met (omega (arith, before.areas, c.loop-row-test.false))
+    all-met met (omega (arith, before.areas, c.loop-row-test.false))
     (omega (arith, before.lengths, c.loop-row-test.false))

@@ -1,6 +1,6 @@
 -- The bytes up to the junk, then those from the first frame on, and what still waits.
-use Rattle.std.proofs.Common.{ap, append-nil, ap₂, arith, IfErr, length, List, Ok, Option, refl}
-use Rattle.std.proofs.Common.{rules, subst, sym, ℕ, [], ◌++◌, ◌∙◌, ◌≡◌}
+use Rattle.std.proofs.Common.{ap, append-nil, ap₂, arith, IfErr, List, Ok, Option, refl, rules}
+use Rattle.std.proofs.Common.{subst, sym, ℕ, [], ◌++◌, ◌∙◌, ◌≡◌}
 use Rattle.std.proofs.lemmas.Result.{err_from_is_err_and, on_ok_weaker}
 use Rattle.moved_gains.proofs.CourseLemmas.{out_classed, out_few, out_numbered}
 use Rattle.moved_gains.proofs.MovingLemmas.{survey_of-length, survey_of-rows}
@@ -37,15 +37,15 @@ are_changed change tag file s junk first rows new junk_is first_is rows_are surv
     ap (λ n. both (steps_at_offset change.course rows) tag n first rows file) junk_is
     ∙ ap₂ (λ n (l : List Row). both (steps_at_offset change.course l) tag s.junk n l file) first_is
     rows_are
-    ∙ written-file_with_change (change_in change s) tag file most_frames s new
-    (survey_of-parts file most_frames s surveyed).1
+    ∙ written-file_with_change (change_in change s) tag file most_frames new
+    (survey_of-parts file most_frames surveyed).1
 
 pub copy-requires-clause-ready : goal.copy-requires-clause-ready
 copy-requires-clause-ready g c = record {
   apart = c.requires.apart;
   source = c.requires.source;
   target = c.requires.target;
-  length_is = λ file holds. survey_of-length file most_frames (survey_view c.args.survey.now)
+  length_is = λ file holds. survey_of-length file most_frames
       (c.requires.exact file holds) ∙ sym c.length.ensures;
   few = omega (arith, c.length.ensures, c.requires.laid.few);
   fed_from = c.requires.fresh.fed;
@@ -77,7 +77,7 @@ move_frames-requires-clause-told g c file holds =
     let s = survey_view c.args.survey.now in
     let held = writes_held _ c.requires.apart c.in_ok-copy.ensures.written file holds in
     subst (AreRowsOf file) (sym c.frames.ensures)
-    (survey_of-rows file most_frames s (c.requires.exact file held))
+    (survey_of-rows file most_frames (c.requires.exact file held))
 
 pub returns-in_err-move_frames : goal.returns-in_err-move_frames
 returns-in_err-move_frames g c = record {
@@ -120,7 +120,7 @@ moved : (g : given.Over) (c : In_ok-move_frames g) → WritesMadeBytes
 moved g c =
     let s = survey_view c.args.survey.now in
     writes_behind_none c.requires.fresh.none
-    (writes_as _ (λ file. file_with_change (change_in c.args.change.now s) file s)
+    (writes_as _
     (λ file holds. are_changed c.args.change.now c.new_tag.result file s c.junk-junk.result.0
     c.first.result c.frames.result.now c.new_tag.ensures (ap (λ r. r.0) c.junk-junk.ensures)
     c.first.ensures c.frames.ensures (c.requires.exact file holds))
@@ -145,14 +145,13 @@ returns g c = record {
 
 pub move_frames-requires-clause-numbered : goal.move_frames-requires-clause-numbered
 move_frames-requires-clause-numbered g c = subst AreRowsNumbered (sym c.frames.ensures)
-    (out_numbered (survey_view c.args.survey.now) c.requires.laid)
+    (out_numbered c.requires.laid)
 
 pub move_frames-requires-clause-few : goal.move_frames-requires-clause-few
-move_frames-requires-clause-few g c =
-    grind (arith, out_few (survey_view c.args.survey.now) c.requires.laid)
+move_frames-requires-clause-few g c = grind (arith, out_few c.requires.laid)
 
 pub move_frames-requires-clause-classed : goal.move_frames-requires-clause-classed
 move_frames-requires-clause-classed g c =
     let s = survey_view c.args.survey.now in
     subst (λ class. AreFramesOfClass class c.frames.result.now) (sym c.class.ensures)
-    (subst (AreFramesOfClass s.class) (sym c.frames.ensures) (out_classed s c.requires.laid))
+    (subst (AreFramesOfClass s.class) (sym c.frames.ensures) (out_classed c.requires.laid))

@@ -1,9 +1,9 @@
 -- The last frame ends within the file.
 use Rattle.std.proofs.Common.{subst, sym, ◌≤◌}
 use Rattle.moved_gains.{proofs.FoundTagLemmas.last-within, specs.TagPlace.last_end}
-use Rattle.sync_survey.specs.Faults.{longest_file, survey_view}
+use Rattle.sync_survey.specs.Faults.{longest_file}
 use Rattle.moved_gains.proofs.tag_places.tag_place.Goals as goal
 
 pub last_end-requires : goal.last_end-requires
 last_end-requires c = subst (λ l. last_end l ≤ longest_file) (sym c.frames.ensures)
-    (last-within (survey_view c.args.survey.now) c.requires)
+    (last-within c.requires)

@@ -16,7 +16,7 @@ pub read_exact-requires-clause-within : goal.read_exact-requires-clause-within
 read_exact-requires-clause-within g c =
     grind (
       arith,
-      tag-within (survey_view c.args.survey.now) c.args.piece.now
+      tag-within
           c.requires.found.known.laid c.requires.found.tag,
     )
 

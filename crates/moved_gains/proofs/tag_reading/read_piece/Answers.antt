@@ -15,7 +15,7 @@ returns-then-piece-gt-LONGEST_TAG-clause-cause g c =
       too_large-refused c.args.name.now (g.D.Folder.seen c.args.folder.now).files s
           c.requires.known.surveyed b
           c.requires.tag (omega (arith, c.if-piece-gt-LONGEST_TAG.true)),
-      sym (place-some s b c.requires.tag).1,
+      sym (place-some s c.requires.tag).1,
       omega (arith, c.if-piece-gt-LONGEST_TAG.true),
       refl,
     )
@@ -24,7 +24,7 @@ pub tag_at_offset-requires-clause-place : goal.tag_at_offset-requires-clause-pla
 tag_at_offset-requires-clause-place g c =
     grind (
       arith,
-      tag-within (survey_view c.args.survey.now) c.args.piece.now c.requires.known.laid
+      tag-within c.requires.known.laid
           c.requires.tag,
     )
 

@@ -2,7 +2,6 @@
 use Rattle.std.proofs.Common.{Bool, false, List, Some, true, ℕ, [], ◌≢◌}
 use Rattle.std.proofs.lemmas.Result.{on_ok_weaker}
 use Rattle.command_table.specs.Table.{command_of}
-use Rattle.commands.specs.Kept.{asked_of}
 use Rattle.drill.{proofs.PackedLemmas.drill_text-some, specs.Drilled.{drill_command, drill_text}}
 use Rattle.job_words.specs.Request.{SplitBy}
 use Rattle.list_edits.specs.{InfoText.info_of, Listing.listing, TextCommand.text_command}
@@ -12,9 +11,7 @@ use Rattle.mp3_cli.proofs.RunLemmas.{sent_alone, split_silent, text_ends, text_m
 use Rattle.mp3_cli.proofs.RunLemmas.{told_ends}
 use Rattle.outside.proofs.CountsLemmas.{none_fell_by_reads}
 use Rattle.program_texts.specs.Texts.{fixed_text_command, help_text, version_text}
-use Rattle.remove_edits.specs.Removed.{remove_command}
-use Rattle.split_edits.specs.Split.{sheet_cutting, sheet_exact_cutting, split_at_command}
-use Rattle.split_edits.specs.Split.{split_exact_at_command}
+use Rattle.split_edits.specs.Split.{sheet_cutting, sheet_exact_cutting}
 use Rattle.mp3_cli.proofs.jobs.do_job.Goals as goal
 
 some_help : Some help_text ≢ Some []
@@ -34,7 +31,7 @@ sheet_silent true input prefix sheet = split_silent (sheet_exact_cutting sheet) 
 pub returns-in-Help-clause-ends : goal.returns-in-Help-clause-ends
 returns-in-Help-clause-ends g c =
     rw c.in-Help.is (asked_ends g.D.Folder.keeping (fixed_text_command help_text)
-    (fixed_makes-none help_text) _ (said_ends help_text some_help _ c.say_help.result _ _
+    (fixed_makes-none) (said_ends help_text some_help _ c.say_help.result
     (c.say_help.ensures.says (g.D.Folder.seen c.args.folder.now).files)
     (sent_alone c.say_help.result c.say_help.ensures.fault)))
 
@@ -45,8 +42,8 @@ returns-in-Help-clause-streams g c = rw c.in-Help.is (fixed_streams g.D.Folder.k
 pub returns-in-Version-clause-ends : goal.returns-in-Version-clause-ends
 returns-in-Version-clause-ends g c =
     rw c.in-Version.is (asked_ends g.D.Folder.keeping (fixed_text_command version_text)
-    (fixed_makes-none version_text) _
-    (said_ends version_text some_version _ c.say_version.result _ _
+    (fixed_makes-none)
+    (said_ends version_text some_version _ c.say_version.result
     (c.say_version.ensures.says (g.D.Folder.seen c.args.folder.now).files)
     (sent_alone c.say_version.result c.say_version.ensures.fault)))
 
@@ -58,9 +55,9 @@ pub returns-in-Drill-clause-ends : goal.returns-in-Drill-clause-ends
 returns-in-Drill-clause-ends g c =
     rw c.in-Drill.is
     (asked_ends g.D.Folder.keeping (drill_command c.in-Drill.seed c.in-Drill.count)
-    (fixed_makes-none (drill_text c.in-Drill.seed c.in-Drill.count)) _
+    (fixed_makes-none)
     (said_ends (drill_text c.in-Drill.seed c.in-Drill.count)
-    (drill_text-some c.in-Drill.seed c.in-Drill.count) _ c.drill.result _ _
+    (drill_text-some c.in-Drill.seed c.in-Drill.count) _ c.drill.result
     (c.drill.ensures.says (g.D.Folder.seen c.args.folder.now).files) c.drill.ensures.fault))
 
 pub returns-in-Drill-clause-streams : goal.returns-in-Drill-clause-streams
@@ -72,61 +69,59 @@ pub returns-in-List-clause-ends : goal.returns-in-List-clause-ends
 returns-in-List-clause-ends g c =
     rw c.in-List.is
     (asked_ends g.D.Folder.keeping (text_command (λ file. listing) c.in-List.input.now)
-    (text_makes-none (λ file. listing) c.in-List.input.now) _
-    (text_ends (λ file. listing) c.in-List.input.now c.list.result _ _ _ _ c.list.ensures))
+    (text_makes-none (λ file. listing) c.in-List.input.now)
+    (text_ends (λ file. listing) c.list.result c.list.ensures))
 
 pub returns-in-Info-clause-ends : goal.returns-in-Info-clause-ends
 returns-in-Info-clause-ends g c =
     rw c.in-Info.is (asked_ends g.D.Folder.keeping (text_command info_of c.in-Info.input.now)
-    (text_makes-none info_of c.in-Info.input.now) _
-    (text_ends info_of c.in-Info.input.now c.info.result _ _ _ _ c.info.ensures))
+    (text_makes-none info_of c.in-Info.input.now)
+    (text_ends info_of c.info.result c.info.ensures))
 
 pub returns-in-Gain-clause-ends : goal.returns-in-Gain-clause-ends
 returns-in-Gain-clause-ends g c =
-    rw c.in-Gain.is (run_ends _
-    (asked_silent g.D.Folder.keeping (one_silent _ _)) c.gain.result _ _ _ c.gain.ensures)
+    rw c.in-Gain.is (run_ends
+    (asked_silent g.D.Folder.keeping (one_silent _ _)) _ c.gain.ensures)
 
 pub returns-in-Undo-clause-ends : goal.returns-in-Undo-clause-ends
 returns-in-Undo-clause-ends g c =
-    rw c.in-Undo.is (run_ends _
-    (asked_silent g.D.Folder.keeping (one_silent _ _)) c.undo.result _ _ _ c.undo.ensures)
+    rw c.in-Undo.is (run_ends
+    (asked_silent g.D.Folder.keeping (one_silent _ _)) _ c.undo.ensures)
 
 pub returns-in-Cut-clause-ends : goal.returns-in-Cut-clause-ends
 returns-in-Cut-clause-ends g c =
-    rw c.in-Cut.is (run_ends _
-    (asked_silent g.D.Folder.keeping (one_silent _ _)) c.cut.result _ _ _ c.cut.ensures)
+    rw c.in-Cut.is (run_ends
+    (asked_silent g.D.Folder.keeping (one_silent _ _)) _ c.cut.ensures)
 
 pub returns-in-CutExact-clause-ends : goal.returns-in-CutExact-clause-ends
 returns-in-CutExact-clause-ends g c =
-    rw c.in-CutExact.is (run_ends _
-    (asked_silent g.D.Folder.keeping (one_silent _ _)) c.cut_exact.result _ _ _ c.cut_exact.ensures)
+    rw c.in-CutExact.is (run_ends
+    (asked_silent g.D.Folder.keeping (one_silent _ _)) _ c.cut_exact.ensures)
 
 pub returns-in-Pack-clause-ends : goal.returns-in-Pack-clause-ends
 returns-in-Pack-clause-ends g c =
-    rw c.in-Pack.is (run_ends _ (asked_silent g.D.Folder.keeping (one_silent _ _))
-    c.pack_with.result _ _ _ c.pack_with.ensures.run)
+    rw c.in-Pack.is
+    (run_ends (asked_silent g.D.Folder.keeping (one_silent _ _)) _ c.pack_with.ensures.run)
 
 pub returns-in-SplitAt-clause-ends : goal.returns-in-SplitAt-clause-ends
 returns-in-SplitAt-clause-ends g c =
     rw (c.in-SplitAt.is, ← c.as_slice.ensures.value)
-    (run_ends (asked_of g.D.Folder.keeping (split_at_command c.as_slice.result.now
-    c.in-SplitAt.input.now c.in-SplitAt.prefix.now))
-    (asked_silent g.D.Folder.keeping (split_silent _ _ _)) c.split.result _ _ _ c.split.ensures)
+    (run_ends
+    (asked_silent g.D.Folder.keeping (split_silent _ _ _)) _ c.split.ensures)
 
 pub returns-in-SplitExact-clause-ends : goal.returns-in-SplitExact-clause-ends
 returns-in-SplitExact-clause-ends g c =
     rw (c.in-SplitExact.is, ← c.as_slice-in-SplitExact.ensures.value)
-    (run_ends (asked_of g.D.Folder.keeping (split_exact_at_command
-    c.as_slice-in-SplitExact.result.now c.in-SplitExact.input.now c.in-SplitExact.prefix.now))
-    (asked_silent g.D.Folder.keeping (split_silent _ _ _)) c.split_exact.result _ _ _
+    (run_ends
+    (asked_silent g.D.Folder.keeping (split_silent _ _ _)) _
     c.split_exact.ensures)
 
 pub returns-in-SplitBy-clause-ends : goal.returns-in-SplitBy-clause-ends
 returns-in-SplitBy-clause-ends g c =
     rw c.in-SplitBy.is
-    (run_ends _ (asked_silent g.D.Folder.keeping (sheet_silent c.in-SplitBy.exact
-    c.in-SplitBy.input.now c.in-SplitBy.prefix.now c.in-SplitBy.sheet.now))
-    c.split_by_sheet.result _ _ _ c.split_by_sheet.ensures)
+    (run_ends (asked_silent g.D.Folder.keeping (sheet_silent c.in-SplitBy.exact
+    c.in-SplitBy.input.now c.in-SplitBy.prefix.now c.in-SplitBy.sheet.now)) _
+    c.split_by_sheet.ensures)
 
 pub returns-in-Join-clause-ends : goal.returns-in-Join-clause-ends
 returns-in-Join-clause-ends g c = rw c.in-Join.is c.join_files.ensures.ends
@@ -134,20 +129,19 @@ returns-in-Join-clause-ends g c = rw c.in-Join.is c.join_files.ensures.ends
 pub returns-in-Remove-clause-ends : goal.returns-in-Remove-clause-ends
 returns-in-Remove-clause-ends g c =
     rw (c.in-Remove.is, ← c.as_slice-in-Remove.ensures.value)
-    (run_ends (asked_of g.D.Folder.keeping (remove_command c.as_slice-in-Remove.result.now
-    c.in-Remove.input.now c.in-Remove.output.now))
-    (asked_silent g.D.Folder.keeping (one_silent _ _)) c.remove.result _ _ _ c.remove.ensures)
+    (run_ends
+    (asked_silent g.D.Folder.keeping (one_silent _ _)) _ c.remove.ensures)
 
 pub returns-in-Fade-clause-ends : goal.returns-in-Fade-clause-ends
 returns-in-Fade-clause-ends g c =
-    rw c.in-Fade.is (run_ends _
-    (asked_silent g.D.Folder.keeping (one_silent _ _)) c.fade.result _ _ _ c.fade.ensures)
+    rw c.in-Fade.is (run_ends
+    (asked_silent g.D.Folder.keeping (one_silent _ _)) _ c.fade.ensures)
 
 pub returns-in-Salvage-clause-ends : goal.returns-in-Salvage-clause-ends
 returns-in-Salvage-clause-ends g c =
     let is = c.salvage.ensures in
     rw c.in-Salvage.is
-    (told_ends _ c.salvage.result _ _ _ _
+    (told_ends c.salvage.result
     is.run.done is.run.left is.says is.run.numbers is.run.names)
 
 pub returns-in-List-clause-streams : goal.returns-in-List-clause-streams
@@ -202,7 +196,7 @@ pub returns-in-Salvage-clause-streams : goal.returns-in-Salvage-clause-streams
 returns-in-Salvage-clause-streams g c = rw c.in-Salvage.is c.salvage.ensures.run.streams
 
 pub returns-in-List-clause-counts : goal.returns-in-List-clause-counts
-returns-in-List-clause-counts g c = none_fell_by_reads _ _ c.list.ensures.counts
+returns-in-List-clause-counts g c = none_fell_by_reads c.list.ensures.counts
 
 pub returns-in-Info-clause-counts : goal.returns-in-Info-clause-counts
-returns-in-Info-clause-counts g c = none_fell_by_reads _ _ c.info.ensures.counts
+returns-in-Info-clause-counts g c = none_fell_by_reads c.info.ensures.counts

@@ -6,7 +6,7 @@ pub returns-then-seamless-clause-ends : goal.returns-then-seamless-clause-ends
 returns-then-seamless-clause-ends g c =
     let is = c.join_seamless.ensures in
     rw c.if-seamless.true
-    (told_ends _ c.join_seamless.result _ _ _ _
+    (told_ends c.join_seamless.result
     is.run.done is.run.left is.says is.run.numbers is.run.names)
 
 pub returns-then-seamless-clause-streams : goal.returns-then-seamless-clause-streams
@@ -14,8 +14,8 @@ returns-then-seamless-clause-streams g c = rw c.if-seamless.true c.join_seamless
 
 pub returns-else-seamless-clause-ends : goal.returns-else-seamless-clause-ends
 returns-else-seamless-clause-ends g c =
-    rw c.if-seamless.false (run_ends _
-    (asked_silent g.D.Folder.keeping (one_silent _ _)) c.join.result _ _ _ c.join.ensures)
+    rw c.if-seamless.false (run_ends
+    (asked_silent g.D.Folder.keeping (one_silent _ _)) _ c.join.ensures)
 
 pub returns-else-seamless-clause-streams : goal.returns-else-seamless-clause-streams
 returns-else-seamless-clause-streams g c = rw c.if-seamless.false c.join.ensures.streams

@@ -7,16 +7,15 @@ use Rattle.mp3_cli.proofs.program.run.Goals as goal
 
 pub returns-in-Err : goal.returns-in-Err
 returns-in-Err g c =
-    program_ran g.D.Folder.keeping (map string_bytes c.args.words.now) _ _ _
-    (word_refused _ (map string_bytes c.args.words.now)
-    c.in-Err.word (sym c.job.ensures.exact ∙ ap request_result c.in-Err.is) _ _
+    program_ran
+    (word_refused _ (sym c.job.ensures.exact ∙ ap request_result c.in-Err.is)
     (record { status_is = refl; line = c.send_bad_word.ensures; silent = refl; stays = refl })
     (none_fell_same _))
 
 pub returns-in-Ok : goal.returns-in-Ok
 returns-in-Ok g c =
     let keeps = c.keeps.ensures in
-    program_ran g.D.Folder.keeping (map string_bytes c.args.words.now) _ _ _
+    program_ran
     (command_ran _ (map string_bytes c.args.words.now) (job_request c.in-Ok.job)
     (sym c.job.ensures.exact ∙ ap request_result c.in-Ok.is)
     (rw keeps at c.run_kept.ensures.answers)

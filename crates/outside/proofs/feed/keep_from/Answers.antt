@@ -12,7 +12,7 @@ returns-clause-whole c reached =
     let count = c.args.end - from in
     let held_is : before + count ≡ c.args.end - c.args.begin = omega arith in
     ap (take count) c.copy_within.ensures.after
-    ∙ moved_front from c.args.end room c.requires.within (omega arith)
+    ∙ moved_front room c.requires.within (omega arith)
     ∙ ap (take count) (sym (drop-drop before c.args.begin room))
     ∙ sym (drop-take before count (drop c.args.begin room))
     ∙ ap (λ n. drop before (take n (drop c.args.begin room))) held_is

@@ -1,9 +1,8 @@
 -- If the input has no fault with fewer frames allowed, it has none with more.
 use Rattle.std.proofs.{Common.{Ok, subst, ◌≡◌}, lemmas.Result.{IfErr-weaker, IfOk-weaker}}
-use Rattle.commands.specs.SingleOutput.{IsFileFault, most_frames}
+use Rattle.commands.specs.SingleOutput.{IsFileFault}
 use Rattle.pack_edits.proofs.LimitLemmas.{survey_of-more}
 use Rattle.pack_edits.proofs.ModeLemmas.{allowed-most, mode_survey, mode_survey_numbers}
-use Rattle.pack_edits.specs.Modes.{allowed_frames}
 use Rattle.sync_survey.specs.{Faults.survey_view, Survey.survey_of}
 use Rattle.pack_edits.proofs.inputs.survey_packed.Goals as goal
 
@@ -15,8 +14,7 @@ returns g c =
       there = c.survey_at.ensures.there;
       surveyed =
           IfOk-weaker c.survey_at.result _ _
-          (λ s is bytes holds. survey_of-more bytes (allowed_frames c.args.mode) most_frames
-          (survey_view s)
+          (λ s is bytes holds. survey_of-more bytes
           (allowed-most c.args.mode)
           (subst (λ n. survey_of bytes n ≡ Ok (survey_view s)) c.allowed.ensures (is bytes holds)))
           c.survey_at.ensures.surveyed;

@@ -37,7 +37,7 @@ module _ (c : After-needs-needs) where
   chosen = chosen_in c.args.chosen.now
 
   given : c.needs-needs.result.now ≡ chosen_needs chosen s
-  given = given-needs (chosen_rows chosen s) c.in_ok-parts.parts c.needs-needs.result.now
+  given = given-needs (chosen_rows chosen s)
       c.in_ok-parts.ensures.parts c.needs-needs.ensures
 
   some : 1 ≤ length c.needs-needs.result.now
@@ -116,7 +116,7 @@ returns-in-Least c =
     subst (λ mode. mode_planning mode s.class (chosen_needs chosen s) ≡ Ok (entries plan.plan))
     (sym c.in-Least.is)
     (ap Ok (sym (plan_is chosen s c.requires.laid.placed c.requires.some c.requires.within
-    any_choice (inr refl) (entries plan.plan) asked.plan)))
+    any_choice (inr refl) asked.plan)))
 
 pub returns-in-Best : goal.returns-in-Best
 returns-in-Best c =
@@ -125,7 +125,7 @@ returns-in-Best c =
     subst (λ mode. mode_planning mode (s at).class (chosen_needs (chosen at) (s at)) ≡ Ok shortest)
     (sym c.in-Best.is)
     (best-answer (chosen at) (s at)
-    c.requires.laid.placed c.requires.some c.requires.within shortest
+    c.requires.laid.placed c.requires.some c.requires.within
     (subst (λ (l : List Need). IsBestPlan (window_in l) any_choice l shortest)
     (given at) c.in_ok-shortest-in-Best.ensures))
 
@@ -138,7 +138,7 @@ returns-in-Ok c =
     let at = (goal.at.returns-in-Ok c).After-needs-needs in
     menu-plan (chosen at) (s at)
     c.requires.laid.placed c.requires.some c.requires.within c.args.mode
-    (entries c.in-Ok.plan) (named-in c.args.mode c.in-Constant.is) (none at)
+    (named-in c.args.mode c.in-Constant.is) (none at)
     (subst (λ (l : List Need). least_menu_plan (window_of (s at).class.version)
     (menu_in c.args.mode (s at).class) l ≡ Ok (entries c.in-Ok.plan)) (given at)
     (subst (λ (k : ClassFields). least_menu_plan (window_of k.version) (menu_in c.args.mode k)

@@ -4,7 +4,6 @@ use Rattle.commands.specs.Refusing.{then_made}
 use Rattle.cut_edits.specs.Chosen.{chosen_in, chosen_rows, placed_part}
 use Rattle.laying.specs.Needs.{need_of}
 use Rattle.pack_edits.proofs.{ModeLemmas.{allowed-most, mode-fitting}, PlanLemmas.rows-few}
-use Rattle.slot_plan.specs.Plans.{entries}
 use Rattle.sync_survey.specs.Faults.{survey_view}
 use Rattle.pack_edits.proofs.plans.plan_packed.Goals as goal
 
@@ -13,7 +12,7 @@ new-requires-clause-few c =
     let s = survey_view c.args.survey.now in
     let chosen = chosen_in c.args.chosen.now in
     let is = mode-fitting chosen s c.requires.laid.placed c.requires.some c.requires.within
-    c.args.mode (entries c.in_ok-plan.plan) c.in_ok-plan.ensures in
+    c.args.mode c.in_ok-plan.ensures in
     omega (
       arith,
       is.few,
@@ -26,7 +25,7 @@ new-requires-clause-few c =
 pub new-requires-clause-fitting : goal.new-requires-clause-fitting
 new-requires-clause-fitting c =
     (mode-fitting (chosen_in c.args.chosen.now) (survey_view c.args.survey.now)
-    c.requires.laid.placed c.requires.some c.requires.within c.args.mode (entries c.in_ok-plan.plan)
+    c.requires.laid.placed c.requires.some c.requires.within c.args.mode
     c.in_ok-plan.ensures).fitting
 
 pub returns-clause-laid : goal.returns-clause-laid

@@ -2,12 +2,12 @@
 use Rattle.std.proofs.Common.{rules}
 use Rattle.rate_plan.proofs.LeastMenuPlanLemmas.{plan-answered, unfit-answered}
 use Rattle.rate_plan.proofs.planning.rate_plan.Goals.{After-class-class}
-use Rattle.slot_plan.{proofs.PartLemmas.one-class, specs.Plans.entries}
+use Rattle.slot_plan.proofs.PartLemmas.{one-class}
 use Rattle.rate_plan.proofs.planning.rate_plan.Goals as goal
 
 pub first_unfit-requires-clause-needs : goal.first_unfit-requires-clause-needs
 first_unfit-requires-clause-needs c = record {
-  class_is = one-class c.class-class.result c.args.needs.now c.index-needs-0.result c.requires.class
+  class_is = one-class c.args.needs.now c.index-needs-0.result c.requires.class
       c.class-class.ensures;
   some = c.requires.some;
   few = c.requires.few;
@@ -23,7 +23,7 @@ returns-in-Some c = record {
   refusal = search rules;
   least = unfit-answered c.class-class.result c.args.menu.now c.args.needs.now
       c.index-needs-0.result c.requires.class c.requires.some c.class-class.ensures
-      c.requires.ascending c.in-Some.i c.in-Some.ensures;
+      c.requires.ascending c.in-Some.ensures;
 }
 
 pub returns : goal.returns
@@ -32,5 +32,5 @@ returns c = record {
   refusal = tt;
   least = plan-answered c.class-class.result c.args.menu.now c.args.needs.now c.index-needs-0.result
       c.requires.class c.requires.some c.class-class.ensures c.requires.ascending
-      (entries c.in_ok-fit_plan.field-0) c.in_ok-fit_plan.ensures;
+      c.in_ok-fit_plan.ensures;
 }

@@ -1,5 +1,5 @@
 -- One more frame, and the first that doesn't fit.
-use Rattle.std.proofs.Common.{ap, arith, false, subst, true, ◌∙◌, ◌≡◌}
+use Rattle.std.proofs.Common.{ap, arith, subst, ◌∙◌, ◌≡◌}
 use Rattle.rate_plan.proofs.FitLemmas.{area-at, most_area, to-all, to-begun, to-more, to-unfit}
 use Rattle.rate_plan.{proofs.unfit.first_unfit.Goals.After-area-area, specs.Menus.IsFirstUnfitFrame}
 use Rattle.slot_plan.specs.Reserve.{free_bytes_behind}
@@ -28,8 +28,8 @@ returns-then-need-free c =
     let area = most (goal.at.returns-then-need-free c).After-area-area in
     subst (λ n. IsFirstUnfitFrame n c.args.menu.now c.args.needs.now c.loop-i.i)
     c.window-window.ensures.window
-    (to-unfit c.window-window.result c.args.class c.args.menu.now c.args.needs.now c.loop-i.i need
-    c.loop-i.free c.loop-i-test.true c.index-needs-i.is
+    (to-unfit c.window-window.result c.args.class c.args.menu.now c.args.needs.now c.loop-i.i
+    c.loop-i-test.true c.index-needs-i.is
     (omega (arith, c.if-need-free.true, area, ap (λ n. n.bytes) c.need.view_is))
     c.requires.needs.class_is c.requires.menu.slots c.loop-i.invariant.fit)
 
@@ -40,8 +40,7 @@ loop-i-preserved c =
     record {
       free = c.free_behind-free-in-loop-i.ensures.within;
       fit = to-more c.window-window.result c.args.class c.args.menu.now c.args.needs.now c.loop-i.i
-          need
-          c.loop-i.free c.free_behind-free-in-loop-i.result c.loop-i-test.true c.index-needs-i.is
+          c.loop-i-test.true c.index-needs-i.is
           (omega (arith, c.if-need-free.false, area, ap (λ n. n.bytes) c.need.view_is))
           (c.free_behind-free-in-loop-i.ensures.free
           ∙ ap

@@ -58,14 +58,14 @@ module _ (c : After-deref) where
 
   borrowed-is : borrowed ≡ own
   borrowed-is =
-      borrowed-needs old all own c.deref.result.now c.len-from.result begins all-are
+      borrowed-needs old begins all-are
       c.deref.ensures.value
 
   front : take c.len-from.result all ≡ old
-  front = front-needs old all own c.len-from.result begins all-are
+  front = front-needs own begins all-are
 
   back : drop c.len-from.result all ≡ own
-  back = back-needs old all own c.len-from.result begins all-are
+  back = back-needs old begins all-are
 
   behind : end_of_parts before + 1 ≤ part.from
   behind =
@@ -87,7 +87,7 @@ pub join-joint-requires-clause-part : goal.join-joint-requires-clause-part
 join-joint-requires-clause-part c =
     let here = (goal.at.join-joint-requires-clause-part c).After-deref in
     rw (borrowed-is here) (rw c.requires.before.is_run.of_class
-    (part-needs-are (s here) c.requires.can.are.placed (part here) (frames here) (within here)))
+    (part-needs-are (s here) c.requires.can.are.placed (frames here) (within here)))
 
 pub join-requires-clause-few : goal.join-requires-clause-few
 join-requires-clause-few c =
@@ -180,7 +180,7 @@ returns c =
     c.note.ensures.written
     ∙ ap₂ (λ v w. v.items ++ written_last (length w.items) (part here) ∷ [])
     (c.join.ensures.written ∙ c.append.ensures.written) (sym c.note.ensures.needs) in
-    rw (take-next c.args.parts.now c.args.number (part here) _
+    rw (take-next c.args.parts.now c.args.number
     (part-here (s here) c.args.parts.now c.args.number none c.requires.can.are
     c.requires.within.1)) (record {
       of_parts =

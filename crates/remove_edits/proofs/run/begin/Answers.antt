@@ -20,5 +20,5 @@ returns c =
     ∙ ap (λ l. l ++ written_last (length c.append.new.self.needs.items) c.args.part.now ∷ [])
     (ap (λ v. v.items) c.append.ensures.written ∙ c.new-3.ensures)
     ∙ ap (λ v. written_last (length v.items) c.args.part.now ∷ []) (sym c.note.ensures.needs) in
-    run-one (survey_view c.args.survey.now) c.args.part.now c.note.new.self c.requires.some
+    run-one c.requires.some
     c.requires.part.within needs lead_ins written

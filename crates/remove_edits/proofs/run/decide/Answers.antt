@@ -1,6 +1,6 @@
 -- The run begins with the first part, and goes on with each of the others.
-use Rattle.std.proofs.Common.{ap, arith, drop, length, List, slice_index_or, subst, take, [], ◌<◌}
-use Rattle.std.proofs.{Common.{◌∙◌, ◌∷◌, ◌≡◌, ◌≤◌}, lemmas.List.take_all}
+use Rattle.std.proofs.Common.{ap, arith, length, List, slice_index_or, subst, take, [], ◌<◌, ◌∙◌}
+use Rattle.std.proofs.{Common.{◌∷◌, ◌≡◌, ◌≤◌}, lemmas.List.take_all}
 use Rattle.joined_inputs.proofs.InputLemmas.{take-next}
 use Rattle.remove_edits.proofs.{ItemLemmas.left-one, JoinLemmas.{part-here, part-order}}
 use Rattle.remove_edits.proofs.{RemovalLemmas.part-needs-are, run.decide.Goals.After-as_slice}
@@ -25,8 +25,7 @@ module _ (s : SurveyFields) (parts : List Part) (can : CanBeRun s parts) where
   within = (part-order s parts 0 none can.are can.are.some).3
 
   one : take 1 parts ≡ first parts ∷ []
-  one =
-      take-next parts 0 (first parts) (drop 1 parts) (part-here s parts 0 none can.are can.are.some)
+  one = take-next parts 0 (part-here s parts 0 none can.are can.are.some)
 
 pub begin-requires-clause-part : goal.begin-requires-clause-part
 begin-requires-clause-part c =
@@ -52,7 +51,7 @@ module _ (c : After-as_slice) where
 pub begin-run-requires : goal.begin-run-requires
 begin-run-requires c =
     rw (needs-are c)
-    (rw c.class.ensures (part-needs-are (s c) c.requires.are.placed (first c.args.parts.now)
+    (rw c.class.ensures (part-needs-are (s c) c.requires.are.placed
     (some (s c) c.args.parts.now c.requires) (within (s c) c.args.parts.now c.requires)))
 
 pub loop-number-init : goal.loop-number-init

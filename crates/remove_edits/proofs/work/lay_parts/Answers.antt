@@ -11,8 +11,7 @@ use Rattle.sync_survey.specs.Faults.{survey_view}
 use Rattle.remove_edits.proofs.work.lay_parts.Goals as goal
 
 pub lay_all-requires-clause-pass : goal.lay_all-requires-clause-pass
-lay_all-requires-clause-pass g c =
-    ranges-pass c.args.relay.now _ _ c.args.parts.now c.requires.ready c.requires.some
+lay_all-requires-clause-pass g c = ranges-pass c.args.parts.now c.requires.ready c.requires.some
 
 pub lay_all-requires-clause-fits : goal.lay_all-requires-clause-fits
 lay_all-requires-clause-fits g c =
@@ -26,7 +25,6 @@ returns-in-Ok-clause-written g c =
     let relay = c.args.relay.now in
     let s = survey_view relay.survey.now in
     writes_as relay.pass
-    (λ file. bytes_of_frames (laid_parts s c.args.parts.now c.args.placed.now file))
     (λ file holds. ap (λ l. bytes_of_frames (relaid_frames (flat_map part_frames l)
     c.args.placed.now)) (ranges-told _ relay.pass.input.now file s c.args.parts.now holds))
     c.in-Ok.ensures.written

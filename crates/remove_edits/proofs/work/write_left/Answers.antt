@@ -24,7 +24,7 @@ returns-in_err-write_parts-clause-prefix g c =
 
 pub copy_blocks-requires : goal.copy_blocks-requires
 copy_blocks-requires g c = record {
-  ready = ready-behind c.args.relay.now c.in_ok-write_parts.ensures.written
+  ready = ready-behind c.in_ok-write_parts.ensures.written
       (c.clear.ensures.fed _ _) c.requires.ready;
 }
 

@@ -14,5 +14,5 @@ pub loop-part-preserved : goal.loop-part-preserved
 loop-part-preserved c =
     joined-more (λ part. part.now) c.args.parts.now c.loop-part.part-index
     (record { ref_ptr = (0, 0); now = [] }) c.loop-part-test.true
-    c.as_bytes.result.now c.loop-part.rest.now c.as_bytes.ensures.value _ c.loop-part.invariant
-    c.in-Some.behind.now c.in-Some.ensures.cases.0 c.in-Some.ensures.cases.1
+    c.as_bytes.result.now c.loop-part.rest.now c.as_bytes.ensures.value _
+    c.loop-part.invariant c.in-Some.ensures.cases.0 c.in-Some.ensures.cases.1

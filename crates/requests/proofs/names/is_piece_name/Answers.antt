@@ -12,7 +12,7 @@ returns-then-is_name_of c =
     let prefix = c.args.prefix.now in
     sym (list_any_at (bytes_eq c.args.name.now) (piece_names prefix) k []
     (omega (arith, names-length prefix)) (ap (bytes_eq c.args.name.now)
-    (name-at prefix k [] (omega arith)) ∙ sym c.is_name_of.ensures ∙ c.if-is_name_of.true))
+    (name-at prefix [] (omega arith)) ∙ sym c.is_name_of.ensures ∙ c.if-is_name_of.true))
 
 pub loop-before-preserved : goal.loop-before-preserved
 loop-before-preserved c =
@@ -23,5 +23,5 @@ pub returns : goal.returns
 returns c =
     let prefix = c.args.prefix.now in
     sym (list_any_none (bytes_eq c.args.name.now) (piece_names prefix) (λ k d within.
-    ap (bytes_eq c.args.name.now) (name-at prefix k d (omega (arith, within, names-length prefix)))
+    ap (bytes_eq c.args.name.now) (name-at prefix d (omega (arith, within, names-length prefix)))
     ∙ c.loop-before.invariant k (omega (arith, within, names-length prefix))))

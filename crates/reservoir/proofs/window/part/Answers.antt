@@ -7,8 +7,7 @@ use Rattle.reservoir.proofs.window.part.Goals as goal
 pub returns-clause-part : goal.returns-clause-part
 returns-clause-part c =
     let passed = c.min-passed.result in
-    part_of_two c.args.from c.args.count passed
-    c.min-first.result c.args.front.now c.args.back.now _ _
+    part_of_two c.args.from c.args.count c.args.front.now c.args.back.now
     (take_rest c.args.front.now passed)
     (take_rest c.args.back.now (c.args.from - passed)) c.min-passed.ensures c.min-first.ensures
 

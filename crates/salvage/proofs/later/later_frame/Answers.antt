@@ -13,14 +13,13 @@ use Rattle.salvage.proofs.later.later_frame.Goals as goal
 header_is : (c : After-from-size) → (header_front c.args.front.now ≡ Ok c.in_ok-header.header)
     × (class_of c.in_ok-header.header ≡ c.args.class)
     × (same_class (class_of c.in_ok-header.header) c.args.class ≡ true)
-header_is c = some_of_class c.args.class _
-    c.in_ok-header.header (sym c.header_of_class.ensures ∙ c.in_ok-header.was)
+header_is c = some_of_class _ (sym c.header_of_class.ensures ∙ c.in_ok-header.was)
 
 -- a whole frame of the class is passed
 own : (c : Else-size-left) → PassesFront c.args.front.now c.args.left
     (record { item = Frame c.in_ok-header.header; size = c.from-size.result })
 own c =
-    frame_passes c.args.class c.args.front.now c.in_ok-header.header
+    frame_passes c.args.class
     (sym c.header_of_class.ensures ∙ c.in_ok-header.was)
     (c.from-size.ensures ∙ c.length_of.ensures.length
     ∙ ap (λ (h : HeaderFields). length_of c.args.class h.slot) c.header.view_is)
@@ -29,7 +28,7 @@ own c =
 admits : (c : Else-not-has_right_crc)
     → admits_item (Later c.args.class) c.args.at (Frame c.in_ok-header.header) c.args.front.now
     ≡ true
-admits c = ap₂ (λ (a b : Bool). a && b) (some_of_class c.args.class _ c.in_ok-header.header
+admits c = ap₂ (λ (a b : Bool). a && b) (some_of_class _
     (sym c.header_of_class.ensures ∙ c.in_ok-header.was)).2 (sym c.if-not-has_right_crc.ensures)
 
 pub has_right_crc-requires-clause-own : goal.has_right_crc-requires-clause-own
@@ -43,8 +42,8 @@ has_right_crc-requires-clause-room c =
 
 pub returns-clause-read : goal.returns-clause-read
 returns-clause-read c = λ file shows.
-    item_judged file c.args.at c.args.front.now c.args.left shows (Later c.args.class) _
-    (own (goal.at.returns-clause-read c).Else-size-left) true (admits c)
+    item_judged file c.args.at c.args.front.now c.args.left shows (Later c.args.class)
+    (own (goal.at.returns-clause-read c).Else-size-left) (admits c)
 
 pub returns-clause-passes : goal.returns-clause-passes
 returns-clause-passes c = own (goal.at.returns-clause-passes c).Else-size-left

@@ -15,12 +15,12 @@ pub returns-in_default-clause-refused : goal.returns-in_default-clause-refused
 returns-in_default-clause-refused g c =
     bytes_refusal c.args.name.now (g.D.Folder.seen c.args.folder.now).files
     (g.D.Folder.seen c.args.folder.now).counts (g.D.Folder.seen c.first_frame.new.folder).counts
-    (NoFrame c.in_ok-front_end.front_end) c.args.size c.requires.known
+    (NoFrame c.in_ok-front_end.front_end) c.requires.known
     (c.in_ok-first.ensures.reads.done ∙ c.in_ok-front_end.ensures.reads.done) (refl, tt)
     (λ bytes holds.
     let there =
     subst (λ f. Holds f c.args.name.now bytes) (sym c.in_ok-front_end.ensures.reads.files) holds in
-    no_first bytes c.in_ok-front_end.front_end (c.in_ok-front_end.ensures.front_end bytes holds)
+    no_first bytes (c.in_ok-front_end.ensures.front_end bytes holds)
     (omega (arith, c.requires.known.few, c.requires.known.long bytes holds))
     (sym (c.in_ok-first.ensures.first bytes there) ∙ c.in_default.is))
 

@@ -8,7 +8,7 @@ use Rattle.salvage.proofs.reading.read_damaged.Goals as goal
 pub returns-in_err-size : goal.returns-in_err-size
 returns-in_err-size g c =
     let refusal =
-    find_refusal _ _ _ _ _ (c.in_err-size.ensures.refused 0) c.in_err-size.ensures.length in
+    find_refusal (c.in_err-size.ensures.refused 0) c.in_err-size.ensures.length in
     record {
       exact = search rules;
       laid = search rules;

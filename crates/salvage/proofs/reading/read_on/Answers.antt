@@ -13,7 +13,7 @@ read_things-requires-clause-reading g c =
     let found = c.in-Ok.found in
     let first : IsFirst begun found = grind arith in
     record {
-      told = λ bytes holds. begun_read bytes begun found (c.requires.begun.told bytes holds) first
+      told = λ bytes holds. begun_read (c.requires.begun.told bytes holds) first
           (c.in-Ok.ensures.pieces ∙ c.requires.blocks bytes holds);
       laid = search (arith, begun_laid);
     }
@@ -35,11 +35,11 @@ returns g c = record {
       × (found.rows.items ≡ [])) (IsDamagedFault name files before after) (λ fault is.
       subst (IsDamagedFault name files before after) (sym is.0)
       (bytes_refusal name files before after (NoFrame begun.start.front_end)
-      begun.size c.requires.begun.known c.in_ok-read_things.ensures.done (refl, tt) (λ bytes holds.
+      c.requires.begun.known c.in_ok-read_things.ensures.done (refl, tt) (λ bytes holds.
       let known = c.requires.begun.known.long bytes holds in
-      no_frames bytes begun found (c.requires.begun.told bytes holds)
+      no_frames (c.requires.begun.told bytes holds)
       (omega (arith, known, c.requires.begun.known.few))
-      (read_whole bytes begun found (c.in_ok-read_things.ensures.reading.told bytes holds)
+      (read_whole (c.in_ok-read_things.ensures.reading.told bytes holds)
       (omega (arith, known, c.in_ok-read_things.ensures.end))) is.1)).cause)
       c.damaged_by.ensures.none;
   numbers = grind (arith, IfErr-weaker);

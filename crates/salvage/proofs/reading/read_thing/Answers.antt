@@ -21,7 +21,7 @@ returns g c =
     c.bytes-front.result.now c.in_ok-left.left
     (λ bytes holds. shown_in c.bytes-front.ensures (c.in_ok-left.ensures.shows bytes holds))
     (Later c.class-class.result) (ap Later c.class-class.ensures) c.in-Some.ensures.read
-    c.requires.begun c.requires.reading c.keep.result c.keep.new.self c.look.new.feed
+    c.requires.begun c.requires.reading
     c.in-Some.ensures.usable c.in-Some.ensures.passes
     (omega (arith, c.in-Some.ensures.passes.within, c.in_ok-left.ensures.left, c.requires.before))
     c.keep.ensures.kept c.keep.ensures.few c.in_ok-left.ensures.reads.done (search rules)

@@ -20,7 +20,7 @@ pub returns-in-Some-clause-first : goal.returns-in-Some-clause-first
 returns-in-Some-clause-first g c = λ bytes holds.
     let seen = shown_in c.bytes.ensures (c.in_ok-left.ensures.shows bytes holds) in
     sym
-    (first_here bytes c.args.front_end c.in-Some.frame (sym (c.in-Some.ensures.frame bytes seen)))
+    (first_here bytes c.args.front_end (sym (c.in-Some.ensures.frame bytes seen)))
 
 pub returns-in-Some-clause-placed : goal.returns-in-Some-clause-placed
 returns-in-Some-clause-placed g c =
@@ -37,8 +37,7 @@ returns-clause-placed g c =
 
 pub returns-clause-first : goal.returns-clause-first
 returns-clause-first g c =
-    first_behind c.args.name.now (g.D.Folder.seen c.args.folder.now).files (g.D.Folder.seen
-    c.look.new.folder).files c.args.front_end c.next_usable_frame.result
+    first_behind c.args.name.now c.args.front_end c.next_usable_frame.result
     c.in_ok-left.ensures.reads.files
     (λ bytes holds.
     let seen = shown_in c.bytes.ensures (c.in_ok-left.ensures.shows bytes holds) in

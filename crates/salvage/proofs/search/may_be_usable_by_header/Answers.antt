@@ -1,6 +1,6 @@
 -- There is no header, or the frame isn't usable or has no anchor.
-use Rattle.std.proofs.Common.{ap, arith, drop, inr, length, length-drop, List, Ok, Result, sym, ℕ}
-use Rattle.std.proofs.Common.{◌+◌, ◌∙◌, ◌≡◌}
+use Rattle.std.proofs.Common.{ap, arith, drop, inr, length-drop, List, Ok, Result, sym, ℕ, ◌+◌, ◌∙◌}
+use Rattle.std.proofs.Common.{◌≡◌}
 use Rattle.frame_header.specs.{Fields.HeaderFields, declared.header.NotHeader.NotHeader}
 use Rattle.salvage.{proofs.SearchLemmas.{bare_here, header_of}, specs.UsableFrames.is_usable}
 use Rattle.sync_survey.proofs.{ItemsLemmas.frame_of_header, StepLemmas.overhead_few}
@@ -21,7 +21,7 @@ admits-requires c = grind (arith, header_there, overhead_few, frame_of_header, l
 
 pub returns-then-not-admits : goal.returns-then-not-admits
 returns-then-not-admits c = λ _.
-    bare_here c.args.role.now c.args.offset c.args.front.now c.args.place c.in-Ok.header
+    bare_here c.args.role.now c.args.offset c.args.front.now c.args.place
     (header_there c.args.front.now _ c.args.place _ _
     c.bytes_from-bytes.ensures c.header_front.ensures c.in-Ok.is)
     (omega (arith, c.if-end-gt-REACH.false, c.length.ensures.length))

@@ -1,5 +1,5 @@
 -- The offsets at which no header may begin are passed.
-use Rattle.std.proofs.Common.{arith, sym, ◌+◌}
+use Rattle.std.proofs.Common.{arith, sym}
 use Rattle.outside.proofs.BufferOutputLemmas.{err_at}
 use Rattle.salvage.proofs.ReadFaultLemmas.{look_refusal}
 use Rattle.salvage.proofs.SearchLemmas.{next_usable_frame-none, next_usable_frame-some, none_later}
@@ -14,10 +14,10 @@ returns-in_err-left-clause-refused g c =
 
 pub returns-in-Some-clause-next : goal.returns-in-Some-clause-next
 returns-in-Some-clause-next g c = λ bytes holds.
-    sym (next_usable_frame-some bytes c.args.role c.args.from c.loop-at.at c.in-Some.frame
+    sym (next_usable_frame-some bytes c.args.role
     c.loop-at.invariant.low (omega (arith, c.loop-at-test.true, c.requires.known.long bytes holds))
     (sym (c.in-Some.ensures.frame bytes (still_shown
-    c.loop-at.invariant.read c.bytes.ensures c.in_ok-left.ensures.shows bytes holds)))
+    c.loop-at.invariant.read c.bytes.ensures c.in_ok-left.ensures.shows holds)))
     (c.loop-at.invariant.none bytes holds))
 
 pub returns-in-Some-clause-placed : goal.returns-in-Some-clause-placed
@@ -30,14 +30,13 @@ loop-at-preserved g c = record {
   none = λ bytes holds earlier low high.
       let read = c.loop-at.invariant.read in
       let shows = c.in_ok-left.ensures.shows in
-      let seen = still_shown read c.bytes.ensures shows bytes holds in
-      let again = still_shown read c.bytes-in-loop-at.ensures shows bytes holds in
+      let seen = still_shown read c.bytes.ensures shows holds in
+      let again = still_shown read c.bytes-in-loop-at.ensures shows holds in
       none_later bytes
-      c.args.role c.args.from c.loop-at.at (c.loop-at.at + c.distance_to_candidate-at.result)
-      earlier (c.loop-at.invariant.none bytes holds)
+      c.args.role (c.loop-at.invariant.none bytes holds)
       (sym (c.in_default.ensures.frame bytes seen))
       (λ k low high. passed_bare bytes c.loop-at.at c.bytes-in-loop-at.result.now c.in_ok-left.left
-      again c.args.role c.distance_to_candidate-at.result k
+      again c.args.role
       c.distance_to_candidate-at.ensures.few c.distance_to_candidate-at.ensures.none low high)
       low high;
   low = omega (arith, c.loop-at.invariant.low);
@@ -46,7 +45,7 @@ loop-at-preserved g c = record {
 
 pub returns-clause-next : goal.returns-clause-next
 returns-clause-next g c = λ bytes holds.
-    sym (next_usable_frame-none bytes c.args.role c.args.from c.loop-at.at (omega (
+    sym (next_usable_frame-none bytes c.args.role (omega (
       arith,
       c.loop-at-test.false,
       c.requires.known.long bytes holds,

@@ -11,7 +11,7 @@ returns-in_err-mended-clause-reads g c =
 pub returns-in_err-work-clause-reads : goal.returns-in_err-work-clause-reads
 returns-in_err-work-clause-reads g c =
     let reads = c.in_ok-mended.ensures.reads in
-    memory-on c.args.input.now _ c.from_residual-in_err-work.ensures.1 c.in_ok-mended.mended
+    memory-on c.args.input.now c.from_residual-in_err-work.ensures.1
     c.in_ok-mended.ensures.there c.in_ok-mended.ensures.mended
     (ap₂ seen_folder reads.files reads.done)
     reads

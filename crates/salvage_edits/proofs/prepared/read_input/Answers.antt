@@ -25,7 +25,7 @@ returns-in-Err-clause-reads g c =
 
 pub returns-in-Err-mend-clause-reads : goal.returns-in-Err-mend-clause-reads
 returns-in-Err-mend-clause-reads g c = record {
-  refused = early-memory c.args.input.now _ _ (damaged_view c.in-Ok.damaged) c.in-Ok.ensures.there
+  refused = early-memory c.args.input.now c.in-Ok.ensures.there
       c.in-Ok.ensures.exact (ap₂ seen_folder c.read_damaged.ensures.files c.in-Ok.ensures.done);
   numbers = tt;
   done = tt;

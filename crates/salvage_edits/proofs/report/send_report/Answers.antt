@@ -5,7 +5,7 @@ use Rattle.list_edits.proofs.ListingLemmas.{said_more, said_none, sent_behind}
 use Rattle.outside.{proofs.BufferOutputLemmas.on_err, specs.BufferOutput.{SendsWaiting, SentPrefix}}
 use Rattle.salvage.specs.Text.{count_text, damage_lines, damage_text, line_text}
 use Rattle.salvage_edits.proofs.{OrderLemmas.entries_left-all, report.send_report.Given.Over}
-use Rattle.salvage_edits.{proofs.report.send_report.Invariants.told-left, specs.Ordered.report_text}
+use Rattle.salvage_edits.specs.Ordered.{report_text}
 use Rattle.sync_survey.proofs.MergeLemmas.{met}
 use Rattle.salvage_edits.proofs.report.send_report.Goals as goal
 
@@ -14,8 +14,8 @@ loop-told-init g c = record {
   done = refl;
   said = rw c.requires.empty (said_none line_text
       (damage_lines c.args.report.now.gaps.items c.args.report.now.emptied.items)
-      (told-left c.new-lines.result) (g.T.Sink.heard c.args.out.now).sent
-      (entries_left-all c.new-lines.result c.args.report.now c.requires.order
+      (g.T.Sink.heard c.args.out.now).sent
+      (entries_left-all c.new-lines.result c.requires.order
       (c.new-lines.ensures.firsts
       ∙ c.as_slice-gaps.ensures.value)
       (c.new-lines.ensures.seconds ∙ c.as_slice-emptied.ensures.value)));
@@ -32,8 +32,6 @@ loop-told-preserved g c = record {
   done = c.in_ok-push.ensures.cause.done ∙ c.loop-told.invariant.done;
   said = said_more line_text
       (damage_lines c.args.report.now.gaps.items c.args.report.now.emptied.items)
-      (told-left c.loop-told.lines)
-      (told-left c.next.new.self) c.in-Some.told c.loop-told.buffer c.push.new.self _ _ _
       c.loop-told.invariant.said
       (met _ _ c.loop-told.lines (Some c.in-Some.told) c.next.new.self c.in-Some.ensures)
       (subst (λ line. SendsWaiting (c.loop-told.buffer ++ line)
@@ -48,8 +46,7 @@ returns-in_err-push-clause-prefix g c =
     (said_failed line_text
     (damage_lines c.args.report.now.gaps.items c.args.report.now.emptied.items)
     (count_text c.args.frames (length c.args.report.now.gaps.items)
-    (length c.args.report.now.emptied.items)) (told-left c.loop-told.lines)
-    (told-left c.next.new.self) c.in-Some.told c.loop-told.buffer _ _ _ c.loop-told.invariant.said
+    (length c.args.report.now.emptied.items)) c.loop-told.invariant.said
     (met _ _ c.loop-told.lines (Some c.in-Some.told) c.next.new.self c.in-Some.ensures)
     (subst (λ line. SentPrefix (c.loop-told.buffer ++ line)
     (g.T.Sink.heard c.loop-told.out).sent (g.T.Sink.heard c.push.new.sink).sent)
@@ -62,7 +59,7 @@ returns-in_err-push-2-clause-prefix g c =
     (last_failed line_text
     (damage_lines c.args.report.now.gaps.items c.args.report.now.emptied.items)
     (count_text c.args.frames (length c.args.report.now.gaps.items)
-    (length c.args.report.now.emptied.items)) (told-left c.loop-told.lines) c.loop-told.buffer _ _ _
+    (length c.args.report.now.emptied.items))
     c.loop-told.invariant.said (met _ _ c.loop-told.lines None c.next.new.self c.in_default.ensures)
     (subst (λ line. SentPrefix (c.loop-told.buffer ++ line) (g.T.Sink.heard c.loop-told.out).sent
     (g.T.Sink.heard c.push-2.new.sink).sent) (c.bytes-2.ensures ∙ c.set_counts.ensures ∙ rw (
@@ -79,7 +76,6 @@ all-said g c =
     last_more line_text (damage_lines c.args.report.now.gaps.items c.args.report.now.emptied.items)
     (count_text c.args.frames (length c.args.report.now.gaps.items)
     (length c.args.report.now.emptied.items))
-    (told-left c.loop-told.lines) c.loop-told.buffer c.push-2.new.self _ _ _
     c.loop-told.invariant.said (met _ _ c.loop-told.lines None c.next.new.self c.in_default.ensures)
     (subst (λ line. SendsWaiting (c.loop-told.buffer ++ line)
     c.push-2.new.self (g.T.Sink.heard c.loop-told.out).sent (g.T.Sink.heard c.push-2.new.sink).sent)

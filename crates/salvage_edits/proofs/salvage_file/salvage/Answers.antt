@@ -16,7 +16,7 @@ returns-in-Some-clause-run g c =
     let task = salvage_task c.args.input.now in
     asked_early (salvage_command c.args.input.now c.args.output.now) g.D.Folder.keeping _ refl tt
     refl (telling_run (text_of c.args.input.now) (one_command task c.args.output.now)
-    (clash_run task c.args.output.now _ _ (sym c.clash.ensures ∙ c.in-Some.is)))
+    (clash_run task c.args.output.now _ (sym c.clash.ensures ∙ c.in-Some.is)))
 
 pub returns-in_err-work-clause-run : goal.returns-in_err-work-clause-run
 returns-in_err-work-clause-run g c =
@@ -27,7 +27,7 @@ returns-in_err-work-clause-run g c =
     asked_early (salvage_command input output) g.D.Folder.keeping _ c.from_residual.ensures.1
     (early_before _ _ _ _ reads.refused) c.prepare.ensures.reads.files
     (telling_run (text_of input) (one_command task output)
-    (early_run task output (sym c.clash.ensures ∙ c.in_default.is) (salvage-late input) _
+    (early_run task output (sym c.clash.ensures ∙ c.in_default.is) (salvage-late) _
     c.from_residual.ensures.1 reads.refused (numbers_early task output _ reads.numbers)
     c.prepare.ensures.reads.counts))
 
@@ -36,7 +36,7 @@ to_write : (input output : List ℕ) (files : Files) (work : SalvageWork)
     → clash_in (salvage_task input) output ≡ None → IsSalvageReady input files work
     → IsToWrite (salvage_command input output) (output ∷ []) files
 to_write input output files work free ready = to_write_told (text_of input)
-    (to_write_one (salvage_task input) output free (ready-makes input files work ready))
+    (to_write_one free (ready-makes input files work ready))
 
 pub returns-in_err-ask_all-clause-run : goal.returns-in_err-ask_all-clause-run
 returns-in_err-ask_all-clause-run g c =
@@ -44,10 +44,9 @@ returns-in_err-ask_all-clause-run g c =
     let same = ap₂ seen_folder reads.files c.in_ok-work.ensures.reads.done in
     let stops = c.in_err-ask_all.ensures in
     asked_stopped (to_write c.args.input.now c.args.output.now _ _
-    (sym c.clash.ensures ∙ c.in_default.is) c.in_ok-work.ensures.ready) _
+    (sym c.clash.ensures ∙ c.in_default.is) c.in_ok-work.ensures.ready)
     c.from_residual-in_err-ask_all.ensures.1
-    (none_fell_by_writes (rw same at c.ask_all.ensures.counts))
-    g.D.Folder.keeping stops.asked (rw same at stops.stops)
+    (none_fell_by_writes (rw same at c.ask_all.ensures.counts)) stops.asked (rw same at stops.stops)
 
 pub write_and_tell-requires-clause-free : goal.write_and_tell-requires-clause-free
 write_and_tell-requires-clause-free g c = sym c.clash.ensures ∙ c.in_default.is

@@ -11,8 +11,8 @@ use Rattle.salvage_edits.proofs.salvage_file.write_and_tell.Given as given
 use Rattle.salvage_edits.proofs.salvage_file.write_and_tell.Goals as goal
 
 pub write_output-requires-clause-apart : goal.write_output-requires-clause-apart
-write_output-requires-clause-apart g c = source_apart (c.args.input.now ∷ [])
-    c.args.input.now c.args.output.now (omega arith) refl c.requires.free
+write_output-requires-clause-apart g c =
+    source_apart (c.args.input.now ∷ []) (omega arith) refl c.requires.free
 
 pub write_output-requires-clause-ready : goal.write_output-requires-clause-ready
 write_output-requires-clause-ready g c = c.requires.ready.layable
@@ -26,9 +26,9 @@ returns-in_err-write_output-clause-run g c =
     let input = c.args.input.now in
     let output = c.args.output.now in
     let met = c.in_err-write_output.ensures in
-    returned_run _ _ _ _ _ c.from_residual.ensures.1
+    returned_run c.from_residual.ensures.1
     (telling_run (text_of input) (one_command (salvage_task input) output)
-    (written_run input output c.requires.free c.args.work.now c.requires.ready met.numbers
+    (written_run c.requires.free c.requires.ready met.numbers
     met.wrote c.write_output.ensures.counts))
 
 pub returns-in-Ok-clause-run : goal.returns-in-Ok-clause-run
@@ -36,7 +36,7 @@ returns-in-Ok-clause-run g c =
     let input = c.args.input.now in
     let output = c.args.output.now in
     telling_run (text_of input) (one_command (salvage_task input) output)
-    (written_run input output c.requires.free c.args.work.now c.requires.ready tt
+    (written_run c.requires.free c.requires.ready tt
     c.in_ok-write_output.ensures.wrote c.write_output.ensures.counts)
 
 -- the text of the command is the text of the report
@@ -47,7 +47,7 @@ told : (g : given.Over) (c : After-send_report g) (all : List ℕ)
 told g c all is =
     ap (λ (rows : List Row). report_text (length rows) c.args.work.now.report) c.frames.ensures
     ∙ sym (ready-text c.args.input.now (g.D.Folder.seen c.args.folder.now).files c.args.work.now
-    c.requires.ready c.args.output.now all is)
+    c.requires.ready c.args.output.now is)
 
 pub returns-in-Ok-clause-says : goal.returns-in-Ok-clause-says
 returns-in-Ok-clause-says g c =
@@ -60,7 +60,7 @@ returns-in-Err-clause-run g c =
     let input = c.args.input.now in
     let output = c.args.output.now in
     unsent_run (text_of input) (one_command (salvage_task input) output)
-    (written_run input output c.requires.free c.args.work.now c.requires.ready tt
+    (written_run c.requires.free c.requires.ready tt
     c.in_ok-write_output.ensures.wrote c.write_output.ensures.counts)
 
 pub returns-in-Err-clause-says : goal.returns-in-Err-clause-says

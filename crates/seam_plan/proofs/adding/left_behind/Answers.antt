@@ -12,7 +12,7 @@ both : (c : After-area) → (c.args.first.now.bytes ≤ c.args.left + own_slot_a
     × FitsBehind (window_of c.args.class.version)
     (free_bytes_behind (window_of c.args.class.version) c.args.left c.args.first.now.bytes
     (own_slot_area c.args.first.now)) c.args.others.now
-both c = fits-cons (window_of c.args.class.version) c.args.left c.args.first.now c.args.others.now
+both c = fits-cons c.args.first.now c.args.others.now
     c.requires.within c.requires.fits
 
 -- the first frame leaves as many bytes
@@ -45,7 +45,7 @@ pub returns : goal.returns
 returns c =
     let at = goal.at.returns c in
     let window = window_of c.args.class.version in
-    left-cons window c.args.left c.leaves.result c.args.first.now c.args.others.now
+    left-cons
     c.requires.within (both at.After-area).0
     (subst (λ n. IsMostLeft window n c.args.others.now c.leaves.result)
     (free at.After-free_behind-free)

@@ -10,7 +10,7 @@ use Rattle.seam_plan.proofs.adding.left_in_slot.Goals as goal
 -- these are all the frames
 whole : (c : After-needs_after) → needs_with_first_slot c.args.slot c.args.needs.now
     ≡ c.in_slot.result ∷ c.needs_after.result.now
-whole c = first-moved c.args.needs.now c.args.slot c.index-needs-0.result c.requires.some
+whole c = first-moved c.args.needs.now c.args.slot c.requires.some
     c.index-needs-0.is
     ∙ ap₂ (λ n l. n ∷ l) (sym c.in_slot.ensures) (sym c.needs_after.ensures)
 

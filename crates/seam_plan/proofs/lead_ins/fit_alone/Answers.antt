@@ -1,8 +1,6 @@
 -- Frames that want nothing fit after no bytes.
-use Rattle.frame_header.specs.Tables.{window_of}
 use Rattle.seam_plan.proofs.LeadInLemmas.{alone-is}
 use Rattle.seam_plan.proofs.lead_ins.fit_alone.Goals as goal
 
 pub returns : goal.returns
-returns c = λ class same. alone-is (window_of class.version)
-    c.wants.result c.args.needs.now (c.wants.ensures class same)
+returns c = λ class same. alone-is (c.wants.ensures class same)

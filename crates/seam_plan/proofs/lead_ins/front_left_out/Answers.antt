@@ -10,7 +10,7 @@ use Rattle.seam_plan.proofs.lead_ins.front_left_out.Goals as goal
 pub returns-then-not-has_lead_in : goal.returns-then-not-has_lead_in
 returns-then-not-has_lead_in c = λ class brought frames same all is run.
     front-none class brought frames
-    c.has_lead_in.result c.if-not-has_lead_in.true (c.has_lead_in.ensures class brought same is)
+    c.if-not-has_lead_in.true (c.has_lead_in.ensures class brought same is)
 
 -- the frames of the run after its first are of the class
 others : (c : After-needs_after) (class : ClassFields) → AreNeedsOfClass class c.args.run.now
@@ -21,7 +21,7 @@ others c class all = subst (AreNeedsOfClass class) (sym c.needs_after.ensures)
 pub returns-then-fit_alone : goal.returns-then-fit_alone
 returns-then-fit_alone c = λ class brought frames same all is run.
     ap₂ (λ h a. cond (h && not a) 1 0) (sym c.if-not-has_lead_in.false) (sym c.if-fit_alone.true)
-    ∙ front-is class brought frames c.args.run.now c.has_lead_in.result c.fit_alone.result run
+    ∙ front-is class brought frames run
     (c.has_lead_in.ensures class brought same is) (c.fit_alone.ensures class
     (others (goal.at.returns-then-fit_alone c).After-needs_after class all)
     ∙ ap (fits_behind (window_of class.version) 0) c.needs_after.ensures)
@@ -29,7 +29,7 @@ returns-then-fit_alone c = λ class brought frames same all is run.
 pub returns-else-fit_alone : goal.returns-else-fit_alone
 returns-else-fit_alone c = λ class brought frames same all is run.
     ap₂ (λ h a. cond (h && not a) 1 0) (sym c.if-not-has_lead_in.false) (sym c.if-fit_alone.false)
-    ∙ front-is class brought frames c.args.run.now c.has_lead_in.result c.fit_alone.result run
+    ∙ front-is class brought frames run
     (c.has_lead_in.ensures class brought same is) (c.fit_alone.ensures class
     (others (goal.at.returns-else-fit_alone c).After-needs_after class all)
     ∙ ap (fits_behind (window_of class.version) 0) c.needs_after.ensures)

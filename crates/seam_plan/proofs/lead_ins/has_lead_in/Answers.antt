@@ -5,9 +5,9 @@ use Rattle.seam_plan.proofs.lead_ins.has_lead_in.Goals as goal
 
 pub returns-then-input : goal.returns-then-input
 returns-then-input c = λ class brought same is.
-    has-then (window_of class.version) c.args.input.now brought c.leads_others.result is
+    has-then (window_of class.version) is
     c.if-input.true (c.leads_others.ensures class same)
 
 pub returns-else-input : goal.returns-else-input
-returns-else-input c = λ class brought same is. has-else (window_of class.version)
-    c.args.input.now brought is c.if-input.false
+returns-else-input c =
+    λ class brought same is. has-else (window_of class.version) is c.if-input.false

@@ -7,5 +7,4 @@ pub returns : goal.returns
 returns c =
     let is : c.eq.result ≡ bytes_eq c.bytes.result c.bytes-2.result = search rules in
     header-same c.args.first.now c.args.second.now c.bytes.result c.bytes-2.result
-    c.bytes.ensures.bits c.bytes-2.ensures.bits c.bytes.ensures.octets c.bytes-2.ensures.octets
-    c.eq.result is
+    c.bytes.ensures.bits c.bytes-2.ensures.bits c.bytes.ensures.octets c.bytes-2.ensures.octets is

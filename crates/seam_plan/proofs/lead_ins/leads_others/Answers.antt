@@ -14,7 +14,7 @@ returns-then-needs-lt2 c = λ class same. leads-none (window_of class.version)
 
 pub lead_in-header-requires-clause-fits : goal.lead_in-header-requires-clause-fits
 lead_in-header-requires-clause-fits c =
-    subst FitBehindWindow (sym c.needs_after.ensures) (drop-fits 1 c.args.needs.now c.requires)
+    subst FitBehindWindow (sym c.needs_after.ensures) (drop-fits 1 c.requires)
 
 pub returns : goal.returns
 returns c = λ class same.
@@ -24,7 +24,7 @@ returns c = λ class same.
     (class-drop class c.args.needs.now 1 same)) in
     c.is_same_header.ensures
     ∙ ap (λ (n : Need). is_same_header n.header c.lead_in-header.result) (sym c.index-needs-0.is)
-    ∙ leads-is (window_of class.version) c.args.needs.now c.index-needs-0.result
-    c.lead_in-header.result c.index-needs-0.is (omega (arith, c.if-needs-lt2.false)) header
+    ∙ leads-is (window_of class.version)
+    c.args.needs.now c.index-needs-0.is (omega (arith, c.if-needs-lt2.false)) header
     (subst (λ l. IsLeadInHeader (window_of class.version) l c.lead_in-header.result)
     c.needs_after.ensures leads)

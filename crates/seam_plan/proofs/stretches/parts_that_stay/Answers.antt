@@ -49,8 +49,7 @@ all : (c : After-add_part-2)
     → staying_parts c.args.frames c.args.stretches.now
     ≡ parts_or_none c.args.frames c.add_part-2.new.parts.items
 all c =
-    stays-all c.args.frames c.args.stretches.now c.loop-from.from-index c.loop-from.before
-    c.loop-from.parts.items c.add_part-2.new.parts.items c.loop-from.invariant
+    stays-all c.loop-from.invariant
     (omega (arith, c.loop-from-test.false)) c.add_part-2.ensures.added
 
 pub returns-then-is_empty-clause-parts : goal.returns-then-is_empty-clause-parts
@@ -64,9 +63,9 @@ pub returns-clause-parts : goal.returns-clause-parts
 returns-clause-parts c =
     let some : 0 < length c.add_part-2.new.parts.items = search rules in
     all (goal.at.returns-clause-parts c).After-add_part-2
-    ∙ parts-some c.args.frames c.add_part-2.new.parts.items some
+    ∙ parts-some c.args.frames some
 
 pub returns-clause-some : goal.returns-clause-some
 returns-clause-some c =
-    staying-order c.args.frames c.args.stretches.now c.add_part-2.new.parts.items
+    staying-order c.args.frames c.args.stretches.now
     (returns-clause-parts c)

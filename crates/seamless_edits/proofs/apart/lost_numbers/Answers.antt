@@ -9,5 +9,5 @@ loop-number-preserved c =
     let row = c.index-rows-number.result in
     c.in_ok-push_lost.ensures
     ∙ ap (λ (l : List ℕ). l ++ cond row.lost (number ∷ []) []) c.loop-number.invariant
-    ∙ sym (lost-next c.args.rows.now number row c.loop-number-test.true
+    ∙ sym (lost-next c.args.rows.now c.loop-number-test.true
     (sym c.index-rows-number.is))

@@ -23,15 +23,15 @@ loop-input-preserved c =
     record {
       apart =
           map-set input_view at.inputs i new
-          ∙ apart-next xs (map input_view at.inputs) i
-          (input_view item) (input_view new) mapped at.invariant.apart
+          ∙ apart-next xs
+          (input_view item) mapped at.invariant.apart
           (ap (λ (s : SurveyFields). record (input_view x) { survey = s })
           c.in_ok-numbers.ensures.apart
           ∙ ap input_without_head here);
       lost =
           ap (map vec_items) c.in_ok-push.ensures.items
           ∙ map-append vec_items at.lost.items (c.in_ok-numbers.numbers ∷ [])
-          ∙ lost-more xs (map input_view at.inputs) i (input_view item) _ _ mapped
+          ∙ lost-more xs (input_view item) mapped
           at.invariant.apart (c.in_ok-numbers.ensures.lost
           ∙ ap (λ (f : InputFields). lost_in_input f) here) at.invariant.lost;
     }

@@ -1,6 +1,6 @@
 -- Byte by byte.
-use Rattle.std.proofs.Common.{ap, arith, get_or, length, take, true, ◌<◌, ◌==◌, ◌∙◌}
-use Rattle.std.{proofs.lemmas.List.take_more, specs.List.list_all}
+use Rattle.std.proofs.{Common.{ap, arith, length, take, ◌<◌, ◌==◌, ◌∙◌}, lemmas.List.take_more}
+use Rattle.std.specs.List.{list_all}
 use Rattle.bit_fields.proofs.BitsLemmas.{AreBytes-from_slice, bits-nil, places_below}
 use Rattle.bit_fields.specs.Bits.{bits}
 use Rattle.seamless_edits.proofs.KnownLemmas.{zeros-next, zeros-not}
@@ -18,4 +18,4 @@ loop-byte-preserved c =
     let bytes = c.args.bytes.now in
     let within : i < length bytes = omega (arith, c.loop-byte-test.true) in
     ap (λ l. list_all (λ bit. bit == 0) (bits l)) (take_more bytes i 0 within)
-    ∙ zeros-next (take i bytes) (get_or bytes i 0) c.loop-byte.invariant c.if-byte-ne0.false
+    ∙ zeros-next (take i bytes) c.loop-byte.invariant c.if-byte-ne0.false

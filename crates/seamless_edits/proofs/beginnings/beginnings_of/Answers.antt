@@ -9,21 +9,20 @@ use Rattle.seamless_edits.proofs.KnownLemmas.{begun-more, known-here, named-at}
 use Rattle.seamless_edits.proofs.ReadFaultLemmas.{fault-later, stops-among, stops-fault}
 use Rattle.seamless_edits.{proofs.ReadFaultLemmas.stops-numbers, specs.Beginnings.IsBeginning}
 use Rattle.seamless_edits.specs.Seamless.{begins_blank}
-use Rattle.seamless_edits.proofs.beginnings.beginnings_of.Given as given
 use Rattle.seamless_edits.proofs.beginnings.beginnings_of.Goals as goal
 
 pub head_of-requires-clause-there : goal.head_of-requires-clause-there
 head_of-requires-clause-there g c =
     rw c.loop-place.invariant.files
-    (known-here _ _ c.loop-place.place c.requires.held c.input_at.ensures).there
+    (known-here _ c.loop-place.place c.requires.held c.input_at.ensures).there
 
 pub head_of-requires-clause-laid : goal.head_of-requires-clause-laid
 head_of-requires-clause-laid g c =
-    (known-here _ _ c.loop-place.place c.requires.held c.input_at.ensures).laid
+    (known-here _ c.loop-place.place c.requires.held c.input_at.ensures).laid
 
 pub head_of-requires-clause-exact : goal.head_of-requires-clause-exact
 head_of-requires-clause-exact g c = λ file holds.
-    (known-here _ _ c.loop-place.place c.requires.held c.input_at.ensures).exact file
+    (known-here _ c.loop-place.place c.requires.held c.input_at.ensures).exact file
     (rw c.loop-place.invariant.files at holds)
 
 -- the input whose head was to be read is one of the inputs
@@ -41,10 +40,10 @@ returns-in_err-head-clause-refused g c =
     let inputs = map input_view c.args.inputs.now in
     let place = c.loop-place.place in
     err_with _ _ c.from_residual.ensures.1
-    (fault-later (input_names inputs) _ _ _ _
+    (fault-later (input_names inputs) _ _
     (ap₂ seen_folder c.loop-place.invariant.files c.loop-place.invariant.counts)
-    (stops-fault (input_names inputs) _ _ _ c.head_of.ensures.reads.files
-    (stops-among (input_names inputs) place _ _ _ _ _
+    (stops-fault c.head_of.ensures.reads.files
+    (stops-among
     (within input_view c.args.inputs.now place c.loop-place-test.true)
     (named-at inputs place c.input_at.ensures) c.in_err-head.ensures.stopped)))
 
@@ -53,9 +52,9 @@ returns-in_err-head-clause-numbers g c =
     let inputs = map input_view c.args.inputs.now in
     let place = c.loop-place.place in
     err_with _ _ c.from_residual.ensures.1
-    (stops-numbers (input_names inputs) (length c.args.inputs.now) _ _ _ _
+    (stops-numbers
     (length-map inputs (λ (i : InputFields). i.name) ∙ length-map c.args.inputs.now input_view)
-    (stops-among (input_names inputs) place _ _ _ _ _
+    (stops-among
     (within input_view c.args.inputs.now place c.loop-place-test.true)
     (named-at inputs place c.input_at.ensures) c.in_err-head.ensures.stopped))
 
@@ -73,8 +72,8 @@ loop-place-preserved g c =
     } in
     record {
       begun =
-          rw (take-next inputs place _ _ c.input_at.ensures, c.in_ok-push.ensures.items)
-          (begun-more _ (take place inputs) c.loop-place.beginnings.items _ _ inv.begun begun);
+          rw (take-next inputs place c.input_at.ensures, c.in_ok-push.ensures.items)
+          (begun-more (take place inputs) c.loop-place.beginnings.items inv.begun begun);
       files = c.head_of.ensures.reads.files ∙ inv.files;
       counts = c.in_ok-head.ensures.reads.done ∙ inv.counts;
     }

@@ -8,5 +8,5 @@ returns-in-Err-clause-stopped g c = record {
   place_is = refl;
   size = _;
   cause = c.in-Err.ensures.cause;
-  read = reads-only c.in-Err.fault (λ e. c.in-Err.ensures.reads (ap (λ fault. Err fault) e));
+  read = reads-only (λ e. c.in-Err.ensures.reads (ap (λ fault. Err fault) e));
 }

@@ -42,7 +42,7 @@ pub returns-in_default-last-clause-alike : goal.returns-in_default-last-clause-a
 returns-in_default-last-clause-alike g c =
     none-alike (map input_view c.args.inputs.now) c.args.number c.args.run.now c.args.input.now
     c.in-Some.overlap c.in-Some.ensures.overlap c.in-Some.ensures.can
-    (g.D.Folder.seen c.args.folder.now).files None c.in_default-last.ensures refl
+    (g.D.Folder.seen c.args.folder.now).files c.in_default-last.ensures refl
 
 -- the places of the frames that are compared, and how many they are
 module _ (g : given.Over) (c : In-loop-place g) where
@@ -103,11 +103,11 @@ returns-then-not-branch-clause-alike g c =
     inputs) p (frame_place c.args.number c.loop-place.frame))) c.loop-place.invariant.files
     c.in_ok-sound_alike.ensures.same in
     tested-alike inputs c.args.number c.args.run.now c.args.input.now o
-    c.in-Some.ensures.overlap c.in-Some.ensures.can files places false c.in-Some-last.ensures
+    c.in-Some.ensures.overlap c.in-Some.ensures.can files false c.in-Some-last.ensures
     (ends-here inputs c.args.number c.loop-place.frame p (drop n places) (drop (n + 1) places)
     (drop-here n places (record { input = 0; frame = 0 }) (omega (arith, c.loop-place-test.true)))
-    files (λ f. sounds_from (all_run_frames f inputs) c.args.number o.first_alike places)
-    c.in_ok-sound_alike.field-0 no same c.loop-place.invariant.alike)
+    files (λ f. sounds_from (all_run_frames f inputs) c.args.number o.first_alike places) no same
+    c.loop-place.invariant.alike)
 
 pub overflow_add-frame : goal.overflow_add-frame
 overflow_add-frame g c =
@@ -127,7 +127,7 @@ returns-clause-alike g c =
     let places = c.in-Some-last.places.now in
     let files = (g.D.Folder.seen c.args.folder.now).files in
     tested-alike inputs c.args.number c.args.run.now c.args.input.now o
-    c.in-Some.ensures.overlap c.in-Some.ensures.can files places true c.in-Some-last.ensures
+    c.in-Some.ensures.overlap c.in-Some.ensures.can files true c.in-Some-last.ensures
     (all-compared files inputs c.args.number c.loop-place.frame c.loop-place.place-index places
     (λ f. sounds_from (all_run_frames f inputs) c.args.number o.first_alike places)
     (omega (arith, c.loop-place-test.false)) c.loop-place.invariant.alike)

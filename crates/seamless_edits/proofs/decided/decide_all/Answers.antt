@@ -17,17 +17,16 @@ abbrev no-beginning : Beginning
 no-beginning = record { head = None; blank = false }
 
 pub begin-requires : goal.begin-requires
-begin-requires g c = can-begin-at _ _ _ c.requires.can c.input_at.ensures
+begin-requires g c = can-begin-at _ c.requires.can c.input_at.ensures
 
 pub loop-number-init : goal.loop-number-init
 loop-number-init g c =
     let inputs = map input_view c.args.inputs.now in
-    let some = can-some inputs c.requires.can.joined in
+    let some = can-some c.requires.can.joined in
     let within : 0 < length c.args.beginnings.now = omega (arith, some, c.requires.can.begun) in
     record {
       within = omega (arith, some, length-map c.args.inputs.now input_view);
-      decided = begun-at _ inputs c.args.beginnings.now
-          (input_view c.input_at.result.now) _ c.in_ok-deciding.deciding c.requires.can
+      decided = begun-at inputs c.args.beginnings.now c.requires.can
           (get-at inputs 0 c.input_at.ensures)
           (get-here c.args.beginnings.now 0 _ within) c.in_ok-deciding.ensures;
       files = refl;
@@ -46,11 +45,11 @@ overflow_cast-number g c =
 pub returns-in_err-add-clause-refused : goal.returns-in_err-add-clause-refused
 returns-in_err-add-clause-refused g c =
     err_with _ _ c.from_residual-in_err-add.ensures.1
-    (fault-later (input_names (map input_view c.args.inputs.now)) _ _ _ _ (ap₂ seen_folder
+    (fault-later (input_names (map input_view c.args.inputs.now)) _ _ (ap₂ seen_folder
     c.loop-number.invariant.files c.loop-number.invariant.counts) c.in_err-add.ensures.refused)
 
 pub front_of-front-requires-clause-begin : goal.front_of-front-requires-clause-begin
-front_of-front-requires-clause-begin g c = can-begin-at _ _ _ c.requires.can c.input_at.ensures
+front_of-front-requires-clause-begin g c = can-begin-at _ c.requires.can c.input_at.ensures
 
 -- all inputs are decided
 module _ (g : given.Over) (c : After-as_slice g) where
@@ -64,7 +63,7 @@ module _ (g : given.Over) (c : After-as_slice g) where
   count = grind (arith, length-map)
 
   within : 0 < length bs
-  within = omega (arith, can-some inputs c.requires.can.joined, c.requires.can.begun)
+  within = omega (arith, can-some c.requires.can.joined, c.requires.can.begun)
 
   decided : AreAllDecided (g.D.Folder.seen c.args.folder.now).files inputs bs
       (input_view c.input_at.result.now).survey (get_or bs 0 no-beginning) c.loop-number.deciding

@@ -19,11 +19,11 @@ front_left_out-requires-clause-input c =
     let needs = c.brought-first.ensures.needs ∙ ap
     (λ (l : List Row). take (length l) c.args.run.now) c.frames-count.ensures ∙ c.requires.first in
     subst FitBehindWindow (sym needs)
-    (begin-window (survey_view c.args.survey.now) c.requires.begin)
+    (begin-window c.requires.begin)
 
 pub front_left_out-requires-clause-run : goal.front_left_out-requires-clause-run
 front_left_out-requires-clause-run c =
-    drop-fits 1 c.args.run.now (record {
+    drop-fits 1 (record {
       class = (survey_view c.args.survey.now).class;
       same = c.requires.same;
       fits = c.requires.fits;

@@ -20,7 +20,7 @@ returns-clause-passed g c =
     on_ok_weaker c.push-2.result
     (line-on c.args.buffer.now c.args.name.now c.as_bytes.result.now _ c.bytes.result.now
     c.push.new.self _ _ _
-    c.as_bytes.ensures.value (line-is g at) c.push-2.new.self
+    c.as_bytes.ensures.value (line-is g at)
     c.in_ok-push.ensures.passed)
     c.push-2.ensures.passed
 

@@ -51,10 +51,9 @@ module _ (g : given.Over) (c : After-push_line g) where
       let within : place < length joints = omega (arith, c.loop-place-test.true) in
       let there : place + 1 < length items = omega (arith, within, c.requires.lost) in
       told-cons
-      (name-next (map input_view c.args.inputs.now) (place + 1)
-      (input_view c.input_at-input.result.now) c.input_at-input.ensures)
+      (name-next (map input_view c.args.inputs.now) (place + 1) c.input_at-input.ensures)
       (item-next joints place c.index-joints-place.result within c.index-joints-place.is)
-      (map-next vec_items items (place + 1) c.index-lost-place.result there c.index-lost-place.is)
+      (map-next vec_items items there c.index-lost-place.is)
 
   -- the joint, as it is read
   abbrev joint : Joint
@@ -73,8 +72,7 @@ loop-place-preserved g c =
     record {
       within = omega (arith, c.loop-place-test.true);
       done = c.in_ok-push_line.ensures.cause.done ∙ c.loop-place.invariant.done;
-      said = said_more told_line (all g at) (left g at i) (left g at (i + 1)) (told g at)
-          c.loop-place.buffer c.push_line.new.buffer _ _ _ c.loop-place.invariant.said
+      said = said_more told_line (all g at) c.loop-place.invariant.said
           (next g at) (subst (λ (l : List ℕ). SendsWaiting (c.loop-place.buffer ++ l)
           c.push_line.new.buffer
           (g.T.Sink.heard c.loop-place.out).sent (g.T.Sink.heard c.push_line.new.out).sent)
@@ -86,8 +84,7 @@ returns-in_err-push_line-clause-prefix g c =
     let at = (goal.at.returns-in_err-push_line-clause-prefix g c).After-push_line in
     let i = c.loop-place.place in
     on_err c.from_residual.result
-    (line_failed told_line (all g at) (left g at i) (left g at (i + 1)) (told g at)
-    c.loop-place.buffer _ _ _ c.loop-place.invariant.said (next g at)
+    (line_failed told_line (all g at) c.loop-place.invariant.said (next g at)
     (subst (λ (l : List ℕ). SentPrefix (c.loop-place.buffer ++ l)
     (g.T.Sink.heard c.loop-place.out).sent
     (g.T.Sink.heard c.push_line.new.out).sent)

@@ -9,7 +9,7 @@ returns-clause-padding c =
     elim c.match-counted.branch [
       | in-Some w ↦
           ap (λ n. n + 529) (w.rest-is ∙ w.rest-rest.ensures ∙ sym (rest-counted _ c.args.class
-          c.args.frames w.in-Some.played (sym w.in-Some.is ∙ c.counted.ensures.played)))
+          c.args.frames (sym w.in-Some.is ∙ c.counted.ensures.played)))
       | in-None w ↦ ap (λ n. n + 529) (w.rest-is ∙ sym
           (rest-none _ c.args.class c.args.frames (sym w.in-None.is ∙ c.counted.ensures.played)))
     ]

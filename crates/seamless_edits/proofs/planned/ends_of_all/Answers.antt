@@ -44,7 +44,7 @@ overflow_cast-result-2 c = grind (arith, frames-most)
 pub returns : goal.returns
 returns c =
     let inputs = map input_view c.args.inputs.now in
-    let some = can-some inputs c.requires in
+    let some = can-some c.requires in
     let long : length c.args.inputs.now - 1 + 1 ≡ length inputs =
     omega (arith, some, length-map c.args.inputs.now input_view) in
     ends-are inputs (length c.args.inputs.now - 1) _

@@ -14,7 +14,6 @@ use Rattle.seamless_edits.proofs.SeamlessCommandLemmas.{text_of}
 use Rattle.seamless_edits.specs.Seamless.{seamless_command, seamless_file, seamless_stream}
 use Rattle.seamless_edits.specs.{Seamless.seamless_task, SeamlessReady.IsSeamlessReady}
 use Rattle.seamless_edits.specs.declared.seamless_file.Ready.{Ready}
-use Rattle.seamless_edits.proofs.seamless_file.join_seamless.Given as given
 use Rattle.seamless_edits.proofs.seamless_file.join_seamless.Goals as goal
 
 pub returns-in-Some-clause-run : goal.returns-in-Some-clause-run
@@ -23,7 +22,7 @@ returns-in-Some-clause-run g c =
     let task = seamless_task names in
     asked_early (seamless_command c.args.output.now names) g.D.Folder.keeping _ refl tt refl
     (telling_run (text_of names) (one_command task c.args.output.now)
-    (clash_run task c.args.output.now _ _ (sym c.clash.ensures ∙ c.in-Some.is)))
+    (clash_run task c.args.output.now _ (sym c.clash.ensures ∙ c.in-Some.is)))
 
 pub returns-in_err-ready-clause-run : goal.returns-in_err-ready-clause-run
 returns-in_err-ready-clause-run g c =
@@ -36,7 +35,7 @@ returns-in_err-ready-clause-run g c =
     (telling_run (text_of names) (one_command task output)
     (early_run task output (sym c.clash.ensures ∙ c.in_default.is) (seamless-late names) _
     c.from_residual.ensures.1 met.refused
-    (join-numbers seamless_file seamless_stream output names _ _
+    (join-numbers seamless_file seamless_stream output names _
     (sym (length-map c.args.inputs.now string_bytes)) met.numbers)
     c.prepare_all.ensures.reads.counts))
 
@@ -46,7 +45,7 @@ to_write : (output : List ℕ) (names : List (List ℕ)) (files : Files) (ready 
     → IsSeamlessReady names files ready
     → IsToWrite (seamless_command output names) (output ∷ []) files
 to_write output names files ready some free is = to_write_told (text_of names)
-    (to_write_one (seamless_task names) output free (ready-making names some files ready is))
+    (to_write_one free (ready-making names some is))
 
 pub returns-in_err-ask_all-clause-run : goal.returns-in_err-ask_all-clause-run
 returns-in_err-ask_all-clause-run g c =
@@ -56,9 +55,8 @@ returns-in_err-ask_all-clause-run g c =
     asked_stopped (to_write c.args.output.now (map string_bytes c.args.inputs.now) _ _
     (omega (arith, c.requires.some, length-map c.args.inputs.now string_bytes))
     (sym c.clash.ensures ∙ c.in_default.is)
-    c.in_ok-ready.ensures.ready) _ c.from_residual-in_err-ask_all.ensures.1
-    (none_fell_by_writes (rw same at c.ask_all.ensures.counts))
-    g.D.Folder.keeping stops.asked (rw same at stops.stops)
+    c.in_ok-ready.ensures.ready) c.from_residual-in_err-ask_all.ensures.1
+    (none_fell_by_writes (rw same at c.ask_all.ensures.counts)) stops.asked (rw same at stops.stops)
 
 -- there are as many prepared inputs as names
 items-long : (ready : Ready) (names : List (List ℕ))

@@ -58,7 +58,7 @@ returns-in_err-beginnings-clause-refused g c =
     let at = (goal.at.returns-in_err-beginnings-clause-refused g c).In_ok-inputs in
     let names = map string_bytes c.args.names.now in
     err_with _ _ c.from_residual-in_err-beginnings.ensures.1
-    (read-fault-early names _ _ _ (found g at) _ (named g at) (some g at)
+    (read-fault-early names _ (found g at) _ (named g at) (some g at)
     c.in_ok-inputs.ensures.inputs
     (ap₂ seen_folder c.survey_all.ensures.reads.files c.in_ok-inputs.ensures.reads.done)
     (rw (c.deref.ensures.value, named g at) at c.in_err-beginnings.ensures.refused))
@@ -67,7 +67,7 @@ pub returns-in_err-lost-clause-refused : goal.returns-in_err-lost-clause-refused
 returns-in_err-lost-clause-refused g c =
     let at = (goal.at.returns-in_err-lost-clause-refused g c).In_ok-inputs in
     err_with _ _ c.from_residual-in_err-lost.ensures.1
-    (read-fault-early (map string_bytes c.args.names.now) _ _ _ (found g at) Memory (named g at)
+    (read-fault-early (map string_bytes c.args.names.now) _ (found g at) Memory (named g at)
     (some g at) c.in_ok-inputs.ensures.inputs
     (ap₂ seen_folder c.survey_all.ensures.reads.files c.in_ok-inputs.ensures.reads.done)
     (ap₂ seen_folder c.beginnings_of.ensures.reads.files c.in_ok-beginnings.ensures.reads.done))
@@ -116,7 +116,7 @@ returns-in_err-made-clause-refused g c =
     rw (inputs-now g at.After-deref-3)
     (apart-names (found g ready) ∙ named g ready) in
     err_with _ _ c.from_residual-in_err-made.ensures.1
-    (read-fault-early names _ _ _ (found g ready) _ (named g ready) (some g ready)
+    (read-fault-early names _ (found g ready) _ (named g ready) (some g ready)
     c.in_ok-inputs.ensures.inputs
     (ap₂ seen_folder (c.beginnings_of.ensures.reads.files ∙ c.survey_all.ensures.reads.files)
     (c.in_ok-beginnings.ensures.reads.done ∙ c.in_ok-inputs.ensures.reads.done))

@@ -71,8 +71,8 @@ module _ (g : given.Over) (c : After-deref g) where
       → told_lines (drop 1 (input_names known)) joints (drop 1 lost) ≡ all
   lines-text are joined counted all is =
       rw (are, now, named, joined, counted)
-      (ready-text names some (g.D.Folder.seen c.args.folder.now).files c.args.ready.now
-      c.args.output.now all c.requires.ready is)
+      (ready-text names some
+      c.args.output.now c.requires.ready is)
 
   abbrev silent : Command
   silent = one_command (seamless_task names) c.args.output.now
@@ -80,15 +80,15 @@ module _ (g : given.Over) (c : After-deref g) where
 pub write_joined-requires-clause-can : goal.write_joined-requires-clause-can
 write_joined-requires-clause-can g c =
     rw (now g c) (ready-writable (names g c) (g.D.Folder.seen c.args.folder.now).files
-    c.args.ready.now c.requires.ready c.args.output.now c.requires.free)
+    c.args.ready.now c.requires.ready c.requires.free)
 
 pub returns-in_err-write_joined-clause-run : goal.returns-in_err-write_joined-clause-run
 returns-in_err-write_joined-clause-run g c =
     let at = (goal.at.returns-in_err-write_joined-clause-run g c).After-deref in
     let met = c.in_err-write_joined.ensures in
-    returned_run _ _ _ _ _ c.from_residual.ensures.1
+    returned_run c.from_residual.ensures.1
     (telling_run (text_of (names g at)) (silent g at)
-    (written-run c.args.output.now (names g at) c.requires.free (some g at) c.args.ready.now
+    (written-run c.args.output.now (names g at) c.requires.free (some g at)
     c.requires.ready (rw (long-now g at) at met.numbers) (rw (now g at, named g at) at met.wrote)
     c.write_joined.ensures.counts))
 
@@ -108,7 +108,7 @@ pub returns-in-Ok-clause-run : goal.returns-in-Ok-clause-run
 returns-in-Ok-clause-run g c =
     let at = (goal.at.returns-in-Ok-clause-run g c).After-deref in
     telling_run (text_of (names g at)) (silent g at)
-    (written-run c.args.output.now (names g at) c.requires.free (some g at) c.args.ready.now
+    (written-run c.args.output.now (names g at) c.requires.free (some g at)
     c.requires.ready tt (rw (now g at, named g at) at c.in_ok-write_joined.ensures.wrote)
     c.write_joined.ensures.counts)
 
@@ -127,7 +127,7 @@ pub returns-in-Err-clause-run : goal.returns-in-Err-clause-run
 returns-in-Err-clause-run g c =
     let at = (goal.at.returns-in-Err-clause-run g c).After-deref in
     unsent_run (text_of (names g at)) (silent g at)
-    (written-run c.args.output.now (names g at) c.requires.free (some g at) c.args.ready.now
+    (written-run c.args.output.now (names g at) c.requires.free (some g at)
     c.requires.ready tt (rw (now g at, named g at) at c.in_ok-write_joined.ensures.wrote)
     c.write_joined.ensures.counts)
 

@@ -6,29 +6,28 @@ use Rattle.seamless_edits.proofs.FramePlaceLemmas.{frame-within, get-index, inpu
 use Rattle.seamless_edits.proofs.FramePlaceLemmas.{map-get, payload-told}
 use Rattle.seamless_edits.{proofs.ReadFaultLemmas.stops-among, specs.Reading.IsMainDataOf}
 use Rattle.sync_survey.specs.Faults.{survey_view, SurveyFields}
-use Rattle.seamless_edits.proofs.sounds.main_data.Given as given
 use Rattle.seamless_edits.proofs.sounds.main_data.Goals as goal
 
 pub source_at-source-requires : goal.source_at-source-requires
 source_at-source-requires g c =
     omega (
       arith,
-      input-within (map input_view c.args.inputs.now) c.args.place c.requires.there,
+      input-within c.requires.there,
       length-map c.args.inputs.now input_view,
     )
 
 pub main_data-requires-clause-held : goal.main_data-requires-clause-held
 main_data-requires-clause-held g c =
     let source = c.source_at-source.ensures in
-    rw (source.name, source.survey) (known-at (g.D.Folder.seen c.args.folder.now).files
-    (map input_view c.args.inputs.now) c.args.place.input source.item c.requires.held source.at)
+    rw (source.name, source.survey) (known-at
+    (map input_view c.args.inputs.now) c.args.place.input c.requires.held source.at)
 
 pub main_data-requires-clause-within : goal.main_data-requires-clause-within
 main_data-requires-clause-within g c =
     let source = c.source_at-source.ensures in
     omega (
       arith,
-      frame-within (map input_view c.args.inputs.now) c.args.place source.item
+      frame-within
           c.requires.there source.at,
       ap (λ (s : SurveyFields). length s.frames) source.survey,
     )
@@ -37,8 +36,7 @@ pub returns-in-Ok-clause-payload : goal.returns-in-Ok-clause-payload
 returns-in-Ok-clause-payload g c =
     let source = c.source_at-source.ensures in
     let files = (g.D.Folder.seen c.args.folder.now).files in
-    payload-told files (map input_view c.args.inputs.now) c.args.place source.item
-    c.main_data.new.into.items c.requires.held c.requires.there source.at
+    payload-told files c.requires.held c.requires.there source.at
     (subst (λ (s : SurveyFields). IsMainDataOf source.item.name files s c.args.place.frame
     c.main_data.new.into.items) source.survey
     (subst (λ n. IsMainDataOf n files (survey_view c.source_at-source.result.survey.now)
@@ -53,14 +51,12 @@ returns-in-Err-clause-stopped g c =
     let within : place < length (input_names inputs) =
     omega (
       arith,
-      input-within inputs c.args.place c.requires.there,
+      input-within c.requires.there,
       length-map inputs (λ (i : InputFields). i.name),
     ) in
-    stops-among (input_names inputs) place source.item.name (seen c.args.folder.now).files
-    (seen c.args.folder.now).counts
-    (seen c.main_data.new.folder).counts (record { place = place; fault = c.in-Err.fault }) within
-    (get-index (input_names inputs) place source.item.name []
-    (map-get (λ (i : InputFields). i.name) inputs place source.item source.at))
+    stops-among within
+    (get-index (input_names inputs) place []
+    (map-get (λ (i : InputFields). i.name) inputs place source.at))
     (record {
       place_is = refl;
       size = (survey_view c.source_at-source.result.survey.now).length;

@@ -14,7 +14,7 @@ of-one : (g : given.Over) (c : After-class-class g) → c.class-class.result ≡
 of-one g c =
     let one = c.requires.one in
     c.class-class.ensures ∙ ap (λ i. (input_view i).survey.class) (sym c.index-inputs-first.is)
-    ∙ class-first input_view c.args.inputs.now c.args.first one.0 c.index-inputs-first.result
+    ∙ class-first input_view c.args.inputs.now
     one.1 c.requires.first c.index-inputs-first.is
 
 pub same_front-requires-clause-first : goal.same_front-requires-clause-first
@@ -23,7 +23,7 @@ same_front-requires-clause-first g c =
     let files = (g.D.Folder.seen c.args.folder.now).files in
     let one = c.requires.one in
     let class = of-one g (goal.at.same_front-requires-clause-first g c).After-class-class in
-    class-here files inputs c.args.first one.0 c.row_at.result.now c.requires.held one.1
+    class-here files c.requires.held one.1
     c.requires.first c.row_at.ensures
     ∙ sym class
 
@@ -33,7 +33,7 @@ same_front-requires-clause-second g c =
     let files = (g.D.Folder.seen c.args.folder.now).files in
     let one = c.requires.one in
     let class = of-one g (goal.at.same_front-requires-clause-second g c).After-class-class in
-    class-here files inputs c.args.second one.0 c.row_at-2.result.now c.requires.held one.1
+    class-here files c.requires.held one.1
     c.requires.second c.row_at-2.ensures
     ∙ sym class
 

@@ -8,7 +8,7 @@ use Rattle.seamless_edits.proofs.sounds.source_at.Goals as goal
 pub returns : goal.returns
 returns c = record {
   item = input_view c.index-inputs-place.result;
-  at = map-get input_view c.args.inputs.now c.args.place c.index-inputs-place.result
+  at = map-get input_view c.args.inputs.now c.args.place
       (found-at c.args.inputs.now c.args.place c.index-inputs-place.result c.requires
       c.index-inputs-place.is);
   name = refl;

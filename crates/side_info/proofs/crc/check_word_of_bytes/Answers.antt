@@ -19,5 +19,5 @@ pub returns : goal.returns
 returns c = record {
   bytes = divided c;
   read = λ h is size. divided c
-      ∙ check_word-read c.args.header.now c.args.side.now h c.requires is size;
+      ∙ check_word-read c.args.header.now c.args.side.now c.requires is size;
 }

@@ -10,5 +10,5 @@ loop-byte-init c = sym (ap (remainder c.args.word) bits-nil ∙ remainder-nil c.
 pub loop-byte-preserved : goal.loop-byte-preserved
 loop-byte-preserved c =
     let e =
-    remainder-more c.args.word c.args.bytes.now c.loop-byte.byte-index c.loop-byte-test.true in
+    remainder-more c.args.word c.args.bytes.now c.loop-byte-test.true in
     cc

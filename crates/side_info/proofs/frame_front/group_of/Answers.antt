@@ -8,6 +8,6 @@ returns c =
     grind (
       arith,
       one_shl c.args.n 32 (omega (arith, c.requires.few)),
-      group-bits_of 32 c.args.at
+      group-bits_of c.args.at
           c.args.n c.args.word c.requires.within,
     )

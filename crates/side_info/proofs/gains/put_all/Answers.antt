@@ -7,7 +7,7 @@ use Rattle.side_info.proofs.GainsLemmas.{all_put_gains}
 use Rattle.side_info.proofs.ReadLemmas.{parts_size, second_room, side_size-small}
 use Rattle.side_info.proofs.SideLemmas.{IsShaped, IsShaped-side_at, side_bits-side_at}
 use Rattle.side_info.{proofs.gains.put_all.Goals.After-from, specs.Granule.granule_size}
-use Rattle.side_info.specs.{Parts.{front_size, pair_bits, PutsPair, second_pair_bits}, Side.side_at}
+use Rattle.side_info.specs.Parts.{front_size, pair_bits, PutsPair, second_pair_bits}
 use Rattle.side_info.proofs.gains.put_all.Goals as goal
 
 -- the parts take up all the bits
@@ -38,9 +38,9 @@ put_second-requires-clause-room c two =
     let at = (goal.at.put_second-requires-clause-room c).After-from in
     let kept : 8 * length c.put_pair.new.bytes ≡ 8 * length c.args.bytes.now =
     omega (arith, c.put_pair.auto.bytes) in
-    second_room (granules_of c.class.inside.version)
+    second_room
     (front_size c.class.inside.version c.class.inside.channels) (c.class.inside.channels
-    * granule_size c.class.inside.version) _ _ two (next at) (kept ∙ size at)
+    * granule_size c.class.inside.version) two (next at) (kept ∙ size at)
 
 pub put_second-requires-clause-short : goal.put_second-requires-clause-short
 put_second-requires-clause-short c = omega
@@ -65,16 +65,15 @@ returns c = record {
       ap₂ (λ m n. m + n) c.front_size-begin.ensures
       (ap₂ (λ m n. m * n) c.granule_width.ensures c.from.ensures ∙ omega arith) ∙ ap (λ k.
       front_size k.version k.channels + k.channels * granule_size k.version) c.class.view_is in
-      all_put_gains d class t shaped old (bits c.put_pair.new.bytes)
-      (bits c.put_second.new.bytes) c.front_size-begin.result _ begin next_is
+      all_put_gains d class shaped begin next_is
       (subst (λ k. PutsPair (pair_bits k.version k.channels)
       (get_or t.granules 0 []) c.front_size-begin.result old (bits c.put_pair.new.bytes))
       c.class.view_is c.put_pair.ensures.put)
       (subst (λ k. PutsPair (second_pair_bits k.version k.channels) (get_or t.granules 1 [])
       (c.front_size-begin.result + c.granule_width.result * c.from.result) (bits
       c.put_pair.new.bytes) (bits c.put_second.new.bytes)) c.class.view_is c.put_second.ensures.put)
-      (side_at d old) (IsShaped-side_at d old)
-      (sym (side_bits-side_at d class old (AreBits-bits c.args.bytes.now)
+      (IsShaped-side_at d old)
+      (sym (side_bits-side_at d class (AreBits-bits c.args.bytes.now)
       (length-bits c.args.bytes.now ∙ ap (λ n. 8 * n) c.requires.size))) other;
   first = search rules;
   second = search rules;

@@ -45,7 +45,7 @@ returns-then-protected c = record {
       let all : AreBytes (drop 6 middle) =
       subst AreBytes c.put_right_crc.ensures.behind (AreBelow-drop 256 6 new
       (AreBytes-from_places new (λ i. omega (arith, c.type_inv.frame i)))) in
-      gains-protected h t old middle new is all c.put_at_place.ensures.before
+      gains-protected h t old middle is all c.put_at_place.ensures.before
       (subst (λ d. drop (6 + side_size_of d) middle ≡ drop (6 + side_size_of d) old) class
       c.put_at_place.ensures.behind)
       side (subst
@@ -67,7 +67,7 @@ returns-else-protected c = record {
       let is : h.protected ≡ false = sym c.protected.ensures ∙ c.if-protected.false in
       let same = side_read h c.args.class 4 old class (ap side_place is) in
       let all : AreBytes new = AreBytes-from_places new (λ i. omega (arith, c.type_inv.frame i)) in
-      gains-unprotected h t old new is all c.put_at_place-else-protected.ensures.before
+      gains-unprotected h t old is all c.put_at_place-else-protected.ensures.before
       (subst (λ d. drop (4 + side_size_of d) new ≡ drop (4 + side_size_of d) old) class
       c.put_at_place-else-protected.ensures.behind)
       (subst (λ d. bits (take (side_size_of d) (drop 4 new)) ≡ side_bits d t) class

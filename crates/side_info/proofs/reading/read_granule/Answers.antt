@@ -7,7 +7,7 @@ pub returns : goal.returns
 returns c =
     let compress = c.compress_width-compress.ensures.width in
     let preflag = c.preflag_width.ensures.width in
-    let once = preflag_once c.args.version c.number_at-last.result
+    let once = preflag_once c.args.version
     (rw preflag at c.number_at-last.ensures.below) in
     rw once (granule_from c.args.version (bits c.args.bytes.now)
     c.args.at c.number_at-first.result c.number_at-middle.result c.number_at-last.result

@@ -47,8 +47,8 @@ next c = grind arith
 pub read_second-requires-clause-enough : goal.read_second-requires-clause-enough
 read_second-requires-clause-enough c two =
     let at = (goal.at.read_second-requires-clause-enough c).After-from in
-    second_room (granules_of c.args.version) (front_size c.args.version c.args.channels)
-    (c.args.channels * granule_size c.args.version) _ _ two (next at) (size at)
+    second_room (front_size c.args.version c.args.channels)
+    (c.args.channels * granule_size c.args.version) two (next at) (size at)
 
 pub read_second-requires-clause-short : goal.read_second-requires-clause-short
 read_second-requires-clause-short c =
@@ -64,7 +64,7 @@ returns c =
       granules = granules;
     }) (set_both c.args.side.now.granules c.read_pair.new.pair c.read_second.new.pair (omega arith))
     ∙ side_is (class_with c.args.version 0 c.args.channels)
-    (bits c.args.bytes.now) c.read_front-front.result c.read_pair.new.pair c.read_second.new.pair
+    (bits c.args.bytes.now)
     (c.read_front-front.ensures
     ∙ ap (λ xs. front_at c.args.version c.args.channels (bits xs)) (whole at))
     (c.read_pair.ensures ∙ ap₂ (λ xs k. pair_at c.args.version c.args.channels (drop k (bits xs)))

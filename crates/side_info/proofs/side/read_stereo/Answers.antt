@@ -20,5 +20,5 @@ side c =
     ∙ side_at-class c.args.class (bits c.args.bytes.now)
 
 pub returns : goal.returns
-returns c = IsSideOf-side_at c.args.class c.args.bytes.now c.read_parts.new.side
+returns c = IsSideOf-side_at
     (subst IsClass c.class.view_is c.class.invariant) c.requires.size (side c)

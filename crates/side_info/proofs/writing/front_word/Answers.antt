@@ -20,13 +20,13 @@ pub returns-in-One-true : goal.returns-in-One-true
 unfolding joined
 returns-in-One-true c = word_of (goal.at.returns-in-One-true c).After-from-second 9 5 4 0 _
     (ap (λ v. front_widths_of v 1) (sym c.in-One-true.is-0)
-    ∙ front_of_one c.args.version c.args.channels c.in-One-true.is-1) (λ a b. omega (arith, a, b))
+    ∙ front_of_one c.args.version c.in-One-true.is-1) (λ a b. omega (arith, a, b))
 
 pub returns-in-One-false : goal.returns-in-One-false
 unfolding joined
 returns-in-One-false c = word_of (goal.at.returns-in-One-false c).After-from-second 9 3 4 4 _
     (ap (λ v. front_widths_of v 2) (sym c.in-One-false.is-0)
-    ∙ front_of_two c.args.version c.args.channels c.in-One-false.is-1) (λ a b. omega (arith, a, b))
+    ∙ front_of_two c.args.version c.in-One-false.is-1) (λ a b. omega (arith, a, b))
 
 pub returns-in-Two-true : goal.returns-in-Two-true
 unfolding joined

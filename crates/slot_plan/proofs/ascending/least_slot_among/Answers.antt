@@ -5,8 +5,7 @@ use Rattle.slot_plan.proofs.ascending.least_slot_among.Goals as goal
 
 pub returns-then-wanted-from : goal.returns-then-wanted-from
 returns-then-wanted-from c =
-    least-first c.args.wanted c.args.class c.args.protected c.args.slots.now c.loop-place.place
-    c.index-slots-place.result (omega (arith, c.loop-place-test.true))
+    least-first (omega (arith, c.loop-place-test.true))
     c.index-slots-place.is c.requires.rising.ascending
     (λ k before. c.loop-place.invariant k c.index-slots-place.result before)
     (omega (arith, c.if-wanted-from.true, c.from.ensures, c.area_of.ensures.area))

@@ -17,13 +17,12 @@ free_behind-left-requires-clause-fits c = grind (arith, leaves-room)
 
 pub loop-need-preserved : goal.loop-need-preserved
 loop-need-preserved c = λ class same within fits.
-    let window = window-read class c.class.result c.args.needs.now c.loop-need.need-index
-    c.window-window.result c.need-item.result same
+    let window = window-read class c.args.needs.now same
     c.loop-need-test.true c.need-item.is c.class.ensures c.window-window.ensures.window in
     leaves-more (window_of class.version)
     c.args.free c.args.needs.now c.loop-need.need-index c.need-item.result c.loop-need.left
     c.area.result c.loop-need-test.true c.need-item.is c.area.ensures.area
-    (c.loop-need.invariant class same within fits) c.free_behind-left.result
+    (c.loop-need.invariant class same within fits)
     (c.free_behind-left.ensures.free
     ∙ ap (λ n. free_bytes_behind n c.loop-need.left c.need-item.result.bytes c.area.result) window)
 
@@ -31,6 +30,5 @@ pub returns : goal.returns
 returns c = λ class same within.
     let fits = fits-in c.requires.class class c.args.needs.now (λ n. c.args.free)
     c.requires.same same c.requires.fits in
-    leaves-all (window_of class.version) c.args.free c.args.needs.now c.loop-need.need-index
-    c.loop-need.left (omega (arith, c.loop-need-test.false)) within fits
+    leaves-all (omega (arith, c.loop-need-test.false)) within fits
     (c.loop-need.invariant class same within fits)

@@ -1,6 +1,5 @@
 -- One more frame, from the last to the first.
 use Rattle.std.proofs.Common.{arith}
-use Rattle.frame_header.specs.Tables.{window_of}
 use Rattle.slot_plan.proofs.FreeByteLemmas.{fits-in, wanted-all, wanted-before, wanted-most}
 use Rattle.slot_plan.proofs.FreeByteLemmas.{wanted-next, wanted-none, window-most}
 use Rattle.slot_plan.proofs.free_bytes.wants.Goals as goal
@@ -16,7 +15,6 @@ loop-i-preserved c = grind (arith, wanted-before, wanted-next)
 
 pub returns : goal.returns
 returns c = λ class same.
-    wanted-all (window_of class.version)
-    c.args.needs.now c.loop-i.i c.loop-i.wanted (omega (arith, c.loop-i-test.false))
+    wanted-all (omega (arith, c.loop-i-test.false))
     (fits-in c.requires.class class c.args.needs.now (λ n. n) c.requires.same same c.requires.fits)
     c.loop-i.invariant

@@ -9,11 +9,10 @@ use Rattle.slot_plan.proofs.placing.place_frames.Goals as goal
 pub place_frame-frame-requires-clause-enough : goal.place_frame-frame-requires-clause-enough
 place_frame-frame-requires-clause-enough g c =
     let choices = g.O.Offer.slots_of c.args.offer.now in
-    let all = next-reserve_before choices c.args.part.now c.loop-need.need-index c.need-item.result
+    let all = next-reserve_before choices c.args.part.now
     c.loop-need-test.true c.need-item.is in
     let here = (next-wanted choices
-    c.args.part.now c.loop-need.need-index c.need-item.result c.loop-need.behind.items
-    c.pop.new.self.items c.loop-need.behind.len c.pop.result c.unwrap_or-wanted.result
+    c.args.part.now
     c.loop-need-test.true c.need-item.is c.loop-need.invariant.behind (omega arith)
     c.pop.ensures.items c.pop.ensures.value c.unwrap_or-wanted.ensures).0 in
     omega (arith, all, here, c.loop-need.invariant.enough)
@@ -24,8 +23,8 @@ place_frame-frame-requires-clause-table g c = grind (arith, same-class)
 pub free_behind-free-requires-clause-fits : goal.free_behind-free-requires-clause-fits
 free_behind-free-requires-clause-fits g c =
     let area =
-    area-in c.args.table.now.lengths c.args.part.now c.loop-need.need-index c.area_of-area.result
-    c.need-item.result _ c.place_frame-frame.result.slot c.requires.table.class
+    area-in c.args.table.now.lengths c.args.part.now c.place_frame-frame.result.slot
+    c.requires.table.class
     c.loop-need-test.true c.need-item.is c.need.view_is c.area_of-area.ensures.area in
     omega (arith, c.place_frame-frame.ensures.least.enough, area, ap (λ n. n.bytes) c.need.view_is)
 
@@ -39,15 +38,14 @@ loop-need-preserved g c =
     let i = c.loop-need.need-index in
     let need = c.need-item.result in
     let slot = c.place_frame-frame.result.slot in
-    let next = next-wanted choices part i need c.loop-need.behind.items c.pop.new.self.items
-    c.loop-need.behind.len c.pop.result c.unwrap_or-wanted.result
+    let next = next-wanted choices part
     c.loop-need-test.true c.need-item.is c.loop-need.invariant.behind (omega arith)
     c.pop.ensures.items c.pop.ensures.value c.unwrap_or-wanted.ensures in
-    let within = next-within c.args.room.window choices part i need
+    let within = next-within choices part
     c.loop-need-test.true c.need-item.is c.loop-need.invariant.within in
     let area =
-    area-in c.args.table.now.lengths c.args.part.now c.loop-need.need-index c.area_of-area.result
-    c.need-item.result _ c.place_frame-frame.result.slot c.requires.table.class
+    area-in c.args.table.now.lengths c.args.part.now c.place_frame-frame.result.slot
+    c.requires.table.class
     c.loop-need-test.true c.need-item.is c.need.view_is c.area_of-area.ensures.area in
     let free : c.free_behind-free.result ≡ free_bytes_behind c.args.room.window c.loop-need.free
     need.bytes (area_of (class_of need.header) slot need.header.protected) = grind arith in
@@ -70,9 +68,7 @@ loop-need-preserved g c =
       placed =
           grind (
             arith,
-            places-next c.args.room.window c.args.room.free c.loop-need.free
-                c.free_behind-free.result choices part i need c.place_frame-frame.result
-                c.unwrap_or-wanted.result c.reserve.new.self.items c.loop-need.placed.items
+            places-next choices part
                 c.loop-need-test.true c.need-item.is next.0 c.place_frame-frame.ensures.frame
                 c.place_frame-frame.ensures.begin c.place_frame-frame.ensures.least free
                 c.loop-need.invariant.placed,

@@ -8,8 +8,6 @@ returns-then-reserves-eq0-clause-placed g c =
     IfOk-weaker c.place_frames.result _ _
     (λ after places. part-without c.args.room.window (g.O.Offer.lead_slots_of c.args.offer.now)
     (g.O.Offer.slots_of c.args.offer.now) (g.O.Offer.some_area_of c.args.offer.now)
-    c.args.part.now c.in_ok-reserves.reserves c.args.room.free after
-    c.args.placed.now.items c.place_frames.new.placed.items
     c.in_ok-reserves.ensures (omega (arith, c.if-reserves-eq0.true)) places)
     c.place_frames.ensures.placed
 
@@ -18,7 +16,5 @@ returns-clause-placed g c =
     IfOk-weaker c.place_behind_lead_in.result _ _
     (λ after led. part-led c.args.room.window (g.O.Offer.lead_slots_of c.args.offer.now)
     (g.O.Offer.slots_of c.args.offer.now) (g.O.Offer.some_area_of c.args.offer.now)
-    c.args.part.now c.in_ok-reserves.reserves c.args.room.free after
-    c.args.placed.now.items c.place_behind_lead_in.new.placed.items
     c.in_ok-reserves.ensures (omega (arith, c.if-reserves-eq0.false)) led)
     c.place_behind_lead_in.ensures.placed

@@ -26,9 +26,8 @@ loop-at-preserved g c =
     record {
       free = c.in_ok-free.ensures.within;
       feasible = ready.2;
-      placed = parts-more c.window-window.result choices (needs_in_parts needs parts) _
-          (needs_in_parts needs (drop (c.loop-at.at + 1) parts)) c.loop-at.free c.in_ok-free.free
-          c.loop-at.placed.items c.place_part.new.placed.items c.in_ok-free.ensures.placed
+      placed = parts-more (needs_in_parts needs parts)
+          (needs_in_parts needs (drop (c.loop-at.at + 1) parts)) c.in_ok-free.ensures.placed
           (subst (λ l. PartsPlaced c.window-window.result choices (needs_in_parts needs parts) l
           c.loop-at.free c.loop-at.placed.items) here c.loop-at.invariant.placed);
     }

@@ -13,8 +13,7 @@ more g c =
     (g.O.Offer.some_area_of c.args.offer.now) c.args.part.now in
     let next : c.loop-i.i ≡ c.loop-i.i - 1 + 1 = omega (arith, c.loop-i-test.true) in
     reserves-more c.args.window (g.O.Offer.slots_of c.args.offer.now)
-    (g.O.Offer.some_area_of c.args.offer.now) c.args.part.now _ (c.loop-i.i - 1)
-    c.loop-i.behind.items c.loop-i.before c.needed_before-before.result c.index-part-i.result
+    (g.O.Offer.some_area_of c.args.offer.now) c.args.part.now _
     (omega (arith, c.loop-i-test.true, c.loop-i.auto.i)) c.index-part-i.is c.requires.part.feasible
     c.needed_before-before.ensures.has c.needed_before-before.ensures.needed
     (subst (λ k. from k c.loop-i.behind.items c.loop-i.before) next c.loop-i.invariant.from)

@@ -1,13 +1,11 @@
 -- One more piece.
-use Rattle.std.proofs.Common.{ap, arith, drop, length, length-append, map, Ok, sym, take, [], ◌+◌}
-use Rattle.std.proofs.{Common.{◌-◌, ◌∙◌, ◌∷◌}, lemmas.List.map-append}
-use Rattle.std.proofs.lemmas.List.Elements.{All-drop, All-take}
+use Rattle.std.proofs.Common.{ap, arith, drop, length, length-append, map, Ok, sym, take, [], ◌-◌}
+use Rattle.std.proofs.{Common.{◌∙◌, ◌∷◌}, lemmas.List.{map-append, Elements.{All-drop, All-take}}}
 use Rattle.laying.{proofs.RelayLemmas.item-next, specs.Laid.selected_part}
 use Rattle.laying.specs.declared.selected.Selected.{Selected}
 use Rattle.split_edits.proofs.PiecesLemmas.{fault-of-all, laid-is, match_err, pieces-push}
 use Rattle.split_edits.proofs.PiecesLemmas.{place-laid, place-refused, places-laid}
 use Rattle.split_edits.{proofs.piece.make_pieces.Goals.After-to-item, specs.Steps.piece_part}
-use Rattle.sync_survey.specs.Faults.{survey_view}
 use Rattle.split_edits.proofs.piece.make_pieces.Given as given
 use Rattle.split_edits.proofs.piece.make_pieces.Goals as goal
 
@@ -33,12 +31,11 @@ loop-to-preserved g c =
       pieces =
           grind (
             arith,
-            pieces-push c.args.prefix.now (survey_view c.args.source.now.survey) 1
-                (at.number + 1) at.pieces.items piece at.invariant.pieces (omega (
-                  arith,
-                  at.invariant.many,
-                  at.invariant.number,
-                )) c.in_ok-piece.ensures.name
+            pieces-push c.args.prefix.now 1 at.pieces.items piece at.invariant.pieces (omega (
+              arith,
+              at.invariant.many,
+              at.invariant.number,
+            )) c.in_ok-piece.ensures.name
                 (rw c.in_ok-piece.ensures.selected c.in_ok-selected.ensures.writable),
           );
       many = omega
@@ -48,7 +45,7 @@ loop-to-preserved g c =
       laid = λ file s is.
           rw more
           (place-laid cut file s at.to-index at.from.now rest (map piece_part at.pieces.items) _
-          (at.invariant.laid file s is) to next (piece_part piece)
+          (at.invariant.laid file s is) to next
           (c.in_ok-selected.ensures.laid file s is
           ∙ ap (λ (x : Selected). Ok (selected_part x)) (sym c.in_ok-piece.ensures.selected)));
     }
@@ -66,10 +63,9 @@ returns-in_err-selected-clause-laid g c =
     match_err c.from_residual.result _ _ c.from_residual.ensures.1
     (fault-of-all
     (λ is file s known.
-    laid-is cut file s
-    c.index-places-0.result c.args.places.now c.requires.places.1 c.index-places-0.is
+    laid-is cut file s c.args.places.now c.requires.places.1 c.index-places-0.is
     ∙ place-refused cut file s at.to-index at.from.now rest (map piece_part at.pieces.items) _
-    (at.invariant.laid file s known) to next _ (is file s known))
+    (at.invariant.laid file s known) to next (is file s known))
     c.in_err-selected.ensures.laid)
 
 pub returns-clause-laid : goal.returns-clause-laid

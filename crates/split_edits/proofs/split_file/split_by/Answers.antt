@@ -27,7 +27,7 @@ use Rattle.split_edits.proofs.split_file.split_by.Goals as goal
 pub returns-in-Some : goal.returns-in-Some
 returns-in-Some g c =
     let cut = g.C.Cut.cutting c.args.cut.now in
-    let clash = clash-found cut c.args.input.now c.args.prefix.now _ _ _
+    let clash = clash-found cut c.args.input.now c.args.prefix.now
     c.sheet.ensures c.clash.ensures c.in-Some.is in
     asked_early (split_command cut c.args.input.now c.args.prefix.now) g.D.Folder.keeping _ refl tt
     refl (record {
@@ -42,7 +42,7 @@ returns-in-Some g c =
 -- no name of a piece is the name of the input or of a sheet
 free : (g : given.Over) (c : After-survey_at g) → clash_of
     (split_command (g.C.Cut.cutting c.args.cut.now) c.args.input.now c.args.prefix.now) ≡ None
-free g c = clash-found (g.C.Cut.cutting c.args.cut.now) c.args.input.now c.args.prefix.now _ _ None
+free g c = clash-found (g.C.Cut.cutting c.args.cut.now) c.args.input.now c.args.prefix.now
     c.sheet.ensures c.clash.ensures c.in_default.is
 
 pub returns-in_err-survey : goal.returns-in_err-survey
@@ -53,11 +53,11 @@ returns-in_err-survey g c =
     let none = free g (goal.at.returns-in_err-survey g c).After-survey_at in
     asked_early (split_command cut input prefix) g.D.Folder.keeping _ c.from_residual.ensures.1
     (survey-before _ c.in_err-survey.ensures.numbers) c.survey_at.ensures.reads.files
-    (refused_run _ _ _ _ _ none c.from_residual.ensures.1
+    (refused_run _ none c.from_residual.ensures.1
     (survey_left (begins cut c.requires.proper input prefix none) _ _ _
     c.in_err-survey.ensures.refused)
     (survey-numbers cut input prefix _ c.in_err-survey.ensures.numbers)
-    (none_fell_by_reads _ _ c.survey_at.ensures.reads.counts))
+    (none_fell_by_reads c.survey_at.ensures.reads.counts))
 
 pub returns-in_err-source : goal.returns-in_err-source
 returns-in_err-source g c =
@@ -68,13 +68,13 @@ returns-in_err-source g c =
     asked_early (split_command cut input prefix) g.D.Folder.keeping _
     c.from_residual-in_err-source.ensures.1 (head-before _ c.in_err-source.ensures.numbers)
     (c.read.ensures.reads.files ∙ c.survey_at.ensures.reads.files)
-    (refused_run _ _ _ _ _ none c.from_residual-in_err-source.ensures.1
+    (refused_run _ none c.from_residual-in_err-source.ensures.1
     (head-left cut c.requires.proper input prefix none (g.D.Folder.seen c.args.folder.now)
     (g.D.Folder.seen c.survey_at.new.folder) _ (ap₂ seen_folder c.survey_at.ensures.reads.files
     c.in_ok-survey.ensures.reads.done) _ c.in_err-source.ensures.refused)
     (head-numbers cut input prefix _ c.in_err-source.ensures.numbers)
-    (none_fell_by_reads _ _
-    (only_reads_then _ _ _ c.survey_at.ensures.reads.counts c.read.ensures.reads.counts)))
+    (none_fell_by_reads
+    (only_reads_then c.survey_at.ensures.reads.counts c.read.ensures.reads.counts)))
 
 pub returns-in_err-places : goal.returns-in_err-places
 returns-in_err-places g c =
@@ -87,14 +87,14 @@ returns-in_err-places g c =
     asked_early (split_command cut input prefix) g.D.Folder.keeping _
     c.from_residual-in_err-places.ensures.1 (places-before cut _ c.in_err-places.ensures.numbers)
     (c.places.ensures.reads.files ∙ c.read.ensures.reads.files ∙ c.survey_at.ensures.reads.files)
-    (refused_run _ _ _ _ _ none c.from_residual-in_err-places.ensures.1
+    (refused_run _ none c.from_residual-in_err-places.ensures.1
     (places-left cut c.requires.proper input prefix none (survey_view c.in_ok-survey.survey) old
     c.in_ok-survey.ensures.there c.in_ok-survey.ensures.surveyed mid _
     (ap₂ seen_folder (c.read.ensures.reads.files ∙ c.survey_at.ensures.reads.files)
     (c.in_ok-source.ensures.reads.done ∙ c.in_ok-survey.ensures.reads.done)) _
     c.in_err-places.ensures.refused)
     (places-numbers cut input prefix _ c.in_err-places.ensures.numbers)
-    (none_fell_by_reads _ _ (only_reads_then _ _ _ (only_reads_then _ _ _
+    (none_fell_by_reads (only_reads_then (only_reads_then
     c.survey_at.ensures.reads.counts c.read.ensures.reads.counts) c.places.ensures.reads.counts)))
 
 -- the places are those that the files gave before, and nothing changed
@@ -115,7 +115,7 @@ module _ (g : given.Over) (c : After-as_slice g) where
       ∙ c.in_ok-source.ensures.reads.done ∙ c.in_ok-survey.ensures.reads.done)
 
   fell : NoneFell old.counts mid.counts
-  fell = none_fell_by_reads _ _ (only_reads_then _ _ _ (only_reads_then _ _ _
+  fell = none_fell_by_reads (only_reads_then (only_reads_then
       c.survey_at.ensures.reads.counts c.read.ensures.reads.counts) c.places.ensures.reads.counts)
 
   known : (bytes : List ℕ) → Holds old.files c.args.input.now bytes
@@ -131,7 +131,8 @@ returns-in_err-pieces g c =
     g.D.Folder.keeping _ c.from_residual-in_err-pieces.ensures.1
     (range-before (g.C.Cut.cutting c.args.cut.now) _ c.in_err-pieces.ensures.laid)
     (ap (λ (s : Seen). s.files) (stays g at))
-    (refused_run _ _ _ _ _ none c.from_residual-in_err-pieces.ensures.1
+    (refused_run {command = _} {old = _} {new = _} {r = _} _ none
+    c.from_residual-in_err-pieces.ensures.1
     (range-left (g.C.Cut.cutting c.args.cut.now)
     c.requires.proper c.args.input.now c.args.prefix.now none
     (survey_view c.in_ok-survey.survey)
@@ -149,7 +150,7 @@ returns-in_err-buffers g c =
     asked_early (split_command (g.C.Cut.cutting c.args.cut.now) c.args.input.now c.args.prefix.now)
     g.D.Folder.keeping _ c.from_residual-in_err-buffers.ensures.1 tt
     (ap (λ (s : Seen). s.files) (stays g at))
-    (refused_run _ _ _ _ _ none c.from_residual-in_err-buffers.ensures.1
+    (refused_run _ none c.from_residual-in_err-buffers.ensures.1
     (memory-left (g.C.Cut.cutting c.args.cut.now)
     c.requires.proper c.args.input.now c.args.prefix.now none
     (survey_view c.in_ok-survey.survey)
@@ -198,10 +199,10 @@ returns-in_err-ask_all g c =
     asked_stopped (to_write g at (free g (goal.at.returns-in_err-ask_all g c).After-survey_at)
     c.in_ok-pieces.pieces.items (rw by at c.in_ok-pieces.ensures.pieces)
     (λ bytes holds. c.in_ok-pieces.ensures.laid bytes (survey_view c.in_ok-survey.survey)
-    (known g at bytes holds)) (few g (goal.at.returns-in_err-ask_all g c).In_ok-pieces)) _
+    (known g at bytes holds)) (few g (goal.at.returns-in_err-ask_all g c).In_ok-pieces))
     c.from_residual-in_err-ask_all.ensures.1
     (none_fell_by_writes (rw same at c.ask_all.ensures.counts))
-    g.D.Folder.keeping stops.asked (rw (items, same) at stops.stops)
+    stops.asked (rw (items, same) at stops.stops)
 
 pub write_pieces-requires-clause-split : goal.write_pieces-requires-clause-split
 write_pieces-requires-clause-split g c =
@@ -217,9 +218,8 @@ write_pieces-requires-clause-split g c =
           rw is.survey is.has;
       few = omega (arith, some, ap length c.as_slice-3.ensures.value);
       ready = rw c.as_slice-3.ensures.value
-          (can-be-written c.args.prefix.now c.args.input.now
-          (survey_view c.in_ok-source.source.survey) 1
-          _ (no_clash _ 0 _ (free g at.After-survey_at)).0 (omega arith)
+          (can-be-written c.args.prefix.now 1
+          _ (no_clash 0 (free g at.After-survey_at)).0 (omega arith)
           (omega (arith, some)) c.in_ok-pieces.ensures.pieces);
     }
 
@@ -243,7 +243,7 @@ returns g c =
     λ bytes holds. c.in_ok-pieces.ensures.laid bytes s (known g at bytes holds) in
     let touches = rw (items, asked) at c.write_pieces.ensures.touches in
     let numbers = IfErr-weaker c.write_pieces.result _ _
-    (λ fault. pieces-numbers (g.C.Cut.cutting c.args.cut.now) input prefix (length pieces) fault
+    (λ fault. pieces-numbers (g.C.Cut.cutting c.args.cut.now) input prefix fault
     (omega (arith, most))) (rw items at c.write_pieces.ensures.numbers) in
     asked_run (to_write g at none pieces named laid most) g.D.Folder.keeping
     (λ keep. rw (c.as_slice-2.ensures.value, stays g at) at (c.in_ok-ask_all.ensures.free keep))
@@ -266,5 +266,5 @@ returns g c =
           (λ done. split-streams (g.C.Cut.cutting c.args.cut.now) c.requires.proper input prefix
           none s (old g at) survey.there survey.surveyed c.as_slice.result.now (said g at)
           survey.octets) c.write_pieces.ensures.done;
-      counts = none_fell_then _ _ _ (fell g at) (rw asked at c.write_pieces.ensures.counts);
+      counts = none_fell_then (fell g at) (rw asked at c.write_pieces.ensures.counts);
     })

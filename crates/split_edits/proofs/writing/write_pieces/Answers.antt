@@ -17,8 +17,7 @@ use Rattle.split_edits.proofs.writing.write_pieces.Goals as goal
 
 pub loop-piece-init : goal.loop-piece-init
 loop-piece-init g c = record {
-  wrote = none-wrote (survey_view c.args.survey.now)
-      c.args.input.now (g.D.Folder.seen c.args.folder.now).files c.requires.split.there;
+  wrote = none-wrote (survey_view c.args.survey.now) c.requires.split.there;
   place = refl;
   fed = c.requires.fed;
   unsent = c.requires.unsent;
@@ -55,8 +54,7 @@ pub write-requires-clause-ready : goal.write-requires-clause-ready
 write-requires-clause-ready g c =
     let away = apart g (goal.at.write-requires-clause-ready g c).After-create in
     let stands = c.loop-piece.invariant.wrote.stands in
-    relay-ready _ (g.D.Folder.seen c.loop-piece.folder).files
-    (g.D.Folder.seen c.create.new.self).files _ away stands.there c.requires.split.laid
+    relay-ready (g.D.Folder.seen c.loop-piece.folder).files away stands.there c.requires.split.laid
     (λ file holds. c.requires.split.has file (stands.before file holds))
     c.length.ensures c.in-Ok.ensures.answer.created
     (record {
@@ -75,17 +73,17 @@ returns-in_default g c =
       written = tt;
       touches = all-touched (survey_view c.args.survey.now) c.args.input.now c.args.pieces.now
           c.loop-piece.piece-index (piece g at) _ _ _ (next g at) c.loop-piece.invariant.wrote
-          (fails_touches _ _ _ (rw c.as_str.ensures.value at c.in_default.ensures.answer.kept));
+          (fails_touches (rw c.as_str.ensures.value at c.in_default.ensures.answer.kept));
       done = tt;
       left =
           pieces-fault (survey_view c.args.survey.now)
           c.args.input.now c.args.pieces.now c.loop-piece.piece-index (piece g at) _ _ _ (next g at)
-          c.loop-piece.invariant.wrote (fails_touches _ _ _ kept) Write c.loop-piece.place _ _ _
+          c.loop-piece.invariant.wrote (fails_touches kept) Write _
           (place-is g at) c.loop-piece.invariant.counts (
             refl,
             record {
               rose = rw c.as_str.ensures.value at c.in_default.ensures.answer.failed;
-              files = not_begun _ _ _ _ _ kept;
+              files = not_begun _ _ _ _ kept;
             },
           );
       numbers = search rules;
@@ -99,7 +97,7 @@ returns-in-Err g c =
     let touches = touches_prefix made _ _
     (apart g at) _ _ _ c.in-Ok.ensures.answer.created c.in-Err.ensures.prefix in
     let fault = pass_fault made _ _ (apart g at) _ _ _ c.in-Ok.ensures.answer.created
-    (c.args.input.now ∷ []) refl 0 c.in-Err.fault _ (g.D.Folder.seen c.loop-piece.folder).counts _ _
+    (c.args.input.now ∷ []) refl 0 c.in-Err.fault _ _
     c.in-Ok.ensures.answer.done c.in-Err.ensures.prefix c.in-Err.ensures.cause in
     let touches = touches_prefix _ _ _
     (apart g at) _ _ _ c.in-Ok.ensures.answer.created c.in-Err.ensures.prefix in
@@ -114,7 +112,7 @@ returns-in-Err g c =
           (pieces-fault (survey_view c.args.survey.now)
           c.args.input.now c.args.pieces.now c.loop-piece.piece-index (piece g at) _ _ _
           (next g at) c.loop-piece.invariant.wrote (rw c.as_str.ensures.value at touches)
-          c.in-Err.fault c.loop-piece.place _ _ _ (place-is g at) c.loop-piece.invariant.counts
+          c.in-Err.fault _ (place-is g at) c.loop-piece.invariant.counts
           (rw c.as_str.ensures.value at fault));
       numbers = search rules;
       counts = search rules;

@@ -14,7 +14,7 @@ loop-row-preserved c =
     omega (arith, c.loop-row-test.true, at.auto.rows) in
     let header = c.header.ensures ∙ ap (λ (q : Row). q.header) c.mark_apart.ensures.row in
     marked-next c.args.rows.now at.rows at.areas at.row-index _ at.invariant within _
-    c.mark_apart.ensures.row c.mark_apart.ensures.near _ (sym c.if-not-mark_apart.ensures.empty)
+    c.mark_apart.ensures.row c.mark_apart.ensures.near (sym c.if-not-mark_apart.ensures.empty)
     (c.saturating_add-areas.ensures ∙ ap (λ n. min (at.areas + n) (2 ^ 64 - 1))
     (c.from.ensures ∙ c.area.ensures.area ∙ ap own_area header))
 
@@ -23,7 +23,7 @@ returns-after-loop-row c =
     let at = c.loop-row in
     let all : length c.args.rows.now ≤ at.row-index =
     omega (arith, c.loop-row-test.false, at.auto.rows) in
-    marked-all c.args.rows.now at.rows at.areas at.row-index at.invariant all
+    marked-all c.args.rows.now at.invariant all
 
 pub returns-then-not-mark_apart : goal.returns-then-not-mark_apart
 returns-then-not-mark_apart c = grind (arith, marked-last)

@@ -47,20 +47,21 @@ loop-at-init g c = record {
         subst (IsSurveyedTo bytes c.args.walk.start c.args.walk.head c.args.allowed []
         c.args.walk.pieces.items c.head_area.result 0) (sym c.numbered_from-at.ensures.at)
         (surveyed_none bytes c.args.walk.start c.args.walk.head c.args.allowed
-        (begun_as (c.requires.walk.told bytes holds)) c.args.walk.pieces.items c.head_area.result
+        (begun_as (c.requires.walk.told bytes holds))
+        {blocks = c.args.walk.pieces.items} {place_now = c.head_area.result}
         (c.requires.walk.told bytes holds).kept c.head_area.ensures.area);
   };
   laid =
       grind (
         arith,
-        pieces_later 0 c.args.walk.pieces.items c.args.walk.start.front_end
-            c.numbered_from-at.result c.requires.walk.laid (omega (
+        pieces_later 0 c.args.walk.pieces.items {to = c.args.walk.start.front_end}
+            {later = c.numbered_from-at.result} c.requires.walk.laid (omega (
               arith,
               c.requires.walk.junk,
               c.numbered_from-at.ensures.behind,
             )),
-        placed_none c.args.walk.head (class_from
-            c.args.walk.start) c.head_area.result c.head_area.ensures.area,
+        placed_none {head = c.args.walk.head} (class_from
+            c.args.walk.start) {place_now = c.head_area.result} c.head_area.ensures.area,
       );
   few = omega (arith, ap length c.new.ensures.items);
   within = omega (arith, c.numbered_from-at.ensures.within, c.requires.walk.whole);
@@ -145,7 +146,7 @@ returns-then-is_empty g c = record {
   done = search rules;
   refused = bytes_refusal c.args.name.now (g.D.Folder.seen c.args.folder.now).files c.args.allowed
       (g.D.Folder.seen c.args.folder.now).counts
-      (g.D.Folder.seen c.loop-at.folder).counts c.args.walk.size (NoFrame c.args.walk.size)
+      (g.D.Folder.seen c.loop-at.folder).counts
       c.requires.walk.known c.loop-at.invariant.read.counts
       (refl, tt) (λ bytes holds.
       let now = c.loop-at.found in

@@ -1,6 +1,5 @@
 -- The survey refuses what a step refuses, since the steps before left the files and all counts.
 use Rattle.std.proofs.Common.{arith}
-use Rattle.sync_survey.proofs.folders.survey_file.Given as given
 use Rattle.sync_survey.proofs.folders.survey_file.Goals as goal
 
 pub returns-in_err-size-clause-frames : goal.returns-in_err-size-clause-frames

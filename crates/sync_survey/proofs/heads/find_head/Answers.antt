@@ -6,6 +6,6 @@ use Rattle.sync_survey.proofs.heads.find_head.Goals as goal
 pub returns-clause-head : goal.returns-clause-head
 returns-clause-head g c = λ bytes holds.
     c.head_in.ensures.head
-    ∙ head_shown bytes c.args.first.now c.bytes.result.now c.in_ok-look.field-0
+    ∙ head_shown c.args.first.now
     (shown_in c.bytes.ensures (c.in_ok-look.ensures.shows bytes holds))
     (omega (arith, c.head_in.ensures.most))

@@ -7,4 +7,4 @@ use Rattle.sync_survey.proofs.laws.one_item_stands.Goals as goal
 pub returns : goal.returns
 returns c =
     λ bytes item.
-    (stands-only bytes item, (λ is. subst (IsItemFront bytes) (sym is) (stands bytes)))
+    (stands-only bytes, (λ is. subst (IsItemFront bytes) (sym is) (stands bytes)))

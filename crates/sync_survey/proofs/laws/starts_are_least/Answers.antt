@@ -4,5 +4,5 @@ use Rattle.sync_survey.proofs.laws.starts_are_least.Goals as goal
 
 pub returns : goal.returns
 returns c = λ file start is.
-    let first = start-first file start is in
+    let first = start-first is in
     record { item = first.frame.is; whole = first.frame.within; least = first.least }

@@ -6,7 +6,7 @@ pub returns-in-Ok-clause-refused : goal.returns-in-Ok-clause-refused
 returns-in-Ok-clause-refused g c = λ allowed.
     long_refusal c.args.name.now (g.D.Folder.seen c.args.folder.now).files allowed
     (g.D.Folder.seen c.args.folder.now).counts (g.D.Folder.seen c.find.new.self).counts
-    c.in-Ok.length c.in-Ok.ensures.answer.there c.in-Ok.ensures.answer.found
+    c.in-Ok.ensures.answer.there c.in-Ok.ensures.answer.found
     c.if-length-gt-LONGEST_FILE.true c.in-Ok.ensures.answer.done
 
 pub returns-in-Ok-2-clause-octets : goal.returns-in-Ok-2-clause-octets

@@ -1,5 +1,5 @@
 -- What is asked for is within the file.
-use Rattle.std.proofs.Common.{arith, refl, ◌-◌}
+use Rattle.std.proofs.Common.{arith, refl}
 use Rattle.sync_survey.proofs.FoldersLemmas.{shown}
 use Rattle.sync_survey.proofs.looks.look.Goals as goal
 
@@ -8,6 +8,5 @@ returns-in_err-fill_exact-clause-refused g c = grind arith
 
 pub returns-clause-shows : goal.returns-clause-shows
 returns-clause-shows g c = λ bytes holds.
-    shown bytes c.args.at (c.args.size - c.args.at) c.min-wanted.result c.args.size
-    c.fill_exact.new.self.given (c.requires.known.long bytes holds) refl
+    shown (c.requires.known.long bytes holds) refl
     (omega (arith, c.min-wanted.ensures)) (c.in_ok-fill_exact.ensures.bytes bytes holds)

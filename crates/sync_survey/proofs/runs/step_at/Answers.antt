@@ -21,8 +21,8 @@ pub returns-clause-passes : goal.returns-clause-passes
 returns-clause-passes c =
     grind (
       arith,
-      sized c.args.part c.args.front.now c.args.left c.passed-size.result
-          c.item_front-item.result c.item_front-item.ensures (sym c.belongs.ensures ∙
+      sized c.args.part c.args.front.now c.args.left c.passed-size.result c.item_front-item.ensures
+          (sym c.belongs.ensures ∙
           c.if-not-belongs.false)
           (omega (arith, c.size-own.ensures.size, c.if-own-left.false)) c.requires
           c.passed-size.ensures.zeros c.passed-size.ensures.size,

@@ -1,8 +1,8 @@
 -- The frame, and what is at its end.
 use Rattle.std.proofs.Common.{arith, Bool, cond, false, List, None, Some, sym, true, ℕ, ◌∙◌, ◌≡◌}
 use Rattle.sync_survey.proofs.StartLemmas.{shown_before, shown_none, shown_over}
-use Rattle.sync_survey.{proofs.starts.anchored_frame.Goals.After-is_anchor, specs.Items.item_front}
-use Rattle.sync_survey.specs.{Looks.Shows, Start.{anchored_frame, is_anchor}}
+use Rattle.sync_survey.{proofs.starts.anchored_frame.Goals.After-is_anchor, specs.Looks.Shows}
+use Rattle.sync_survey.specs.Start.{anchored_frame}
 use Rattle.sync_survey.proofs.starts.anchored_frame.Goals as goal
 
 pub returns-in_default : goal.returns-in_default
@@ -11,7 +11,7 @@ returns-in_default c = grind (arith, shown_none)
 pub returns-then-from-left-clause-frame : goal.returns-then-from-left-clause-frame
 returns-then-from-left-clause-frame c = λ file shows.
     sym (shown_over file c.args.offset c.args.front.now c.args.left shows
-    c.in-Frame.header (sym c.item_front.ensures ∙ c.in-Frame.is)
+    (sym c.item_front.ensures ∙ c.in-Frame.is)
     (omega (arith, c.if-from-left.true, c.from.ensures, c.length-length.ensures.length)))
 
 -- a whole frame is anchored if what is at its end is an anchor

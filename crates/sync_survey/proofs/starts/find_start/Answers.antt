@@ -31,16 +31,14 @@ module _ (g : given.Over) (c : After-item_front g) where
 pub returns-in-Some-clause-start : goal.returns-in-Some-clause-start
 returns-in-Some-clause-start g c =
     let at = (goal.at.returns-in-Some-clause-start g c).After-item_front in
-    start_ok c.in-Some.start (g.D.Folder.seen c.args.folder.now).files c.args.name.now
+    start_ok (g.D.Folder.seen c.args.folder.now).files c.args.name.now
     (λ bytes holds. begun g at bytes holds
     ∙ c.in-Some.ensures.start bytes (left_is g at bytes holds).left_is)
 
 pub returns-in-Some-clause-refused : goal.returns-in-Some-clause-refused
 returns-in-Some-clause-refused g c =
     let at = (goal.at.returns-in-Some-clause-refused g c).After-item_front in
-    start_err c.in-Some.start c.args.name.now (g.D.Folder.seen c.args.folder.now).files
-    (g.D.Folder.seen c.args.folder.now).counts (g.D.Folder.seen c.look.new.folder).counts
-    c.args.size c.requires.known c.in_ok-left.ensures.reads.done
+    start_err c.in-Some.start c.requires.known c.in_ok-left.ensures.reads.done
     c.in-Some.ensures.refused (λ bytes holds. begun g at bytes holds
     ∙ c.in-Some.ensures.start bytes (left_is g at bytes holds).left_is)
 
@@ -62,7 +60,7 @@ pub returns-in-None-clause-refused : goal.returns-in-None-clause-refused
 returns-in-None-clause-refused g c = λ allowed.
     start_refusal c.args.name.now (g.D.Folder.seen c.args.folder.now).files allowed
     (g.D.Folder.seen c.args.folder.now).counts
-    (g.D.Folder.seen c.first_anchored.new.folder).counts c.args.size _ c.requires.known
+    (g.D.Folder.seen c.first_anchored.new.folder).counts c.requires.known
     (c.in_ok-first.ensures.reads.done ∙ c.in_ok-left.ensures.reads.done) (refl, tt) (λ bytes holds.
     let at = (goal.at.returns-in-None-clause-refused g c).After-item_front in
     let there =

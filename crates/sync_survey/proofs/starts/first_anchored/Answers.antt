@@ -18,6 +18,6 @@ returns-in-Some-clause-placed g c = grind arith
 
 pub returns-clause-first : goal.returns-clause-first
 returns-clause-first g c = λ bytes holds.
-    sym (none_anchored bytes c.args.size c.args.from c.loop-at.at
+    sym (none_anchored bytes
     (c.requires.known.long bytes holds) (omega (arith, c.loop-at-test.false, c.min-at-end.ensures))
     (c.loop-at.invariant.none bytes holds))

@@ -20,7 +20,7 @@ returns-then-bytes-lt-KEY_AT-clause-stands c = grind (arith, has_whole_item-not)
 pub returns-then-length-lt2-clause-stands : goal.returns-then-length-lt2-clause-stands
 returns-then-length-lt2-clause-stands c =
     let k = key (goal.at.returns-then-length-lt2-clause-stands c).After-ape_number in
-    has_whole_item-not c.args.bytes.now (λ s. elim c.then-length-lt2.branch [
+    has_whole_item-not (λ s. elim c.then-length-lt2.branch [
       | then-length-lt2-via-then-length-lt2 w ↦ omega (arith, k, s.least, w.if-length-lt2.true)
       | then-length-lt2-via-else-length-lt2+then-length-gt255 w ↦
           omega (arith, k, s.most, w.if-length-gt255.true)
@@ -35,7 +35,7 @@ returns-clause-stands c =
     let k = key (goal.at.returns-clause-stands c).After-ape_number in
     let place : 8 + key_length c.args.bytes.now ≡ 8 + c.key_length-length.result + 1 - 1 =
     omega (arith, k) in
-    has_whole_item-from c.args.bytes.now (record {
+    has_whole_item-from (record {
       least = omega (arith, k, c.if-length-lt2.false);
       most = omega (arith, k, c.if-length-gt255.false);
       within = omega (arith, k, c.ape_number.ensures, c.if-end-bytes.false);

@@ -8,8 +8,7 @@ append-requires c = grind (arith, AllPass-from_list_all)
 
 pub loop-item-preserved : goal.loop-item-preserved
 loop-item-preserved c =
-    items_more c.args.items.now c.loop-item.item-index _
-    c.item-item.result c.args.bytes.now.items c.loop-item.bytes.items c.append.new.bytes.items
+    items_more c.args.items.now _ c.args.bytes.now.items
     c.item-item.is c.loop-item-test.true c.loop-item.invariant c.in_ok-append.ensures
 
 pub returns : goal.returns

@@ -12,7 +12,7 @@ returns-in-Some-clause-put c =
     c.in_ok-value.ensures ∙ c.text.ensures.text in
     let found =
     ap (position is_undo) (sym c.deref.ensures.value) ∙ sym c.undo_place.ensures ∙ c.in-Some.is in
-    replaced undo items _ c.in-Some.at c.index_mut-item.result.now found
+    replaced undo items found
     c.index_mut-item.ensures.value
     (ap (λ v. set items c.in-Some.at
     (record { key = c.item.inside.key.items; flags = c.item.inside.flags; value = v })) value
@@ -27,6 +27,6 @@ returns-in_ok-push-in-None-clause-put c =
     c.in_ok-value.ensures ∙ c.text.ensures.text in
     let none =
     ap (position is_undo) (sym c.deref.ensures.value) ∙ sym c.undo_place.ensures ∙ c.in-None.is in
-    added undo items c.push.new.self.items none
+    added undo items none
     (c.in_ok-push-in-None.ensures.items ∙ ap₂ (λ k v. items
     ++ (record { key = k; flags = 0; value = v } ∷ [])) c.in_ok-key-in-None.ensures value)

@@ -1,10 +1,10 @@
 -- One item more, until there is no next one or as many were read as are counted.
-use Rattle.std.proofs.Common.{ap, arith, drop, false, length-drop, Some, sym, ◌-◌, ◌||◌, ◌∙◌, ◌≡◌}
+use Rattle.std.proofs.Common.{ap, arith, drop, length-drop, Some, sym, ◌-◌, ◌||◌, ◌∙◌, ◌≡◌}
 use Rattle.std.proofs.lemmas.List.{take_rest}
 use Rattle.tag_blocks.proofs.ItemsLemmas.{next_item-within, read_all, read_more, read_none}
 use Rattle.tag_blocks.proofs.items.read_items.Goals.{else-loop-test, else-met}
 use Rattle.tag_blocks.proofs.items.read_items.Goals.{then-loop-test+in_ok-item+in_default, then-met}
-use Rattle.tag_blocks.specs.Items.{is_undo, next_item, tag_items_from}
+use Rattle.tag_blocks.specs.Items.{is_undo, next_item}
 use Rattle.tag_blocks.proofs.items.read_items.Goals as goal
 
 pub length-passed-requires : goal.length-passed-requires
@@ -29,7 +29,7 @@ loop-preserved c =
       read = grind (arith, read_more);
       within = omega (
         arith,
-        next_item-within c.loop.met (drop c.loop.passed bytes) item next,
+        next_item-within c.loop.met (drop c.loop.passed bytes) next,
         length-drop c.loop.passed bytes,
         c.loop.invariant.within,
       );
@@ -39,11 +39,10 @@ pub returns : goal.returns
 returns c =
     let bytes = c.args.bytes.now in
     elim c.loop-test.branch [
-      | else-loop-test w ↦ read_all (tag_items_from c.args.count false bytes)
-          c.loop.items.items c.args.count c.loop.counter c.loop.met (drop c.loop.passed bytes)
+      | else-loop-test w ↦ read_all c.loop.met (drop c.loop.passed bytes)
           w.loop-test.false c.loop.invariant.read
       | then-loop-test+in_ok-item+in_default w ↦
-          read_none (tag_items_from c.args.count false bytes) c.loop.items.items (c.args.count
+          read_none (c.args.count
           - c.loop.counter) c.loop.met (drop c.loop.passed bytes) c.loop.invariant.read
           (ap (next_item c.loop.met) (sym (take_rest bytes c.loop.passed))
           ∙ sym w.in_ok-item.ensures ∙ w.in_default.is)

@@ -11,14 +11,14 @@ are_items : (most : ℕ) (bytes : List ℕ) → AreByteValues bytes
 are_items most bytes octets =
     grind (
       arith,
-      tag_items_from-read most false bytes octets,
+      tag_items_from-read most false octets,
       tag_items_from-stopped most false
           bytes,
     )
 
 pub returns : goal.returns
 returns c = λ most bytes items octets. (
-  (λ are. tag_items_from-only most false items bytes (drop (items_length items) bytes)
+  (λ are. tag_items_from-only most false items (drop (items_length items) bytes)
       are.all are.few (omega (arith, are.one)) are.front are.last),
   (λ is. subst (AreItemsOf most bytes) is (are_items most bytes octets)),
 )

@@ -6,9 +6,9 @@ use Rattle.tag_blocks.proofs.laws.tags_are_their_bytes.Goals as goal
 
 pub returns : goal.returns
 returns c = λ block tag octets is most. (
-  (λ read. let whole = tag_of-ok block tag octets is most read in (
-    subst IsTag whole.1 (IsTag-in block whole.0),
-    ap tag_bytes (sym whole.1) ∙ tag_bytes-in block whole.0,
+  (λ read. let whole = tag_of-ok octets is most read in (
+    subst IsTag whole.1 (IsTag-in whole.0),
+    ap tag_bytes (sym whole.1) ∙ tag_bytes-in whole.0,
   )),
-  (λ given. ap tag_of (sym given.1) ∙ tag_of-tag_bytes tag given.0),
+  (λ given. ap tag_of (sym given.1) ∙ tag_of-tag_bytes given.0),
 )

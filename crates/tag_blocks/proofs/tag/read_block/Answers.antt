@@ -108,16 +108,16 @@ pub invariant_of-result : goal.invariant_of-result
 invariant_of-result c =
     let at = goal.at.invariant_of-result c in
     subst IsTag (same c (items at.After-deref))
-    (IsTag-in c.args.block.now (whole c (found at.After-len (items at.After-deref))))
+    (IsTag-in (whole c (found at.After-len (items at.After-deref))))
 
 pub returns-clause-tag : goal.returns-clause-tag
 returns-clause-tag c =
     let at = goal.at.returns-clause-tag c in
-    tag_of-in c.args.block.now (whole c (found at.After-len (items at.After-deref)))
+    tag_of-in (whole c (found at.After-len (items at.After-deref)))
     ∙ ap Ok (same c (items at.After-deref))
 
 pub returns-clause-whole : goal.returns-clause-whole
 returns-clause-whole c =
     let at = goal.at.returns-clause-whole c in
     let is = items at.After-deref in
-    ap tag_bytes (sym (same c is)) ∙ tag_bytes-in c.args.block.now (whole c (found at.After-len is))
+    ap tag_bytes (sym (same c is)) ∙ tag_bytes-in (whole c (found at.After-len is))

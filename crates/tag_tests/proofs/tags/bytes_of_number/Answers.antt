@@ -6,4 +6,4 @@ use Rattle.tag_tests.proofs.tags.bytes_of_number.Goals as goal
 
 pub returns : goal.returns
 returns c = c.write_u32.ensures ∙ ap (little_bytes 4) c.read_u32.ensures
-    ∙ little_bytes-little_number c.args.four (search rules) (search rules)
+    ∙ little_bytes-little_number (search rules) (search rules)

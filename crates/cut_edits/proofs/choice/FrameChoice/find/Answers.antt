@@ -21,8 +21,8 @@ cut_refused : (choose : Choosing) (name : List ℕ) (s : SurveyFields) (now : Se
     (λ fault. (plan : Planning) → IsInputFault (laying_making choose plan) name now now fault)
 cut_refused choose name s now there surveyed (Ok chosen) is kind = tt
 cut_refused choose name s now there surveyed (Err fault) is kind =
-    λ plan. refused_is_input (laying_making choose plan) name now now s cut_refuses fault kind there
-    surveyed (λ bytes holds. refused-laid choose plan bytes s fault (is bytes)) refl
+    λ plan. refused_is_input (laying_making choose plan) name now now s cut_refuses kind there
+    surveyed (λ bytes holds. refused-laid choose plan (is bytes)) refl
 
 pub returns-in-Between-clause-chosen : goal.returns-in-Between-clause-chosen
 returns-in-Between-clause-chosen g c = rw c.in-Between.is (MatchResult-weaker c.cut_choice.result

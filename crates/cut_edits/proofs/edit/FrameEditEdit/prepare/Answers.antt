@@ -7,9 +7,9 @@ use Rattle.commands.specs.declared.fault.EditFault.TheVariants.{Memory}
 use Rattle.cut_edits.proofs.{ChosenLemmas.task_makes, LaidPassLemmas.{work_layable, work_makes}}
 use Rattle.cut_edits.proofs.edit.FrameEditEdit.prepare.Goals.{In_ok-chosen}
 use Rattle.cut_edits.specs.Choices.{choosing_of, refuses_of_choice, task_of_choice}
-use Rattle.cut_edits.specs.Chosen.{chosen_in, first_planning, laying_making, laying_stream}
-use Rattle.cut_edits.specs.{Chosen.{Planning, slot_choices}, declared.edit.FrameEdit.FrameEdit}
-use Rattle.laying.{proofs.SurveyFrameLemmas.survey-had, specs.Laid.selected_part}
+use Rattle.cut_edits.specs.Chosen.{first_planning, laying_making, laying_stream, Planning}
+use Rattle.cut_edits.specs.{Chosen.slot_choices, declared.edit.FrameEdit.FrameEdit}
+use Rattle.laying.proofs.SurveyFrameLemmas.{survey-had}
 use Rattle.outside.specs.{Files.Holds, Seen.seen_folder}
 use Rattle.sync_survey.specs.{Faults.survey_view, MainData.StreamFrame}
 use Rattle.cut_edits.proofs.edit.FrameEditEdit.prepare.Given as given
@@ -76,9 +76,9 @@ returns-in_err-work-clause-refused g c =
 pub returns-clause-ready : goal.returns-clause-ready
 returns-clause-ready g c =
     work_layable c.in_ok-survey.survey c.in_ok-selected.selected c.in_ok-work.work
-    c.in_ok-work.ensures c.args.self.now.input.now (g.D.Folder.seen c.args.folder.now).files
+    c.in_ok-work.ensures
     c.in_ok-survey.ensures.there c.in_ok-survey.ensures.laid
-    (λ bytes holds. survey-had bytes most_frames (survey_view c.in_ok-survey.survey)
+    (λ bytes holds. survey-had most_frames
     (c.in_ok-survey.ensures.surveyed bytes holds)) c.in_ok-selected.ensures.writable
 
 pub returns-clause-making : goal.returns-clause-making
@@ -87,10 +87,9 @@ returns-clause-making g c =
     let files = (g.D.Folder.seen c.args.folder.now).files in
     let s = survey_view c.in_ok-survey.survey in
     work_makes c.in_ok-survey.survey c.in_ok-selected.selected c.in_ok-work.work
-    c.in_ok-work.ensures (task_of_choice edit.choice edit.least edit.input.now) files
+    c.in_ok-work.ensures
     (task_makes (choosing_of edit.choice) (plan_in edit)
-    (refuses_of_choice edit.choice) edit.input.now s
-    (chosen_in c.in_ok-chosen.chosen) (selected_part c.in_ok-selected.selected) files
+    (refuses_of_choice edit.choice)
     c.in_ok-survey.ensures.there c.in_ok-survey.ensures.surveyed c.in_ok-survey.ensures.octets
     (λ bytes holds. c.in_ok-chosen.ensures.chosen bytes (subst (λ f. Holds f edit.input.now bytes)
     (sym c.survey_at.ensures.reads.files) holds)) (ap Ok (sym c.in_ok-selected.ensures.laid)))

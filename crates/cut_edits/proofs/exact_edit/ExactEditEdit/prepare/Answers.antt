@@ -62,9 +62,9 @@ returns-in_err-span-clause-refused g c =
     let s = survey_view c.in_ok-survey.survey in
     err_with _ _ c.from_residual-in_err-span.ensures.1 (input_is_early (make_in edit)
     (streams_in edit) exact_refuses edit.input.now _ _ _
-    (refused_is_input (make_in edit) edit.input.now _ _ s exact_refuses _
+    (refused_is_input (make_in edit) edit.input.now _ _ s exact_refuses
     c.in_err-span.ensures.refusal c.in_ok-survey.ensures.there c.in_ok-survey.ensures.surveyed
-    (λ bytes holds. exact-refused edit.from.now edit.to.now bytes s _
+    (λ bytes holds. exact-refused edit.from.now edit.to.now bytes s
     (ap (λ (h : Option Info). file_span edit.from.now edit.to.now h s)
     (sym (c.as_ref.ensures.value ∙ c.in_ok-head.ensures.head bytes
     (subst (λ f. Holds f edit.input.now bytes) (sym c.survey_at.ensures.reads.files) holds)))
@@ -103,7 +103,7 @@ pub select_piece-requires-clause-there : goal.select_piece-requires-clause-there
 select_piece-requires-clause-there g c =
     grind (
       arith,
-      span-survey_without_head (survey_view c.in_ok-survey.survey) c.in_ok-span.span
+      span-survey_without_head
           c.in_ok-span.ensures.there,
     )
 
@@ -111,11 +111,10 @@ pub returns-clause-ready : goal.returns-clause-ready
 returns-clause-ready g c =
     let s = survey_view c.in_ok-survey.survey in
     work_layable c.set_apart.new.survey c.in_ok-selected.selected c.in_ok-work.work
-    c.in_ok-work.ensures c.args.self.now.input.now
-    (g.D.Folder.seen c.args.folder.now).files c.in_ok-survey.ensures.there
+    c.in_ok-work.ensures c.in_ok-survey.ensures.there
     (subst IsSurveyLaidOut (sym c.set_apart.ensures) (apart-laid s c.in_ok-survey.ensures.laid))
     (λ bytes holds. subst (CanBeRelaid bytes) (sym c.set_apart.ensures)
-    (survey_without_head-relaid bytes s
+    (survey_without_head-relaid
     (c.in_ok-survey.ensures.surveyed bytes holds))) c.in_ok-selected.ensures.writable
 
 pub returns-clause-making : goal.returns-clause-making
@@ -131,15 +130,15 @@ returns-clause-making g c =
     λ bytes holds. c.in_ok-head.ensures.head bytes
     (subst (λ f. Holds f edit.input.now bytes) (sym c.survey_at.ensures.reads.files) holds) in
     work_makes c.set_apart.new.survey c.in_ok-selected.selected c.in_ok-work.work
-    c.in_ok-work.ensures task files
+    c.in_ok-work.ensures
     (subst (λ (t : SurveyFields). IsMaking task (λ file. file_laid laid file t) files)
     (sym c.set_apart.ensures)
-    (exact-makes edit.from.now edit.to.now edit.input.now s span laid files
+    (exact-makes edit.from.now edit.to.now
     c.in_ok-survey.ensures.there c.in_ok-survey.ensures.surveyed c.in_ok-survey.ensures.octets
     (λ bytes holds. ap (λ (h : Option Info). file_span edit.from.now edit.to.now h s)
     (sym (c.as_ref.ensures.value ∙ read bytes holds)) ∙ c.in_ok-span.ensures.span)
     (λ bytes holds.
     c.in_ok-selected.ensures.laid bytes (subst (CanBeRelaid bytes) (sym c.set_apart.ensures)
-    (survey_without_head-relaid bytes s (c.in_ok-survey.ensures.surveyed bytes holds)))
+    (survey_without_head-relaid (c.in_ok-survey.ensures.surveyed bytes holds)))
     ∙ ap₂ (λ (h : Option Info) (t : SurveyFields). span_piece h span bytes t)
     (c.as_ref-2.ensures.value ∙ read bytes holds) c.set_apart.ensures)))

@@ -5,5 +5,5 @@ use Rattle.cut_edits.proofs.work.LaidWorkOutputPass.append.Goals as goal
 pub write-requires-clause-ready : goal.write-requires-clause-ready
 write-requires-clause-ready g c =
     let old = c.requires.created in
-    relay-ready _ old.0 (g.D.Folder.seen c.args.folder.now).files _
+    relay-ready old.0
     c.requires.apart old.1.there old.1.laid old.1.has c.length.ensures old.2 (old.1.fed _ _)

@@ -20,8 +20,8 @@ returns-in_err-frame-clause-prefix g c =
     let inv = c.loop-i.invariant in
     on_err c.from_residual.result
     (made-part c.args.name.now c.args.self.now.draws.state c.loop-i._i c.loop-i.self inv.next
-    (seen c.args.folder.now).files (seen c.loop-i.folder).files inv.made
-    c.args.count _ (seen c.frame.new.folder).files c.loop-i-test.true c.frame.ensures.reach
+    (seen c.args.folder.now).files
+    (seen c.loop-i.folder).files inv.made c.loop-i-test.true c.frame.ensures.reach
     c.in_err-frame.ensures.part)
 
 pub loop-i-preserved : goal.loop-i-preserved
@@ -37,7 +37,6 @@ loop-i-preserved g c =
           subst (λ n. HasMade c.args.name.now (drill_writing c.frame.new.self) (drill_frames seed n)
           (seen c.args.folder.now).files (seen c.frame.new.folder).files) one
           (made-more c.args.name.now seed i c.loop-i.self inv.next (seen c.args.folder.now).files
-          (seen c.loop-i.folder).files inv.made (drill_writing c.frame.new.self)
-          (seen c.frame.new.folder).files c.in_ok-frame.ensures.written);
+          (seen c.loop-i.folder).files inv.made c.in_ok-frame.ensures.written);
       counts = c.in_ok-frame.ensures.done ∙ inv.counts;
     }

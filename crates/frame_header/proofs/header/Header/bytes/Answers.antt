@@ -14,8 +14,8 @@ returns-clause-back c = grind (arith, bits-to_be_bytes)
 
 pub returns-clause-same : goal.returns-clause-same
 returns-clause-same c four all l is =
-    header_bytes-same c.to_be_bytes.result four c.args.self.now
-    (ap bits c.to_be_bytes.ensures ∙ bits-to_be_bytes c.word_of.result (omega arith)
+    header_bytes-same
+    (ap bits c.to_be_bytes.ensures ∙ bits-to_be_bytes (omega arith)
     ∙ c.word_of.ensures.bits)
     (subst AreBytes (sym c.to_be_bytes.ensures) (AreBytes-to_be_bytes c.word_of.result)) all l is
 

@@ -13,15 +13,15 @@ returns-in_err-push g c = record {
   passed = search rules;
   prefix = let bytes = c.bytes-bytes.result.now in
       let stores : c.args.stored ≡ min c.args.count (length bytes) =
-      laid_count-queue c.args.count c.self.inside.free c.args.stored bytes c.args.self.now
+      laid_count-queue c.args.count bytes
       (ap (λ (xs : List ℕ). waits xs c.self.inside.free) c.bytes-bytes.ensures ∙ c.self.view_is)
       c.requires.stored in
       let all =
-      first-parts c.args.count c.self.inside.free c.args.stored bytes c.args.self.now.bytes
+      first-parts c.self.inside.free bytes
       (ap (λ (xs : List ℕ). xs ++ zeros c.self.inside.free) c.bytes-bytes.ensures
       ∙ ap (λ (w : WaitingAreas). w.bytes) c.self.view_is) c.requires.within stores in
       on_err c.from_residual.result
-      (prefix-piece c.args.name.now c.args.unsent.now _ _ _ _ _ all c.in_err-push.ensures.prefix);
+      (prefix-piece c.args.unsent.now _ _ all c.in_err-push.ensures.prefix);
   failed = search rules;
   done = search rules;
   counts = search rules;
@@ -35,12 +35,11 @@ first_are : (g : given.Over) (c : After-add_zeros g)
     → take c.args.stored c.bytes-bytes.result.now
     ++ zeros (c.args.count - c.args.stored) ≡ take c.args.count c.args.self.now.bytes
 first_are g c =
-    first-parts c.args.count c.self.inside.free c.args.stored c.bytes-bytes.result.now
-    c.args.self.now.bytes
+    first-parts c.self.inside.free c.bytes-bytes.result.now
     (ap (λ (xs : List ℕ). xs ++ zeros c.self.inside.free) c.bytes-bytes.ensures
     ∙ ap (λ (w : WaitingAreas). w.bytes) c.self.view_is)
-    c.requires.within (laid_count-queue c.args.count c.self.inside.free c.args.stored
-    c.bytes-bytes.result.now c.args.self.now
+    c.requires.within (laid_count-queue c.args.count
+    c.bytes-bytes.result.now
     (ap (λ (xs : List ℕ). waits xs c.self.inside.free) c.bytes-bytes.ensures ∙ c.self.view_is)
     c.requires.stored)
 
@@ -48,11 +47,11 @@ pub returns : goal.returns
 returns g c = record {
   passed = ok-map c.add_zeros.result
       (passed-two c.args.unsent.now (take c.args.stored c.bytes-bytes.result.now)
-      (zeros (c.args.count - c.args.stored)) _ (first_are g c) c.in_ok-push.ensures.passed)
+      (zeros (c.args.count - c.args.stored)) (first_are g c) c.in_ok-push.ensures.passed)
       c.add_zeros.ensures.passed;
   prefix = err-map c.add_zeros.result
       (prefix-two c.args.unsent.now (take c.args.stored c.bytes-bytes.result.now)
-      (zeros (c.args.count - c.args.stored)) _ (first_are g c) c.in_ok-push.ensures.passed)
+      (zeros (c.args.count - c.args.stored)) (first_are g c) c.in_ok-push.ensures.passed)
       c.add_zeros.ensures.prefix;
   failed = search rules;
   done = search rules;

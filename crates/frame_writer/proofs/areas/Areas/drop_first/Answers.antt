@@ -1,5 +1,5 @@
 -- What is left of the queue, and of the zeros after it.
-use Rattle.std.proofs.Common.{ap, arith, drop, length-append, refl, take, ◌++◌, ◌-◌, ◌≡◌}
+use Rattle.std.proofs.Common.{ap, arith, drop, length-append, refl, ◌++◌, ◌-◌, ◌≡◌}
 use Rattle.frame_writer.proofs.LaidLemmas.{laid_count-queue, left-is, length-zeros, taken-laid}
 use Rattle.frame_writer.specs.Laid.{WaitingAreas, zeros}
 use Rattle.frame_writer.proofs.areas.Areas.drop_first.Goals as goal
@@ -12,11 +12,10 @@ returns-clause-laid c = λ given ps are.
     let less = free - (n - c.args.stored) in
     let left = c.drop_first.new.self in
     let leaves : left ++ zeros less ≡ drop n now =
-    left-is n free c.args.stored c.self.inside.queue left now
-    (laid_count-queue n free c.args.stored c.self.inside.queue c.args.self.now c.self.view_is
+    left-is free c.self.inside.queue
+    (laid_count-queue n c.self.inside.queue c.self.view_is
     c.requires.stored)
     c.drop_first.ensures (ap (λ (w : WaitingAreas). w.bytes) c.self.view_is) c.requires.within in
-    taken-laid given now (take n now)
-    (left ++ zeros less) n c.args.self.now.free less ps refl leaves
+    taken-laid n refl leaves
     (omega (arith, ap (λ (w : WaitingAreas). w.free) c.self.view_is))
     (omega (arith, length-append left (zeros less), length-zeros less)) are

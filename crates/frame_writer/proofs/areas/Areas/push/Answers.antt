@@ -19,7 +19,7 @@ returns-clause-put c =
     let is = added c.self.inside.queue _ c.push_payload.new.queue (zeros (free - begin)) payload
     c.push_zeros.ensures c.push_payload.ensures in
     ap (λ (xs : List ℕ). xs ++ zeros rest) is
-    ∙ more-put c.self.inside.queue payload begin free (free - begin) rest c.args.area (omega (
+    ∙ more-put c.self.inside.queue payload c.args.area (omega (
       arith,
       c.requires.start,
       ap (λ (w : WaitingAreas). w.free) c.self.view_is,

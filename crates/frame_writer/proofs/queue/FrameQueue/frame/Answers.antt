@@ -8,14 +8,13 @@ pub returns-clause-answer : goal.returns-clause-answer
 returns-clause-answer g c = record {
   written = ok-both c.hand_on.result
       (writes-on c.args.name.now c.args.frame.now (writing_of c.args.self.now c.args.unsent.now)
-      c.push.new.self
-      (writing_of c.hand_on.new.self c.hand_on.new.unsent) _ _ c.push.ensures.written)
+      c.push.new.self c.push.ensures.written)
       c.hand_on.ensures.passed
       c.hand_on.ensures.moved;
   passed = search rules;
   part = err-map c.hand_on.result
       (writes-part c.args.name.now c.args.frame.now (writing_of c.args.self.now c.args.unsent.now)
-      c.push.new.self c.hand_on.new.self _ _ c.push.ensures.written)
+      c.push.new.self c.push.ensures.written)
       c.hand_on.ensures.part;
   prefix = search rules;
   class = search rules;

@@ -8,7 +8,7 @@ use Rattle.frame_writer.proofs.queue.FrameQueue.hand_on.Goals as goal
 
 pub loop-self-init : goal.loop-self-init
 loop-self-init g c = record {
-  passed = passed_nothing (g.D.Folder.seen c.args.folder.now).files c.args.name.now
+  passed = passed_nothing
       (waiting_bytes (writing_of c.args.self.now c.args.unsent.now)) c.requires.there;
   moved = handed-none c.args.self.now;
   class = refl;
@@ -33,8 +33,7 @@ returns-in_err-take_first g c = record {
   passed = search rules;
   moved = search rules;
   part = on_err c.from_residual.result
-      (part-then c.args.name.now (writing_of c.args.self.now c.args.unsent.now)
-      (writing_of c.loop-self.self c.loop-self.unsent) c.take_first.new.self _ _ _
+      (part-then
       c.loop-self.invariant.passed c.loop-self.invariant.moved c.in_err-take_first.ensures.part);
   class = search rules;
   reach =

@@ -53,7 +53,7 @@ returns-clause-written c = λ taken fs are.
       kept = queue.items ++ f.kept ∷ [];
       waiting = c.push.new.self;
     }) (fs ++ f ∷ [])) is
-    (more-written taken c.self.inside.class queue.items c.self.inside.areas c.push.new.self fs f
+    (more-written f
     (λ given ps laid.
     subst (λ n. AreAreasLaid given
     c.push.new.self (ps ++ record { payload = f.payload; begin = n; area = frame_area f.kept }

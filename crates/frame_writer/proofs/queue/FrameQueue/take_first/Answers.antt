@@ -59,15 +59,14 @@ returns g c = record {
       c.self.inside.areas c.drop_first.new.self
       c.self.view_is (first g (goal.at.returns g c).After-unwrap-first)
       (ap (λ (b : Buffer FrameFields). b.items) c.pop_front.ensures.items) (drops g c) (step g c)
-      (within g (goal.at.returns g c).After-unwrap-first)
-      c.args.name.now c.args.unsent.now _ _)
+      (within g (goal.at.returns g c).After-unwrap-first))
       (rw c.of_class-first.ensures at c.add_frame-added.ensures.prefix);
   prefix = let k = c.unwrap-first.result.now in
       let items = c.self.inside.kept.items in
       let bytes = c.self.inside.areas.bytes in
       err-map c.add_frame-added.result
-      (prefix-piece c.args.name.now c.args.unsent.now (first_bytes k bytes) _
-      (framed_bytes (drop 1 items) (drop (frame_area k) bytes)) _ _
+      (prefix-piece c.args.unsent.now (first_bytes k bytes)
+      (framed_bytes (drop 1 items) (drop (frame_area k) bytes))
       (first-framed_bytes k (drop 1 items) bytes
       ∙ ap (λ (js : List FrameFields). framed_bytes js bytes)
       (sym (first g (goal.at.returns g c).After-unwrap-first)) ∙ ap held_bytes c.self.view_is))

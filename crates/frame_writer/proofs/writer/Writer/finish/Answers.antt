@@ -14,7 +14,7 @@ all : (held : WaitingFrames) (unsent : List ℕ) (state : State) (now : Writer)
     → unsent ++ held_bytes held ≡ held_bytes now.held
 all held unsent state now settled view opened =
     ap₂ (λ (xs : List ℕ) (h : WaitingFrames). xs ++ held_bytes h)
-    (is-open state held unsent settled (ap (λ (w : Writer). w.state) view ∙ opened)).0
+    (is-open settled (ap (λ (w : Writer). w.state) view ∙ opened)).0
     (ap (λ (w : Writer). w.held) view)
 
 pub finish-requires-2 : goal.finish-requires-2

@@ -19,7 +19,7 @@ nothing : (held : WaitingFrames) (unsent : List ℕ) (state : State) (now : Writ
     → writing_of held unsent ≡ writing_of now.held []
 nothing held unsent state now settled view opened =
     ap₂ writing_of (ap (λ (w : Writer). w.held) view)
-    (is-open state held unsent settled (ap (λ (w : Writer). w.state) view ∙ opened)).0
+    (is-open settled (ap (λ (w : Writer). w.state) view ∙ opened)).0
 
 -- the frame that is given
 given_is : (h : HeaderFields) (s : Side) (payload : List ℕ) (front : FrameFields) (whole : List ℕ)

@@ -1,7 +1,6 @@
 -- The tag is read, and then the change is decided with it; without tags it is decided at once.
 use Rattle.std.proofs.Common.{ap₂, None, refl, rules, Some, sym, ◌∙◌}
 use Rattle.gain_edits.proofs.RefusalLemmas.{answered, decided-may, noted-is, plain-is, tag_is_input}
-use Rattle.gain_edits.specs.Changes.{decided_change}
 use Rattle.outside.specs.Seen.{seen_folder}
 use Rattle.sync_survey.specs.Faults.{survey_view}
 use Rattle.gain_edits.proofs.changes.Changes.find.Goals as goal
@@ -12,8 +11,8 @@ returns-then-not-noted g c =
     let s = survey_view c.args.survey.now in
     let asks = sym c.are_noted-noted.ensures ∙ c.if-not-noted.true in
     answered changes c.args.name.now _ _ s
-    c.requires.there c.requires.surveyed (decided_change changes
-    s None) (decided-may changes s None asks) (λ bytes holds. plain-is changes bytes s asks) refl
+    c.requires.there c.requires.surveyed (decided-may changes s None asks)
+    (λ bytes holds. plain-is changes bytes s asks) refl
     (search rules) c.decide.result c.decide.ensures
 
 pub returns-in-Ok : goal.returns-in-Ok
@@ -21,9 +20,9 @@ returns-in-Ok g c =
     let changes = c.args.self.now in
     let s = survey_view c.args.survey.now in
     let asks = sym c.are_noted-noted.ensures ∙ c.if-not-noted.false in
-    answered changes c.args.name.now _ _ s c.requires.there c.requires.surveyed
-    (decided_change changes s (Some c.in-Ok.tag)) (decided-may changes s (Some c.in-Ok.tag) asks)
-    (λ bytes holds. noted-is changes bytes s _ asks (c.in-Ok.ensures.exact bytes holds))
+    answered changes c.args.name.now _ _ s
+    c.requires.there c.requires.surveyed (decided-may changes s (Some c.in-Ok.tag) asks)
+    (λ bytes holds. noted-is changes bytes s asks (c.in-Ok.ensures.exact bytes holds))
     (ap₂ seen_folder c.read_tag.ensures.files c.in-Ok.ensures.done)
     c.read_tag.ensures.counts c.decide-in-Ok.result c.decide-in-Ok.ensures
 

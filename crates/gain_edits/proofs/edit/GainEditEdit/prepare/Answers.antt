@@ -6,7 +6,6 @@ use Rattle.commands.specs.declared.fault.EditFault.TheVariants.{Memory}
 use Rattle.gain_edits.proofs.ProperLemmas.{edit_makes}
 use Rattle.gain_edits.specs.Change.{change_making, moved_file_stream}
 use Rattle.gain_edits.specs.Changes.{changing_of, refuses_of_changes, steps_of_changes}
-use Rattle.moved_gains.specs.Change.{change_in}
 use Rattle.outside.specs.{Files.Holds, Seen.seen_folder}
 use Rattle.sync_survey.specs.Faults.{survey_view}
 use Rattle.gain_edits.proofs.edit.GainEditEdit.prepare.Goals as goal
@@ -46,8 +45,7 @@ pub returns-clause-making : goal.returns-clause-making
 returns-clause-making g c =
     let edit = c.args.self.now in
     let s = survey_view c.in_ok-survey.survey in
-    edit_makes edit.changes edit.input.now s (change_in c.in_ok-change.change s)
-    (g.D.Folder.seen c.args.folder.now).files c.in_ok-survey.ensures.there
+    edit_makes edit.changes c.in_ok-survey.ensures.there
     c.in_ok-survey.ensures.surveyed c.in_ok-survey.ensures.octets
     (λ bytes holds. c.in_ok-change.ensures.change bytes
     (subst (λ f. Holds f edit.input.now bytes) (sym c.survey_at.ensures.reads.files) holds))

@@ -5,7 +5,6 @@ use Rattle.commands.specs.declared.fault.EditFault.TheVariants.{Memory}
 use Rattle.gain_edits.proofs.FadeLemmas.{change_early, change_early_behind, change_numbers}
 use Rattle.gain_edits.proofs.FadeLemmas.{fade_makes, input_early, input_numbers, making_in}
 use Rattle.gain_edits.specs.Fade.{fade_refuses}
-use Rattle.moved_gains.specs.Change.{change_in}
 use Rattle.outside.specs.{Files.{Holds, IsFileThere}, Seen.seen_folder}
 use Rattle.sync_survey.specs.Faults.{survey_view}
 use Rattle.gain_edits.proofs.fade_edit.FadeEditEdit.prepare.Goals as goal
@@ -30,7 +29,7 @@ returns-in_err-change-clause-refused g c =
     err_with _ _ c.from_residual-in_err-change.ensures.1
     (change_early_behind edit.sheet.now edit.back edit.input.now (survey_view c.in_ok-survey.survey)
     old _
-    c.in_ok-survey.ensures.there c.in_ok-survey.ensures.surveyed _ _
+    c.in_ok-survey.ensures.there c.in_ok-survey.ensures.surveyed _
     (ap₂ seen_folder c.survey_at.ensures.reads.files c.in_ok-survey.ensures.reads.done)
     c.in_err-change.ensures.refused)
 
@@ -56,7 +55,6 @@ returns-clause-making g c =
     let s = survey_view c.in_ok-survey.survey in
     let same = c.survey_at.ensures.reads.files in
     fade_makes edit.sheet.now edit.back edit.input.now s
-    (g.D.Folder.seen c.args.folder.now).files (change_in c.in_ok-change.change s)
     c.in_ok-survey.ensures.there c.in_ok-survey.ensures.surveyed c.in_ok-survey.ensures.octets
     (subst (λ f. IsFileThere f edit.sheet.now) same c.in_ok-change.ensures.there)
     (λ bytes holds. c.in_ok-change.ensures.change bytes

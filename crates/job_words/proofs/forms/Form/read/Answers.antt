@@ -5,7 +5,7 @@ use Rattle.std.specs.List.{drop-map}
 use Rattle.job_words.proofs.ReadingLemmas.{accepts, few, Found, refuses}
 use Rattle.job_words.proofs.forms.Form.read.Goals.{After-as_slice-values}
 use Rattle.job_words.specs.{Code.{form_given, value_said, word_kind}, Kinds.values_of}
-use Rattle.job_words.specs.{Request.job_request, declared.kinds.WordKind.WordKind}
+use Rattle.job_words.specs.declared.kinds.WordKind.{WordKind}
 use Rattle.job_words.proofs.forms.Form.read.Goals as goal
 
 -- what was found of the form
@@ -63,7 +63,7 @@ returns-clause-answer c =
     let words-are : map string_bytes c.skip-2.result.now ≡ drop c.len-front.result words =
     rw (c.skip-2.ensures, drop-map) refl in
     accepts _ c.requires words _ _ _ values
-    (found (goal.at.returns-clause-answer c).After-as_slice-values) (job_request c.job.result)
+    (found (goal.at.returns-clause-answer c).After-as_slice-values)
     (omega (
       arith,
       length-map c.args.words.now string_bytes,

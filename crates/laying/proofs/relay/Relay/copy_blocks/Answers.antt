@@ -1,6 +1,6 @@
 -- One more block is copied, if it is chosen.
-use Rattle.std.proofs.Common.{arith, drop, length, List, rules, slice_index_or, ℕ, [], ◌++◌, ◌+◌}
-use Rattle.std.proofs.{Common.{◌∷◌, ◌≡◌}, lemmas.{List.drop_all, Result.err_from_is_err_and}}
+use Rattle.std.proofs.Common.{arith, drop, List, rules, slice_index_or, ℕ, [], ◌++◌, ◌+◌, ◌∷◌, ◌≡◌}
+use Rattle.std.proofs.lemmas.{List.drop_all, Result.err_from_is_err_and}
 use Rattle.laying.proofs.CopyLemmas.{block-at, block-within, chosen-next}
 use Rattle.laying.proofs.relay.Relay.copy_blocks.Goals.{After-copy_chosen}
 use Rattle.laying.specs.Copying.{chosen_bytes}

@@ -1,8 +1,7 @@
 -- A chosen block is copied, and one that is not chosen has no bytes here.
-use Rattle.std.proofs.Common.{ap, rules, sym, [], ◌∙◌, ◌∷◌}
+use Rattle.std.proofs.Common.{ap, rules, sym, ◌∙◌}
 use Rattle.frame_writer.proofs.WritingLemmas.{ok-both}
 use Rattle.laying.proofs.{CopyLemmas.chosen-none, PassLemmas.ready-with}
-use Rattle.laying.specs.Copying.{chosen_bytes}
 use Rattle.outside.proofs.PassLemmas.{writes_nothing}
 use Rattle.sync_survey.specs.Faults.{survey_view}
 use mathlib.Core.Bool.{beq}
@@ -24,8 +23,8 @@ returns-else-goes_in_front-in_front g c = record {
   written =
       let self = c.args.self.now in
       let s = survey_view self.survey.now in
-      writes_nothing self.pass (chosen_bytes c.args.in_front s (c.args.block.now ∷ []))
-      c.args.waiting.now (g.D.Folder.seen c.args.folder.now).files c.requires.ready.pass.target
+      writes_nothing self.pass
+      c.args.waiting.now c.requires.ready.pass.target
       (λ file holds. sym (chosen-none c.args.in_front s c.args.block.now file (sym (ap
       (λ b. beq b c.args.in_front) c.goes_in_front.ensures) ∙ c.if-goes_in_front-in_front.false)));
   prefix = search rules;

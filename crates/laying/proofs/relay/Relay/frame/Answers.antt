@@ -9,7 +9,6 @@ use Rattle.laying.proofs.{ReadLemmas.main-next, SurveyFrameLemmas.side_fits}
 use Rattle.laying.proofs.relay.Relay.frame.Goals.{After-with_area-frame, Start}
 use Rattle.laying.specs.Needs.{need_of}
 use Rattle.laying.specs.Passing.{GivesPart, HoldsLastWithBytes, IsAreaOf, own_reach, relay_frame}
-use Rattle.laying.specs.Passing.{writing_in}
 use Rattle.outside.{proofs.BufferOutputLemmas.err_at, specs.Files.{Files, Holds}}
 use Rattle.side_info.specs.{FrameFields.FrameFields, Side.{front_width, SideFits}}
 use Rattle.slot_plan.specs.declared.needs.Placed.{Placed as PlacedFields}
@@ -59,7 +58,7 @@ told g c file holds =
     c.args.known.now.row.now span.skip c.bytes-bytes.ensures c.in_ok-span.ensures.given.area in
     let payload = c.cut_payload-payload.ensures.told file over.passed over.long
     ((λ j. over.is file holds j ++ has.is file holds j)
-    ∙ sym (main-next file s.head s.frames i c.args.known.now.row.now c.requires.next.found)) in
+    ∙ sym (main-next file s.head s.frames i c.requires.next.found)) in
     ap (λ (f : Frame). f ∷ []) (front g c ∙
     (λ j. record { kept = placed c.args.known.now.row.now c.args.place.now; payload = payload j }))
 
@@ -84,8 +83,8 @@ fits g c =
     let d = c.args.buffers.now.writer.class in
     let well =
     c.requires.stands.on.ready.laid.placed c.args.reading.now.next row c.requires.next.found in
-    begun_fits d (row_side row) c.args.place.now.begin (subst (λ k. SideFits k (row_side row))
-    (sym c.requires.stands.on.class) (side_fits s.class row.lost row.side well.fits))
+    begun_fits (subst (λ k. SideFits k (row_side row))
+    (sym c.requires.stands.on.class) (side_fits row.lost well.fits))
     (omega (arith, c.requires.begin))
 
 pub extent_in-extent-requires : goal.extent_in-extent-requires
@@ -152,9 +151,7 @@ returns-in_err-write_frame-clause-gives g c = record {
       (subst (λ f. GivesPart self made last c.args.buffers.now f
       (seen c.write_frame.new.folder).files c.in_err-write_frame.field-0.0)
       c.fill_frame.ensures.reads.files
-      (part_one self.pass.input.now self.pass.output.now made last _
-      (writing_in c.args.buffers.now) c.write_frame.new.writer (seen c.fill_frame.new.folder).files
-      (seen c.write_frame.new.folder).files (told g at.After-with_area-frame)
+      (part_one self.pass.input.now self.pass.output.now (told g at.After-with_area-frame)
       (omega (arith, reach)) c.in_err-write_frame.ensures.part));
   reach = search rules;
   done = search rules;
@@ -168,8 +165,7 @@ pub returns-clause-stands : goal.returns-clause-stands
 returns-clause-stands g c = record {
   on = record {
     ready = let on = c.in_ok-write_frame.ensures.written in
-        ready-later c.args.self.now _ _
-        c.fill_frame.new.feed on.passed on.files c.fill_frame.ensures.reads.ready;
+        ready-later on.passed on.files c.fill_frame.ensures.reads.ready;
     class = search rules;
     unsettled = search rules;
   };
@@ -202,10 +198,9 @@ returns-clause-stands g c = record {
       subst (λ (l : List ℕ). span.at + length l ≤ s.length)
       (ap (drop span.skip) (sym c.bytes-bytes.ensures) ∙ sym (take_rest bytes span.skip))
       c.in_ok-span.ensures.given.ends in
-      holds-later c.pass_area.new.window input c.args.self.now.pass.output.now s
-      span.at (length own) (i + 1) mid (g.D.Folder.seen c.write_frame.new.folder).files on.passed
+      holds-later on.passed
       c.requires.stands.on.ready.pass.apart on.files
       (holds-next c.fill_frame.new.window c.pass_area.new.window (take span.before bytes) input mid
-      s i over own row c.requires.next.found has well c.taken_before-taken.result taken_is
-      c.pass_area.ensures span.at c.in_ok-span.ensures.given.at within);
+      s i over own row c.requires.next.found has well taken_is
+      c.pass_area.ensures c.in_ok-span.ensures.given.at within);
 }

@@ -25,16 +25,15 @@ loop-place-init g c =
     record {
       stands = record {
         on = c.requires.stands;
-        over = over-holds c.args.buffers.now.window self.pass.input.now (g.D.Folder.seen
-            c.args.folder.now).files (survey_view self.survey.now) c.args.from c.requires.over;
+        over = over-holds c.requires.over;
       };
       early = c.requires.ordered;
       fits = c.requires.fits;
       reach = refl;
       lays = record {
         made = λ file. [];
-        lays = lays_none self.pass.input.now self.pass.output.now (λ file. [])
-            (writing_in c.args.buffers.now) (g.D.Folder.seen c.args.folder.now).files
+        lays = lays_none self.pass.input.now self.pass.output.now
+            (writing_in c.args.buffers.now)
             c.requires.stands.ready.pass.target (λ file holds. refl);
         left = λ file holds. refl;
       };
@@ -74,7 +73,7 @@ module _ (g : given.Over) (c : After-index-rows-reading g) where
   fits = grind (arith, slice_range, left)
 
   some : i < to
-  some = fits-some window reach s i to p more fits
+  some = fits-some window reach s p more fits
 
   found : slice_get s.frames i ≡ Some row
   found = grind (arith, found-at, some)
@@ -84,7 +83,7 @@ module _ (g : given.Over) (c : After-index-rows-reading g) where
         × (placed_bytes p.lead_in (need_of row) ≤ p.begin + placed_area p (need_of row))
         × FitsFromReach window
         (reach_behind window p (need_of row)) (map need_of (slice_range s.frames next to)) more
-    opened = fits-next s i to next row p more found some next_is window reach fits
+    opened = fits-next s i to next row p more found some next_is window fits
 
     last_is : last_reach window (reach_behind window p (need_of row))
         (map need_of (slice_range s.frames next to)) more
@@ -142,30 +141,28 @@ returns-in_err-reading-clause-gives g c = record {
       let one =
       λ (file : List ℕ). planned_frame p (survey_frame file s c.loop-place.reading.next row) ∷ [] in
       err_at c.from_residual.result _ c.from_residual.ensures.1
-      (part_more self.pass.input.now self.pass.output.now (λ file. sofar.made file ++ one file)
+      (part_more
       (rest g at next refl)
-      (λ file. relaid_frames (slice_range (all_frames file s) c.args.from to) placed) reach last
-      (writing_in c.args.buffers.now) (seen c.args.folder.now).files (seen c.place.new.folder).files
       (λ file holds later begins.
       let has = c.requires.stands.ready.exact file holds in
       begins-left window reach (map need_of (slice_range s.frames next to))
       (slice_range (all_frames file s) next to) (drop (c.loop-place.place-index + 1) placed) later
-      (needs-range file s next to has) (opened g at next refl).2
+      (needs-range next to has) (opened g at next refl).2
       (subst (λ n. BeginsWithin n (all_frame_data later)) (sym (last_is g at next refl)) begins))
       (split g at next refl)
       (part_then self.pass.input.now self.pass.output.now sofar.made one (writing_in
       c.args.buffers.now) (writing_in c.loop-place.buffers) (seen c.args.folder.now).files
-      (seen c.loop-place.folder).files c.requires.stands.ready.pass.apart sofar.lays reach
-      (seen c.place.new.folder).files c.in_err-reading.ensures.gives.part));
+      (seen c.loop-place.folder).files c.requires.stands.ready.pass.apart sofar.lays
+      c.in_err-reading.ensures.gives.part));
   reach = search rules;
   done = search rules;
   cause = let s = survey_view c.args.self.now.survey.now in
       let sofar = c.loop-place.invariant.lays in
       let q = err_from_is_err_and c.from_residual.result c.from_residual.ensures.1 in
       rw (q.1, q.2)
-      (cause_later _ (g.D.Folder.seen c.args.folder.now).files
-      (g.D.Folder.seen c.loop-place.folder).files c.args.self.now.pass.output.now sofar.lays.passed
-      _ _ _ _ sofar.lays.files c.loop-place.invariant.counts c.in_err-reading.ensures.gives.cause);
+      (cause_later _
+      (g.D.Folder.seen c.args.folder.now).files c.args.self.now.pass.output.now sofar.lays.passed _
+      _ sofar.lays.files c.loop-place.invariant.counts c.in_err-reading.ensures.gives.cause);
 }
 
 pub loop-place-preserved : goal.loop-place-preserved
@@ -196,8 +193,7 @@ loop-place-preserved g c =
         lays = lays_then self.pass.input.now self.pass.output.now inv.lays.made one
             (writing_in c.args.buffers.now) (writing_in c.loop-place.buffers)
             (seen c.args.folder.now).files (seen c.loop-place.folder).files
-            c.requires.stands.ready.pass.apart inv.lays.lays (writing_in c.place.new.buffers)
-            (seen c.place.new.folder).files
+            c.requires.stands.ready.pass.apart inv.lays.lays
             c.in_ok-reading.ensures.gives.lays;
         left = λ file holds. sym (split g at c.in_ok-reading.reading.next next_is file holds);
       };
@@ -218,7 +214,7 @@ bounded g c =
     let window = window_of s.class.version in
     let reach = reach_of c.loop-place.buffers.writer in
     let left : drop k placed ≡ p ∷ drop (k + 1) placed = grind (arith, item-next) in
-    let within = fits-some window reach s c.loop-place.reading.next c.args.to p
+    let within = fits-some window reach s p
     (drop (k + 1) placed) (subst (FitsFromReach window reach (map need_of (slice_range s.frames
     c.loop-place.reading.next c.args.to))) left c.loop-place.invariant.fits) in
     omega (arith, within, c.requires.within, ap length c.frames-rows.ensures)

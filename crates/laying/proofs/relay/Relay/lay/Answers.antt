@@ -23,8 +23,7 @@ returns-in_err-frames g c = record {
       (subst (λ f. WritesPrefix self.pass (λ file. bytes_of_frames (made file)) b.waiting f
       (seen c.frames.new.folder).files c.in_err-frames.field-0.0) c.read_before.ensures.reads.files
       (part-prefix self.pass made b.waiting (writing_in b)
-      (seen c.read_before.new.folder).files (new-behind b.writer b.waiting c.requires.new)
-      _ (seen c.frames.new.folder).files
+      (seen c.read_before.new.folder).files (new-behind b.waiting c.requires.new)
       (rw c.placed.ensures at c.in_err-frames.ensures.gives.part)));
   ready = search rules;
   done = search rules;
@@ -42,8 +41,8 @@ returns g c = record {
       b.waiting c.finish.new.unsent f (g.D.Folder.seen c.finish.new.folder).files)
       c.read_before.ensures.reads.files
       (lays-written c.args.self.now.pass made b.waiting (writing_in b) _
-      (new-behind b.writer b.waiting c.requires.new) (writing_in c.frames.new.buffers) _
-      (rw c.placed.ensures at c.in_ok-frames.ensures.gives.lays) c.finish.new.unsent _ passed))
+      (new-behind b.waiting c.requires.new) (writing_in c.frames.new.buffers) _
+      (rw c.placed.ensures at c.in_ok-frames.ensures.gives.lays) passed))
       c.finish.ensures.passed;
   prefix =
       let made = selected_frames (survey_view c.args.self.now.survey.now) c.args.selected.now in
@@ -54,10 +53,10 @@ returns g c = record {
       b.waiting f (g.D.Folder.seen c.finish.new.folder).files fault)
       c.read_before.ensures.reads.files
       (lays-prefix c.args.self.now.pass made b.waiting (writing_in b) _
-      (new-behind b.writer b.waiting c.requires.new) (writing_in c.frames.new.buffers) _
-      (rw c.placed.ensures at c.in_ok-frames.ensures.gives.lays) _ part))
+      (new-behind b.waiting c.requires.new) (writing_in c.frames.new.buffers) _
+      (rw c.placed.ensures at c.in_ok-frames.ensures.gives.lays) part))
       c.finish.ensures.prefix;
-  ready = on_ok_weaker c.finish.result (λ passed. ready-passed c.args.self.now passed
+  ready = on_ok_weaker c.finish.result (λ passed. ready-passed passed
       c.in_ok-frames.ensures.stands.ready) c.finish.ensures.passed;
   done = search rules;
   cause = let self = c.args.self.now in

@@ -23,10 +23,10 @@ returns-in_err-read_before-clause-gives g c = record {
       err_at c.from_residual.result _ c.from_residual.ensures.1
       (subst (λ f. GivesPart relay made reach b old f c.in_err-read_before.field-0.0)
       (sym c.read_before.ensures.reads.files)
-      (part_none relay.pass.input.now relay.pass.output.now made reach (writing_in b) old
+      (part_none relay.pass.input.now relay.pass.output.now
       c.in_err-read_before.ensures.reads.read c.requires.stands.ready.pass.target
       (λ file holds more.
-      range-begins s from to c.requires.within file placed (reach_of b.writer) b.writer.waiting.free
+      range-begins s from to c.requires.within placed
       more (c.requires.stands.ready.exact file holds) (omega arith) c.requires.fits)));
   reach = search rules;
   done = search rules;
@@ -55,8 +55,8 @@ returns-clause-gives g c = record {
   lays =
       lays-range (survey_view c.args.self.now.survey.now) c.args.from c.args.to c.requires.within
       c.args.placed.now _ c.places_for-count.ensures.places _ _
-      (writing_in c.args.buffers.now) _ _ _ c.read_before.ensures.reads.files
-      (writing_in c.frames.new.buffers) c.in_ok-frames.ensures.gives.lays;
+      (writing_in c.args.buffers.now) _ _ _
+      c.read_before.ensures.reads.files c.in_ok-frames.ensures.gives.lays;
   part = search rules;
   reach = c.in_ok-frames.ensures.gives.reach
       ∙ reach-is (survey_view c.args.self.now.survey.now) c.args.from c.args.to c.requires.within

@@ -3,7 +3,7 @@ use Rattle.std.proofs.Common.{ap, arith, rules, subst, sym, ◌∙◌, ◌≡◌
 use Rattle.frame_header.specs.Tables.{class_of}
 use Rattle.laying.proofs.PlannedFrameLemmas.{begun_fits}
 use Rattle.laying.proofs.relay.Relay.lead_in.Goals.{After-with_begin-side}
-use Rattle.side_info.{proofs.SideLemmas.SideFits-no_side, specs.Side.{no_side, SideFits}}
+use Rattle.side_info.{proofs.SideLemmas.SideFits-no_side, specs.Side.SideFits}
 use Rattle.side_info.specs.declared.side.Side.{Side}
 use Rattle.laying.proofs.relay.Relay.lead_in.Given as given
 use Rattle.laying.proofs.relay.Relay.lead_in.Goals as goal
@@ -14,7 +14,7 @@ fits g c =
     let class = c.args.writer.now.class in
     subst (SideFits class) (sym (c.with_begin-side.ensures
     ∙ ap (λ (s : Side). record s { main_data_begin = c.args.place.now.begin }) c.empty.ensures))
-    (begun_fits class no_side c.args.place.now.begin (SideFits-no_side class)
+    (begun_fits (SideFits-no_side class)
     (omega (arith, c.requires.begin)))
 
 class : (g : given.Over) (c : After-with_begin-side g)

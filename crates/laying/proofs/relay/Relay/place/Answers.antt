@@ -61,14 +61,11 @@ returns-in_ok-lead_in-clause-stands g c = record {
   on = record {
     ready = let self = c.args.self.now in
         let on = c.in_ok-lead_in.ensures.written in
-        ready-later self _ _ c.args.buffers.now.feed on.passed on.files c.requires.stands.on.ready;
+        ready-later on.passed on.files c.requires.stands.on.ready;
     class = search rules;
     unsettled = search rules;
   };
   over = let self = c.args.self.now in
       let on = c.in_ok-lead_in.ensures.written in
-      holds-later c.args.buffers.now.window self.pass.input.now self.pass.output.now
-      (survey_view self.survey.now)
-      c.args.reading.now.at c.args.reading.now.count c.args.reading.now.next
-      _ _ on.passed c.requires.stands.on.ready.pass.apart on.files c.requires.stands.over;
+      holds-later on.passed c.requires.stands.on.ready.pass.apart on.files c.requires.stands.over;
 }

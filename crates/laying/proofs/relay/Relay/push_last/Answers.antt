@@ -14,6 +14,5 @@ returns-clause-over g c = λ at within.
     let over = subst (λ f. HoldsLastAreas c.args.window.now input f s
     reading.at reading.count reading.next) (sym c.fill.ensures.reads.files) c.requires.over in
     holds-pushed c.args.window.now c.push_area.new.self given input files s
-    reading.next (holds-given c.args.window.now given input files s
-    reading.at reading.count reading.next over c.in_ok-fill.ensures.given) at within
+    reading.next (holds-given over c.in_ok-fill.ensures.given) within
     (rw c.bytes.ensures at c.push_area.ensures.held)

@@ -26,7 +26,7 @@ returns-in_err-write_frames g c = record {
       err_at c.from_residual.result _ c.from_residual.ensures.1
       (part_behind_none c.requires.none
       (prefix_as c.args.self.now.pass (λ file. file_laid (selected_part selected) file s) (back s)
-      (λ file holds. sym (written-is s selected file c.requires.writable
+      (λ file holds. sym (written-is c.requires.writable
       (c.requires.ready.exact file holds))) c.in_err-write_frames.ensures.prefix));
   none = search rules;
   done = search rules;
@@ -45,7 +45,7 @@ returns-in_err-copy_blocks g c = record {
       (part_behind_none c.requires.none
       (prefix_as pass (λ file. file_laid (selected_part selected) file s) (λ file. [])
       (λ file holds. sym (append-nil (selected_front s selected file ++ back s file)
-      ∙ written-is s selected file c.requires.writable (c.requires.ready.exact file holds)))
+      ∙ written-is c.requires.writable (c.requires.ready.exact file holds)))
       (prefix_then pass c.requires.ready.pass.apart c.in_ok-write_frames.ensures.written
       c.in_err-copy_blocks.ensures.prefix)));
   none = search rules;
@@ -77,8 +77,8 @@ module _ (g : given.Over) (c : In_ok-copy_blocks g) where
       c.in_ok-write_frames.ensures.written c.in_ok-copy_blocks.ensures.written
 
   all : WritesMadeBytes c.args.self.now.pass made [] c.copy_blocks.new.waiting old new
-  all = writes_behind_none c.requires.none (writes_as c.args.self.now.pass made
-      (λ file holds. written-is s c.args.selected.now file
+  all = writes_behind_none c.requires.none (writes_as c.args.self.now.pass
+      (λ file holds. written-is
       c.requires.writable (c.requires.ready.exact file holds)) both)
 
 pub returns : goal.returns
@@ -92,6 +92,6 @@ returns g c = record {
   cause = causes_behind (both g (goal.at.returns g c).In_ok-copy_blocks) _ _ _ _
       (c.in_ok-copy_blocks.ensures.done ∙ c.in_ok-write_frames.ensures.done)
       c.finish.result c.finish.ensures.cause;
-  ready = on_ok_weaker c.finish.result (λ is. ready-later c.args.self.now _ _ _ _ is
+  ready = on_ok_weaker c.finish.result (λ is. ready-later _ is
       c.in_ok-copy_blocks.ensures.ready) c.finish.ensures.appended;
 }

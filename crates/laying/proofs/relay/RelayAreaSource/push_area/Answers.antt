@@ -32,7 +32,7 @@ returns-clause-area g c =
       area = c.fill.new.feed.given;
       long = given.long ∙ c.area.ensures.area;
       is = λ file holds. given.is file holds
-          ∙ area-at file c.args.offset header _ _ at c.area.ensures.area;
+          ∙ area-at file c.args.offset header at c.area.ensures.area;
       over = rw c.bytes.ensures at c.push_area.ensures.main;
     }
 

@@ -21,7 +21,7 @@ write-requires-clause-ready g c =
     let seen = g.D.Folder.seen in
     let s = survey_view c.in-Ok-survey.survey in
     let held : (file : List ℕ) → Holds (seen c.survey.new.folder).files (97 ∷ []) file
-    → CanBeRelaid file s = λ file holds. survey-had file 2 s (c.in-Ok-survey.ensures.exact file
+    → CanBeRelaid file s = λ file holds. survey-had 2 (c.in-Ok-survey.ensures.exact file
     (subst (λ f. Holds f (97 ∷ []) file) c.survey.ensures.files holds)) in
     record {
       pass = record {

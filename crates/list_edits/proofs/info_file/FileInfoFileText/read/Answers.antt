@@ -9,7 +9,7 @@ use Rattle.list_edits.proofs.info_file.FileInfoFileText.read.Goals as goal
 
 pub head_fields-requires-clause-exact : goal.head_fields-requires-clause-exact
 head_fields-requires-clause-exact g c = λ file holds.
-    survey-had file most_frames (survey_view c.args.survey.now) (c.requires.surveyed file holds)
+    survey-had most_frames (c.requires.surveyed file holds)
 
 pub returns-in-Ok-clause-text : goal.returns-in-Ok-clause-text
 returns-in-Ok-clause-text g c = λ bytes holds.

@@ -5,6 +5,6 @@ use Rattle.list_edits.proofs.leading_digits.LeadingDigits.put_by_myriads.Goals a
 
 pub returns-then-behind-lt10000-clause-number : goal.returns-then-behind-lt10000-clause-number
 returns-then-behind-lt10000-clause-number c =
-    put_behind _ _ _ _ (omega (arith, c.self.view_is))
-    c.put_four.ensures c.put_before.ensures (kept_myriads c.self.inside.number c.args.number
+    put_behind _ _ (omega (arith, c.self.view_is))
+    c.put_four.ensures c.put_before.ensures (kept_myriads
     c.self.invariant.2 c.self.invariant.3 c.ranges.number.fits c.if-behind-lt10000.true)

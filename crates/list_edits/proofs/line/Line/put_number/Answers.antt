@@ -4,8 +4,8 @@ use Rattle.list_edits.proofs.line.Line.put_number.Goals as goal
 
 pub returns-then-number-lt10000-clause-few : goal.returns-then-number-lt10000-clause-few
 returns-then-number-lt10000-clause-few c =
-    few_before c.args.number c.args.self.now c.ranges.number.fits c.put_short.ensures
+    few_before c.args.self.now c.ranges.number.fits c.put_short.ensures
 
 pub returns-else-number-lt10000-clause-few : goal.returns-else-number-lt10000-clause-few
 returns-else-number-lt10000-clause-few c =
-    few_before c.args.number c.args.self.now c.ranges.number.fits c.put_long.ensures
+    few_before c.args.self.now c.ranges.number.fits c.put_long.ensures

@@ -8,8 +8,7 @@ use Rattle.list_edits.proofs.things.Things.next.Goals as goal
 pub returns-in-Some-next_first_until : goal.returns-in-Some-next_first_until
 returns-in-Some-next_first_until c =
     let t : Things = c.args.self.now in
-    block_met t (record { junk = t.junk; head = t.head; others = c.next_first_until.new.self })
-    c.in-Some-next_first_until.piece.now c.in-Some.offset refl
+    block_met t (record { junk = t.junk; head = t.head; others = c.next_first_until.new.self }) refl
     c.in-Some-next_first_until.ensures.met
     (rw (← c.in-Some.is) c.leading_offset.ensures)
     c.in-Some-next_first_until.ensures.until

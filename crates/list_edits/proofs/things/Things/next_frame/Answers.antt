@@ -12,5 +12,5 @@ returns-clause-met c =
     let none : leading_things t ≡ [] =
     leading_things-none t (sym c.is_some.ensures ∙ c.if-is_some.false)
     (sym c.is_some-2.ensures ∙ c.if-is_some-2.false) in
-    frame_met t new none none c.in_ok-row.row.now c.in_ok-row.ensures.met c.in_ok-row.ensures.order
+    frame_met t new none none c.in_ok-row.ensures.met c.in_ok-row.ensures.order
     ∙ ap (λ n. Frame n c.in_ok-row.row.now ∷ things_left new) (sym c.seconds_met-number.ensures)

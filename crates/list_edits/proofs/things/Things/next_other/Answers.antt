@@ -17,7 +17,7 @@ returns-in-First c =
     let new : Things = record { junk = t.junk; head = t.head; others = c.next.new.self } in
     let met : IsMet t.others new.others (First c.in-First.piece) =
     subst (IsMet t.others new.others) c.in-First.is c.in_ok-piece.ensures in
-    block_alone t new c.requires c.requires c.in-First.piece met.0 met.1
+    block_alone t new c.requires c.requires met.0 met.1
 
 pub returns-in-Second : goal.returns-in-Second
 returns-in-Second c =
@@ -25,7 +25,7 @@ returns-in-Second c =
     let new : Things = record { junk = t.junk; head = t.head; others = c.next.new.self } in
     let met : IsMet t.others new.others (Second c.in-Second.row) =
     subst (IsMet t.others new.others) c.in-Second.is c.in_ok-piece.ensures in
-    frame_met t new c.requires c.requires c.in-Second.row met.0 met.1
+    frame_met t new c.requires c.requires met.0 met.1
     ∙ ap (λ n. Frame n c.in-Second.row ∷ things_left new) (sym c.seconds_met-number.ensures)
 
 pub returns-in_err-piece : goal.returns-in_err-piece

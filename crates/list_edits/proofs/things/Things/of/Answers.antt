@@ -21,4 +21,4 @@ returns c =
     )
     (ap (merged_list offset_of (map Block s.blocks))
     (append_assoc (junk_of s) (head_thing s.first s.head) (frames_from 0 s.frames)))
-    ∙ sym (ordered_things-is s c.requires)
+    ∙ sym (ordered_things-is c.requires)

@@ -14,7 +14,7 @@ returns-clause-with c =
     let row = c.args.row.now in
     let side = c.side_in-side.ensures.side ∙ ap (λ (f : FrameFields). f.side) c.front.ensures in
     rw (c.joined-self.ensures, c.joined-self-2.ensures)
-    (with-sound row c.args.self.now c.from.result c.gains_in.result c.gains_in-2.result
+    (with-sound row c.args.self.now
     (sym c.lost.ensures ∙ c.if-lost.false)
     (c.from.ensures ∙ c.payload_bytes.ensures ∙ ap payload_bytes side)
     (c.gains_in.ensures ∙ ap (λ (s : Side). extremes (side_gains 0 s)) side)

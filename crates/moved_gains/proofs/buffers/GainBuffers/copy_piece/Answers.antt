@@ -25,8 +25,7 @@ returns g c = record {
       record {
         piece = take c.args.n fed.held;
         is = λ file holds.
-            held_piece fed (g.D.Folder.seen c.fill.new.folder).files pass.input.now c.args.at
-            c.args.n c.in_ok-fill.ensures.place c.in_ok-fill.ensures.enough
+            held_piece c.in_ok-fill.ensures.place c.in_ok-fill.ensures.enough
             c.in_ok-fill.ensures.ready.fed_from file
             (input_holds (g.D.Folder.seen c.args.folder.now).files
             (g.D.Folder.seen c.fill.new.folder).files pass.input.now pass.output.now passed.passed
@@ -39,7 +38,6 @@ returns g c = record {
   prefix = search rules;
   done = search rules;
   cause = search rules;
-  ready = ready_after c.args.pass.now _
-      c.fill.new.self.feed c.pass_on.new.self.feed c.args.n c.in_ok-fill.ensures.enough
+  ready = ready_after c.in_ok-fill.ensures.enough
       c.pass_on.ensures.place c.pass_on.ensures.held c.in_ok-fill.ensures.ready;
 }

@@ -63,7 +63,7 @@ pub returns-clause-ready : goal.returns-clause-ready
 returns-clause-ready g c =
     let pass = c.args.pass.now in
     on_ok_weaker c.hand_on-2.result
-    (λ more. ready_empty pass _ c.args.self.now.feed _ refl
-    (ready_later pass _ _ c.args.self.now.feed _ more (ready_later pass _ _ c.args.self.now.feed _
+    (λ more. ready_empty refl
+    (ready_later _ more (ready_later _
     c.in_ok-hand_on.ensures.appended c.requires.ready)))
     c.hand_on-2.ensures.appended

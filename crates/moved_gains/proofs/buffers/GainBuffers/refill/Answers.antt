@@ -23,9 +23,9 @@ returns-in_err-self-inside g c = record {
       (ap (take c.self.inside.done) c.deref.ensures.value ∙ ap (λ p. p.waiting) c.self.view_is) in
       err_at c.from_residual-in_err-self-inside.result _
       c.from_residual-in_err-self-inside.ensures.1
-      (prefix_then pass c.requires.ready.apart (all_on pass c.args.self.now.waiting _ _ first)
-      (prefix_nothing pass (λ file. []) [] _ _
-      c.in_err-self-inside.ensures.read c.in_err-self-inside.ensures.files (still_there _ _
+      (prefix_then pass c.requires.ready.apart (all_on first)
+      (prefix_nothing pass (λ file. []) []
+      c.in_err-self-inside.ensures.read c.in_err-self-inside.ensures.files (still_there _
       pass.output.now _ pass.output.now c.in_ok-hand_on.ensures.appended c.requires.ready.target)));
   done = search rules;
   cause = grind (arith, err_from_is_err_and, cause_later);
@@ -46,13 +46,13 @@ returns g c = record {
       let room = c.read_behind.new.room in
       let fed = c.args.self.now.feed in
       let ready = subst (λ f. IsPassReady pass f fed) (sym c.in_ok-self-inside.ensures.files)
-      (ready_later pass _ _ fed _ c.in_ok-hand_on.ensures.appended c.requires.ready) in
+      (ready_later _ c.in_ok-hand_on.ensures.appended c.requires.ready) in
       let size : length c.as_mut_slice-room.result.now ≡ 65536 =
       ap length c.as_mut_slice-room.ensures.value ∙ c.self.invariant.size in
       let long : length room ≡ 65536 =
       omega (arith, c.read_behind.auto.room, c.keep_from-kept.auto.room, size) in
       let room_is : take a.room.len (room ++ drop (length room) a.room.items) ≡ room =
-      fills a.room.len room _ (omega (arith, long, size, c.as_mut_slice-room.ensures.len)) in
+      fills _ (omega (arith, long, size, c.as_mut_slice-room.ensures.len)) in
       let count : k - 0 ≡ k = omega arith in
       record {
         apart = ready.apart;
@@ -68,7 +68,7 @@ returns g c = record {
               c.requires.ready.apart c.in_ok-hand_on.ensures.appended mid in
               let was = subst (λ p. take (length p.feed.held) (drop p.feed.place file)
               ≡ p.feed.held) (sym c.self.view_is) (c.requires.ready.fed_from.same file old) in
-              let front = fed_front (a.end - a.done) a.place (drop a.done a.room.items) file (omega
+              let front = fed_front a.place (drop a.done a.room.items) file (omega
               (arith, length-drop a.done a.room.items, c.self.invariant.size, c.self.invariant.few))
               was in
               let kept = c.keep_from-kept.ensures.kept file (front ∙ ap (λ (l : List ℕ).
@@ -77,7 +77,7 @@ returns g c = record {
               subst (λ (l : List ℕ). take (length (take (k - 0) l)) (drop c.args.at file)
               ≡ take (k - 0) l) (sym room_is)
               (subst (λ n. take (length (take n room)) (drop c.args.at file) ≡ take n room)
-              (sym count) (fed_by k c.args.at room file
+              (sym count) (fed_by c.args.at room file
               (omega (arith, long, c.in_ok-self-inside.ensures.most)) read));
         };
       };

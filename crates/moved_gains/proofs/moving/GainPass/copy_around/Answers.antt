@@ -33,7 +33,7 @@ returns-in_err-push g c = record {
       (prefix_then pass c.requires.ready.apart c.in_ok-copy.ensures.written
       (prefix_as pass (rest tag c.args.to) (λ file. bytes_between file tag.end c.args.to)
       (λ file holds. refl)
-      (prefix_piece pass (λ file. tag.bytes.now)
+      (prefix_piece pass
       (λ file holds. refl) c.in_err-push.ensures.prefix)));
   done = search rules;
   cause = let p = err_from_is_err_and c.from_residual-in_err-push.result
@@ -47,7 +47,7 @@ pub returns : goal.returns
 returns g c = record {
   written = let pass = c.args.self.now.pass in
       let apart = c.requires.ready.apart in
-      let second = writes_piece pass (λ file. c.args.tag.now.bytes.now)
+      let second = writes_piece pass {made = λ file. c.args.tag.now.bytes.now}
       (λ file holds. refl) c.in_ok-push.ensures.passed in
       on_ok_weaker c.copy-2.result (λ third. writes_then pass apart
       c.in_ok-copy.ensures.written (writes_then pass apart second third))
@@ -56,11 +56,12 @@ returns g c = record {
       (λ fault third.
       prefix_then c.args.self.now.pass c.requires.ready.apart c.in_ok-copy.ensures.written
       (prefix_then c.args.self.now.pass c.requires.ready.apart (writes_piece c.args.self.now.pass
-      (λ file. c.args.tag.now.bytes.now) (λ file holds. refl) c.in_ok-push.ensures.passed) third))
+      {made = λ file. c.args.tag.now.bytes.now} (λ file holds. refl) c.in_ok-push.ensures.passed)
+      third))
       c.copy-2.ensures.prefix;
   done = search rules;
   cause = let pass = c.args.self.now.pass in
-      let second = writes_piece pass (λ file. c.args.tag.now.bytes.now)
+      let second = writes_piece pass {made = λ file. c.args.tag.now.bytes.now}
       (λ file holds. refl) c.in_ok-push.ensures.passed in
       causes_behind c.in_ok-copy.ensures.written _ _ _ _ c.in_ok-copy.ensures.done c.copy-2.result
       (causes_behind second _ _ _ _

@@ -49,8 +49,8 @@ loop-frame-init g c = record {
   told = c.requires.told;
   up_to = up_to_begun c.args.self.now.pass
       (λ file. bytes_written_from (steps_at_offset c.args.self.now.course.now c.args.rows.now)
-      c.args.self.now.tag file c.args.from c.args.rows.now) c.args.buffers.now.waiting
-      (g.D.Folder.seen c.args.folder.now).files c.requires.ready.target;
+      c.args.self.now.tag file c.args.from c.args.rows.now)
+      c.args.buffers.now.waiting c.requires.ready.target;
   ready = c.requires.ready;
   counts = refl;
 }
@@ -76,7 +76,7 @@ module _ (g : given.Over) (c : After-from g) where
   all_laid = grind (arith, laid, is)
 
   within : row_end row ≤ c.args.self.now.pass.length
-  within = laid_end (row_end row) (drop (i + 1) rows) c.args.self.now.pass.length all_laid.2
+  within = laid_end (row_end row) (drop (i + 1) rows) all_laid.2
 
   abbrev up_to_row : List ℕ → List ℕ
   up_to_row file = copied_bytes c.args.self.now.tag file c.loop-frame.at c.from.result

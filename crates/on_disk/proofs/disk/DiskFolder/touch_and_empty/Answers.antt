@@ -7,7 +7,7 @@ use Rattle.on_disk.proofs.disk.DiskFolder.touch_and_empty.Goals as goal
 pub make_empty-requires : goal.make_empty-requires
 make_empty-requires g c = record {
   noted_first =
-      touch_there (touched_in c.args.self.now.touched) _ c.args.name.now false
+      touch_there (touched_in c.args.self.now.touched) c.args.name.now false
       c.in_ok-add_created.ensures.added;
 }
 

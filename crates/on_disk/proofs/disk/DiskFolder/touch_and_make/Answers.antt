@@ -7,7 +7,7 @@ use Rattle.on_disk.proofs.disk.DiskFolder.touch_and_make.Goals as goal
 pub make_new-requires : goal.make_new-requires
 make_new-requires g c = record {
   noted_first =
-      touch_there (touched_in c.args.self.now.touched) _ c.args.name.now true
+      touch_there (touched_in c.args.self.now.touched) c.args.name.now true
       c.in_ok-add_made.ensures.added;
 }
 

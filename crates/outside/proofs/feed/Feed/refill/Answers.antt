@@ -17,7 +17,7 @@ read g c bytes holds = search (arith, fed_front)
 
 pub invariant_of-self : goal.invariant_of-self
 invariant_of-self g c =
-    within_filled c.self.inside.room.len c.args.at 0 0 c.read_on.new.into _ (omega
+    within_filled c.read_on.new.into _ (omega
     (arith, c.read_on.auto.into, c.keep_from-kept.auto.room, c.as_mut_slice-room.ensures.len))
     (omega (
       arith,
@@ -34,8 +34,7 @@ invariant_of-self-2 g c =
       ap length c.as_mut_slice-room.ensures.value,
       c.self.invariant.size,
     ) in
-    within_filled c.self.inside.room.len c.args.at c.in_ok-self-inside.field-0
-    c.min-self-inside.result c.read_on.new.into _
+    within_filled c.read_on.new.into _
     (omega
     (arith, c.read_on.auto.into, c.keep_from-kept.auto.room, c.as_mut_slice-room.ensures.len))
     (omega (arith, size, c.keep_from-kept.auto.room, c.as_mut_slice-room.ensures.len))
@@ -53,7 +52,7 @@ returns g c = record {
       ap (λ n. take n (take c.self.inside.room.len (c.read_on.new.into
       ++ drop (length c.read_on.new.into) c.self.inside.room.items))) count
       ∙ ap (take (min c.args.n k)) (room_is g c)
-      ∙ given_is c.args.n k c.read_on.new.into (drop c.args.at bytes) (read g c bytes holds)
+      ∙ given_is c.read_on.new.into (drop c.args.at bytes) (read g c bytes holds)
       (λ short. omega
       (arith, length-drop c.args.at bytes, c.in_ok-self-inside.ensures.end bytes holds short));
   whole = search rules;

@@ -14,5 +14,5 @@ pub returns-clause-made : goal.returns-clause-made
 returns-clause-made c =
     let none : contents_of c.args.folder.now c.args.name.now ≡ None =
     sym c.get.ensures ∙ none-copied c.get.result (sym c.is_some.ensures ∙ c.if-is_some.false) in
-    on_ok_weaker c.create.result (λ made. created-new c.args.folder.now c.create.new.self
-    c.args.name.now none made c.create.ensures.own.called) c.create.ensures.answer.created
+    on_ok_weaker c.create.result (λ made. created-new none made c.create.ensures.own.called)
+    c.create.ensures.answer.created

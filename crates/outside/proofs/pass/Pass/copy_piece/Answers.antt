@@ -10,7 +10,7 @@ returns-in_err-fill g c = record {
   written = search rules;
   prefix = err_at c.from_residual.result _ c.from_residual.ensures.1
       (prefix_nothing c.args.self.now (bytes_at c.args.at c.args.n)
-      c.args.waiting.now (g.D.Folder.seen c.args.folder.now).files _
+      c.args.waiting.now
       c.in_err-fill.ensures.read c.in_err-fill.ensures.files c.requires.ready.target);
   done = search rules;
   cause = search rules;
@@ -24,6 +24,6 @@ returns g c = record {
   done = search rules;
   cause = search rules;
   ready = on_ok_weaker c.push.result
-      (λ passed. passed_ready c.args.self.now passed c.in_ok-fill.ensures.ready)
+      (λ passed. passed_ready passed c.in_ok-fill.ensures.ready)
       c.push.ensures.passed;
 }

@@ -10,11 +10,11 @@ returns-in_err-finish-clause-prefix g c =
 pub returns-then-piece-gt-BUFFER_SIZE-clause-passed :
     goal.returns-then-piece-gt-BUFFER_SIZE-clause-passed
 returns-then-piece-gt-BUFFER_SIZE-clause-passed g c =
-    sent_over c.send_all.result c.args.self.now c.args.piece.now c.finish.new.self _ _ _
+    sent_over c.send_all.result c.args.self.now c.args.piece.now _ _
     c.in_ok-finish.ensures.sent c.in_ok-finish.ensures.none c.send_all.ensures.written
 
 pub returns-then-piece-gt-BUFFER_SIZE-clause-prefix :
     goal.returns-then-piece-gt-BUFFER_SIZE-clause-prefix
 returns-then-piece-gt-BUFFER_SIZE-clause-prefix g c =
-    sent_over_prefix c.send_all.result c.args.self.now c.args.piece.now _ _ _
+    sent_over_prefix c.send_all.result c.args.self.now c.args.piece.now _ _
     c.in_ok-finish.ensures.sent c.send_all.ensures.front

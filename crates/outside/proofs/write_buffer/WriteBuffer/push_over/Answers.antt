@@ -59,7 +59,7 @@ returns g c = record {
       (passed_then
       (passed_waiting c.args.name.now c.args.self.now piece free _ _
       (rw (c.add.ensures, c.self.view_is) at c.in_ok-finish.ensures.appended))
-      (passed_front c.args.name.now (drop free piece) done _ _
+      (passed_front done
       (rw part_from at c.in_ok-done.ensures.written)));
   prefix = search rules;
   none = search rules;

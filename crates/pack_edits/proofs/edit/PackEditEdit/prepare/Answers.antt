@@ -4,11 +4,11 @@ use Rattle.commands.proofs.{InputLemmas.memory_is_input, RefusingLemmas.err_with
 use Rattle.commands.specs.{SingleOutput.most_frames, declared.fault.EditFault.TheVariants.Memory}
 use Rattle.cut_edits.proofs.{ChosenLemmas.task_makes, LaidPassLemmas.{work_layable, work_makes}}
 use Rattle.cut_edits.specs.Chosen.{all_choice, chosen_in, chosen_needs, laying_making}
-use Rattle.laying.{proofs.SurveyFrameLemmas.survey-had, specs.Laid.selected_part}
+use Rattle.laying.proofs.SurveyFrameLemmas.{survey-had}
 use Rattle.outside.specs.{Files.Holds, Seen.seen_folder}
 use Rattle.pack_edits.proofs.ModeLemmas.{mode_early, mode_makes, mode_numbers}
 use Rattle.pack_edits.proofs.PackingLemmas.{input_moved, plan_is_input, plan_numbers}
-use Rattle.pack_edits.specs.Modes.{mode_planning, mode_refuses, pack_task}
+use Rattle.pack_edits.specs.Modes.{mode_planning, mode_refuses}
 use Rattle.sync_survey.specs.Faults.{survey_view}
 use Rattle.pack_edits.proofs.edit.PackEditEdit.prepare.Goals as goal
 
@@ -20,7 +20,7 @@ returns-in_err-chosen-clause-refused g c =
     err_with _ _ c.from_residual-in_err-chosen.ensures.1
     (mode_early edit.mode edit.input.now old _ _
     (λ file holds. (_, c.in_ok-survey.ensures.limited file holds))
-    (input_moved make edit.input.now _ old _ _ (ap₂ seen_folder c.survey_packed.ensures.reads.files
+    (input_moved make edit.input.now _ _ (ap₂ seen_folder c.survey_packed.ensures.reads.files
     c.in_ok-survey.ensures.reads.done) (c.in_err-chosen.ensures.refused make)))
 
 pub returns-in_err-chosen-clause-numbers : goal.returns-in_err-chosen-clause-numbers
@@ -69,9 +69,9 @@ returns-in_err-work-clause-refused g c =
 pub returns-clause-ready : goal.returns-clause-ready
 returns-clause-ready g c =
     work_layable c.in_ok-survey.survey c.in_ok-selected.selected c.in_ok-work.work
-    c.in_ok-work.ensures c.args.self.now.input.now (g.D.Folder.seen c.args.folder.now).files
+    c.in_ok-work.ensures
     c.in_ok-survey.ensures.there c.in_ok-survey.ensures.laid
-    (λ bytes holds. survey-had bytes most_frames _ (c.in_ok-survey.ensures.surveyed bytes holds))
+    (λ bytes holds. survey-had most_frames (c.in_ok-survey.ensures.surveyed bytes holds))
     c.in_ok-selected.ensures.writable
 
 pub returns-clause-making : goal.returns-clause-making
@@ -81,11 +81,10 @@ returns-clause-making g c =
     let s = survey_view c.in_ok-survey.survey in
     let selected = c.in_ok-selected.selected in
     work_makes c.in_ok-survey.survey selected
-    c.in_ok-work.work c.in_ok-work.ensures (pack_task edit.mode edit.input.now) files
-    (mode_makes edit.mode edit.input.now _ files
+    c.in_ok-work.work c.in_ok-work.ensures
+    (mode_makes edit.mode
     (λ file holds. (_, c.in_ok-survey.ensures.limited file holds))
-    (task_makes all_choice (mode_planning edit.mode) (mode_refuses edit.mode) edit.input.now s
-    (chosen_in c.in_ok-chosen.chosen) (selected_part selected) files
+    (task_makes all_choice (mode_planning edit.mode) (mode_refuses edit.mode)
     c.in_ok-survey.ensures.there c.in_ok-survey.ensures.surveyed c.in_ok-survey.ensures.octets
     (λ bytes holds. c.in_ok-chosen.ensures.chosen bytes (subst (λ f. Holds f edit.input.now bytes)
     (sym c.survey_packed.ensures.reads.files) holds)) c.in_ok-selected.ensures.laid))

@@ -7,7 +7,7 @@ pub returns : goal.returns
 returns c = λ is. record {
   some = search rules;
   few = omega (arith, c.if-needs-gt9.false);
-  same = one-class c.args.class c.args.input.now.needs.now c.index-needs-0.result
+  same = one-class c.args.input.now.needs.now c.index-needs-0.result
       (c.are_of_one_class.ensures c.if-not-are_of_one_class.false)
       (sym (c.is_same.ensures.equal.0 c.if-not-is_same.false) ∙ c.class.ensures);
   fits = subst (λ n. FitsBehind n 0 c.args.input.now.needs.now) c.window.ensures.window

@@ -10,7 +10,7 @@ use Rattle.program_texts.proofs.output_names.Outputs.named.Goals as goal
 
 pub returns-in-Pieces : goal.returns-in-Pieces
 returns-in-Pieces c = rw c.in-Pieces.is (ap Name
-    (sym (piece_at c.in-Pieces.prefix.now c.args.place c.if-place-lt99.true)))
+    (sym (piece_at c.in-Pieces.prefix.now c.if-place-lt99.true)))
 
 pub returns-in_default : goal.returns-in_default
 returns-in_default c =

@@ -12,7 +12,7 @@ least_slot-requires c =
     let protected = c.args.header.now.protected in
     let enough = subst (λ k. c.args.wanted ≤ greatest_number (slot_areas k protected menu))
     (sym c.requires.table.class_is) c.requires.enough in
-    let within = table-within table menu protected c.args.wanted c.requires.table.of_slots enough in
+    let within = table-within protected c.requires.table.of_slots enough in
     record {
       within =
           subst (λ p. c.args.wanted + overhead_of table.lengths p < length table.by_length.items)

@@ -14,7 +14,7 @@ use Rattle.outside.specs.{Files.Holds, Seen.seen_folder}
 use Rattle.remove_edits.proofs.CommandLemmas.{remove-makes, remove-refused}
 use Rattle.remove_edits.proofs.EditLemmas.{left-few, parts-run, planned-file, planned-ready}
 use Rattle.remove_edits.proofs.edit.RemoveEditEdit.prepare.Goals.{After-as_ref}
-use Rattle.remove_edits.specs.Ready.{ArePartsLeft, IsRemovalPlanned, removal_work_file}
+use Rattle.remove_edits.specs.Ready.{ArePartsLeft, IsRemovalPlanned}
 use Rattle.remove_edits.specs.Removed.{remove_making, remove_stream, remove_task}
 use Rattle.remove_edits.specs.declared.edit.RemoveEdit.{RemoveEdit}
 use Rattle.sync_survey.{proofs.EmptiedLemmas.apart-laid, specs.Faults.{survey_view, SurveyFields}}
@@ -42,9 +42,9 @@ returns-in_err-parts-clause-refused g c =
     let s = survey_view c.in_ok-survey.survey in
     err_with _ _ c.from_residual-in_err-parts.ensures.1 (input_is_early (make_in edit)
     (streams_in edit) cut_refuses edit.input.now _ _ _
-    (refused_is_input (make_in edit) edit.input.now _ _ s cut_refuses _
+    (refused_is_input (make_in edit) edit.input.now _ _ s cut_refuses
     c.in_err-parts.ensures.refusal c.in_ok-survey.ensures.there c.in_ok-survey.ensures.surveyed
-    (λ bytes holds. remove-refused edit.stretches.now bytes s _ c.in_err-parts.ensures.parts)
+    (λ bytes holds. remove-refused edit.stretches.now bytes s c.in_err-parts.ensures.parts)
     (ap₂ seen_folder c.survey_at.ensures.reads.files c.in_ok-survey.ensures.reads.done)))
 
 -- the survey whose head is set apart is laid out
@@ -57,14 +57,14 @@ apart g c = subst IsSurveyLaidOut (sym c.set_apart.ensures)
 run : (g : given.Over) (c : After-as_ref g)
     → ArePartsLeft (survey_view c.set_apart.new.survey) c.in_ok-parts.parts.items
 run g c =
-    parts-run (survey_view c.in_ok-survey.survey) (survey_view c.set_apart.new.survey)
-    c.in_ok-parts.parts.items c.set_apart.ensures (apart g c) c.in_ok-parts.ensures.there
+    parts-run (survey_view c.in_ok-survey.survey) c.set_apart.ensures (apart g c)
+    c.in_ok-parts.ensures.there
 
 -- they are at most 51
 few : (g : given.Over) (c : After-as_ref g) → length c.in_ok-parts.parts.items ≤ 51
 few g c =
     left-few c.args.self.now.stretches.now (survey_view c.in_ok-survey.survey)
-    c.in_ok-parts.parts.items c.in_ok-parts.ensures.parts c.requires.0
+    c.in_ok-parts.ensures.parts c.requires.0
 
 pub prepare-requires-clause-run : goal.prepare-requires-clause-run
 prepare-requires-clause-run g c =
@@ -101,10 +101,9 @@ returns-clause-ready g c =
     let s = survey_view c.in_ok-survey.survey in
     planned-ready (survey_view c.set_apart.new.survey) c.in_ok-parts.parts.items
     (option_copied c.as_ref.result) c.in_ok-work.work c.in_ok-work.ensures (run g before)
-    c.args.self.now.input.now (g.D.Folder.seen c.args.folder.now).files
     c.in_ok-survey.ensures.there (apart g before)
     (λ bytes holds. subst (CanBeRelaid bytes) (sym c.set_apart.ensures)
-    (survey_without_head-relaid bytes s (c.in_ok-survey.ensures.surveyed bytes holds)))
+    (survey_without_head-relaid (c.in_ok-survey.ensures.surveyed bytes holds)))
     (few g before)
 
 pub returns-clause-making : goal.returns-clause-making
@@ -125,11 +124,11 @@ returns-clause-making g c =
     subst (λ (h : Option Info). IsRemovalPlanned (survey_without_head s) parts h work)
     (read bytes holds) (subst (λ (t : SurveyFields). IsRemovalPlanned t parts
     (option_copied c.as_ref.result) work) c.set_apart.ensures c.in_ok-work.ensures) in
-    remove-makes edit.stretches.now edit.input.now s parts (removal_work_file work) files
+    remove-makes edit.stretches.now
     c.in_ok-survey.ensures.there c.in_ok-survey.ensures.surveyed c.in_ok-survey.ensures.octets
     c.in_ok-parts.ensures.parts
     (λ bytes holds. planned-file (survey_without_head s) parts (fields_of_head bytes s.head) work
     (planned bytes holds)
-    (subst (λ (t : SurveyFields). ArePartsLeft t parts) c.set_apart.ensures (run g before)) bytes
-    (survey_without_head-relaid bytes s (c.in_ok-survey.ensures.surveyed bytes holds))
+    (subst (λ (t : SurveyFields). ArePartsLeft t parts) c.set_apart.ensures (run g before))
+    (survey_without_head-relaid (c.in_ok-survey.ensures.surveyed bytes holds))
     (head_long bytes s.head))

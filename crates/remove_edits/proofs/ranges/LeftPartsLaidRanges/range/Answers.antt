@@ -20,4 +20,4 @@ returns c =
     let none : Part = record { from = 0; to = 0 } in
     let within : c.args.place < length parts = omega (arith, c.requires, length-map parts range) in
     let part = slice_index_or parts c.args.place none in
-    map-next range parts c.args.place part within (any-default parts c.args.place none part within)
+    map-next range parts within (any-default parts c.args.place none part within)

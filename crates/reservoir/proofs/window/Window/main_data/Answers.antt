@@ -11,4 +11,4 @@ returns-clause-payload c = λ main over.
     subst (λ k. AreBitsPacked c.main_data_with.result n (main_bits main k n)) most
     (subst (λ (xs : List ℕ). AreBitsPacked c.main_data_with.result n
     (main_bits xs (length main + 0 - reach) n)) (append-nil main)
-    (c.main_data_with.ensures.payload main (window-last c.args.self.now main over)))
+    (c.main_data_with.ensures.payload main (window-last over)))

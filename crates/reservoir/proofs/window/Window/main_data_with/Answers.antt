@@ -22,8 +22,7 @@ returns-clause-payload c = λ main last_of.
     c.part-2.ensures.part in
     let same : (parts.0.now ++ parts.1.now) ++ (areas.0.now ++ areas.1.now)
     ≡ take (n / 8) (drop from (held ++ more)) =
-    part_past from c.min-passed.result c.min-first.result (n / 8) held more
-    (parts.0.now ++ parts.1.now) (areas.0.now ++ areas.1.now)
+    part_past from (n / 8) held more
     (omega (arith, c.min-passed.ensures, long)) (omega (arith, c.min-first.ensures, long))
     (c.part.ensures.part ∙ ap (λ (xs : List ℕ). take c.min-first.result
     (drop c.min-passed.result xs)) (c.as_slices.ensures ∙ c.self.view_is)) own in

@@ -8,4 +8,4 @@ pub returns-clause-main : goal.returns-clause-main
 returns-clause-main c = λ main over.
     ap (λ b. b.items) c.extend_from_slice.ensures
     ∙ ap₂ (λ n bytes. keep_last n (bytes ++ c.args.area.now)) c.self.invariant.0 c.self.view_is
-    ∙ window-more c.args.self.now main c.args.area.now over
+    ∙ window-more main c.args.area.now over

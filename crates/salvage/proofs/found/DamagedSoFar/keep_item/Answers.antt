@@ -3,5 +3,4 @@ use Rattle.sync_survey.proofs.ItemsLemmas.{header_stands}
 use Rattle.salvage.proofs.found.DamagedSoFar.keep_item.Goals as goal
 
 pub judge-requires-clause-heads : goal.judge-requires-clause-heads
-judge-requires-clause-heads c =
-    header_stands c.args.bytes.now c.args.item.now c.in-Frame.header c.requires.heads c.in-Frame.is
+judge-requires-clause-heads c = header_stands c.args.bytes.now c.requires.heads c.in-Frame.is

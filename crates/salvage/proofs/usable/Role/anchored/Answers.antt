@@ -1,5 +1,5 @@
 -- The anchored frame, if it is usable.
-use Rattle.std.proofs.Common.{false, sym, true, ◌∙◌}
+use Rattle.std.proofs.Common.{sym, ◌∙◌}
 use Rattle.salvage.proofs.{SearchLemmas.header_of, UsableLemmas.{frame_judged, none_anchored}}
 use Rattle.sync_survey.proofs.StepLemmas.{room_shown}
 use Rattle.salvage.proofs.usable.Role.anchored.Goals as goal
@@ -11,19 +11,19 @@ returns-in_default-clause-frame c =
 
 pub admits-requires : goal.admits-requires
 admits-requires c = record {
-  own = header_of c.args.front.now c.in-Some.frame.header c.in-Some.ensures.header;
-  room = room_shown c.args.front.now c.in-Some.frame.header c.args.left c.in-Some.ensures.header
+  own = header_of c.args.front.now c.in-Some.ensures.header;
+  room = room_shown c.args.front.now c.in-Some.ensures.header
       c.in-Some.ensures.within c.requires.many;
 }
 
 pub returns-then-admits-clause-frame : goal.returns-then-admits-clause-frame
 returns-then-admits-clause-frame c = λ file shows.
-    frame_judged file c.args.at c.args.front.now c.args.left shows c.args.self.now c.in-Some.frame
-    (c.in-Some.ensures.frame file shows) c.in-Some.ensures.offset c.in-Some.ensures.header
-    true (sym c.admits.ensures ∙ c.if-admits.true)
+    frame_judged file c.args.at c.args.front.now c.args.left shows c.args.self.now
+    (c.in-Some.ensures.frame file shows)
+    c.in-Some.ensures.offset c.in-Some.ensures.header (sym c.admits.ensures ∙ c.if-admits.true)
 
 pub returns-else-admits-clause-frame : goal.returns-else-admits-clause-frame
 returns-else-admits-clause-frame c = λ file shows.
-    frame_judged file c.args.at c.args.front.now c.args.left shows c.args.self.now c.in-Some.frame
-    (c.in-Some.ensures.frame file shows) c.in-Some.ensures.offset c.in-Some.ensures.header
-    false (sym c.admits.ensures ∙ c.if-admits.false)
+    frame_judged file c.args.at c.args.front.now c.args.left shows c.args.self.now
+    (c.in-Some.ensures.frame file shows)
+    c.in-Some.ensures.offset c.in-Some.ensures.header (sym c.admits.ensures ∙ c.if-admits.false)

@@ -1,5 +1,5 @@
 -- The item that is passed, if it is read.
-use Rattle.std.proofs.Common.{false, sym, true, ◌∙◌}
+use Rattle.std.proofs.Common.{sym, ◌∙◌}
 use Rattle.salvage.proofs.{SearchLemmas.header_of, UsableLemmas.{item_judged, none_read}}
 use Rattle.sync_survey.proofs.StepLemmas.{room_passed}
 use Rattle.salvage.proofs.usable.Role.step.Goals as goal
@@ -10,16 +10,16 @@ returns-in_default-clause-read c = λ file shows. none_read file c.args.at c.arg
 
 pub admits_item-requires : goal.admits_item-requires
 admits_item-requires c = record {
-  own = λ h frame. header_of c.args.front.now h (sym c.in-Some.ensures.passes.item ∙ frame);
+  own = λ h frame. header_of c.args.front.now (sym c.in-Some.ensures.passes.item ∙ frame);
   room = room_passed c.in-Some.ensures.passes c.requires.many;
 }
 
 pub returns-then-admits_item-clause-read : goal.returns-then-admits_item-clause-read
 returns-then-admits_item-clause-read c = λ file shows.
-    item_judged file c.args.at c.args.front.now c.args.left shows c.args.self.now c.in-Some.step
-    c.in-Some.ensures.passes true (sym c.admits_item.ensures ∙ c.if-admits_item.true)
+    item_judged file c.args.at c.args.front.now c.args.left shows c.args.self.now
+    c.in-Some.ensures.passes (sym c.admits_item.ensures ∙ c.if-admits_item.true)
 
 pub returns-else-admits_item-clause-read : goal.returns-else-admits_item-clause-read
 returns-else-admits_item-clause-read c = λ file shows.
-    item_judged file c.args.at c.args.front.now c.args.left shows c.args.self.now c.in-Some.step
-    c.in-Some.ensures.passes false (sym c.admits_item.ensures ∙ c.if-admits_item.false)
+    item_judged file c.args.at c.args.front.now c.args.left shows c.args.self.now
+    c.in-Some.ensures.passes (sym c.admits_item.ensures ∙ c.if-admits_item.false)

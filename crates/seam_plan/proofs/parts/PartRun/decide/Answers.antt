@@ -16,20 +16,19 @@ returns-in-Some-clause-items c = λ class run is.
 pub returns-in-Some-clause-joint : goal.returns-in-Some-clause-joint
 returns-in-Some-clause-joint c =
     let class = c.args.self.now.class in
-    in-slot-joint class c.args.self.now.left c.args.needs.now c.in-Some.slot
+    in-slot-joint c.args.needs.now
     (subst (IsJoinSlot (window_of class.version) c.args.self.now.left c.args.needs.now)
     c.in-Some.is (c.joins.ensures class c.requires.part.same))
 
 pub returns-in-None-clause-items : goal.returns-in-None-clause-items
 returns-in-None-clause-items c = λ class run is.
     let same = subst (λ k. AreNeedsOfClass k c.args.needs.now) is.of_class c.requires.part.same in
-    led-part-items class c.args.self.now.left run is.known is.left c.args.needs.now
-    c.lead_in.result same
+    led-part-items class c.args.self.now.left run is.known is.left c.args.needs.now same
     (subst (IsJoinSlot (window_of class.version) c.args.self.now.left c.args.needs.now)
     c.in-None.is (c.joins.ensures class same)) (c.lead_in.ensures class same)
 
 pub returns-in-None-clause-joint : goal.returns-in-None-clause-joint
 returns-in-None-clause-joint c =
     let class = c.args.self.now.class in
-    led-joint class c.args.self.now.left c.args.needs.now c.lead_in.result c.requires.sound.most
+    led-joint c.args.needs.now c.requires.sound.most
     c.requires.part (c.lead_in.ensures class c.requires.part.same)

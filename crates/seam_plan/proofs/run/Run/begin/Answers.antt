@@ -8,7 +8,7 @@ use Rattle.seam_plan.proofs.run.Run.begin.Goals as goal
 
 pub leaves-requires : goal.leaves-requires
 leaves-requires c = subst (λ n. FitBehindFree n c.args.input.now.needs.now)
-    (sym c.window-window.ensures.window) (all-free c.args.class c.args.input.now c.requires)
+    (sym c.window-window.ensures.window) (all-free c.requires)
 
 pub returns-clause-run : goal.returns-clause-run
 returns-clause-run c = λ first is.
@@ -18,7 +18,7 @@ returns-clause-run c = λ first is.
     let left = subst (λ w. IsMostLeft window w needs c.leaves.result)
     c.window-window.ensures.window (c.leaves.ensures c.args.class c.requires.same within) in
     let none : length needs - 0 ≡ length needs = omega arith in
-    run-begins c.args.class c.args.input.now first c.note.new.self is
+    run-begins is
     c.note.ensures.class (subst (IsMostLeft window window needs) (sym c.note.ensures.left) left)
     (c.note.ensures.last [] (c.new.ensures) ∙ ap (λ n. last_seven (frame_places 0 0 n)) none)
     (c.note.ensures.rest ∙ c.rest_of.ensures.rest)

@@ -11,7 +11,7 @@ use Rattle.seam_plan.proofs.run.Run.decide.Goals as goal
 
 pub returns-in-Some-clause-joint : goal.returns-in-Some-clause-joint
 returns-in-Some-clause-joint c = λ class frames places before brought is brings same.
-    joint-first (following_joint class frames before brought) _ _ c.in-Some.joint
+    joint-first (following_joint class frames before brought) _ _
     (subst (AreJoint (following_joint class frames before brought))
     c.in-Some.is (c.following.ensures.joint class frames places before brought is brings same))
 
@@ -19,7 +19,7 @@ pub returns-in-Some-without_lead_in-clause-joint : goal.returns-in-Some-without_
 returns-in-Some-without_lead_in-clause-joint c =
     λ class frames places before brought is brings same.
     joint-second (following_joint class frames before brought)
-    (joint_without_lead_in class frames brought) _ c.in-Some-without_lead_in.joint
+    (joint_without_lead_in class frames brought) _
     (subst (AreJoint (following_joint class frames before brought))
     c.in_default.is (c.following.ensures.joint class frames places before brought is brings same))
     (subst (AreJoint (joint_without_lead_in class frames brought)) c.in-Some-without_lead_in.is
@@ -29,7 +29,6 @@ pub returns-clause-joint : goal.returns-clause-joint
 returns-clause-joint c = λ class frames places before brought is brings same.
     joint-last (following_joint class frames before brought)
     (joint_without_lead_in class frames brought)
-    (whole_joint brought) _
     (subst (AreJoint (following_joint class frames before brought))
     c.in_default.is (c.following.ensures.joint class frames places before brought is brings same))
     (subst (AreJoint (joint_without_lead_in class frames brought)) c.in_default-without_lead_in.is
@@ -37,7 +36,7 @@ returns-clause-joint c = λ class frames places before brought is brings same.
     (subst (λ s. IsJoint (whole_joint brought) (record { seam = Whole; slot = Some s }))
     (sym (ap (λ (h : HeaderFields). h.slot) c.first.view_is
     ∙ ap (λ (n : Need). n.header.slot) (sym c.index-input-0.is)))
-    (whole_joint-is c.args.input.now brought c.index-input-0.result brings
+    (whole_joint-is brings
     c.requires.input.some c.index-input-0.is))
 
 pub returns-clause-fits : goal.returns-clause-fits
@@ -48,5 +47,5 @@ returns-clause-fits c = record {
       (Some s)) (sym (ap (λ (h : HeaderFields). h.slot) c.first.view_is
       ∙ ap (λ (n : Need). n.header.slot) (sym c.index-input-0.is)))
       (whole-fit c.args.self.now.class c.args.self.now.left c.args.input.now.needs.now
-      c.index-input-0.result c.requires.input.some c.index-input-0.is c.requires.input.fits);
+      c.requires.input.some c.index-input-0.is c.requires.input.fits);
 }

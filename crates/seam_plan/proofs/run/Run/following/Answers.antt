@@ -1,5 +1,5 @@
 -- The frames after the shared ones join, or can't.
-use Rattle.std.proofs.Common.{drop, None, Some, subst, sym, ◌∙◌}
+use Rattle.std.proofs.Common.{drop, None, subst, sym, ◌∙◌}
 use Rattle.frame_header.specs.Tables.{window_of}
 use Rattle.seam_plan.proofs.SeamLemmas.{follow-by, needs-drop}
 use Rattle.slot_plan.proofs.{FreeByteLemmas.fits-drop, PartLemmas.class-drop}
@@ -19,12 +19,12 @@ joining-requires-clause-fits c =
 
 pub returns-in_default-clause-joint : goal.returns-in_default-clause-joint
 returns-in_default-clause-joint c = λ class frames places before brought is brings same.
-    follow-by class frames before brought c.args.alike None None same c.in_default.is tt
+    follow-by class frames before brought None same c.in_default.is tt
 
 pub returns-clause-joint : goal.returns-clause-joint
 returns-clause-joint c = λ class frames places before brought is brings same.
     let k = c.in-Some.overlap.frames in
-    follow-by class frames before brought c.args.alike (Some c.in-Some.overlap) c.joining.result
+    follow-by class frames before brought c.joining.result
     same c.in-Some.is
     (c.joining.ensures.joining class frames (drop k brought.frames) places before is
-    (c.needs_after-needs.ensures ∙ needs-drop k c.args.input.now brought brings))
+    (c.needs_after-needs.ensures ∙ needs-drop k brings))

@@ -40,7 +40,6 @@ returns-clause-goes_on c = λ class frames more places before brought is brings 
 
 pub returns-clause-joint : goal.returns-clause-joint
 returns-clause-joint c = λ class frames places before brought is brings same.
-    run-joins class c.args.number frames places before brought c.args.input.now c.args.self.now _
-    c.decide-joint.result is brings
+    run-joins is brings
     (c.decide-joint.ensures.joint class frames places before brought is brings same)
     (returns-clause-goes_on c)

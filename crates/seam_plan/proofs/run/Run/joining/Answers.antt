@@ -8,13 +8,13 @@ use Rattle.seam_plan.proofs.run.Run.joining.Goals as goal
 pub returns-then-is_empty-clause-joining : goal.returns-then-is_empty-clause-joining
 returns-then-is_empty-clause-joining c = λ class frames rest places before is needs.
     let none : length c.args.needs.now ≡ 0 = search rules in
-    joining_frames-empty (window_of class.version) c.args.seam frames rest c.args.needs.now needs
+    joining_frames-empty (window_of class.version) c.args.seam frames rest needs
     none
 
 pub returns-in_default-clause-joining : goal.returns-in_default-clause-joining
 returns-in_default-clause-joining c = λ class frames rest places before is needs.
     let same = subst (λ k. AreNeedsOfClass k c.args.needs.now) is.of_class c.requires.same in
-    joins-as class c.args.seam frames rest c.args.self.now.left c.args.needs.now None same
+    joins-as class c.args.seam frames rest None same
     (subst IsClass is.of_class c.requires.within.known) is.left needs
     (subst (IsJoinSlot (window_of class.version) c.args.self.now.left c.args.needs.now)
     c.in_default.is (c.joins.ensures class same))
@@ -22,7 +22,7 @@ returns-in_default-clause-joining c = λ class frames rest places before is need
 pub returns-clause-joining : goal.returns-clause-joining
 returns-clause-joining c = λ class frames rest places before is needs.
     let same = subst (λ k. AreNeedsOfClass k c.args.needs.now) is.of_class c.requires.same in
-    joins-as class c.args.seam frames rest c.args.self.now.left c.args.needs.now
+    joins-as class c.args.seam frames rest
     (Some c.in-Some.slot) same (subst IsClass is.of_class c.requires.within.known) is.left needs
     (subst (IsJoinSlot (window_of class.version) c.args.self.now.left c.args.needs.now)
     c.in-Some.is (c.joins.ensures class same))

@@ -8,12 +8,11 @@ loop-frame-preserved c = search (arith, note-slid)
 
 pub returns-clause-last : goal.returns-clause-last
 returns-clause-last c = λ places is.
-    let from = note-from c.args.from c.args.to c.max-first.result c.saturating_sub.result
+    let from = note-from
     c.max-first.ensures c.saturating_sub.ensures c.requires in
     let end : c.loop-frame.frame ≡ c.args.to = omega
     (arith, c.loop-frame-test.false, c.loop-frame.auto.frame, c.loop-frame.auto.frame-end, from.1)
     in
-    note-all c.args.self.now.last.items c.loop-frame.self.last.items c.args.input c.args.from
-    c.max-first.result c.args.to from.0 from.1 from.2
+    note-all c.args.input from.0 from.1 from.2
     (subst (Notes c.args.self.now.last.items c.loop-frame.self.last.items c.args.input
     c.max-first.result) end c.loop-frame.invariant.last) places is

@@ -10,11 +10,11 @@ use Rattle.slot_plan.specs.{FreeBytes.{FitBehindWindow, FitsBehind}, Parts.AreNe
 use Rattle.seam_plan.proofs.run.Run.without_lead_in.Goals as goal
 
 pub has_lead_in-requires : goal.has_lead_in-requires
-has_lead_in-requires c = all-window c.args.self.now.class c.args.input.now c.requires.input
+has_lead_in-requires c = all-window c.requires.input
 
 pub fit_alone-requires : goal.fit_alone-requires
 fit_alone-requires c = subst FitBehindWindow (sym c.needs_after-others.ensures)
-    (drop-window c.args.self.now.class c.args.input.now 1 c.requires.input)
+    (drop-window 1 c.requires.input)
 
 pub joining-requires-clause-same : goal.joining-requires-clause-same
 joining-requires-clause-same c =
@@ -47,7 +47,7 @@ pub returns-then-fit_alone-clause-joint : goal.returns-then-fit_alone-clause-joi
 returns-then-fit_alone-clause-joint c = λ class frames places before brought is brings.
     let at = (goal.at.returns-then-fit_alone-clause-joint c).Else-not-has_lead_in in
     without-want class frames c.args.input.now brought c.has_lead_in.result brings
-    (c.has_lead_in.ensures class brought (same at class is.of_class) brings) c.fit_alone.result
+    (c.has_lead_in.ensures class brought (same at class is.of_class) brings)
     (c.fit_alone.ensures class (others at class is.of_class)
     ∙ ap (fits_behind (window_of class.version) 0) c.needs_after-others.ensures) c.if-fit_alone.true
 
@@ -55,9 +55,9 @@ pub returns-clause-joint : goal.returns-clause-joint
 returns-clause-joint c = λ class frames places before brought is brings.
     let at = (goal.at.returns-clause-joint c).Else-not-has_lead_in in
     without-some class frames c.args.input.now brought c.has_lead_in.result brings
-    (c.has_lead_in.ensures class brought (same at class is.of_class) brings) c.fit_alone.result
+    (c.has_lead_in.ensures class brought (same at class is.of_class) brings)
     c.joining.result (c.fit_alone.ensures class (others at class is.of_class)
     ∙ ap (fits_behind (window_of class.version) 0) c.needs_after-others.ensures)
     c.if-not-has_lead_in.false c.if-fit_alone.false
     (c.joining.ensures.joining class frames (drop 1 brought.frames) places before is
-    (c.needs_after-others.ensures ∙ needs-drop 1 c.args.input.now brought brings))
+    (c.needs_after-others.ensures ∙ needs-drop 1 brings))

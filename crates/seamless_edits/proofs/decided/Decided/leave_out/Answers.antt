@@ -24,6 +24,6 @@ loop-input-preserved c =
           map-set input_view at.inputs i (record (get_or at.inputs i item) { from = from })
           ∙ ap (λ (y : InputFields). set (map input_view at.inputs) i (record y { from = from }))
           here
-          ∙ from-next (map input_view c.args.inputs.now) (map input_view at.inputs) froms i
-          (input_view item) from mapped at.invariant.inputs next;
+          ∙ from-next (map input_view c.args.inputs.now) froms
+          (input_view item) mapped at.invariant.inputs next;
     }

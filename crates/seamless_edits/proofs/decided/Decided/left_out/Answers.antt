@@ -25,6 +25,6 @@ returns-else-place-eq0 c =
     let place = c.args.place in
     let some = c.if-place-eq0.false in
     behind c.args.self.now.front (left_out_counts joints) place c.left_out.result some
-    (map-next (λ (j : Joint). left_out_count j.seam) joints (place - 1) c.index.result.now
+    (map-next (λ (j : Joint). left_out_count j.seam) joints
     (within place (length joints) some c.requires) c.index.ensures
     ∙ ap (λ m. m ∷ drop (place - 1 + 1) (left_out_counts joints)) (sym c.left_out.ensures))

@@ -30,15 +30,14 @@ brought-input-requires g c =
     grind arith in
     omega (
       arith,
-      input-few _ _ _ c.args.number _ c.requires.can found,
-      ap length (borrowed-needs c.args.self.now.needs.items c.append_needs.new.needs.items
-          (input_needs (input_view c.input_at.result.now).survey) c.deref.result.now
-          c.len-from.result (c.len-from.ensures ∙ c.args.self.now.needs.ok.0) own
+      input-few c.args.number c.requires.can found,
+      ap length (borrowed-needs c.args.self.now.needs.items (c.len-from.ensures
+          ∙ c.args.self.now.needs.ok.0) own
           c.deref.ensures.value),
     )
 
 pub alike-requires-clause-one : goal.alike-requires-clause-one
-alike-requires-clause-one g c = all-of-one _ c.requires.can.joined
+alike-requires-clause-one g c = all-of-one c.requires.can.joined
 
 abbrev no-beginning : Beginning
 no-beginning = record { head = None; blank = false }
@@ -81,10 +80,10 @@ module _ (g : given.Over) (c : After-brought-input g) where
   long = ap length borrowed_is ∙ length-map s.frames need_of
 
   front : take c.len-from.result all ≡ old
-  front = front-needs old all (input_needs s) c.len-from.result begins own
+  front = front-needs (input_needs s) begins own
 
   back : drop c.len-from.result all ≡ c.brought-input.result.needs.now
-  back = back-needs old all (input_needs s) c.len-from.result begins own ∙ sym parts
+  back = back-needs old begins own ∙ sym parts
 
   begun-within : c.args.number < length c.args.beginnings.now
   begun-within = grind (arith, AllZip-long, length-map)
@@ -127,9 +126,7 @@ join-joint-requires-clause-input g c =
 pub returns-clause-decided : goal.returns-clause-decided
 returns-clause-decided g c =
     let here = (goal.at.returns-clause-decided g c).After-brought-input in
-    decided-step (g.D.Folder.seen c.args.folder.now).files (map input_view c.args.inputs.now)
-    c.args.beginnings.now c.args.number c.brought-input.result c.in_ok-alike.alike
-    c.join-joint.result c.args.self.now _ c.requires.before (of g here)
+    decided-step (g.D.Folder.seen c.args.folder.now).files c.requires.before (of g here)
     (record {
       joints = c.in_ok-push.ensures.items;
       needs = grind (arith, front g here, back g here);

@@ -13,10 +13,10 @@ returns-then-lost-clause-payload g c = λ file holds r found.
     let s = survey_view c.args.self.now.survey.now in
     let row = c.index-frames-i.result in
     let here : slice_get s.frames c.args.i ≡ Some row =
-    read-at c.frames.result.now s.frames c.args.i row c.requires.within c.frames.ensures
+    read-at c.requires.within c.frames.ensures
     c.index-frames-i.is in
     let lost : r.lost ≡ true =
-    subst (λ (x : Row). x.lost ≡ true) (get-one s.frames c.args.i row r here found)
+    subst (λ (x : Row). x.lost ≡ true) (get-one s.frames c.args.i here found)
     (sym c.lost.ensures ∙ c.if-lost.true) in
     c.clear.ensures ∙ lost-is file s c.args.i r lost
 
@@ -30,7 +30,7 @@ held g c =
     let row = c.index-frames-i.result in
     holds-data c.read_before.new.window c.args.self.now.name.now
     (g.D.Folder.seen c.args.folder.now).files s c.args.i row
-    (read-at c.frames.result.now s.frames c.args.i row c.requires.within c.frames.ensures
+    (read-at c.requires.within c.frames.ensures
     c.index-frames-i.is)
     (sym c.lost.ensures ∙ c.if-lost.false) c.requires.held.laid
     (subst (λ f. IsWindowOverFrames c.read_before.new.window c.args.self.now.name.now f s

@@ -1,5 +1,5 @@
 use Rattle.std.proofs.Common.{arith, ◌∙◌}
-use Rattle.session.{proofs.FolderLemmas.{gone_already, name_gone}, specs.Shown.grown_files}
+use Rattle.session.proofs.FolderLemmas.{gone_already, name_gone}
 use Rattle.session.proofs.folder.GrowingFolder.remove.Goals as goal
 
 pub returns-clause-files : goal.returns-clause-files
@@ -9,4 +9,4 @@ returns-clause-files c = name_gone (λ content. content.items) c.args.self.now.b
 pub returns-clause-kept : goal.returns-clause-kept
 returns-clause-kept c gone = name_gone (λ content. content.items) c.args.self.now.by_name
     c.remove.new.self c.args.name.now c.remove.ensures.updates
-    ∙ gone_already (grown_files c.args.self.now) c.args.name.now (grind (arith, gone))
+    ∙ gone_already c.args.name.now (grind (arith, gone))

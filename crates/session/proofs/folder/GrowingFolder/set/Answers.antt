@@ -7,4 +7,4 @@ returns-clause-set c =
     let key_is : string_bytes c.in_ok-key.key ≡ c.args.name.now =
     IfOk-at_ok (λ s. string_bytes s ≡ c.args.name.now) c.in_ok-key.was c.from_str.ensures.ok in
     rw key_is at (name_holds (λ content. content.items) c.args.self.now.by_name c.insert.new.self
-    (string_bytes c.in_ok-key.key) c.args.content c.in_ok-insert.ensures.updates)
+    (string_bytes c.in_ok-key.key) c.in_ok-insert.ensures.updates)

@@ -3,7 +3,7 @@ use Rattle.session.proofs.folder.GrowingFolderFolder.create.Goals as goal
 
 pub returns : goal.returns
 returns c = record {
-  answer = creates c.args.name.now c.args.self.now c.empty.new.self c.empty.result (record {
+  answer = creates c.args.self.now c.empty.new.self c.empty.result (record {
     emptied = c.empty.ensures.emptied;
     kept = c.empty.ensures.kept;
     done = c.empty.ensures.done;

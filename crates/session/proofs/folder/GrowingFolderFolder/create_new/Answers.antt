@@ -4,7 +4,7 @@ use Rattle.session.proofs.folder.GrowingFolderFolder.create_new.Goals as goal
 
 pub returns-then-is_some : goal.returns-then-is_some
 returns-then-is_some c = record {
-  answer = makes c.args.name.now c.args.self.now (record {
+  answer = makes c.args.self.now (record {
     alloc = c.args.self.now.alloc;
     by_name = c.args.self.now.by_name;
     tally = c.count_write_fault.new.self;
@@ -19,7 +19,7 @@ returns-then-is_some c = record {
 
 pub returns : goal.returns
 returns c = record {
-  answer = makes c.args.name.now c.args.self.now c.empty.new.self c.empty.result
+  answer = makes c.args.self.now c.empty.new.self c.empty.result
       (grind arith) (record {
         emptied = c.empty.ensures.emptied;
         kept = c.empty.ensures.kept;

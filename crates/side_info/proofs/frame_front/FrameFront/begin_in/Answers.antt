@@ -15,7 +15,7 @@ class_is a f k view is = is ∙ ap (λ (g : FrameFields). class_of g.header) (sy
 -- the side information is this many bytes
 long : (a : Inside) → AreFrontBytes a → (n : ℕ) → n ≡ side_size_of (class_of (header_of a))
     → length (take n a.side) ≡ n
-long a is n size = subst (λ m. length (take m a.side) ≡ m) (sym size) (written_size a is)
+long a is n size = subst (λ m. length (take m a.side) ≡ m) (sym size) (written_size is)
 
 pub begin_at-requires-clause-room : goal.begin_at-requires-clause-room
 begin_at-requires-clause-room c = grind (arith, class_is, long)

@@ -28,7 +28,7 @@ unfolding class_with
 invariant_of-result c =
     let at = (goal.at.invariant_of-result c).After-channels_of in
     subst IsClass (sym (same at))
-    (IsClass-class_of (header_of c.self.inside) c.self.invariant.known)
+    (IsClass-class_of c.self.invariant.known)
 
 pub returns-clause-class : goal.returns-clause-class
 unfolding class_with

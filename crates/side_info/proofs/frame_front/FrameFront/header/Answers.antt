@@ -4,9 +4,9 @@ use Rattle.side_info.proofs.FrontLemmas.{header_read, written}
 use Rattle.side_info.proofs.frame_front.FrameFront.header.Goals as goal
 
 pub unwrap-requires : goal.unwrap-requires
-unwrap-requires c = ap is_ok (c.read.ensures ∙ (written c.self.inside c.self.invariant).at)
+unwrap-requires c = ap is_ok (c.read.ensures ∙ (written c.self.invariant).at)
 
 pub returns : goal.returns
 returns c =
-    sym (header_read c.self.inside c.unwrap.result (sym c.read.ensures ∙ c.unwrap.ensures))
+    sym (header_read c.self.inside (sym c.read.ensures ∙ c.unwrap.ensures))
     ∙ ap (λ f. f.header) c.self.view_is

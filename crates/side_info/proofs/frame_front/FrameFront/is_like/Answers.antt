@@ -1,6 +1,5 @@
 -- The fields are the same where the bits are.
 use Rattle.std.proofs.Common.{ap₂, subst, sym, ◌∙◌}
-use Rattle.bit_fields.specs.Bits.{bits_of}
 use Rattle.frame_header.specs.{Fields.HeaderFields, HeaderBits.header_bits}
 use Rattle.side_info.proofs.FrontLemmas.{alike-fields, fields-alike}
 use Rattle.side_info.specs.{FrameFields.header_like, FrontBytes.AreHeadersAlike}
@@ -12,8 +11,7 @@ returns c =
     let other = c.args.other.now.header in
     let bits = ap₂ AreHeadersAlike c.word.ensures.bits c.word-2.ensures.bits in (
       (λ is.
-          sym c.word.ensures.fields ∙ fields-alike (bits_of 32 c.word.result)
-          (bits_of 32 c.word-2.result) (c.are_alike.ensures.0 is)
+          sym c.word.ensures.fields ∙ fields-alike (c.are_alike.ensures.0 is)
           ∙ ap₂ header_like c.word-2.ensures.fields c.word.ensures.fields),
       (λ is. c.are_alike.ensures.1
           (subst (λ T. T) (sym bits) (subst (λ (h : HeaderFields). AreHeadersAlike (header_bits h)

@@ -11,7 +11,7 @@ use Rattle.side_info.specs.{Side.{side_at, side_bits}, declared.side.Side.Side}
 use Rattle.side_info.proofs.frame_front.FrameFront.new.Goals as goal
 
 known : (c : After-room_of) → IsHeader c.args.header.now
-known c = IsHeader-header_at c.bytes.result c.args.header.now c.bytes.ensures.back
+known c = IsHeader-header_at c.bytes.result c.bytes.ensures.back
 
 part : (c : After-room_of) → List ℕ
 part c = bytes (side_bits (class_of c.args.header.now) c.args.side.now)

@@ -7,8 +7,7 @@ pub returns-then-protected : goal.returns-then-protected
 returns-then-protected c = record {
   place = search rules;
   head = let f = c.args.self.now in
-      head-word f.header f.side c.right_crc.result c.copy_from_slice.new.self c.args.room.now
-      c.put_crc.new.frame (c.copy_from_slice.ensures.after ∙ c.four.ensures)
+      head-word f.header f.side c.args.room.now (c.copy_from_slice.ensures.after ∙ c.four.ensures)
       (sym c.protected.ensures ∙ c.if-protected.true) c.right_crc.ensures
       c.put_crc.ensures;
 }
@@ -17,7 +16,7 @@ pub returns-else-protected : goal.returns-else-protected
 returns-else-protected c = record {
   place = search rules;
   head = let f = c.args.self.now in
-      head-alone f.header f.side c.copy_from_slice.new.self (drop 4 c.args.room.now)
+      head-alone f.header f.side (drop 4 c.args.room.now)
       (c.copy_from_slice.ensures.after ∙ c.four.ensures)
       (sym c.protected.ensures ∙ c.if-protected.false);
 }

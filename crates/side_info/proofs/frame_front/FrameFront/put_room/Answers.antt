@@ -15,8 +15,8 @@ returns c =
     let new = c.put_bytes.new.frame in
     subst (λ (f : FrameFields). take (place + side_size_of (class_of f.header)) new
     ≡ take place room ++ bytes (side_bits (class_of f.header) f.side)) c.self.view_is
-    (put-first _ (take place room) _ _ (drop (place + length a.side) room) new
+    (put-first (take place room) _ _ (drop (place + length a.side) room)
     (c.put_bytes.ensures ∙ ap (λ (xs : List ℕ). take place room
-    ++ (xs ++ drop (place + length a.side) room)) (room-is a c.self.invariant))
+    ++ (xs ++ drop (place + length a.side) room)) (room-is c.self.invariant))
     (omega
-    (arith, length-take-le place room (omega (arith, c.requires)), part-size a c.self.invariant)))
+    (arith, length-take-le place room (omega (arith, c.requires)), part-size c.self.invariant)))

@@ -20,7 +20,7 @@ pub first_four-requires : goal.first_four-requires
 first_four-requires c = least c.args.header.now c.args.frame.now c.requires.room
 
 known : (c : After-room_of_frame) → IsHeader c.args.header.now
-known c = IsHeader-header_at (take 4 c.args.frame.now) c.args.header.now c.requires.heads
+known c = IsHeader-header_at (take 4 c.args.frame.now) c.requires.heads
 
 head : (c : After-room_of_frame) → bits c.first_four.result ≡ header_bits c.args.header.now
 head c = grind (arith, header_bits-header_at, length-take-le, least)

@@ -15,8 +15,8 @@ returns c =
     c.side_size-size.ensures.size ∙ ap side_size_of
     (c.class.ensures.class ∙ ap class_of (sym (ap (λ f. f.header) c.self.view_is))) in
     let long : length (take c.side_size-size.result a.side) ≡ side_size_of (class_of h) =
-    ap (λ n. length (take n a.side)) size ∙ written_size a c.self.invariant in
-    c.check_word_of_bytes.ensures.read h (written a c.self.invariant).at long
+    ap (λ n. length (take n a.side)) size ∙ written_size c.self.invariant in
+    c.check_word_of_bytes.ensures.read h (written c.self.invariant).at long
     ∙ ap (check_word_of h)
     (ap (λ n. side_at (class_of h) (bits (take n a.side))) size ∙ sym (side_read a))
     ∙ ap (λ f. check_word_of f.header f.side) c.self.view_is

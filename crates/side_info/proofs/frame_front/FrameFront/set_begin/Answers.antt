@@ -62,9 +62,8 @@ returns c =
     ++ drop (begin_width d.version) (bits (take (side_size_of d) a.side)) =
     grind (arith, version) in
     let side : side_at d (bits part) ≡ record (side_of a) { main_data_begin = c.args.begin } =
-    side_at-begin d (written a c.self.invariant).class (side_of a)
-    c.args.begin (bits (take (side_size_of d) a.side)) (bits part) (shaped a)
-    (fits a c.self.invariant) (small at) (written a c.self.invariant).side first in
+    side_at-begin (written c.self.invariant).class (shaped a)
+    (fits c.self.invariant) (small at) (written c.self.invariant).side first in
     ap front_view (sym (counted at part))
     ∙ side_fields-written a c.self.invariant part
     (part_size at part (omega (arith, c.put_begin.auto.part))) c.put_begin.ensures.octets

@@ -22,8 +22,7 @@ known c = let h = c.self.invariant.known in record {
 
 head : (c : After-put_slot)
     → bits c.put_slot.new.four ≡ header_bits (slotted (header_of c.self.inside) c.args.slot)
-head c =
-    c.put_slot.ensures.bits (header_of c.self.inside) (written c.self.inside c.self.invariant).head
+head c = c.put_slot.ensures.bits (header_of c.self.inside) (written c.self.invariant).head
 
 pub invariant_of-self : goal.invariant_of-self
 invariant_of-self c =

@@ -21,4 +21,4 @@ returns-clause-side c =
 pub returns-clause-fits : goal.returns-clause-fits
 returns-clause-fits c =
     subst (λ d. SideFits d c.args.self.now.side) (sym c.requires) (subst
-    (λ f. SideFits (class_of f.header) f.side) c.self.view_is (fits c.self.inside c.self.invariant))
+    (λ f. SideFits (class_of f.header) f.side) c.self.view_is (fits c.self.invariant))

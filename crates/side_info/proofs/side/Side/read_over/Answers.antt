@@ -20,5 +20,5 @@ side c =
     ∙ ap (λ d. side_at d (bits c.args.bytes.now)) c.class.view_is
 
 pub returns : goal.returns
-returns c = IsSideOf-side_at c.args.class c.args.bytes.now c.read_shape.new.side
+returns c = IsSideOf-side_at
     (subst IsClass c.class.view_is c.class.invariant) c.requires.size (side c)

@@ -17,8 +17,7 @@ is c =
     let before : c.overhead_of-overhead.result ≡ overhead_of c.self.inside.class c.args.protected =
     c.overhead_of-overhead.ensures.overhead
     ∙ ap (λ k. overhead_of k c.args.protected) (sym c.self.view_is) in
-    let found = area-looked c.self.inside.class slot c.args.protected c.self.inside.by_index
-    c.self.inside.unprotected c.self.inside.protected c.from.result c.overhead_of-overhead.result
+    let found = area-looked slot c.args.protected
     c.slot.invariant c.self.invariant c.from.ensures before in
     let here : Is c slot c.self.inside.class =
     subst (λ n. (c.overhead_of-overhead.result ≤ c.from.result + n) × ((c.from.result + n)

@@ -9,5 +9,4 @@ returns c =
     subst (λ slot. IsLeastSlot c.args._wanted (class_of c.args.header.now)
     c.args.header.now.protected (c.args.header.now.slot ∷ []) slot)
     (ap (λ h. h.slot) (sym c.header.view_is))
-    (least-one c.args._wanted (class_of c.args.header.now)
-    c.args.header.now.protected c.args.header.now.slot c.requires.enough)
+    (least-one c.requires.enough)

@@ -4,5 +4,5 @@ use Rattle.slot_plan.proofs.policy.LeastPolicy.choices.Goals as goal
 
 pub returns-clause-ascending : goal.returns-clause-ascending
 returns-clause-ascending c =
-    class-ascend c.class.result _ c.args.header.now.protected c.slots.result.items
+    class-ascend c.args.header.now.protected
     c.slots.ensures.slots c.class.ensures (c.slots.ensures.ascending c.args.header.now.protected)

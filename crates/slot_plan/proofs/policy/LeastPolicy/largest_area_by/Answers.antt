@@ -12,7 +12,7 @@ returns c = record {
       ∙ ap₂ (λ k p. area_of k largest_slot p)
       c.requires.class (ap (λ h. h.protected) c.header.view_is)
       ∙ greatest_number-all (class_of c.args.header.now) c.args.header.now.protected
-      (IsClass-class_of c.args.header.now (subst IsHeader c.header.view_is c.header.invariant));
+      (IsClass-class_of (subst IsHeader c.header.view_is c.header.invariant));
   own = Contains-all_slots c.args.header.now.slot
       (subst (λ h. IsSlot h.slot) c.header.view_is c.header.invariant.slot);
 }

@@ -13,7 +13,7 @@ least_slot-requires c =
     subst (λ k. c.args.wanted ≤ greatest_number (slot_areas k protected all_slots))
     (sym c.requires.table.class_is) c.requires.enough in
     let within =
-    table-within table all_slots protected c.args.wanted c.requires.table.of_slots enough in
+    table-within protected c.requires.table.of_slots enough in
     record {
       within =
           subst (λ p. c.args.wanted + overhead_of table.lengths p < length table.by_length.items)

@@ -12,7 +12,7 @@ returns c = record {
       let at : get_or c.args.self.now.by_length.items length slot ≡ slot =
       ap (λ n. get_or c.args.self.now.by_length.items (c.args.wanted + n) slot)
       (sym c.overhead_of-overhead.ensures.overhead) ∙ sym c.index.ensures in
-      least-looked c.args.self.now slots c.args.protected c.args.wanted slot is
+      least-looked is
       (subst (IsShortestSlot c.args.self.now.lengths slots length) at
       (is.least length slot c.requires.within));
 }

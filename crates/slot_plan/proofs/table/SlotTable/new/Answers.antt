@@ -14,10 +14,8 @@ loop-slot-preserved c =
 pub returns : goal.returns
 returns c =
     let class = sym c.new-lengths.ensures.class in
-    let table = table-all c.args.slots.now c.loop-slot.slot-index (record {
-      lengths = c.new-lengths.result;
-      by_length = c.loop-slot.by_length;
-    }) c.requires.some (omega (arith, c.loop-slot-test.false, c.loop-slot.auto.slot-index-end))
+    let table = table-all c.requires.some
+    (omega (arith, c.loop-slot-test.false, c.loop-slot.auto.slot-index-end))
     (subst (λ k. Rise k c.args.slots.now) class
     (rise-areas c.args.class c.args.slots.now c.requires.ascending))
     (subst (λ k. IsTableTo k c.args.slots.now c.loop-slot.slot-index c.loop-slot.by_length.items)

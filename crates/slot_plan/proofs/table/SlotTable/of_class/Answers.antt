@@ -7,7 +7,7 @@ pub new-requires : goal.new-requires
 new-requires c =
     let all = c.as_slice.ensures.value ∙ c.slots-slots.ensures.slots in
     record {
-      some = lead-any c.as_slice.result.now all;
-      ascending = lead-ascend c.args.class c.as_slice.result.now all
+      some = lead-any all;
+      ascending = lead-ascend c.args.class all
           (c.slots-slots.ensures.ascending false);
     }

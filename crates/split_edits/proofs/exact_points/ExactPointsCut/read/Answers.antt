@@ -8,7 +8,7 @@ use Rattle.split_edits.proofs.exact_points.ExactPointsCut.read.Goals as goal
 pub returns-clause-source : goal.returns-clause-source
 returns-clause-source g c = λ bytes holds. record {
   survey = c.set_apart.ensures;
-  has = survey_without_head-relaid bytes (survey_view c.args.survey)
+  has = survey_without_head-relaid
       (c.requires.surveyed bytes holds);
   head_is = c.in_ok-head.ensures.head bytes holds;
 }

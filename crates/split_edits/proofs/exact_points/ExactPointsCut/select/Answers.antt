@@ -2,7 +2,6 @@
 use Rattle.std.proofs.Common.{ap, inr, Option, sym, ◌∙◌}
 use Rattle.cut_edits.specs.Exact.{file_span, span_piece}
 use Rattle.info_header.specs.declared.fields.Info.{Info}
-use Rattle.laying.specs.Laid.{selected_part}
 use Rattle.split_edits.proofs.CutLemmas.{exact-laid-is, exact-laid-refused, exact-points-refusal}
 use Rattle.split_edits.proofs.PiecesLemmas.{match_err}
 use Rattle.sync_survey.specs.Faults.{survey_view}
@@ -17,7 +16,7 @@ returns-in_err-span-clause-laid c =
     (inr (
       exact-points-refusal c.args.self.now _ c.in_err-span.ensures.refusal,
       λ file s is.
-          exact-laid-refused from to file s t is.survey c.args.source.now.head is.head_is _
+          exact-laid-refused from to file s t is.survey c.args.source.now.head is.head_is
           (ap (λ (h : Option Info). file_span from to h t) (sym c.as_ref-head.ensures.value)
           ∙ c.in_err-span.ensures.span),
     ))
@@ -28,8 +27,7 @@ returns-clause-laid c = λ file s is.
     let from = c.args.from.now in
     let to = c.args.to.now in
     let span = c.in_ok-span.span in
-    exact-laid-is from to file s t is.survey c.args.source.now.head is.head_is span
-    (selected_part c.in_ok-selected.selected)
+    exact-laid-is from to file s t is.survey c.args.source.now.head is.head_is
     (ap (λ (h : Option Info). file_span from to h t) (sym c.as_ref-head.ensures.value)
     ∙ c.in_ok-span.ensures.span)
     (c.in_ok-selected.ensures.laid file (rw is.survey is.has)

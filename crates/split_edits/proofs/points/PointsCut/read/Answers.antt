@@ -2,12 +2,11 @@
 use Rattle.std.proofs.Common.{refl}
 use Rattle.commands.specs.SingleOutput.{most_frames}
 use Rattle.laying.proofs.SurveyFrameLemmas.{survey-had}
-use Rattle.sync_survey.specs.Faults.{survey_view}
 use Rattle.split_edits.proofs.points.PointsCut.read.Goals as goal
 
 pub returns-clause-source : goal.returns-clause-source
 returns-clause-source g c = λ bytes holds. record {
   survey = refl;
-  has = survey-had bytes most_frames (survey_view c.args.survey) (c.requires.surveyed bytes holds);
+  has = survey-had most_frames (c.requires.surveyed bytes holds);
   head_is = refl;
 }

@@ -1,7 +1,5 @@
 -- The chosen frames in their own slots, given the known survey.
 use Rattle.std.proofs.Common.{inr}
-use Rattle.cut_edits.specs.Chosen.{chosen_in}
-use Rattle.laying.specs.Laid.{selected_part}
 use Rattle.split_edits.proofs.CutLemmas.{frames-laid, frames-refused, points-refusal}
 use Rattle.split_edits.proofs.PiecesLemmas.{match_err}
 use Rattle.sync_survey.specs.Faults.{survey_view}
@@ -13,11 +11,11 @@ returns-in_err-chosen-clause-laid c =
     (inr (
       points-refusal c.args.self.now _ c.in_err-chosen.ensures.refusal,
       λ file s is. frames-refused c.args.from.now c.args.to.now file s
-          (survey_view c.args.source.now.survey) is.survey _ (c.in_err-chosen.ensures.chosen file),
+          (survey_view c.args.source.now.survey) is.survey (c.in_err-chosen.ensures.chosen file),
     ))
 
 pub returns-clause-laid : goal.returns-clause-laid
 returns-clause-laid c = λ file s is.
     frames-laid c.args.from.now c.args.to.now file s (survey_view c.args.source.now.survey)
-    is.survey (chosen_in c.in_ok-chosen.chosen) (selected_part c.in_ok-selected.selected)
+    is.survey
     (c.in_ok-chosen.ensures.chosen file) c.in_ok-selected.ensures.laid

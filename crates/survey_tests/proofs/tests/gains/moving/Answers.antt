@@ -14,4 +14,4 @@ gains_of-requires c =
       ap (λ (k : ClassFields). k.channels) (c.class-2.view_is ∙ c.class.ensures),
     ) in
     subst (HasChannel c.args.channel) (sym c.frames.ensures)
-    (has_channel c.args.channel (survey_view c.args.survey.now) c.requires below)
+    (has_channel c.requires below)

@@ -14,7 +14,7 @@ use Rattle.sync_survey.proofs.found.SurveySoFar.pass.Goals as goal
 own : (c : Then-size-left) → PassesFront c.args.bytes.now c.args.left
     (record { item = Frame c.in-Some.header; size = c.from-size.result })
 own c =
-    frame_passes c.args.class c.args.bytes.now c.in-Some.header
+    frame_passes c.args.class
     (sym c.header_of_class.ensures ∙ c.in-Some.is)
     (c.from-size.ensures ∙ c.length_of.ensures.length
     ∙ ap (λ (h : HeaderFields). length_of c.args.class h.slot) c.header.view_is) c.if-size-left.true

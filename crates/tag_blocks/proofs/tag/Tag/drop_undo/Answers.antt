@@ -7,7 +7,7 @@ use Rattle.tag_blocks.proofs.tag.Tag.drop_undo.Goals as goal
 is_removed : (c : goal.After-drop-remove-in-Some)
     → c.remove.new.self.items ≡ without_undo c.self.inside.items.items
 is_removed c =
-    removed c.self.inside.items.items c.remove.new.self.items c.in-Some.at
+    removed c.self.inside.items.items
     (ap (position is_undo) (sym c.deref.ensures.value) ∙ sym c.undo_place.ensures ∙ c.in-Some.is)
     c.remove.ensures.by_index.2
 
@@ -17,14 +17,14 @@ invariant_of-self c =
       header_flags = c.self.inside.header_flags;
       footer_flags = c.self.inside.footer_flags;
       items = items;
-    })) (sym (is_removed c)) (IsTag-without_undo _ c.self.invariant)
+    })) (sym (is_removed c)) (IsTag-without_undo c.self.invariant)
 
 pub returns-in-Some : goal.returns-in-Some
 returns-in-Some c = rw (is_removed c, ← c.self.view_is) refl
 
 pub returns-in_default : goal.returns-in_default
 returns-in_default c =
-    let same = none_removed c.self.inside.items.items (ap (position is_undo)
+    let same = none_removed (ap (position is_undo)
     (sym c.deref.ensures.value) ∙ sym c.undo_place.ensures ∙ c.in_default.is) in
     sym c.self.view_is ∙ ap (λ items. record {
       header_flags = c.self.inside.header_flags;

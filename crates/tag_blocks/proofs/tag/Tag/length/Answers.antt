@@ -6,13 +6,13 @@ use Rattle.tag_blocks.proofs.tag.Tag.length.Goals as goal
 
 pub items_length-requires : goal.items_length-requires
 items_length-requires c =
-    omega (arith, ap items_length c.deref.ensures.value, items_length-most _ c.self.invariant)
+    omega (arith, ap items_length c.deref.ensures.value, items_length-most c.self.invariant)
 
 pub overflow_add-result : goal.overflow_add-result
 overflow_add-result c = omega (
   arith,
   ap items_length c.deref.ensures.value,
-  items_length-most _ c.self.invariant,
+  items_length-most c.self.invariant,
   c.items_length.ensures,
 )
 
@@ -27,6 +27,6 @@ pub returns-clause-most : goal.returns-clause-most
 returns-clause-most c = omega (
   arith,
   ap items_length c.deref.ensures.value,
-  items_length-most _ c.self.invariant,
+  items_length-most c.self.invariant,
   c.items_length.ensures,
 )

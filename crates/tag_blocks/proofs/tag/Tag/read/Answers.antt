@@ -13,7 +13,7 @@ within_cases : (block : List ℕ) → AreByteValues block → 64 ≤ length bloc
     → (r : Result TagFields TagFault) → MatchResult r (λ tag. tag_of block ≡ Ok tag)
     (λ fault. (fault ≡ Memory) ⊎ (tag_of block ≡ Err fault)) → IfErr r (IsPlaceIn block)
 within_cases block octets long (Err (BadTag place)) (inl e) = absurd cc
-within_cases block octets long (Err (BadTag place)) (inr e) = place-within block place octets long e
+within_cases block octets long (Err (BadTag place)) (inr e) = place-within block octets long e
 within_cases block octets long _ h = tt
 
 pub returns-clause-within : goal.returns-clause-within

@@ -12,7 +12,7 @@ put_cases : {T E : Type 0} (r : Result T E) (header footer : ℕ) (old new : Lis
 put_cases (Ok u) header footer old new undo is put stays =
     subst (λ items. IsTag (record { header_flags = header; footer_flags = footer; items = items }))
     (sym put)
-    (IsTag-with_undo undo (record { header_flags = header; footer_flags = footer; items = old }) is)
+    (IsTag-with_undo undo is)
 put_cases (Err e) header footer old new undo is put stays =
     subst (λ items. IsTag (record { header_flags = header; footer_flags = footer; items = items }))
     (sym stays) is

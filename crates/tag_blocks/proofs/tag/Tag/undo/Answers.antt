@@ -13,7 +13,7 @@ length-requires c =
       more,
       c.loop-item.invariant.place,
       ap items_length c.deref-item-items.ensures.value,
-      items_length-most _ c.self.invariant,
+      items_length-most c.self.invariant,
     )
 
 pub overflow_add-place : goal.overflow_add-place
@@ -26,6 +26,6 @@ overflow_add-place c =
       more,
       c.loop-item.invariant.place,
       ap items_length c.deref-item-items.ensures.value,
-      items_length-most _ c.self.invariant,
+      items_length-most c.self.invariant,
       c.length.ensures,
     )

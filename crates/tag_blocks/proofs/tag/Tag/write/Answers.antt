@@ -7,14 +7,14 @@ use Rattle.tag_blocks.proofs.tag.Tag.write.Goals as goal
 
 pub items_length-requires : goal.items_length-requires
 items_length-requires c =
-    omega (arith, ap items_length c.deref.ensures.value, items_length-most _ c.self.invariant)
+    omega (arith, ap items_length c.deref.ensures.value, items_length-most c.self.invariant)
 
 pub overflow_add-size : goal.overflow_add-size
 overflow_add-size c = omega (
   arith,
   c.items_length.ensures,
   ap items_length c.deref.ensures.value,
-  items_length-most _ c.self.invariant,
+  items_length-most c.self.invariant,
 )
 
 pub overflow_cast-size : goal.overflow_cast-size
@@ -22,7 +22,7 @@ overflow_cast-size c = omega (
   arith,
   c.items_length.ensures,
   ap items_length c.deref.ensures.value,
-  items_length-most _ c.self.invariant,
+  items_length-most c.self.invariant,
 )
 
 pub overflow_cast-count : goal.overflow_cast-count
@@ -31,7 +31,7 @@ overflow_cast-count c = omega (
   c.len-count.ensures,
   c.deref.ensures.len,
   ap length c.deref.ensures.value,
-  count-most _ c.self.invariant,
+  count-most c.self.invariant,
 )
 
 pub overflow_cast-size-2 : goal.overflow_cast-size-2
@@ -39,7 +39,7 @@ overflow_cast-size-2 c = omega (
   arith,
   c.items_length.ensures,
   ap items_length c.deref.ensures.value,
-  items_length-most _ c.self.invariant,
+  items_length-most c.self.invariant,
 )
 
 pub overflow_add-size-2 : goal.overflow_add-size-2
@@ -47,7 +47,7 @@ overflow_add-size-2 c = omega (
   arith,
   c.items_length.ensures,
   ap items_length c.deref.ensures.value,
-  items_length-most _ c.self.invariant,
+  items_length-most c.self.invariant,
 )
 
 is_written : (c : goal.In_ok-append_end-2)
@@ -57,9 +57,7 @@ is_written c =
       header_flags = c.self.inside.header_flags;
       footer_flags = c.self.inside.footer_flags;
       items = c.self.inside.items.items;
-    }) (c.items_length.result + 32) c.len-count.result
-    c.in_ok-block.block.items c.append_end.new.bytes.items c.append_items.new.bytes.items
-    c.append_end-2.new.bytes.items
+    })
     (ap (λ n. n + 32) (c.items_length.ensures ∙ ap items_length c.deref.ensures.value))
     (omega (arith, c.len-count.ensures, c.deref.ensures.len, ap length c.deref.ensures.value))
     c.in_ok-block.ensures.items c.in_ok-append_end.ensures (c.in_ok-append_items.ensures
@@ -72,8 +70,8 @@ returns-clause-bytes c = is_written c
 
 pub returns-clause-back : goal.returns-clause-back
 returns-clause-back c = ap tag_of (is_written c)
-    ∙ tag_of-tag_bytes c.args.self.now (subst IsTag c.self.view_is c.self.invariant)
+    ∙ tag_of-tag_bytes (subst IsTag c.self.view_is c.self.invariant)
 
 pub returns-clause-block : goal.returns-clause-block
 returns-clause-block c = rw (is_written c)
-    (block_front-tag_bytes c.args.self.now (subst IsTag c.self.view_is c.self.invariant))
+    (block_front-tag_bytes (subst IsTag c.self.view_is c.self.invariant))

@@ -14,15 +14,15 @@ returns-then-not-is_undo_text-clause-undo c =
     sym (no_undo c.args.value.now (sym c.is_undo_text.ensures ∙ c.if-not-is_undo_text.true))
 
 pub steps_of-requires-clause-steps : goal.steps_of-requires-clause-steps
-steps_of-requires-clause-steps c = (undo_parts c.args.value.now (form c)).left
+steps_of-requires-clause-steps c = (undo_parts (form c)).left
 
 pub steps_of-requires-2-clause-steps : goal.steps_of-requires-2-clause-steps
-steps_of-requires-2-clause-steps c = (undo_parts c.args.value.now
+steps_of-requires-2-clause-steps c = (undo_parts
     (form (goal.at.steps_of-requires-2-clause-steps c).Else-not-is_undo_text)).right
 
 pub returns-clause-undo : goal.returns-clause-undo
 returns-clause-undo c =
-    undo_read c.args.value.now c.steps_of.result c.steps_of-2.result
+    undo_read c.args.value.now
     (form (goal.at.returns-clause-undo c).Else-not-is_undo_text)
     c.steps_of.ensures.steps c.steps_of.ensures.most c.steps_of-2.ensures.steps
     c.steps_of-2.ensures.most

@@ -4,4 +4,4 @@ use Rattle.tag_blocks.{proofs.UndoTextLemmas.undo_of-undo_text, specs.UndoText.u
 use Rattle.tag_blocks.proofs.undo.Undo.text.Goals as goal
 
 pub returns-clause-back : goal.returns-clause-back
-returns-clause-back c = ap undo_of c.text_of.ensures ∙ undo_of-undo_text c.args.self.now c.requires
+returns-clause-back c = ap undo_of c.text_of.ensures ∙ undo_of-undo_text c.requires

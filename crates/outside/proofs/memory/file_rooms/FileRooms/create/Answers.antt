@@ -1,4 +1,4 @@
-use Rattle.std.proofs.Common.{rules, []}
+use Rattle.std.proofs.Common.{rules}
 use Rattle.outside.proofs.FileRoomsLemmas.{contents_written, rooms_stay}
 use Rattle.outside.specs.declared.memory.file_rooms.FileRooms.{FileRooms}
 use Rattle.outside.proofs.memory.file_rooms.FileRooms.create.Goals as goal
@@ -8,7 +8,7 @@ returns-in-Some-clause-contents c =
     let slot = c.create.new.self in
     let new : FileRooms = record { by_name = c.get_mut.follows.lender slot } in
     contents_written c.args.self.now new c.args.name.now slot
-    ((c.get_mut.follows.holds slot).3 (search rules)) c.in-Some.slot.now c.in-Some.ensures.value []
+    ((c.get_mut.follows.holds slot).3 (search rules)) c.in-Some.slot.now c.in-Some.ensures.value
     c.create.ensures.content
 
 pub returns-in-Some-clause-rooms : goal.returns-in-Some-clause-rooms

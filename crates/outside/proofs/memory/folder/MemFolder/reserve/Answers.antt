@@ -13,5 +13,5 @@ returns-clause-contents c =
     let old = contents_of c.args.self.now in
     let same : content_of c.in_ok-slot.slot ≡ old c.args.name.now =
     c.in_ok-slot.ensures.content ∙ c.content.ensures in
-    either_way c.set.result (on_ok_weaker c.set.result (λ set. set ∙ update_held old
-    c.args.name.now _ (sym same)) c.set.ensures.contents) c.set.ensures.contents_kept
+    either_way c.set.result (on_ok_weaker c.set.result (λ set. set ∙ update_held
+    c.args.name.now (sym same)) c.set.ensures.contents) c.set.ensures.contents_kept

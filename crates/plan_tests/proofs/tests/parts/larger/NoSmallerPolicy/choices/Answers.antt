@@ -14,7 +14,7 @@ larger h = slice_range all_slots (place_of h.slot) 28
 
 larger-ascend : (h : HeaderFields) → IsHeader h → SlicesAreMenus
     → AllPairs (λ m n. m < n) (header_areas larger h)
-larger-ascend h is menus = (menus (class_of h) (place_of h.slot) 28 (IsClass-class_of h is)
+larger-ascend h is menus = (menus (class_of h) (place_of h.slot) 28 (IsClass-class_of is)
     (place_of-below h.slot is.slot) (omega arith)).0 h.protected
 
 own-first : (slot : SlotFields) → IsSlot slot
@@ -22,9 +22,9 @@ own-first : (slot : SlotFields) → IsSlot slot
 own-first slot is =
     let below : place_of slot < 28 = place_of-below slot is in (
       0,
-      omega (arith, below, slice-many (place_of slot) 28 below (omega arith)),
-      slice-at all_slots (place_of slot) 28 0 slot (omega (arith, below))
-          ∙ ap (λ k. get_or all_slots k slot) (omega arith) ∙ get_or-place_of slot slot is,
+      omega (arith, below, slice-many below (omega arith)),
+      slice-at all_slots (place_of slot) 28 slot (omega (arith, below))
+          ∙ ap (λ k. get_or all_slots k slot) (omega arith) ∙ get_or-place_of slot is,
     )
 
 module _ (c : goal.After-slots_from) where
