@@ -1,9 +1,10 @@
 //! A folder in memory that grows.
-ghost use Rattle.std.specs.Prelude.{◌≡◌, ◌-◌, [], ◌++◌, None, Some, Ok, false, length, take, drop, min, unwrap_or, is_some, option_copied, IsSome, OnOk, OnErr, IfOk};
+ghost use Rattle.std.specs.Prelude.{◌≡◌, ◌≢◌, ◌-◌, [], ◌++◌, None, Some, Ok, Err, false, length, take, drop, min, unwrap_or, is_some, option_copied, IsSome, OnOk, OnErr, IfOk};
 ghost use Rattle.outside.specs.Answers.{FindAnswer, ReadAnswer, ThereAnswer, CreateAnswer, MakeAnswer, WriteAnswer};
 ghost use Rattle.outside.specs.Counts.{no_counts, OnlyWrites, with_write_fault};
 ghost use Rattle.outside.specs.Files.{Told, with_file, AreOctets, IsFileThere};
 ghost use Rattle.outside.specs.Seen.{OnFile};
+ghost use Rattle.outside.specs.declared.folder.FindFault.TheVariants.{Failed as FailedCall};
 ghost use Rattle.session.specs.Shown.{grown_files, grown_counts, grown_seen, without_file};
 ghost use Rattle.session.specs.Names.{IsNameAt};
 
@@ -136,6 +137,7 @@ impl Folder for GrowingFolder {
     fn find(&mut self, name: &str) -> Result<u64, FindFault>
         ensures answer { FindAnswer name.now (grown_seen self.old) (grown_seen self.new) result }
         ensures absent { OnErr result (grown_files self.old name.now ≡ None) }
+        ensures never_fails { result ≢ Err FailedCall }
     {
         match self.get(name) {
             Some(content) => Ok(size_of(content)),
