@@ -10,29 +10,29 @@ use Rattle.frame_writer.specs.Frames.{fields_of_frames, Frame, frame_area, frame
 use Rattle.frame_writer.specs.Laid.{areas_end, CanDataBeLaid, frame_data_start, laid_data}
 use Rattle.info_header.specs.HeadText.{head_text_of}
 use Rattle.laying.proofs.EntryByteLemmas.{entry_item, length-entry, shaped}
+use Rattle.laying.proofs.LaidChainLemmas.{front_end-is, not_in_front, some_frames, start_by}
 use Rattle.laying.proofs.LaidDataLemmas.{laid-there, length-laid}
 use Rattle.laying.proofs.LaidFileLemmas.{entries_by, entry_get, HasPayload, payload_there, row_at}
 use Rattle.laying.proofs.LaidFrameLemmas.{areas-all, areas-there, frame_items, framed_bytes-items}
 use Rattle.laying.proofs.LaidFrameLemmas.{framed_bytes-stand, frames_at, rows-there, StandFrom}
-use Rattle.laying.proofs.LaidRunLemmas.{front_end-is, not_in_front, some_frames, start_by}
 use Rattle.laying.proofs.LaidSoundLemmas.{laid-sound, marked_rows-none, starts-there}
 use Rattle.laying.specs.LaidFiles.{AreStreamEntries, frame_length, rows_from, stream_entry}
 use Rattle.side_info.specs.Frame.{frame_front_bytes}
-use Rattle.sync_survey.proofs.ItemListLemmas.{item_at-known, items-item_run, placed}
-use Rattle.sync_survey.proofs.{OneItemLemmas.stands-only_at, RunsLemmas.whole_item_at-past}
+use Rattle.sync_survey.proofs.ChainLemmas.{whole_item_at-past}
+use Rattle.sync_survey.proofs.ItemListLemmas.{item_at-known, items-item_chain, placed}
+use Rattle.sync_survey.proofs.OneItemLemmas.{stands-only_at}
 use Rattle.sync_survey.proofs.SurveyPartsLemmas.{frames_from, IsRead, sound-no_all_faults}
 use Rattle.sync_survey.proofs.SurveyPartsLemmas.{survey_fields-stream, survey_fields-told}
 use Rattle.sync_survey.proofs.SurveyPartsLemmas.{told_from}
+use Rattle.sync_survey.specs.Chains.{blocks_of, frames_of, item_chain, ItemChain}
 use Rattle.sync_survey.specs.Faults.{all_faults, HoldsStream, stream_of_survey, survey_fields}
 use Rattle.sync_survey.specs.{Faults.SurveyFields, Items.{item_at, size_of}}
 use Rattle.sync_survey.specs.MainData.{main_bytes, marked_rows, place, rows_of, start_of_data}
-use Rattle.sync_survey.specs.{Row.Row, Runs.{blocks_of, frames_of, item_run, ItemRun}}
-use Rattle.sync_survey.specs.Start.{start_of}
+use Rattle.sync_survey.specs.{Row.Row, Start.start_of}
 use Rattle.sync_survey.specs.Walk.{all_blocks, end_fault, fault_at, frame_bytes, head_of}
-use Rattle.sync_survey.specs.Walk.{stream_run}
+use Rattle.sync_survey.specs.{Walk.stream_chain, declared.chains.Region.TheVariants.{Front, Stream}}
 use Rattle.sync_survey.specs.declared.items.Item.TheVariants.{End, Frame as FrameItem}
 use Rattle.sync_survey.specs.declared.places.{Head.Head, Start.Start}
-use Rattle.sync_survey.specs.declared.runs.Region.TheVariants.{Front, Stream}
 
 -- frames of the class, whose main data can be laid into their areas; the first has no text of a
 -- head
@@ -94,7 +94,7 @@ module _ (c : ClassFields) (f : Frame) (more : List Frame) (is : IsBare c f more
   long_own : length own ≡ size_of (FrameItem f.kept.header)
   long_own = grind (arith, length-entry, shaped, long_area)
 
-  -- ---- the runs
+  -- ---- the chains
 
   first_item : item_at file 0 ≡ FrameItem f.kept.header
   first_item =
@@ -102,18 +102,19 @@ module _ (c : ClassFields) (f : Frame) (more : List Frame) (is : IsBare c f more
       ((entry_item f.kept.header f.kept.side (take (frame_area f.kept) area_data)
       is.entries.0.header (shaped is.entries.0.pairs) long_area).known rest)
 
-  front_run : item_run Front file 0 ≡ record { items = []; stop = 0 }
-  front_run = items-item_run Front file [] [] file refl (omega arith) refl
+  front_chain : item_chain Front file 0 ≡ record { items = []; stop = 0 }
+  front_chain = items-item_chain Front file [] [] file refl (omega arith) refl
       (not_in_front file 0 first_item)
 
   start-is : start_of file ≡ Ok begin
   start-is =
-      grind (arith, start_by, front_run, front_end-is, first_item, file-is, length-append, long_own)
+      grind
+      (arith, start_by, front_chain, front_end-is, first_item, file-is, length-append, long_own)
 
-  stream : stream_run file begin
+  stream : stream_chain file begin
       ≡ record { items = placed 0 (frame_items frames); stop = 0 + length file }
   stream =
-      items-item_run Stream file (frame_items frames) file []
+      items-item_chain Stream file (frame_items frames) file []
       (framed_bytes-items c frames area_data is.entries many) (omega arith) (sym (append-nil file))
       (whole_item_at-past Stream file (0 + length file) (omega arith))
 
@@ -140,11 +141,11 @@ module _ (c : ClassFields) (f : Frame) (more : List Frame) (is : IsBare c f more
   frames-are = grind (arith, head-is, stream, placed-all)
 
   blocks-are : all_blocks file begin ≡ []
-  blocks-are = grind (arith, front_run, stream, no_blocks)
+  blocks-are = grind (arith, front_chain, stream, no_blocks)
 
   -- ---- the end
 
-  ended_at : {r : ItemRun}
+  ended_at : {r : ItemChain}
       → r ≡ record { items = placed 0 (frame_items frames); stop = 0 + length file }
       → fault_at r.stop (item_at file r.stop) ≡ None
   ended_at same =
@@ -156,7 +157,7 @@ module _ (c : ClassFields) (f : Frame) (more : List Frame) (is : IsBare c f more
       )
 
   no-end_fault : end_fault file (frames_from file begin)
-      (fault_at (stream_run file begin).stop (item_at file (stream_run file begin).stop)) ≡ None
+      (fault_at (stream_chain file begin).stop (item_at file (stream_chain file begin).stop)) ≡ None
   no-end_fault = grind (arith, frames-are, ended_at, stream, some_frames)
 
   -- ---- the survey

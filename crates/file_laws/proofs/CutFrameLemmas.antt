@@ -3,33 +3,34 @@ use Rattle.std.proofs.Common.{ap, arith, drop, false, inl, inr, length, List, No
 use Rattle.std.proofs.Common.{refl, Some, suc, sym, zero, ℕ, [], ◌++◌, ◌+◌, ◌-◌, ◌∙◌, ◌∷◌, ◌≡◌, ◌≤◌}
 use Rattle.std.proofs.lemmas.{Bool.ne_eqb, List.{drop_all, length-drop, map-append, take-take}}
 use Rattle.std.{proofs.lemmas.Option.slice_get_within, specs.{List.cons_option, Prelude.slice_get}}
+use Rattle.file_laws.proofs.CutChainLemmas.{cut-chain, IsCutChain, IsStop, MayBeCut, stop-fault}
 use Rattle.file_laws.proofs.CutItemLemmas.{cut, cut-none, drop-cut, item-kept, length-cut}
-use Rattle.file_laws.proofs.CutRunLemmas.{cut-run, IsCutRun, IsStop, MayBeCut, stop-fault}
 use Rattle.frame_header.proofs.{HeaderLemmas.IsClass-class_of, LengthLemmas.area_some}
 use Rattle.frame_header.specs.Fields.{ClassFields, HeaderFields, IsHeader}
 use Rattle.frame_header.specs.Tables.{class_of, length_of, overhead_of}
 use Rattle.side_info.proofs.FrameLemmas.{side_in-take, stored_crc-take}
 use Rattle.side_info.specs.{Frame.{side_in, stored_crc}, declared.side.Side.Side}
+use Rattle.sync_survey.proofs.ChainLemmas.{frames-append, IsItemOf, item_chain-ends}
+use Rattle.sync_survey.proofs.ChainLemmas.{item_chain-next, item_chain-only, whole_item_at-is}
+use Rattle.sync_survey.proofs.ChainLemmas.{whole_item_at-past, whole_item_at-whole}
 use Rattle.sync_survey.proofs.FaultsLemmas.{end-more, get_more, place-more}
 use Rattle.sync_survey.proofs.ItemsLemmas.{header_front-in_range, stands-at}
-use Rattle.sync_survey.proofs.OneItemLemmas.{stands-only_at}
-use Rattle.sync_survey.proofs.RunsLemmas.{frames-append, IsItemOf, item_run-ends, item_run-next}
-use Rattle.sync_survey.proofs.RunsLemmas.{item_run-only, whole_item_at-is, whole_item_at-past}
-use Rattle.sync_survey.proofs.{RunsLemmas.whole_item_at-whole, StartLemmas.start-first}
+use Rattle.sync_survey.proofs.{OneItemLemmas.stands-only_at, StartLemmas.start-first}
 use Rattle.sync_survey.proofs.SurveyLemmas.{overhead-within}
 use Rattle.sync_survey.proofs.SurveyPartsLemmas.{all_faults-none_sound, AreSound, frames_from}
 use Rattle.sync_survey.proofs.SurveyPartsLemmas.{IsRead, IsSound, sound-no_all_faults}
 use Rattle.sync_survey.proofs.WalkLemmas.{IsFound, no_fault, nothing_left}
-use Rattle.sync_survey.specs.{Faults.{all_faults, class_from}, Items.{item_at, size_of}}
+use Rattle.sync_survey.specs.Chains.{AreEndToEnd, frame_of_item, frames_of, item_chain, ItemChain}
+use Rattle.sync_survey.specs.{Chains.{PlacedItem, whole_item_at}, Faults.{all_faults, class_from}}
+use Rattle.sync_survey.specs.Items.{item_at, size_of}
 use Rattle.sync_survey.specs.{MainData.{data_end_before, place, row_of, rows_of}, Row.Row}
-use Rattle.sync_survey.specs.Runs.{AreEndToEnd, frame_of_item, frames_of, item_run, ItemRun}
-use Rattle.sync_survey.specs.{Runs.{PlacedItem, whole_item_at}, Start.start_of}
+use Rattle.sync_survey.specs.Start.{start_of}
 use Rattle.sync_survey.specs.Walk.{all_blocks, end_fault, fault_at, frame_bytes, head_in_bytes}
-use Rattle.sync_survey.specs.{Walk.{head_of, numbered_frames, stream_run}, declared.items.Item.Item}
+use Rattle.sync_survey.specs.Walk.{head_of, numbered_frames, stream_chain}
+use Rattle.sync_survey.specs.declared.{chains.Region.TheVariants.Stream, items.Item.Item}
 use Rattle.sync_survey.specs.declared.items.Item.TheVariants.{Block, End, Frame, Free, Nothing}
 use Rattle.sync_survey.specs.declared.{items.Item.TheVariants.Zero, places.Head.Head}
 use Rattle.sync_survey.specs.declared.places.{PlacedFrame.PlacedFrame, Start.Start}
-use Rattle.sync_survey.specs.declared.runs.Region.TheVariants.{Stream}
 use Rattle.sync_survey.specs.declared.survey_fault.SurveyFault.{SurveyFault}
 
 -- ---- lists
@@ -171,26 +172,26 @@ module _ (file : List ℕ) (n : ℕ) (within : n ≤ length file) (start : Start
     high = kept;
   }
 
-  abbrev later : ItemRun
-  later = item_run Stream file behind
+  abbrev later : ItemChain
+  later = item_chain Stream file behind
 
   -- the items after the first frame are the items that are still whole
-  pub r : IsCutRun file n within Stream behind later.items later.stop
-  r = grind (arith, cut-run, item_run-ends)
+  pub r : IsCutChain file n within Stream behind later.items later.stop
+  r = grind (arith, cut-chain, item_chain-ends)
 
-  runs-on : stream_run file start
+  chain-on : stream_chain file start
       ≡ record { items = record { offset = at; item = Frame h } ∷ later.items; stop = later.stop }
-  runs-on = item_run-next Stream file whole
+  chain-on = item_chain-next Stream file whole
 
   to_end : length file ≤ later.stop
   to_end =
       let none = nothing_left file
-      (stream_run file start).stop (no_fault file (frames_from file start) read.end) in
+      (stream_chain file start).stop (no_fault file (frames_from file start) read.end) in
       omega (
         arith,
-        ap (λ (q : ItemRun). q.stop) runs-on,
+        ap (λ (q : ItemChain). q.stop) chain-on,
         ap length none,
-        length-drop (stream_run file start).stop file,
+        length-drop (stream_chain file start).stop file,
       )
 
   stopped_by : IsStop file n within Stream later.stop r.stop r.rest
@@ -203,14 +204,14 @@ module _ (file : List ℕ) (n : ℕ) (within : n ≤ length file) (start : Start
   stopped = stopped_by r.last
 
   -- the stream is the first frame and what is still whole after it
-  pub runs-now : stream_run front start
+  pub chain-now : stream_chain front start
       ≡ record { items = record { offset = at; item = Frame h } ∷ r.front; stop = r.stop }
-  runs-now =
-      item_run-next Stream front whole_now
-      ∙ ap (λ (q : ItemRun). record {
+  chain-now =
+      item_chain-next Stream front whole_now
+      ∙ ap (λ (q : ItemChain). record {
         items = record { offset = at; item = Frame h } ∷ q.items;
         stop = q.stop;
-      }) (item_run-only Stream front behind r.front r.ends stopped)
+      }) (item_chain-only Stream front behind r.front r.ends stopped)
 
   -- ---- its head and its frames
 
@@ -229,13 +230,13 @@ module _ (file : List ℕ) (n : ℕ) (within : n ≤ length file) (start : Start
   gone = frames_of r.rest
 
   -- the frames are the frames that are still whole
-  pub frames-now : frames ≡ numbered_frames head (frames_of (stream_run front start).items)
-  frames-now = sym (ap (λ (q : ItemRun). numbered_frames head (frames_of q.items)) runs-now)
+  pub frames-now : frames ≡ numbered_frames head (frames_of (stream_chain front start).items)
+  frames-now = sym (ap (λ (q : ItemChain). numbered_frames head (frames_of q.items)) chain-now)
 
   -- the file has these frames, and then others
   pub frames-were : frames_from file start ≡ frames ++ gone
   frames-were =
-      ap (λ (q : ItemRun). numbered_frames head (frames_of q.items)) runs-on
+      ap (λ (q : ItemChain). numbered_frames head (frames_of q.items)) chain-on
       ∙ ap (λ (ps : List PlacedFrame). numbered_frames head
       (record { offset = at; header = h } ∷ ps))
       (ap frames_of (sym r.split) ∙ frames-append r.front r.rest)
@@ -300,4 +301,4 @@ module _ (file : List ℕ) (n : ℕ) (within : n ≤ length file) (start : Start
 
   -- this is what the walk finds
   pub found-now : IsFound front start head frames (all_blocks front start) r.stop
-  found-now = grind (arith, head-same, frames-now, runs-now)
+  found-now = grind (arith, head-same, frames-now, chain-now)

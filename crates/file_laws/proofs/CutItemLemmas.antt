@@ -5,15 +5,15 @@ use Rattle.std.proofs.Common.{◌∷◌, ◌≡◌, ◌≢◌, ◌≤◌, ◌⊎
 use Rattle.std.proofs.lemmas.List.{drop-take, length-take, length-take-le, take-append-drop}
 use Rattle.std.proofs.lemmas.{List.take-take, Slice.Eq.bytes_eq-Decides}
 use Rattle.frame_header.specs.declared.header.NotHeader.TheVariants.{Free as FreeHeader, No}
+use Rattle.sync_survey.proofs.ChainLemmas.{whole_item_at-is, whole_item_at-whole}
 use Rattle.sync_survey.proofs.ItemBytesLemmas.{block_of_kind-take, header_front-four, kept_item}
 use Rattle.sync_survey.proofs.ItemBytesLemmas.{known_by}
 use Rattle.sync_survey.proofs.{ItemListLemmas.{item_at-known, stream_belongs}, ItemsLemmas.stands}
-use Rattle.sync_survey.proofs.OneItemLemmas.{stands-only}
-use Rattle.sync_survey.proofs.RunsLemmas.{whole_item_at-is, whole_item_at-whole}
+use Rattle.sync_survey.{proofs.OneItemLemmas.stands-only, specs.Chains.{belongs, whole_item_at}}
 use Rattle.sync_survey.specs.Items.{header_front, IsItemFront, item_at, item_front, size_of}
-use Rattle.sync_survey.specs.{Runs.{belongs, whole_item_at}, declared.items.Item.Item}
+use Rattle.sync_survey.specs.declared.{chains.Region.Region, items.Item.Item}
 use Rattle.sync_survey.specs.declared.items.Item.TheVariants.{Block, End, Frame, Free, Nothing}
-use Rattle.sync_survey.specs.declared.{items.Item.TheVariants.Zero, runs.Region.Region}
+use Rattle.sync_survey.specs.declared.items.Item.TheVariants.{Zero}
 use Rattle.tag_blocks.proofs.BlocksLemmas.{block_front-any, block_front-begins, block_front-own}
 use Rattle.tag_blocks.specs.Blocks.{begins, begins_with, block_front, is_ape, is_id3v1, is_id3v2}
 use Rattle.tag_blocks.specs.declared.block.{Block.Block as TagBlock, Kind.Kind}

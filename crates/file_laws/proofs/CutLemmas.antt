@@ -1,10 +1,10 @@
 -- The first bytes of a file without fault and without junk.
 use Rattle.std.proofs.Common.{ap, arith, Err, inl, inr, length, length-append, List, None, Ok}
 use Rattle.std.proofs.Common.{Result, subst, sym, ℕ, ◌++◌, ◌+◌, ◌∙◌, ◌≡◌, ◌≤◌}
+use Rattle.file_laws.proofs.CutChainLemmas.{cut-start, IsCutStart, MayBeCut}
 use Rattle.file_laws.proofs.CutFrameLemmas.{are-in, end-now, first_in, found-now, frames, head}
 use Rattle.file_laws.proofs.CutFrameLemmas.{more, no-faults, r, rows, rows-now, rows-were}
-use Rattle.file_laws.proofs.{CutItemLemmas.cut, CutRunLemmas.{cut-start, IsCutStart, MayBeCut}}
-use Rattle.file_laws.proofs.CutStreamLemmas.{marked_rows-front}
+use Rattle.file_laws.proofs.{CutItemLemmas.cut, CutStreamLemmas.marked_rows-front}
 use Rattle.file_laws.specs.CutLaws.{IsCutAnswer, IsCutFault, IsStreamPrefix, PrefixFault}
 use Rattle.sync_survey.proofs.{FaultsLemmas.length-marked_rows, FoldersLemmas.survey_fields-by}
 use Rattle.sync_survey.proofs.PlacedRowLemmas.{survey_fields-placed}

@@ -8,17 +8,16 @@ use Rattle.frame_header.proofs.HeaderLemmas.{IsClass-class_of}
 use Rattle.frame_header.proofs.LengthLemmas.{least_length, length-least}
 use Rattle.frame_header.specs.{Fields.{HeaderFields, IsHeader}, Tables.{class_of, length_of}}
 use Rattle.frame_header.specs.declared.header.NotHeader.TheVariants.{No}
+use Rattle.sync_survey.proofs.ChainLemmas.{whole_item_at-is}
 use Rattle.sync_survey.proofs.ItemBytesLemmas.{block_of_kind-take, header_front-four, known_by}
 use Rattle.sync_survey.proofs.ItemsLemmas.{header_front-in_range, stands-at}
 use Rattle.sync_survey.proofs.OneItemLemmas.{no_header, stands-only_at}
-use Rattle.sync_survey.proofs.RunsLemmas.{whole_item_at-is}
 use Rattle.sync_survey.proofs.StartLemmas.{anchored_frame-is, first_anchored-none}
-use Rattle.sync_survey.specs.{Items.{header_front, IsItemFront, item_at, size_of}, Runs.belongs}
+use Rattle.sync_survey.specs.{Chains.belongs, Items.{header_front, IsItemFront, item_at, size_of}}
 use Rattle.sync_survey.specs.Start.{anchored_frame, first_anchored, longest_junk, start_after_junk}
-use Rattle.sync_survey.specs.declared.items.Item.{Item}
+use Rattle.sync_survey.specs.declared.{chains.Region.TheVariants.Stream, items.Item.Item}
 use Rattle.sync_survey.specs.declared.items.Item.TheVariants.{Block, End, Frame, Free, Nothing}
 use Rattle.sync_survey.specs.declared.{items.Item.TheVariants.Zero, places.PlacedFrame.PlacedFrame}
-use Rattle.sync_survey.specs.declared.runs.Region.TheVariants.{Stream}
 use Rattle.sync_survey.specs.declared.survey_fault.SurveyFault.TheVariants.{NoFrame}
 use Rattle.tag_blocks.proofs.BlocksLemmas.{block_front-any, block_front-begins, block_front-own}
 use Rattle.tag_blocks.specs.Blocks.{begins, block_front, is_ape}

@@ -1,7 +1,7 @@
 -- The lemmas of this crate.
 pub mod CutItemLemmas
 pub mod CutStartLemmas
-pub mod CutRunLemmas
+pub mod CutChainLemmas
 pub mod CutFrameLemmas
 pub mod CutStreamLemmas
 pub mod CutLemmas

@@ -5,7 +5,7 @@ use Rattle.std.proofs.Common.{take, true, ℕ, [], ◌-◌, ◌∙◌, ◌∷◌
 use Rattle.bit_fields.specs.Bits.{AreBytes}
 use Rattle.frame_header.specs.Fields.{HeaderFields}
 use Rattle.gain_laws.proofs.MovedTwiceLemmas.{gains_fit, IsNoStep, side_none}
-use Rattle.moved_gains.proofs.EditedRunLemmas.{frames-moved, gap_of, lost_from, new_file}
+use Rattle.moved_gains.proofs.EditedChainLemmas.{frames-moved, gap_of, lost_from, new_file}
 use Rattle.moved_gains.proofs.ImageLemmas.{AreImages, AreRight, own-right, own-side}
 use Rattle.moved_gains.proofs.LostOffsetLemmas.{rows_by, told_rows}
 use Rattle.moved_gains.proofs.MovedFrameLemmas.{IsWhole, moved_whole, whole_class, whole_room}

@@ -1,11 +1,11 @@
--- Blocks as items: concatenated, they are these; placed end to end, they are the blocks of a run.
+-- Blocks as items: concatenated, they are these; placed end to end, they are the blocks of a chain.
 use Rattle.std.proofs.Common.{ap, arith, length, List, refl, Some, sym, take, ℕ, [], ◌++◌, ◌+◌, ◌∙◌}
 use Rattle.std.{proofs.{Common.{◌∷◌, ◌≡◌}, Math.Seq.take-length}, specs.List.concat}
 use Rattle.laying.specs.LaidFiles.{AreBlocks, blocks_from, IsBlock}
 use Rattle.sync_survey.proofs.ItemBytesLemmas.{block_front-bytes, IsItem}
 use Rattle.sync_survey.proofs.{ItemListLemmas.{AreItems, placed}, OneItemLemmas.stands-only}
-use Rattle.sync_survey.specs.{Runs.{blocks_of, frames_of}, declared.items.Item.Item}
-use Rattle.sync_survey.specs.declared.{items.Item.TheVariants.Block, runs.Region.Region}
+use Rattle.sync_survey.specs.{Chains.{blocks_of, frames_of}, declared.chains.Region.Region}
+use Rattle.sync_survey.specs.declared.items.Item.{Item, TheVariants.Block}
 use Rattle.tag_blocks.specs.Blocks.{block_front}
 
 block_item : {bytes : List ℕ} (is : IsBlock bytes) → IsItem (Block is.0) bytes

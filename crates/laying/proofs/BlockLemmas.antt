@@ -3,15 +3,14 @@ use Rattle.std.proofs.Common.{ap, append-nil, arith, drop, length, length-drop, 
 use Rattle.std.proofs.Common.{subst, sym, take, ℕ, [], ◌++◌, ◌+◌, ◌∙◌, ◌∷◌, ◌≡◌, ◌≤◌}
 use Rattle.std.{proofs.lemmas.List.{length-take-le, map-append}, specs.List.cons_option}
 use Rattle.laying.specs.{LaidFiles.{AreBlocks, block_bytes, IsBlock}, LaidLaws.SurveyedBlocks}
+use Rattle.sync_survey.proofs.ChainLemmas.{item_chain-ends, whole_item_at-is}
 use Rattle.sync_survey.proofs.{ItemBytesLemmas.block_front-bytes, ItemsLemmas.stands-at}
-use Rattle.sync_survey.proofs.RunsLemmas.{item_run-ends, whole_item_at-is}
 use Rattle.sync_survey.proofs.SurveyPartsLemmas.{survey_fields-parts}
-use Rattle.sync_survey.specs.Items.{item_at, size_of}
-use Rattle.sync_survey.specs.Runs.{AreEndToEnd, block_of_item, blocks_of, item_run, PlacedItem}
-use Rattle.sync_survey.specs.{Walk.{all_blocks, stream_run}, declared.items.Item.Item}
-use Rattle.sync_survey.specs.declared.{items.Item.TheVariants.Block, places.Piece.Piece}
-use Rattle.sync_survey.specs.declared.{places.Start.Start, runs.Region.Region}
-use Rattle.sync_survey.specs.declared.runs.Region.TheVariants.{Front, Stream}
+use Rattle.sync_survey.specs.Chains.{AreEndToEnd, block_of_item, blocks_of, item_chain, PlacedItem}
+use Rattle.sync_survey.specs.{Items.{item_at, size_of}, Walk.{all_blocks, stream_chain}}
+use Rattle.sync_survey.specs.declared.chains.Region.{Region, TheVariants.{Front, Stream}}
+use Rattle.sync_survey.specs.declared.{items.Item.{Item, TheVariants.Block}, places.Piece.Piece}
+use Rattle.sync_survey.specs.declared.places.Start.{Start}
 use Rattle.tag_blocks.specs.{Blocks.block_front, declared.block.Block.Block as TagBlock}
 
 -- a whole block that these bytes begin with
@@ -52,15 +51,15 @@ blocks-append (x ∷ xs) ys front back = (front.0, blocks-append xs ys front.1 b
 all-blocks : (file : List ℕ) (start : Start)
     → AreBlocks (map (block_bytes file) (all_blocks file start))
 all-blocks file start =
-    let front = item_run Front file 0 in
-    let stream = stream_run file start in
+    let front = item_chain Front file 0 in
+    let stream = stream_chain file start in
     subst AreBlocks
     (sym (map-append (block_bytes file) (blocks_of front.items) (blocks_of stream.items)))
     (blocks-append (map (block_bytes file) (blocks_of front.items))
     (map (block_bytes file) (blocks_of stream.items))
-    (ends-blocks Front file 0 front.items front.stop (item_run-ends Front file 0))
+    (ends-blocks Front file 0 front.items front.stop (item_chain-ends Front file 0))
     (ends-blocks Stream file
-    start.first.offset stream.items stream.stop (item_run-ends Stream file start.first.offset)))
+    start.first.offset stream.items stream.stop (item_chain-ends Stream file start.first.offset)))
 
 -- the blocks of a surveyed file are blocks
 pub surveyed-blocks : SurveyedBlocks

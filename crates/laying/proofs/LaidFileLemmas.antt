@@ -10,10 +10,10 @@ use Rattle.frame_header.specs.{Fields.{ClassFields, HeaderFields}, Tables.class_
 use Rattle.frame_writer.specs.Frames.{all_frame_data, Frame, frame_data}
 use Rattle.frame_writer.specs.Laid.{areas_end, frame_data_start, laid_data}
 use Rattle.info_header.specs.declared.fields.Info.{Info}
+use Rattle.laying.proofs.LaidChainLemmas.{blocks-are, frames-are, frames-stand, head-is}
+use Rattle.laying.proofs.LaidChainLemmas.{head_area-is, no-end_fault, start, start-is}
 use Rattle.laying.proofs.LaidDataLemmas.{laid-there}
 use Rattle.laying.proofs.LaidFrameLemmas.{areas-there, row-get, rows-there, StandFrom}
-use Rattle.laying.proofs.LaidRunLemmas.{blocks-are, frames-are, frames-stand, head-is, head_area-is}
-use Rattle.laying.proofs.LaidRunLemmas.{no-end_fault, start, start-is}
 use Rattle.laying.proofs.LaidSoundLemmas.{laid-near, laid-sound, marked_rows-none, starts-there}
 use Rattle.laying.proofs.RelayLemmas.{AreOnward, onward-all, onward-first, onward-rest}
 use Rattle.laying.specs.LaidFiles.{AreStreamEntries, frame_length, frames_offset, head_at}

@@ -15,12 +15,12 @@ use Rattle.laying.specs.LaidFiles.{AreBlocks, AreStreamEntries, blocks_from, fra
 use Rattle.laying.specs.LaidFiles.{IsStreamEntry, rows_from}
 use Rattle.side_info.specs.{Frame.{frame_front_bytes, side_in, stored_crc}, Side.SideFits}
 use Rattle.side_info.specs.declared.side.Side.{Side}
-use Rattle.sync_survey.{proofs.ItemListLemmas.{AreItems, placed}, specs.Faults.has_wrong_crc}
+use Rattle.sync_survey.proofs.ItemListLemmas.{AreItems, placed}
+use Rattle.sync_survey.specs.{Chains.{blocks_of, frames_of}, Faults.has_wrong_crc}
 use Rattle.sync_survey.specs.{MainData.{area_bytes, own_area, rows_of}, Row.Row}
-use Rattle.sync_survey.specs.{Runs.{blocks_of, frames_of}, declared.items.Item.Item}
+use Rattle.sync_survey.specs.declared.{chains.Region.TheVariants.Stream, items.Item.Item}
 use Rattle.sync_survey.specs.declared.items.Item.TheVariants.{Frame as FrameItem}
 use Rattle.sync_survey.specs.declared.places.PlacedFrame.{PlacedFrame}
-use Rattle.sync_survey.specs.declared.runs.Region.TheVariants.{Stream}
 
 -- ---- the items that they are
 

@@ -19,7 +19,7 @@ pub mod EntryByteLemmas
 pub mod InfoByteLemmas
 pub mod BlockItemLemmas
 pub mod LaidFrameLemmas
-pub mod LaidRunLemmas
+pub mod LaidChainLemmas
 pub mod LaidSoundLemmas
 pub mod LaidFileLemmas
 pub mod BlockLemmas

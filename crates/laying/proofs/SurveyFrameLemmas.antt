@@ -21,24 +21,23 @@ use Rattle.laying.specs.Surveys.{IsWholeRow}
 use Rattle.side_info.proofs.{FrameLemmas.shaped-side_in, SideLemmas.{bits_least, IsShaped}}
 use Rattle.side_info.specs.Side.{no_side, payload_bits, payload_bytes, SideFits}
 use Rattle.side_info.specs.declared.side.Side.{Side}
+use Rattle.sync_survey.proofs.ChainLemmas.{item_chain-ends, whole_item_at-is}
 use Rattle.sync_survey.proofs.EmptiedLemmas.{no_bytes}
 use Rattle.sync_survey.proofs.ItemsLemmas.{header_front-in_range, stands-at}
-use Rattle.sync_survey.proofs.PlacedRowLemmas.{survey_fields-placed}
-use Rattle.sync_survey.proofs.RunsLemmas.{item_run-ends, whole_item_at-is}
-use Rattle.sync_survey.proofs.StartLemmas.{start-first}
+use Rattle.sync_survey.proofs.{PlacedRowLemmas.survey_fields-placed, StartLemmas.start-first}
 use Rattle.sync_survey.proofs.SurveyPartsLemmas.{data-none_well, frames_from, survey_fields-parts}
 use Rattle.sync_survey.proofs.SurveyedFileLemmas.{survey_of-parts}
+use Rattle.sync_survey.specs.Chains.{AreEndToEnd, frame_of_item, frames_of, PlacedItem}
 use Rattle.sync_survey.specs.Faults.{stream_of_survey, survey_fields, SurveyFields}
 use Rattle.sync_survey.specs.Items.{item_at, size_of}
 use Rattle.sync_survey.specs.MainData.{area_bytes, head_area, head_bytes, main_bytes, marked_row}
 use Rattle.sync_survey.specs.MainData.{marked_rows, own_area, payload_at, place, row_side, rows_of}
 use Rattle.sync_survey.specs.MainData.{start_of_data, stream_frame, stream_frames, StreamFrame}
-use Rattle.sync_survey.specs.{Row.Row, Runs.{AreEndToEnd, frame_of_item, frames_of, PlacedItem}}
-use Rattle.sync_survey.specs.Survey.{AreWellPlaced, IsWellPlaced, survey_of}
-use Rattle.sync_survey.specs.{Walk.{head_of, numbered_frames, stream_run}, declared.items.Item.Item}
+use Rattle.sync_survey.specs.{Row.Row, Survey.{AreWellPlaced, IsWellPlaced, survey_of}}
+use Rattle.sync_survey.specs.Walk.{head_of, numbered_frames, stream_chain}
+use Rattle.sync_survey.specs.declared.{chains.Region.TheVariants.Stream, items.Item.Item}
 use Rattle.sync_survey.specs.declared.{items.Item.TheVariants.Frame as FrameItem, places.Head.Head}
 use Rattle.sync_survey.specs.declared.places.{PlacedFrame.PlacedFrame, Start.Start}
-use Rattle.sync_survey.specs.declared.runs.Region.TheVariants.{Stream}
 
 -- ---- whole frames
 
@@ -331,7 +330,7 @@ survey_fields-whole : {file : List ℕ} (allowed : ℕ) {s : SurveyFields}
 survey_fields-whole {file} allowed {s} e =
     let parts = survey_fields-parts e in
     let start : Start = parts.0 in
-    let stream = stream_run file start in
+    let stream = stream_chain file start in
     let first = (start-first parts.1.start_is).frame in
     let whole_first : IsWholeFrameAt file start.first.offset start.first.header =
     record {
@@ -348,7 +347,7 @@ survey_fields-whole {file} allowed {s} e =
           (numbered_frames-whole file (head_of file start.first) (frames_of stream.items)
           (ends-frames file
           start.first.offset stream.items stream.stop
-          (item_run-ends Stream file start.first.offset))));
+          (item_chain-ends Stream file start.first.offset))));
     })
 
 -- by a survey without fault its file can be repacked

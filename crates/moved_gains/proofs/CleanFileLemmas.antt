@@ -3,19 +3,18 @@ use Rattle.std.proofs.Common.{ap, arith, length, List, None, Option, option_to_l
 use Rattle.std.proofs.Common.{subst, sym, ℕ, [], ◌++◌, ◌+◌, ◌∙◌, ◌∷◌, ◌≡◌}
 use Rattle.std.{proofs.lemmas.List.Elements.filter_map-append, specs.List.find}
 use Rattle.moved_gains.proofs.MovedItemLemmas.{ends-append}
-use Rattle.moved_gains.proofs.ReadFileLemmas.{has_stream, HasStream, later_run}
+use Rattle.moved_gains.proofs.ReadFileLemmas.{has_stream, HasStream, later_chain}
 use Rattle.moved_gains.proofs.SplitItemLemmas.{final, IsSplit, last-told, split-last, split-tag}
 use Rattle.moved_gains.proofs.{SplitItemLemmas.stop_of, TagReadingLemmas.place-some}
 use Rattle.moved_gains.specs.TagPlace.{is_tag, tag_block, tag_length, tag_offset}
+use Rattle.sync_survey.proofs.ChainLemmas.{frames-append, front-frames, item_chain-ends}
 use Rattle.sync_survey.proofs.ItemListLemmas.{ends-stream}
-use Rattle.sync_survey.proofs.RunsLemmas.{frames-append, front-frames, item_run-ends}
 use Rattle.sync_survey.proofs.SurveyPartsLemmas.{frames_from, IsRead, told_from}
-use Rattle.sync_survey.specs.Faults.{SurveyFields}
-use Rattle.sync_survey.specs.Runs.{AreEndToEnd, block_of_item, blocks_of, frames_of, item_run}
-use Rattle.sync_survey.specs.Runs.{ItemRun, PlacedItem}
-use Rattle.sync_survey.specs.Walk.{end_fault, head_of, numbered_frames, stream_run}
-use Rattle.sync_survey.specs.declared.places.{Head.Head, Piece.Piece, PlacedFrame.PlacedFrame}
-use Rattle.sync_survey.specs.declared.{places.Start.Start, runs.Region.TheVariants.{Front, Stream}}
+use Rattle.sync_survey.specs.Chains.{AreEndToEnd, block_of_item, blocks_of, frames_of, item_chain}
+use Rattle.sync_survey.specs.{Chains.{ItemChain, PlacedItem}, Faults.SurveyFields}
+use Rattle.sync_survey.specs.Walk.{end_fault, head_of, numbered_frames, stream_chain}
+use Rattle.sync_survey.specs.declared.{chains.Region.TheVariants.{Front, Stream}, places.Head.Head}
+use Rattle.sync_survey.specs.declared.places.{Piece.Piece, PlacedFrame.PlacedFrame, Start.Start}
 use Rattle.sync_survey.specs.declared.survey_fault.SurveyFault.{SurveyFault}
 
 some_frames : (file : List ℕ) {frames : List PlacedFrame} (o : Option SurveyFault)
@@ -31,17 +30,17 @@ module _ (file : List ℕ) (allowed : ℕ) (start : Start) (read : IsRead file a
   abbrev s : SurveyFields
   s = told_from file start
 
-  abbrev front : ItemRun
-  front = item_run Front file 0
+  abbrev front : ItemChain
+  front = item_chain Front file 0
 
-  abbrev stream : ItemRun
-  stream = stream_run file start
+  abbrev stream : ItemChain
+  stream = stream_chain file start
 
   abbrev pub items : List PlacedItem
   items = front.items ++ stream.items
 
   abbrev pub rest : List PlacedFrame
-  rest = frames_of (later_run file start).items
+  rest = frames_of (later_chain file start).items
 
   has : HasStream file start
   has = has_stream read
@@ -51,14 +50,14 @@ module _ (file : List ℕ) (allowed : ℕ) (start : Start) (read : IsRead file a
   items-end =
       ends-append Stream file 0 front.items start.first.offset stream.items (length file)
       (subst (λ n. AreEndToEnd Stream file 0 front.items n) (has.front ∙ no_junk)
-      (ends-stream Front file 0 front.items front.stop (item_run-ends Front file 0)))
+      (ends-stream Front file 0 front.items front.stop (item_chain-ends Front file 0)))
       (subst (λ n. AreEndToEnd Stream file start.first.offset stream.items n)
-      (ap (λ (r : ItemRun). r.stop) has.stream ∙ has.stop)
-      (item_run-ends Stream file start.first.offset))
+      (ap (λ (r : ItemChain). r.stop) has.stream ∙ has.stop)
+      (item_chain-ends Stream file start.first.offset))
 
   -- the frames of the stream are the first frame and the others
   pub stream-frames : frames_of stream.items ≡ start.first ∷ rest
-  stream-frames = ap (λ (r : ItemRun). frames_of r.items) has.stream
+  stream-frames = ap (λ (r : ItemChain). frames_of r.items) has.stream
 
   -- the frames of all items are the frames of the stream
   pub items-frames : frames_of items ≡ start.first ∷ rest

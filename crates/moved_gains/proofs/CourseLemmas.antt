@@ -8,10 +8,10 @@ use Rattle.moved_gains.proofs.LostOffsetLemmas.{AreRising, marked_rows-rising, r
 use Rattle.moved_gains.proofs.LostOffsetLemmas.{rising_less, walk_rising}
 use Rattle.moved_gains.specs.Course.{AreRowsNumbered, course_steps, number_at, steps_at_offset}
 use Rattle.moved_gains.specs.{Moving.AreFramesOfClass, declared.course.Course.Course}
-use Rattle.sync_survey.proofs.SurveyLemmas.{survey_fields-is, walked}
+use Rattle.sync_survey.{proofs.SurveyLemmas.{survey_fields-is, walked}, specs.Chains.frames_of}
 use Rattle.sync_survey.specs.{Faults.{survey_fields, SurveyFields}, MainData.{marked_rows, rows_of}}
-use Rattle.sync_survey.specs.{Row.Row, Runs.frames_of, Survey.{FramesAreLaid, IsSurveyLaidOut}}
-use Rattle.sync_survey.specs.Walk.{numbered_frames, stream_run}
+use Rattle.sync_survey.specs.{Row.Row, Survey.{FramesAreLaid, IsSurveyLaidOut}}
+use Rattle.sync_survey.specs.Walk.{numbered_frames, stream_chain}
 
 -- ---- frames at rising offsets
 
@@ -102,7 +102,7 @@ survey_numbered file allowed {s} e =
     let is = survey_fields-is e in
     let walk = walked is in
     let frames =
-    rows_of file (numbered_frames s.head (frames_of (stream_run file is.start).items)) in
+    rows_of file (numbered_frames s.head (frames_of (stream_chain file is.start).items)) in
     subst AreRowsNumbered (sym walk.frames_are)
     (rising_numbered is.start.first.offset (marked_rows s.head frames)
     (marked_rows-rising s.head is.start.first.offset frames (walk_rising file is.start s.head)))

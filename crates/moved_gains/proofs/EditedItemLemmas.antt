@@ -9,15 +9,15 @@ use Rattle.moved_gains.proofs.ImageLemmas.{AreImages, image_moved}
 use Rattle.moved_gains.proofs.MovedFrameLemmas.{IsWhole, moved_whole, whole_item}
 use Rattle.moved_gains.specs.Edited.{moved_item, moved_items}
 use Rattle.requests.specs.declared.shift.Steps.{Steps}
+use Rattle.sync_survey.proofs.ChainLemmas.{whole_item_at-is}
 use Rattle.sync_survey.proofs.ItemBytesLemmas.{frame-least, header_front-four, IsItem, kept_item}
 use Rattle.sync_survey.proofs.ItemListLemmas.{AreItems, items_of}
 use Rattle.sync_survey.proofs.ItemsLemmas.{header_front-in_range, stands-at}
-use Rattle.sync_survey.{proofs.RunsLemmas.whole_item_at-is, specs.Items.{item_at, size_of}}
-use Rattle.sync_survey.specs.Runs.{AreEndToEnd, belongs, frame_of_item, frames_of, item_bytes_in}
-use Rattle.sync_survey.specs.{Runs.PlacedItem, declared.items.Item.Item}
+use Rattle.sync_survey.specs.Chains.{AreEndToEnd, belongs, frame_of_item, frames_of, item_bytes_in}
+use Rattle.sync_survey.specs.{Chains.PlacedItem, Items.{item_at, size_of}}
+use Rattle.sync_survey.specs.declared.{chains.Region.TheVariants.Stream, items.Item.Item}
 use Rattle.sync_survey.specs.declared.items.Item.TheVariants.{Block, Frame, Zero}
 use Rattle.sync_survey.specs.declared.places.PlacedFrame.{PlacedFrame}
-use Rattle.sync_survey.specs.declared.runs.Region.TheVariants.{Stream}
 
 -- ---- one item
 

@@ -3,23 +3,23 @@ use Rattle.std.proofs.Common.{ap, ap₂, arith, Bool, length, List, map, Ok, Opt
 use Rattle.std.proofs.{Common.{ℕ, ◌++◌, ◌-◌, ◌<◌, ◌∙◌, ◌≡◌, ◌≤◌}, lemmas.Bool.{le-ltb, lt-ltb}}
 use Rattle.std.proofs.lemmas.List.{map-append, map-id}
 use Rattle.bit_fields.specs.Bits.{AreBytes}
-use Rattle.moved_gains.proofs.EditedRunLemmas.{frames-moved, gap_of, lost_from, moved_start}
-use Rattle.moved_gains.proofs.EditedRunLemmas.{new-blocks, new-frames, new-head, new-head_area}
-use Rattle.moved_gains.proofs.EditedRunLemmas.{new-length, new-start, new-stream, new_file}
+use Rattle.moved_gains.proofs.EditedChainLemmas.{frames-moved, gap_of, lost_from, moved_start}
+use Rattle.moved_gains.proofs.EditedChainLemmas.{new-blocks, new-frames, new-head, new-head_area}
+use Rattle.moved_gains.proofs.EditedChainLemmas.{new-length, new-start, new-stream, new_file}
 use Rattle.moved_gains.proofs.ImageLemmas.{IsFileImage, read-image, told-image}
 use Rattle.moved_gains.proofs.{LostOffsetLemmas.{lost-at, walk_rising}, ReadFileLemmas.has_stream}
 use Rattle.moved_gains.specs.{Edited.edited_file, Gains.moved_side_unless_lost}
 use Rattle.moved_gains.specs.Streams.{edited_block, edited_row, edited_survey}
 use Rattle.requests.specs.declared.shift.Steps.{Steps}
+use Rattle.sync_survey.proofs.ChainLemmas.{item_chain-ends}
 use Rattle.sync_survey.proofs.ItemListLemmas.{blocks-between, nearer_piece}
-use Rattle.sync_survey.proofs.RunsLemmas.{item_run-ends}
 use Rattle.sync_survey.proofs.SurveyPartsLemmas.{frames_from, IsRead, survey_fields-parts}
 use Rattle.sync_survey.proofs.SurveyPartsLemmas.{survey_fields-told, told_from}
-use Rattle.sync_survey.specs.{Faults.{survey_fields, SurveyFields}, MainData.{is_lost, rows_of}}
-use Rattle.sync_survey.specs.{Row.Row, Runs.{blocks_of, item_run}}
-use Rattle.sync_survey.specs.{Walk.{all_blocks, head_of, stream_run}, declared.places.Head.Head}
+use Rattle.sync_survey.specs.{Chains.{blocks_of, item_chain}, Faults.{survey_fields, SurveyFields}}
+use Rattle.sync_survey.specs.{MainData.{is_lost, rows_of}, Row.Row}
+use Rattle.sync_survey.specs.Walk.{all_blocks, head_of, stream_chain}
+use Rattle.sync_survey.specs.declared.{chains.Region.TheVariants.{Front, Stream}, places.Head.Head}
 use Rattle.sync_survey.specs.declared.places.{Piece.Piece, Start.Start}
-use Rattle.sync_survey.specs.declared.runs.Region.TheVariants.{Front, Stream}
 
 -- ---- blocks
 
@@ -53,7 +53,7 @@ module _ (steps : ℕ → Steps) (file : List ℕ) (allowed : ℕ) (start : Star
   abbrev head : Option Head
   head = head_of file start.first
 
-  past : length new ≤ (stream_run new (moved_start start)).stop
+  past : length new ≤ (stream_chain new (moved_start start)).stop
   past = grind (arith, new-stream, new-length, has_stream)
 
   -- the edited file is the file's image
@@ -89,15 +89,16 @@ module _ (steps : ℕ → Steps) (file : List ℕ) (allowed : ℕ) (start : Star
   blocks_same : all_blocks new (moved_start start)
       ≡ map (edited_block start.first.offset gap) (all_blocks file start)
   blocks_same =
-      let front = item_run Front file 0 in
-      let stream = stream_run file start in
+      let front = item_chain Front file 0 in
+      let stream = stream_chain file start in
       let first = start.first.offset in
       let has = has_stream {file = file} {allowed = allowed} {start = start} read in
       let front_blocks : map (edited_block first gap) (blocks_of front.items)
       ≡ blocks_of front.items =
       blocks-between Front {f = edited_block first gap} {g = same_block} file
       {low = 0} {high = first} 0 front.items {to = front.stop}
-      (λ b above below. before_first {first = first} gap {b = b} below) (item_run-ends Front file 0)
+      (λ b above below. before_first {first = first} gap {b = b} below)
+      (item_chain-ends Front file 0)
       (omega arith)
       (omega (arith, has.low, has.front))
       ∙ map-id (blocks_of front.items) in
@@ -107,7 +108,7 @@ module _ (steps : ℕ → Steps) (file : List ℕ) (allowed : ℕ) (start : Star
       {low = first} {high = stream.stop} first
       stream.items {to =
       stream.stop} (λ b above below. behind_first {first = first} gap {b = b} above)
-      (item_run-ends Stream file first)
+      (item_chain-ends Stream file first)
       (omega arith) (omega arith) in
       new-blocks steps file allowed start all read
       ∙ sym (map-append (edited_block first gap) (blocks_of front.items) (blocks_of stream.items)

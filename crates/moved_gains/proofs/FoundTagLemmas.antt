@@ -5,19 +5,18 @@ use Rattle.std.proofs.{Common.{◌∷◌, ◌≡◌, ◌≤◌}, lemmas.List.{ap
 use Rattle.std.{proofs.lemmas.List.Folds.find-append, specs.List.{cons_option, find}}
 use Rattle.std.specs.Option.{option_or}
 use Rattle.moved_gains.specs.TagPlace.{is_tag, last_end, row_end, tag_block}
+use Rattle.sync_survey.proofs.ChainLemmas.{item_chain-ends, whole_item_at-is}
 use Rattle.sync_survey.proofs.{ItemBytesLemmas.kept_item, ItemsLemmas.stands}
-use Rattle.sync_survey.proofs.RunsLemmas.{item_run-ends, whole_item_at-is}
 use Rattle.sync_survey.proofs.SurveyPartsLemmas.{survey_fields-parts}
+use Rattle.sync_survey.specs.Chains.{AreEndToEnd, block_of_item, blocks_of, item_chain, PlacedItem}
+use Rattle.sync_survey.specs.Chains.{whole_item_at}
 use Rattle.sync_survey.specs.Faults.{longest_file, survey_fields, SurveyFields}
 use Rattle.sync_survey.specs.{Items.{IsItemFront, item_front, size_of}, Row.Row}
-use Rattle.sync_survey.specs.Runs.{AreEndToEnd, block_of_item, blocks_of, item_run, PlacedItem}
-use Rattle.sync_survey.specs.Runs.{whole_item_at}
 use Rattle.sync_survey.specs.Survey.{BlocksAreLaid, FramesAreLaid, IsSurveyLaidOut, survey_of}
-use Rattle.sync_survey.specs.{Walk.{all_blocks, stream_run}, declared.items.Item.Item}
+use Rattle.sync_survey.specs.{Walk.{all_blocks, stream_chain}, declared.chains.Region.Region}
+use Rattle.sync_survey.specs.declared.{chains.Region.TheVariants.{Front, Stream}, items.Item.Item}
 use Rattle.sync_survey.specs.declared.{items.Item.TheVariants.Block, places.Piece.Piece}
-use Rattle.sync_survey.specs.declared.{places.Start.Start, runs.Region.Region}
-use Rattle.sync_survey.specs.declared.runs.Region.TheVariants.{Front, Stream}
-use Rattle.sync_survey.specs.declared.survey_fault.SurveyFault.{SurveyFault}
+use Rattle.sync_survey.specs.declared.{places.Start.Start, survey_fault.SurveyFault.SurveyFault}
 use Rattle.tag_blocks.specs.{Blocks.block_front, declared.block.Block.Block as TagBlock}
 use Rattle.tag_blocks.specs.declared.block.Kind.{Kind, TheVariants.Ape}
 
@@ -120,16 +119,16 @@ there_by part {file} {b} tag is =
 
 all_cases : {file : List ℕ} (start : Start) {b : Piece} (o : Option Piece)
     → find is_tag (all_blocks file start) ≡ Some b
-    → find is_tag (blocks_of (item_run Front file 0).items) ≡ o
-    → option_or o (find is_tag (blocks_of (stream_run file start).items)) ≡ Some b
+    → find is_tag (blocks_of (item_chain Front file 0).items) ≡ o
+    → option_or o (find is_tag (blocks_of (stream_chain file start).items)) ≡ Some b
     → IsTagThere file b
 all_cases {file} start {b} None found is e =
     there_by Stream (found_tag (all_blocks file start)
-    found) (found_item Stream file start.first.offset (stream_run file start).items
-    (stream_run file start).stop (item_run-ends Stream file start.first.offset) e)
+    found) (found_item Stream file start.first.offset (stream_chain file start).items
+    (stream_chain file start).stop (item_chain-ends Stream file start.first.offset) e)
 all_cases {file} start {b} (Some x) found is e =
     there_by Front (found_tag (all_blocks file start) found) (found_item Front file 0
-    (item_run Front file 0).items (item_run Front file 0).stop (item_run-ends Front file 0)
+    (item_chain Front file 0).items (item_chain Front file 0).stop (item_chain-ends Front file 0)
     (is ∙ e))
 
 -- the tag's block that a survey finds is an APEv2 block in the file
@@ -139,9 +138,9 @@ tag-there {file} allowed {s} {b} e found =
     let parts = survey_fields-parts e in
     let start = parts.0 in
     let told : find is_tag (all_blocks file start) ≡ Some b = grind arith in
-    all_cases start (find is_tag (blocks_of (item_run Front file 0).items)) told refl
-    (sym (find-append is_tag (blocks_of (item_run Front file 0).items)
-    (blocks_of (stream_run file start).items)) ∙ told)
+    all_cases start (find is_tag (blocks_of (item_chain Front file 0).items)) told refl
+    (sym (find-append is_tag (blocks_of (item_chain Front file 0).items)
+    (blocks_of (stream_chain file start).items)) ∙ told)
 
 -- ---- the survey of a file that isn't too long
 

@@ -26,7 +26,7 @@ use Rattle.sync_survey.specs.Faults.{all_faults, class_from, has_wrong_crc}
 use Rattle.sync_survey.specs.MainData.{area_bytes, head_bytes, is_lost, main_bytes, marked_row}
 use Rattle.sync_survey.specs.MainData.{marked_rows, row_of, rows_of, stream_frame, stream_frames}
 use Rattle.sync_survey.specs.{MainData.StreamFrame, Row.Row, Start.start_of}
-use Rattle.sync_survey.specs.Walk.{frame_bytes, head_of, stream_run}
+use Rattle.sync_survey.specs.Walk.{frame_bytes, head_of, stream_chain}
 use Rattle.sync_survey.specs.declared.{items.Item.TheVariants.End, places.Head.Head}
 use Rattle.sync_survey.specs.declared.places.{PlacedFrame.PlacedFrame, Start.Start}
 
@@ -227,7 +227,7 @@ pub record IsFileImage (to : ℕ → ℕ) (steps : ℕ → Steps) (stays : ℕ �
       ≡ head_bytes file (head_of file start.first)
   pub frames : frames_from new there ≡ map (frame_by to) (frames_from file start)
   pub images : AreImages to steps stays file new (frames_from file start)
-  pub past : length new ≤ (stream_run new there).stop
+  pub past : length new ≤ (stream_chain new there).stop
 
 module _ (to : ℕ → ℕ) (steps : ℕ → Steps) (stays : ℕ → Bool) (file new : List ℕ)
     (start there : Start) (image : IsFileImage to steps stays file new start there) where
@@ -247,7 +247,7 @@ module _ (to : ℕ → ℕ) (steps : ℕ → Steps) (stays : ℕ → Bool) (file
   pub read-image : {allowed : ℕ} → IsRead file allowed start → IsRead new allowed there
   read-image {allowed} read =
       let sound = all_faults-none_sound file head (class_from start) allowed rows read.frames in
-      let stop = (stream_run new there).stop in
+      let stop = (stream_chain new there).stop in
       let nothing : drop stop new ≡ [] = drop_all stop new image.past in
       record {
         start_is = image.start_is;

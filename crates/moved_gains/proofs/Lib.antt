@@ -8,7 +8,7 @@ pub mod GainsLemmas
 pub mod MovedFrameLemmas
 pub mod EditedItemLemmas
 pub mod ReadFileLemmas
-pub mod EditedRunLemmas
+pub mod EditedChainLemmas
 pub mod LostOffsetLemmas
 pub mod EditedSurveyLemmas
 pub mod MovedStreamLemmas

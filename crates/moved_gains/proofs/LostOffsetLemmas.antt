@@ -5,13 +5,14 @@ use Rattle.std.proofs.Common.{subst, suc, sym, true, zero, zero-add, ℕ, [], �
 use Rattle.std.proofs.{Common.{◌∙◌, ◌∷◌, ◌≡◌, ◌≤◌}, lemmas.Bool.{eq-eqb, ne_eqb}}
 use Rattle.std.specs.List.{cons_option, enumerate_from}
 use Rattle.moved_gains.specs.{Edited.is_lost_at, Moving.row_end}
-use Rattle.sync_survey.proofs.RunsLemmas.{item_run-ends, whole_item_at-is}
-use Rattle.sync_survey.{proofs.SurveyPartsLemmas.{frames_from, told_from}, specs.Items.size_of}
+use Rattle.sync_survey.proofs.ChainLemmas.{item_chain-ends, whole_item_at-is}
+use Rattle.sync_survey.proofs.SurveyPartsLemmas.{frames_from, told_from}
+use Rattle.sync_survey.specs.Chains.{AreEndToEnd, frame_of_item, frames_of, PlacedItem}
+use Rattle.sync_survey.specs.Items.{size_of}
 use Rattle.sync_survey.specs.{MainData.{is_lost, marked_row, marked_rows, row_of, rows_of}, Row.Row}
-use Rattle.sync_survey.specs.Runs.{AreEndToEnd, frame_of_item, frames_of, PlacedItem}
-use Rattle.sync_survey.specs.{Walk.{head_of, numbered_frames, stream_run}, declared.items.Item.Item}
+use Rattle.sync_survey.specs.Walk.{head_of, numbered_frames, stream_chain}
+use Rattle.sync_survey.specs.declared.{chains.Region.{Region, TheVariants.Stream}, items.Item.Item}
 use Rattle.sync_survey.specs.declared.places.{Head.Head, PlacedFrame.PlacedFrame, Start.Start}
-use Rattle.sync_survey.specs.declared.runs.Region.{Region, TheVariants.Stream}
 
 -- ---- frames at rising offsets
 
@@ -177,12 +178,12 @@ numbered_frames-rising file from o ps rise = grind (arith, rising_less)
 
 -- the frames of a walk are in order
 pub walk_rising : (file : List ℕ) (start : Start) (o : Option Head) → AreRising start.first.offset
-    (rows_of file (numbered_frames o (frames_of (stream_run file start).items)))
+    (rows_of file (numbered_frames o (frames_of (stream_chain file start).items)))
 walk_rising file start o =
-    let stream = stream_run file start in
+    let stream = stream_chain file start in
     numbered_frames-rising file start.first.offset o (frames_of stream.items)
     (items_rising file Stream
-    start.first.offset stream.items stream.stop (item_run-ends Stream file start.first.offset))
+    start.first.offset stream.items stream.stop (item_chain-ends Stream file start.first.offset))
 
 -- the frames that a survey tells are marked as lost exactly at the offsets of lost frames
 pub told_rows : (file : List ℕ) (start : Start) → (told_from file start).frames

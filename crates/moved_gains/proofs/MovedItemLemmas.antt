@@ -6,15 +6,15 @@ use Rattle.frame_header.specs.Tables.{class_of, overhead_of}
 use Rattle.moved_gains.proofs.{EditedItemLemmas.frame_whole, ImageLemmas.AreImages}
 use Rattle.requests.specs.declared.shift.Steps.{Steps}
 use Rattle.side_info.{proofs.FrameLemmas.IsRight, specs.Frame.side_in}
+use Rattle.sync_survey.proofs.ChainLemmas.{whole_item_at-is, whole_item_at-whole}
 use Rattle.sync_survey.proofs.ItemBytesLemmas.{IsItem, kept_item}
 use Rattle.sync_survey.proofs.ItemListLemmas.{ends-rise, placed_by}
 use Rattle.sync_survey.proofs.ItemsLemmas.{header_front-in_range, stands-at}
-use Rattle.sync_survey.proofs.RunsLemmas.{whole_item_at-is, whole_item_at-whole}
-use Rattle.sync_survey.specs.Items.{item_at, size_of}
-use Rattle.sync_survey.specs.Runs.{AreEndToEnd, frame_of_item, frames_of, PlacedItem, whole_item_at}
-use Rattle.sync_survey.specs.declared.items.Item.{Item, TheVariants.{Frame, Free}}
-use Rattle.sync_survey.specs.declared.{places.PlacedFrame.PlacedFrame, runs.Region.Region}
-use Rattle.sync_survey.specs.declared.runs.Region.TheVariants.{Stream}
+use Rattle.sync_survey.specs.Chains.{AreEndToEnd, frame_of_item, frames_of, PlacedItem}
+use Rattle.sync_survey.specs.{Chains.whole_item_at, Items.{item_at, size_of}}
+use Rattle.sync_survey.specs.declared.{chains.Region.{Region, TheVariants.Stream}, items.Item.Item}
+use Rattle.sync_survey.specs.declared.items.Item.TheVariants.{Frame, Free}
+use Rattle.sync_survey.specs.declared.places.PlacedFrame.{PlacedFrame}
 
 -- ---- one item
 

@@ -2,7 +2,7 @@
 use Rattle.std.proofs.Common.{ap, ap₂, Bool, cond, drop, false, List, map, Ok, Option, option_map}
 use Rattle.std.proofs.Common.{refl, subst, take, true, ℕ, ◌*◌, ◌-◌, ◌∙◌, ◌≡◌}
 use Rattle.bit_fields.specs.Bits.{AreBytes, bits}
-use Rattle.moved_gains.proofs.EditedRunLemmas.{gap_of, lost_from, moved_start, new_file}
+use Rattle.moved_gains.proofs.EditedChainLemmas.{gap_of, lost_from, moved_start, new_file}
 use Rattle.moved_gains.proofs.{EditedSurveyLemmas.edited_image, ImageLemmas.stream-image}
 use Rattle.moved_gains.proofs.MovedGainLemmas.{begin-unless, lengths-moved, payload_bits-moved}
 use Rattle.moved_gains.proofs.MovedRowLemmas.{AreShaped, marked_shaped, place-by, rows_shaped}

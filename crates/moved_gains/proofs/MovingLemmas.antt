@@ -15,19 +15,19 @@ use Rattle.moved_gains.specs.Moving.{AreRowsOf, moved_row_bytes, row_end}
 use Rattle.outside.specs.Pass.{bytes_between}
 use Rattle.requests.specs.declared.shift.Steps.{Steps}
 use Rattle.side_info.proofs.FrameLemmas.{side_in-take}
-use Rattle.sync_survey.proofs.ItemListLemmas.{ends-within}
+use Rattle.sync_survey.proofs.ChainLemmas.{bytes-ends, cons_list, IsItemOf, item_chain-ends}
+use Rattle.sync_survey.proofs.{ChainLemmas.whole_item_at-is, ItemListLemmas.ends-within}
 use Rattle.sync_survey.proofs.ItemsLemmas.{header_front-in_range, stands-at}
-use Rattle.sync_survey.proofs.RunsLemmas.{bytes-ends, cons_list, IsItemOf, item_run-ends}
-use Rattle.sync_survey.proofs.{RunsLemmas.whole_item_at-is, SurveyLemmas.overhead-within}
+use Rattle.sync_survey.proofs.SurveyLemmas.{overhead-within}
 use Rattle.sync_survey.proofs.SurveyPartsLemmas.{IsRead, survey_fields-parts, told_from}
+use Rattle.sync_survey.specs.Chains.{AreEndToEnd, bytes_of_items, frame_of_item, frames_of}
+use Rattle.sync_survey.specs.Chains.{item_bytes_in, item_chain, ItemChain, PlacedItem}
 use Rattle.sync_survey.specs.{Faults.{survey_fields, SurveyFields}, Items.{item_at, size_of}}
-use Rattle.sync_survey.specs.Row.{Row}
-use Rattle.sync_survey.specs.Runs.{AreEndToEnd, bytes_of_items, frame_of_item, frames_of}
-use Rattle.sync_survey.specs.{Runs.{item_bytes_in, item_run, ItemRun, PlacedItem}, Survey.survey_of}
-use Rattle.sync_survey.specs.{Walk.{head_of, numbered_frames, stream_run}, declared.items.Item.Item}
-use Rattle.sync_survey.specs.declared.{items.Item.TheVariants.Frame, places.Head.Head}
+use Rattle.sync_survey.specs.{Row.Row, Survey.survey_of}
+use Rattle.sync_survey.specs.Walk.{head_of, numbered_frames, stream_chain}
+use Rattle.sync_survey.specs.declared.chains.Region.{Region, TheVariants.{Front, Stream}}
+use Rattle.sync_survey.specs.declared.{items.Item.{Item, TheVariants.Frame}, places.Head.Head}
 use Rattle.sync_survey.specs.declared.places.{PlacedFrame.PlacedFrame, Start.Start}
-use Rattle.sync_survey.specs.declared.runs.Region.{Region, TheVariants.{Front, Stream}}
 
 -- the bytes of the file from one offset up to another, with the
 -- gains of these frames moved, which are between the two in order
@@ -172,12 +172,12 @@ behind_head steps lost file (Some head) (p ∷ ps) from to {h} e nothing first =
 
 -- the items of the front are the bytes up to their end
 front_bytes : (file : List ℕ)
-    → bytes_of_items file (item_run Front file 0).items ≡ take (item_run Front file 0).stop file
+    → bytes_of_items file (item_chain Front file 0).items ≡ take (item_chain Front file 0).stop file
 front_bytes file =
     grind (
       arith,
       bytes-ends,
-      item_run-ends Front file 0,
+      item_chain-ends Front file 0,
       ends-within,
       length-append,
       length-drop,
@@ -193,13 +193,14 @@ written_from : (steps : ℕ → Steps) {file : List ℕ} {allowed : ℕ} {start 
 unfolding edited_file
 written_from steps {file} {allowed} {start} read =
     let has = has_stream read in
-    let stream = stream_run file start in
-    let stop : stream.stop ≡ length file = ap (λ (r : ItemRun). r.stop) has.stream ∙ has.stop in
+    let stream = stream_chain file start in
+    let stop : stream.stop ≡ length file = ap (λ (r : ItemChain). r.stop) has.stream ∙ has.stop in
     ap₂ (λ (l m : List ℕ). l ++ m) (ap (λ n. take n file) (sym has.front) ∙ sym (front_bytes file))
     (ap (moved_from steps file start.first.offset) (told_rows file start)
     ∙ behind_head steps (is_lost_at (told_from file start).frames) file (head_of file start.first)
     stream.items start.first.offset stream.stop
-    (item_run-ends Stream file start.first.offset) (drop_all stream.stop file (omega (arith, stop)))
+    (item_chain-ends Stream file start.first.offset)
+    (drop_all stream.stop file (omega (arith, stop)))
     has.first.is)
 
 -- the bytes up to the junk, and those from the first frame on with moved gains, are the edited file

@@ -22,19 +22,19 @@ use Rattle.moved_gains.specs.TagPlace.{file_with_tag, IsTagBytes, new_blocks, re
 use Rattle.moved_gains.specs.TagPlace.{retagged_offset, stands_before, stands_behind, tag_block}
 use Rattle.moved_gains.specs.TagPlace.{tag_length, tag_offset}
 use Rattle.side_info.specs.declared.side.Side.{Side}
+use Rattle.sync_survey.proofs.ChainLemmas.{frames-append, whole_item_at-whole}
 use Rattle.sync_survey.proofs.ItemListLemmas.{blocks-by, ends-rise, frame_by, frames-by, piece_by}
 use Rattle.sync_survey.proofs.{ItemListLemmas.placed_by, OneItemLemmas.stands-only_at}
-use Rattle.sync_survey.proofs.RunsLemmas.{frames-append, whole_item_at-whole}
 use Rattle.sync_survey.proofs.SurveyPartsLemmas.{IsRead, survey_fields-parts, survey_fields-told}
 use Rattle.sync_survey.proofs.SurveyPartsLemmas.{told_from}
+use Rattle.sync_survey.specs.Chains.{AreEndToEnd, blocks_of, frames_of, PlacedItem, whole_item_at}
 use Rattle.sync_survey.specs.Faults.{class_from, stream_of_survey, survey_fields, SurveyFields}
 use Rattle.sync_survey.specs.MainData.{granule_lengths, payload_at, row_side, split_bits}
 use Rattle.sync_survey.specs.{MainData.{start_of_data, stream_frame, stream_frames}, Row.Row}
-use Rattle.sync_survey.specs.Runs.{AreEndToEnd, blocks_of, frames_of, PlacedItem, whole_item_at}
 use Rattle.sync_survey.specs.Walk.{all_blocks, head_of, numbered_frames}
+use Rattle.sync_survey.specs.declared.chains.Region.TheVariants.{Stream}
 use Rattle.sync_survey.specs.declared.{items.Item.TheVariants.Block, places.Head.Head}
 use Rattle.sync_survey.specs.declared.places.{Piece.Piece, PlacedFrame.PlacedFrame, Start.Start}
-use Rattle.sync_survey.specs.declared.runs.Region.TheVariants.{Stream}
 use Rattle.tag_blocks.proofs.BlocksLemmas.{block_front-least}
 use Rattle.tag_blocks.specs.declared.block.{Block.Block as TagBlock, Kind.TheVariants.Ape}
 

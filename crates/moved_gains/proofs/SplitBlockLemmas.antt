@@ -4,11 +4,11 @@ use Rattle.std.proofs.Common.{option_to_list, refl, Some, true, ℕ, [], ◌++�
 use Rattle.std.proofs.{Common.◌≤◌, lemmas.Bool.{le-leb, le-ltb, lt-leb, lt-ltb}}
 use Rattle.std.{proofs.lemmas.List.Elements.filter-append, specs.List.cons_option}
 use Rattle.moved_gains.specs.TagPlace.{stands_before, stands_behind, tag_length, tag_offset}
-use Rattle.sync_survey.proofs.{ItemListLemmas.{ends-rise, piece_by}, RunsLemmas.whole_item_at-is}
+use Rattle.sync_survey.proofs.{ChainLemmas.whole_item_at-is, ItemListLemmas.{ends-rise, piece_by}}
+use Rattle.sync_survey.specs.Chains.{AreEndToEnd, block_of_item, blocks_of, PlacedItem}
 use Rattle.sync_survey.specs.{Faults.SurveyFields, Items.size_of}
-use Rattle.sync_survey.specs.Runs.{AreEndToEnd, block_of_item, blocks_of, PlacedItem}
-use Rattle.sync_survey.specs.declared.{items.Item.Item, places.Piece.Piece}
-use Rattle.sync_survey.specs.declared.runs.Region.TheVariants.{Stream}
+use Rattle.sync_survey.specs.declared.{chains.Region.TheVariants.Stream, items.Item.Item}
+use Rattle.sync_survey.specs.declared.places.Piece.{Piece}
 
 -- these blocks begin between two offsets
 abbrev pub BeginBetween : ℕ → ℕ → List Piece → Type 0

@@ -4,12 +4,12 @@ use Rattle.std.{proofs.Common.{◌+◌, ◌∷◌, ◌≡◌}, specs.List.{cons_
 use Rattle.frame_header.specs.Tables.{class_of, length_of}
 use Rattle.moved_gains.proofs.FoundTagLemmas.{found_case, last_more}
 use Rattle.moved_gains.specs.TagPlace.{is_tag, last_end}
-use Rattle.sync_survey.specs.{Items.size_of, MainData.{marked_row, marked_rows, rows_of}, Row.Row}
-use Rattle.sync_survey.specs.Runs.{AreEndToEnd, block_of_item, blocks_of, frame_of_item, frames_of}
-use Rattle.sync_survey.specs.{Runs.{PlacedItem, whole_item_at}, Walk.numbered_frames}
+use Rattle.sync_survey.specs.Chains.{AreEndToEnd, block_of_item, blocks_of, frame_of_item}
+use Rattle.sync_survey.specs.{Chains.{frames_of, PlacedItem, whole_item_at}, Items.size_of}
+use Rattle.sync_survey.specs.{MainData.{marked_row, marked_rows, rows_of}, Row.Row}
+use Rattle.sync_survey.specs.{Walk.numbered_frames, declared.chains.Region.TheVariants.Stream}
 use Rattle.sync_survey.specs.declared.{items.Item.Item, places.{Head.Head, Piece.Piece}}
 use Rattle.sync_survey.specs.declared.places.PlacedFrame.{PlacedFrame}
-use Rattle.sync_survey.specs.declared.runs.Region.TheVariants.{Stream}
 
 -- prepending an item that may be there commutes with appending
 pub cons-append : {X : Type 0} (o : Option X) (xs ys : List X)

@@ -12,7 +12,7 @@ use Rattle.moved_gains.proofs.FoundTagLemmas.{found_item, last_more}
 use Rattle.moved_gains.proofs.LostOffsetLemmas.{end_earlier, end_later, end_rises, EndBy, items_end}
 use Rattle.moved_gains.proofs.LostOffsetLemmas.{rows_by, told_rows}
 use Rattle.moved_gains.proofs.{MovedGainLemmas.IsShaped-moved, MovedRowLemmas.numbered_either}
-use Rattle.moved_gains.proofs.ReadFileLemmas.{has_stream, HasStream, later_run}
+use Rattle.moved_gains.proofs.ReadFileLemmas.{has_stream, HasStream, later_chain}
 use Rattle.moved_gains.proofs.{SplitItemLemmas.split-tag, TagReadingLemmas.place-some}
 use Rattle.moved_gains.{proofs.WrittenLemmas.AreSized, specs.{Edited.is_lost_at, Gains.moved_side}}
 use Rattle.moved_gains.specs.Moving.{row_end}
@@ -20,21 +20,20 @@ use Rattle.moved_gains.specs.TagPlace.{is_tag, last_end, tag_block, tag_length, 
 use Rattle.requests.specs.declared.shift.Steps.{Steps}
 use Rattle.side_info.proofs.FrameLemmas.{length-frame_with_side, shaped-side_in}
 use Rattle.side_info.specs.Frame.{frame_with_side, side_in}
+use Rattle.sync_survey.proofs.ChainLemmas.{IsItemOf, item_chain-ends, whole_item_at-is}
 use Rattle.sync_survey.proofs.ItemListLemmas.{ends-stream}
 use Rattle.sync_survey.proofs.ItemsLemmas.{header_front-in_range, stands-at}
-use Rattle.sync_survey.proofs.RunsLemmas.{IsItemOf, item_run-ends, whole_item_at-is}
 use Rattle.sync_survey.proofs.SurveyLemmas.{overhead-within}
 use Rattle.sync_survey.proofs.SurveyPartsLemmas.{frames_from, IsRead, survey_fields-parts}
 use Rattle.sync_survey.proofs.SurveyPartsLemmas.{told_from}
-use Rattle.sync_survey.specs.{Faults.{survey_fields, SurveyFields}, Items.{item_at, size_of}}
-use Rattle.sync_survey.specs.{MainData.marked_rows, Row.Row}
-use Rattle.sync_survey.specs.Runs.{AreEndToEnd, blocks_of, frame_of_item, frames_of, item_run}
-use Rattle.sync_survey.specs.Runs.{ItemRun, PlacedItem}
-use Rattle.sync_survey.specs.Walk.{end_fault, fault_at, head_of, numbered_frames, stream_run}
+use Rattle.sync_survey.specs.Chains.{AreEndToEnd, blocks_of, frame_of_item, frames_of, item_chain}
+use Rattle.sync_survey.specs.{Chains.{ItemChain, PlacedItem}, Faults.{survey_fields, SurveyFields}}
+use Rattle.sync_survey.specs.{Items.{item_at, size_of}, MainData.marked_rows, Row.Row}
+use Rattle.sync_survey.specs.Walk.{end_fault, fault_at, head_of, numbered_frames, stream_chain}
+use Rattle.sync_survey.specs.declared.chains.Region.{Region, TheVariants.{Front, Stream}}
 use Rattle.sync_survey.specs.declared.items.Item.{Item, TheVariants.{Block, Frame}}
 use Rattle.sync_survey.specs.declared.places.{Head.Head, Piece.Piece, PlacedFrame.PlacedFrame}
-use Rattle.sync_survey.specs.declared.{places.Start.Start, runs.Region.Region}
-use Rattle.sync_survey.specs.declared.runs.Region.TheVariants.{Front, Stream}
+use Rattle.sync_survey.specs.declared.places.Start.{Start}
 
 module _ (lost : ℕ → Bool) (file : List ℕ) where
   abbrev pub by : List PlacedFrame → List Row
@@ -188,11 +187,11 @@ module _ (steps : ℕ → Steps) (file : List ℕ) (allowed : ℕ) (start : Star
   abbrev head : Option Head
   head = head_of file start.first
 
-  abbrev later : ItemRun
-  later = later_run file start
+  abbrev later : ItemChain
+  later = later_chain file start
 
-  abbrev front : ItemRun
-  front = item_run Front file 0
+  abbrev front : ItemChain
+  front = item_chain Front file 0
 
   abbrev lost : ℕ → Bool
   lost = is_lost_at s.frames
@@ -201,7 +200,7 @@ module _ (steps : ℕ → Steps) (file : List ℕ) (allowed : ℕ) (start : Star
   has = has_stream read
 
   later_ends : AreEndToEnd Stream file (first + size) later.items later.stop
-  later_ends = item_run-ends Stream file (first + size)
+  later_ends = item_chain-ends Stream file (first + size)
 
   stop_within : later.stop ≤ length file
   stop_within = omega (arith, has.stop)
@@ -211,7 +210,7 @@ module _ (steps : ℕ → Steps) (file : List ℕ) (allowed : ℕ) (start : Star
       ≡ rows_by lost file (numbered_frames head (start.first ∷ frames_of later.items))
   rows_told =
       told_rows file start
-      ∙ ap (λ (r : ItemRun). rows_by lost file (numbered_frames head (frames_of r.items)))
+      ∙ ap (λ (r : ItemChain). rows_by lost file (numbered_frames head (frames_of r.items)))
       has.stream
 
   later_end : EndBy (first + size) (rows_by lost file (frames_of later.items)) (length file)
@@ -254,7 +253,7 @@ module _ (steps : ℕ → Steps) (file : List ℕ) (allowed : ℕ) (start : Star
 
   some_frame : (rows : List Row) (frames : List PlacedFrame) → length rows ≡ length frames
       → end_fault file frames
-      (fault_at (stream_run file start).stop (item_at file (stream_run file start).stop)) ≡ None
+      (fault_at (stream_chain file start).stop (item_at file (stream_chain file start).stop)) ≡ None
       → 0 < length rows
   some_frame rows frames same none = grind arith
 
@@ -288,15 +287,15 @@ module _ (steps : ℕ → Steps) (file : List ℕ) (allowed : ℕ) (start : Star
       } in
       record { among = among; apart = inl refl }
 
-  blocks_later : blocks_of (stream_run file start).items ≡ blocks_of later.items
-  blocks_later = ap (λ (r : ItemRun). blocks_of r.items) has.stream
+  blocks_later : blocks_of (stream_chain file start).items ≡ blocks_of later.items
+  blocks_later = ap (λ (r : ItemChain). blocks_of r.items) has.stream
 
   place_by : (x y : Option Piece) → find is_tag (blocks_of front.items) ≡ x
       → find is_tag (blocks_of later.items) ≡ y → tag_block s ≡ option_or x y
       → IsInFront s ⊎ IsApart s
   place_by (Some b) y front_is later_is is =
       let tag = place-some s is in
-      let ends = ends-stream Front file 0 front.items front.stop (item_run-ends Front file 0) in
+      let ends = ends-stream Front file 0 front.items front.stop (item_chain-ends Front file 0) in
       let cut = items_cut lost file front.items ends front_is in
       let last =
       end_rises (b.offset + b.block.length) (rows_by lost file cut.behind) cut.rest in

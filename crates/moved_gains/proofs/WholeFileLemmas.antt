@@ -5,15 +5,16 @@ use Rattle.std.proofs.{Common.{◌++◌, ◌+◌, ◌∙◌, ◌∷◌, ◌≡�
 use Rattle.std.specs.List.{cons_option}
 use Rattle.frame_header.specs.Fields.{HeaderFields}
 use Rattle.moved_gains.proofs.SplitItemLemmas.{cons-append}
-use Rattle.sync_survey.proofs.RunsLemmas.{item_run-next, item_run-only, item_run-stopped_run}
-use Rattle.sync_survey.proofs.RunsLemmas.{whole_item_at-is, whole_item_at-past, whole_item_at-whole}
-use Rattle.sync_survey.specs.Items.{item_at, size_of}
-use Rattle.sync_survey.specs.Runs.{AreEndToEnd, block_of_item, blocks_of, frame_of_item, frames_of}
-use Rattle.sync_survey.specs.Runs.{item_if_whole, item_run, ItemRun, PlacedItem, whole_item_at}
-use Rattle.sync_survey.specs.{Start.{front_end_of, start_of}, declared.items.Item.Item}
+use Rattle.sync_survey.proofs.ChainLemmas.{item_chain-next, item_chain-only}
+use Rattle.sync_survey.proofs.ChainLemmas.{item_chain-stopped_chain, whole_item_at-is}
+use Rattle.sync_survey.proofs.ChainLemmas.{whole_item_at-past, whole_item_at-whole}
+use Rattle.sync_survey.specs.Chains.{AreEndToEnd, block_of_item, blocks_of, frame_of_item}
+use Rattle.sync_survey.specs.Chains.{frames_of, item_chain, item_if_whole, ItemChain, PlacedItem}
+use Rattle.sync_survey.specs.{Chains.whole_item_at, Items.{item_at, size_of}}
+use Rattle.sync_survey.specs.Start.{front_end_of, start_of}
+use Rattle.sync_survey.specs.declared.{chains.Region.TheVariants.{Front, Stream}, items.Item.Item}
 use Rattle.sync_survey.specs.declared.items.Item.TheVariants.{End, Frame, Free, Nothing}
 use Rattle.sync_survey.specs.declared.places.{Piece.Piece, PlacedFrame.PlacedFrame, Start.Start}
-use Rattle.sync_survey.specs.declared.runs.Region.TheVariants.{Front, Stream}
 
 -- no frame is an item of the front
 pub not_in_front : (file : List ℕ) (at : ℕ) {h : HeaderFields} → item_at file at ≡ Frame h
@@ -25,12 +26,12 @@ not_in_front file at is = ap (item_if_whole Front file at) is
 -- these frames after it and these blocks, and no junk
 pub record IsClean (file : List ℕ) (from : ℕ) (p : PlacedFrame) (rest : List PlacedFrame)
     (blocks : List Piece) : Type 0 where
-  pub front : (item_run Front file from).stop ≡ p.offset
+  pub front : (item_chain Front file from).stop ≡ p.offset
   pub first : whole_item_at Stream file p.offset ≡ Some (Frame p.header)
-  pub frames : frames_of (item_run Stream file p.offset).items ≡ p ∷ rest
-  pub stop : (item_run Stream file p.offset).stop ≡ length file
-  pub blocks_are : blocks_of (item_run Front file from).items
-      ++ blocks_of (item_run Stream file p.offset).items ≡ blocks
+  pub frames : frames_of (item_chain Stream file p.offset).items ≡ p ∷ rest
+  pub stop : (item_chain Stream file p.offset).stop ≡ length file
+  pub blocks_are : blocks_of (item_chain Front file from).items
+      ++ blocks_of (item_chain Stream file p.offset).items ≡ blocks
 
 frame_first : {file : List ℕ} {at : ℕ} {h : HeaderFields} (ps : List PlacedItem) {p : PlacedFrame}
     {rest : List PlacedFrame} → whole_item_at Stream file at ≡ Some (Frame h)
@@ -39,18 +40,18 @@ frame_first : {file : List ℕ} {at : ℕ} {h : HeaderFields} (ps : List PlacedI
     → IsClean file at p rest (blocks_of ps)
 frame_first {file} {at} {h} ps {p} {rest} is ends e =
     let same : record { offset = at; header = h } ≡ p = cc in
-    let stream : item_run Stream file at
+    let stream : item_chain Stream file at
     ≡ record { items = record { offset = at; item = Frame h } ∷ ps; stop = length file } =
-    item_run-only Stream file at (record { offset = at; item = Frame h } ∷ ps)
+    item_chain-only Stream file at (record { offset = at; item = Frame h } ∷ ps)
     (refl, is, ends) (whole_item_at-past Stream file (length file) (omega arith)) in
-    let front : item_run Front file at ≡ record { items = []; stop = at } =
-    grind (arith, item_run-stopped_run, not_in_front, whole_item_at-is) in
+    let front : item_chain Front file at ≡ record { items = []; stop = at } =
+    grind (arith, item_chain-stopped_chain, not_in_front, whole_item_at-is) in
     subst (λ (q : PlacedFrame). IsClean file at q rest (blocks_of ps)) same (record {
-      front = ap (λ (r : ItemRun). r.stop) front;
+      front = ap (λ (r : ItemChain). r.stop) front;
       first = is;
-      frames = ap (λ (r : ItemRun). frames_of r.items) stream ∙ cc;
-      stop = ap (λ (r : ItemRun). r.stop) stream;
-      blocks_are = ap₂ (λ (a b : ItemRun). blocks_of a.items ++ blocks_of b.items) front stream;
+      frames = ap (λ (r : ItemChain). frames_of r.items) stream ∙ cc;
+      stop = ap (λ (r : ItemChain). r.stop) stream;
+      blocks_are = ap₂ (λ (a b : ItemChain). blocks_of a.items ++ blocks_of b.items) front stream;
     })
 
 passed : {file : List ℕ} {at : ℕ} {item : Item} {p : PlacedFrame} {rest : List PlacedFrame}
@@ -58,9 +59,9 @@ passed : {file : List ℕ} {at : ℕ} {item : Item} {p : PlacedFrame} {rest : Li
     → IsClean file (at + size_of item) p rest blocks
     → IsClean file at p rest (cons_option (block_of_item at item) blocks)
 passed {file} {at} {item} is clean =
-    let front = item_run-next Front file is in
+    let front = item_chain-next Front file is in
     record {
-      front = ap (λ (r : ItemRun). r.stop) front ∙ clean.front;
+      front = ap (λ (r : ItemChain). r.stop) front ∙ clean.front;
       first = clean.first;
       frames = clean.frames;
       stop = clean.stop;
@@ -94,8 +95,8 @@ clean file from (q ∷ ps) p rest ends e =
 
 -- ---- the start
 
--- the front ends where its run stops
-pub front_end-is : (file : List ℕ) → front_end_of file ≡ (item_run Front file 0).stop
+-- the front ends where its chain stops
+pub front_end-is : (file : List ℕ) → front_end_of file ≡ (item_chain Front file 0).stop
 unfolding front_end_of
 front_end-is file = refl
 

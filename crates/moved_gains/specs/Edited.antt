@@ -6,12 +6,11 @@ use Rattle.moved_gains.specs.Gains.{moved_side, side_out_of_range}
 use Rattle.moved_gains.specs.declared.gains.OutOfRange.{OutOfRange}
 use Rattle.requests.specs.declared.shift.Steps.{Steps}
 use Rattle.side_info.specs.Frame.{frame_with_side, side_in}
+use Rattle.sync_survey.specs.Chains.{bytes_of_items, item_bytes_in, item_chain, PlacedItem}
 use Rattle.sync_survey.specs.{Faults.SurveyFields, Row.Row}
-use Rattle.sync_survey.specs.Runs.{bytes_of_items, item_bytes_in, item_run, PlacedItem}
-use Rattle.sync_survey.specs.declared.items.Item.{Item}
+use Rattle.sync_survey.specs.declared.{chains.Region.TheVariants.{Front, Stream}, items.Item.Item}
 use Rattle.sync_survey.specs.declared.items.Item.TheVariants.{Block, End, Frame, Free, Nothing}
 use Rattle.sync_survey.specs.declared.{items.Item.TheVariants.Zero, places.Head.Head}
-use Rattle.sync_survey.specs.declared.runs.Region.TheVariants.{Front, Stream}
 
 -- ---- the bytes
 
@@ -54,8 +53,8 @@ is_lost_at (row ∷ rows) at = (row.lost && row.offset == at) || is_lost_at rows
 -- moved, each by the steps at its offset; junk is dropped
 unfoldable pub edited_file : (ℕ → Steps) → List ℕ → SurveyFields → List ℕ
 edited_file steps file s =
-    bytes_of_items file (item_run Front file 0).items
-    ++ moved_stream steps (is_lost_at s.frames) file s.head (item_run Stream file s.first).items
+    bytes_of_items file (item_chain Front file 0).items
+    ++ moved_stream steps (is_lost_at s.frames) file s.head (item_chain Stream file s.first).items
 
 -- ---- the range
 

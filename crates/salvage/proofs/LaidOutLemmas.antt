@@ -26,17 +26,17 @@ use Rattle.salvage.specs.Walk.{ItemOrGap, PlacedThing, size_of_thing, thing_at, 
 use Rattle.salvage.specs.{Walk.{things, things_up_to}, declared.{gap.Gap.Gap, usable.Role.Role}}
 use Rattle.salvage.specs.declared.usable.Role.TheVariants.{First, Later}
 use Rattle.side_info.proofs.FrameLemmas.{fits-side_in}
+use Rattle.sync_survey.proofs.ChainLemmas.{IsItemOf, item_chain-ends}
 use Rattle.sync_survey.proofs.ItemsLemmas.{header_front-in_range, stands-at}
-use Rattle.sync_survey.{proofs.RunsLemmas.{IsItemOf, item_run-ends}, specs.Faults.longest_file}
-use Rattle.sync_survey.specs.{Items.size_of, MainData.{head_area, row_in}, Row.Row}
-use Rattle.sync_survey.specs.Runs.{AreEndToEnd, block_of_item, blocks_of, frame_of_item, item_run}
-use Rattle.sync_survey.specs.{Runs.PlacedItem, Start.front_end_of}
+use Rattle.sync_survey.specs.Chains.{AreEndToEnd, block_of_item, blocks_of, frame_of_item}
+use Rattle.sync_survey.specs.{Chains.{item_chain, PlacedItem}, Faults.longest_file, Items.size_of}
+use Rattle.sync_survey.specs.{MainData.{head_area, row_in}, Row.Row, Start.front_end_of}
 use Rattle.sync_survey.specs.Survey.{BlocksAreLaid, FramesAreLaid, IsWholeHead}
-use Rattle.sync_survey.specs.{Walk.{head_of, numbered_offset}, declared.items.Item.Item}
+use Rattle.sync_survey.specs.{Walk.{head_of, numbered_offset}, declared.chains.Region.Region}
+use Rattle.sync_survey.specs.declared.{chains.Region.TheVariants.{Front, Stream}, items.Item.Item}
 use Rattle.sync_survey.specs.declared.items.Item.TheVariants.{Block, Frame, Free}
 use Rattle.sync_survey.specs.declared.places.{Head.Head, Piece.Piece, PlacedFrame.PlacedFrame}
-use Rattle.sync_survey.specs.declared.{rows.ReservoirState.ReservoirState, runs.Region.Region}
-use Rattle.sync_survey.specs.declared.runs.Region.TheVariants.{Front, Stream}
+use Rattle.sync_survey.specs.declared.rows.ReservoirState.{ReservoirState}
 use Rattle.sync_survey.specs.declared.survey_fault.SurveyFault.{SurveyFault, TheVariants.TooLong}
 
 -- ---- things in order from an earlier offset too
@@ -305,11 +305,11 @@ unfolding damaged_fields
 damaged_fields-from {file} {d} e = from-first (first_frame file (front_end_of file)) refl e
 
 front-order : (file : List ℕ)
-    → BlocksAreLaid 0 (blocks_of (item_run Front file 0).items) (front_end_of file)
+    → BlocksAreLaid 0 (blocks_of (item_chain Front file 0).items) (front_end_of file)
 unfolding front_end_of
 front-order file =
     ends-order Front file 0
-    (item_run Front file 0).items (item_run Front file 0).stop (item_run-ends Front file 0)
+    (item_chain Front file 0).items (item_chain Front file 0).stop (item_chain-ends Front file 0)
 
 module _ (file : List ℕ) (first : PlacedFrame)
     (is : first_frame file (front_end_of file) ≡ Some first) where
@@ -348,7 +348,7 @@ module _ (file : List ℕ) (first : PlacedFrame)
         (things_from file first)) (length file) behind.low (order.rows begin));
     class = subst (RowsAreOfClass (class_of first.header)) (sym rows-are) (order.same begin);
     blocks =
-        blocks-behind 0 (blocks_of (item_run Front file 0).items)
+        blocks-behind 0 (blocks_of (item_chain Front file 0).items)
         (blocks_of_things (things_from file first))
         (front_end_of file) (length file) (front-order file)
         (blocks-earlier (blocks_of_things

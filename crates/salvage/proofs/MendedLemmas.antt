@@ -9,10 +9,10 @@ use Rattle.salvage.specs.{EmptiedFrames.{emptied_frame, emptied_from}, KeptFrame
 use Rattle.salvage.specs.Progress.{IsDamagedLaidOut, RowsAreOfClass}
 use Rattle.salvage.specs.declared.mended.Emptied.{Emptied}
 use Rattle.side_info.specs.Side.{SideFits}
+use Rattle.sync_survey.proofs.ChainLemmas.{cons_list}
 use Rattle.sync_survey.proofs.EmptiedLemmas.{emptied_false, IsKept, laid_emptied, placed-kept}
-use Rattle.sync_survey.{proofs.RunsLemmas.cons_list, specs.HeadApart.{emptied_row, emptied_survey}}
-use Rattle.sync_survey.specs.{MainData.place, Row.Row, Survey.{FramesAreLaid, IsSurveyLaidOut}}
-use Rattle.sync_survey.specs.declared.places.Head.{Head}
+use Rattle.sync_survey.specs.{HeadApart.{emptied_row, emptied_survey}, MainData.place, Row.Row}
+use Rattle.sync_survey.specs.{Survey.{FramesAreLaid, IsSurveyLaidOut}, declared.places.Head.Head}
 
 -- the side fields of a frame are within their bits
 fits_at : (from to : ℕ) (rows : List Row) (i : ℕ) {r : Row} → FramesAreLaid from rows to

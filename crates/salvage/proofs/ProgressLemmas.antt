@@ -20,18 +20,17 @@ use Rattle.salvage.specs.Walk.{blocks_of_things, first_frame, gap_end, gaps_of, 
 use Rattle.salvage.specs.declared.{begun.Begun.Begun, found.DamagedSoFar.DamagedSoFar, gap.Gap.Gap}
 use Rattle.salvage.specs.declared.usable.Role.TheVariants.{Later}
 use Rattle.side_info.proofs.FrameLemmas.{fits-side_in, overhead-few}
+use Rattle.sync_survey.proofs.ChainLemmas.{kept_more, kept_whole}
 use Rattle.sync_survey.proofs.FrontLemmas.{blocks_more, pieces_later}
-use Rattle.sync_survey.proofs.RunsLemmas.{kept_more, kept_whole}
 use Rattle.sync_survey.proofs.StepLemmas.{area_within, item_header, laid_later, laid_push}
-use Rattle.sync_survey.{proofs.StepLemmas.row_shown, specs.Faults.longest_file}
-use Rattle.sync_survey.specs.{Items.{item_front, size_of}, Looks.Shows}
-use Rattle.sync_survey.specs.{MainData.{head_area, row_in}, Row.Row, Runs.{blocks_of, item_run}}
-use Rattle.sync_survey.specs.Start.{front_end_of}
+use Rattle.sync_survey.{proofs.StepLemmas.row_shown, specs.Chains.{blocks_of, item_chain}}
+use Rattle.sync_survey.specs.{Faults.longest_file, Items.{item_front, size_of}, Looks.Shows}
+use Rattle.sync_survey.specs.{MainData.{head_area, row_in}, Row.Row, Start.front_end_of}
 use Rattle.sync_survey.specs.Survey.{BlocksAreLaid, FramesAreLaid, IsWholeHead}
 use Rattle.sync_survey.specs.{SurveyFaultKinds.RefusesRightly, Walk.{IsFrameOf, numbered_offset}}
-use Rattle.sync_survey.specs.declared.items.Item.{Item, TheVariants.{Frame, Zero}}
-use Rattle.sync_survey.specs.declared.{places.Head.Head, rows.ReservoirState.ReservoirState}
-use Rattle.sync_survey.specs.declared.runs.Region.TheVariants.{Front}
+use Rattle.sync_survey.specs.declared.{chains.Region.TheVariants.Front, items.Item.Item}
+use Rattle.sync_survey.specs.declared.{items.Item.TheVariants.{Frame, Zero}, places.Head.Head}
+use Rattle.sync_survey.specs.declared.rows.ReservoirState.{ReservoirState}
 use Rattle.sync_survey.specs.declared.survey_fault.SurveyFault.{SurveyFault}
 use Rattle.sync_survey.specs.declared.survey_fault.SurveyFault.TheVariants.{NoFrame, TooManyFrames}
 
@@ -336,7 +335,7 @@ pub record IsFirst (b : Begun) (found : DamagedSoFar) : Type 0 where
 
 -- where the reading begins, the blocks of the front were read
 pub begun_read : {file : List ℕ} {b : Begun} {found : DamagedSoFar} → BeginsAsRead file b
-    → IsFirst b found → found.pieces.items ≡ blocks_of (item_run Front file 0).items
+    → IsFirst b found → found.pieces.items ≡ blocks_of (item_chain Front file 0).items
     → IsReadTo file b found
 unfolding damaged_from
 begun_read {file} {b} begins first blocks =

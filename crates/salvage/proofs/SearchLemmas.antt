@@ -12,8 +12,9 @@ use Rattle.salvage.specs.{UsableFrames.usable_frame_at, Walk.{first_frame, item_
 use Rattle.salvage.specs.declared.usable.Role.{Role, TheVariants.First}
 use Rattle.sync_survey.proofs.{ItemsLemmas.stands, LooksLemmas.item_at-behind}
 use Rattle.sync_survey.proofs.StartLemmas.{anchored_frame-past, first_of-none, first_of-some}
+use Rattle.sync_survey.specs.Chains.{frame_of_item}
 use Rattle.sync_survey.specs.Items.{header_front, IsItemFront, item_at, item_fits, item_front}
-use Rattle.sync_survey.specs.{Looks.Shows, Runs.frame_of_item}
+use Rattle.sync_survey.specs.Looks.{Shows}
 use Rattle.sync_survey.specs.Start.{anchored_frame, anchored_item, has_anchor, is_anchor}
 use Rattle.sync_survey.specs.declared.items.Item.{Item, TheVariants.Frame}
 use Rattle.sync_survey.specs.declared.places.PlacedFrame.{PlacedFrame}

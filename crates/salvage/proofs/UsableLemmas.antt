@@ -14,14 +14,14 @@ use Rattle.salvage.specs.{Walk.{is_item_read, item_if_read, item_read}, declared
 use Rattle.salvage.specs.declared.usable.Role.TheVariants.{First, Later}
 use Rattle.side_info.proofs.FrameLemmas.{overhead-few, side_in-take, stored_crc-take}
 use Rattle.side_info.specs.{Frame.{side_in, side_part}, Side.side_at}
-use Rattle.sync_survey.proofs.{LooksLemmas.item_at-shown, RunsLemmas.whole_item_at-whole}
+use Rattle.sync_survey.proofs.{ChainLemmas.whole_item_at-whole, LooksLemmas.item_at-shown}
 use Rattle.sync_survey.proofs.StepLemmas.{length_few, overhead_few}
+use Rattle.sync_survey.specs.Chains.{belongs, whole_item_at}
 use Rattle.sync_survey.specs.Items.{header_front, item_front, size_of}
-use Rattle.sync_survey.specs.{Looks.{look_size, PassesFront, Shows}, Runs.{belongs, whole_item_at}}
-use Rattle.sync_survey.specs.{Start.anchored_frame, declared.items.Item.Item}
-use Rattle.sync_survey.specs.declared.items.Item.TheVariants.{Block, Frame, Zero}
+use Rattle.sync_survey.specs.{Looks.{look_size, PassesFront, Shows}, Start.anchored_frame}
+use Rattle.sync_survey.specs.declared.chains.{Region.TheVariants.Stream, Step.Step}
+use Rattle.sync_survey.specs.declared.items.Item.{Item, TheVariants.{Block, Frame, Zero}}
 use Rattle.sync_survey.specs.declared.places.PlacedFrame.{PlacedFrame}
-use Rattle.sync_survey.specs.declared.runs.{Region.TheVariants.Stream, Step.Step}
 
 -- ---- the roles, which other crates can't name
 

@@ -10,15 +10,14 @@ use Rattle.salvage.specs.Walk.{blocks_of_things, gap_end, gaps_of, IsGap, IsItem
 use Rattle.salvage.specs.Walk.{item_read, ItemOrGap, offset_or_end, PlacedThing, size_of_thing}
 use Rattle.salvage.specs.Walk.{thing_at, thing_or_gap, things, things_up_to}
 use Rattle.salvage.specs.declared.usable.Role.{Role, TheVariants.Later}
+use Rattle.sync_survey.proofs.ChainLemmas.{cons_list, IsItemOf, whole_item_at-is}
 use Rattle.sync_survey.proofs.LooksLemmas.{zero_at, zero_test, zeros_shown}
-use Rattle.sync_survey.proofs.RunsLemmas.{cons_list, IsItemOf, whole_item_at-is}
 use Rattle.sync_survey.proofs.StartLemmas.{anchored_frame-is, first_of-is, IsAnchoredAt}
-use Rattle.sync_survey.specs.{Items.size_of, Looks.Shows, Runs.{block_of_item, whole_item_at}}
-use Rattle.sync_survey.specs.{Start.anchored_frame, declared.items.Item.Item}
-use Rattle.sync_survey.specs.declared.items.Item.TheVariants.{Frame, Zero}
+use Rattle.sync_survey.specs.{Chains.{block_of_item, whole_item_at}, Items.size_of, Looks.Shows}
+use Rattle.sync_survey.specs.{Start.anchored_frame, declared.chains.Region.TheVariants.Stream}
+use Rattle.sync_survey.specs.declared.items.Item.{Item, TheVariants.{Frame, Zero}}
 use Rattle.sync_survey.specs.declared.places.PlacedFrame.{PlacedFrame}
 use Rattle.sync_survey.specs.declared.rows.ReservoirState.{ReservoirState}
-use Rattle.sync_survey.specs.declared.runs.Region.TheVariants.{Stream}
 
 -- ---- an item that is read
 

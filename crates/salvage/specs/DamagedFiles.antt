@@ -7,12 +7,13 @@ use Rattle.outside.specs.{Counts.Counts, Files.{Files, Holds, IsFileThere}}
 use Rattle.salvage.specs.SoundFrames.{judged_runs, runs_of}
 use Rattle.salvage.specs.Walk.{blocks_of_things, first_frame, gaps_of, PlacedThing, things}
 use Rattle.salvage.specs.declared.{damaged.Damaged.Damaged, gap.Gap.Gap}
+use Rattle.sync_survey.specs.Chains.{blocks_of, item_chain}
 use Rattle.sync_survey.specs.{Faults.{longest_file, survey_view, SurveyFields}, Row.Row}
-use Rattle.sync_survey.specs.{Runs.{blocks_of, item_run}, Start.front_end_of, Survey.IsUnreadBy}
+use Rattle.sync_survey.specs.{Start.front_end_of, Survey.IsUnreadBy}
 use Rattle.sync_survey.specs.SurveyFaultKinds.{HasRightNumbers, kind_of, shrunk_end}
 use Rattle.sync_survey.specs.Walk.{head_of, numbered_offset}
+use Rattle.sync_survey.specs.declared.chains.Region.TheVariants.{Front}
 use Rattle.sync_survey.specs.declared.places.PlacedFrame.{PlacedFrame}
-use Rattle.sync_survey.specs.declared.runs.Region.TheVariants.{Front}
 use Rattle.sync_survey.specs.declared.survey_fault.SurveyFault.{SurveyFault}
 use Rattle.sync_survey.specs.declared.survey_fault.SurveyFault.TheVariants.{NoFrame, TooLong}
 use Rattle.sync_survey.specs.declared.survey_fault.SurveyFault.TheVariants.{TooManyFrames}
@@ -40,7 +41,7 @@ damaged_from file front_end first =
     let found = things_from file first in record {
       survey = record {
         frames = judged_runs file head (runs_of found);
-        blocks = blocks_of (item_run Front file 0).items ++ blocks_of_things found;
+        blocks = blocks_of (item_chain Front file 0).items ++ blocks_of_things found;
         head = head;
         junk = front_end;
         first = first.offset;

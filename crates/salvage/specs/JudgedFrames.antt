@@ -4,7 +4,7 @@ use Rattle.std.specs.Prelude.{◌∷◌, ◌≡◌}
 use Rattle.salvage.specs.{DamagedFiles.most_frames, SoundFrames.{is_sound, sound_end}}
 use Rattle.salvage.specs.Walk.{IsGap, IsItem, ItemOrGap, PlacedThing}
 use Rattle.salvage.specs.declared.{found.DamagedSoFar.DamagedSoFar, gap.Gap.Gap}
-use Rattle.sync_survey.specs.{MainData.{own_area, row_in}, Row.Row, Runs.block_of_item}
+use Rattle.sync_survey.specs.{Chains.block_of_item, MainData.{own_area, row_in}, Row.Row}
 use Rattle.sync_survey.specs.declared.{items.Item.{Item, TheVariants.Frame}, places.Piece.Piece}
 use Rattle.sync_survey.specs.declared.rows.ReservoirState.{ReservoirState}
 use Rattle.sync_survey.specs.declared.survey_fault.SurveyFault.{SurveyFault}

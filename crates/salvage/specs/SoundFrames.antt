@@ -4,10 +4,9 @@ use Rattle.std.specs.List.{enumerate_from}
 use Rattle.std.specs.Prelude.{Bool, flat_map, if◌then◌else◌, List, map, None, not, Option}
 use Rattle.std.specs.Prelude.{option_to_list, slice_get, Some, suc, zero, ℕ, [], ◌&&◌, ◌++◌, ◌∷◌}
 use Rattle.salvage.specs.Walk.{IsGap, IsItem, ItemOrGap, PlacedThing}
-use Rattle.sync_survey.specs.Faults.{overlaps, overruns}
+use Rattle.sync_survey.specs.{Chains.frame_of_item, Faults.{overlaps, overruns}}
 use Rattle.sync_survey.specs.MainData.{end_of_data, is_silent, place, points_too_far, rows_of}
-use Rattle.sync_survey.specs.{Row.Row, Runs.frame_of_item, declared.places.Head.Head}
-use Rattle.sync_survey.specs.declared.places.PlacedFrame.{PlacedFrame}
+use Rattle.sync_survey.specs.{Row.Row, declared.places.{Head.Head, PlacedFrame.PlacedFrame}}
 
 -- ---- runs of frames
 

@@ -4,7 +4,7 @@ use Rattle.std.specs.Prelude.{◌+◌, ◌/◌, ◌==◌, ◌≡◌, ◌≤◌, 
 use Rattle.frame_header.specs.{Fields.HeaderFields, Tables.{class_of, length_of}}
 use Rattle.salvage.specs.{UsableFrames.is_usable, Walk.item_read, declared.usable.Role.Role}
 use Rattle.sync_survey.specs.{Items.{header_front, item_front}, Start.is_anchor}
-use Rattle.sync_survey.specs.declared.{items.Item.{Item, TheVariants.Frame}, runs.Step.Step}
+use Rattle.sync_survey.specs.declared.{chains.Step.Step, items.Item.{Item, TheVariants.Frame}}
 
 -- a header may begin with these two bytes, by eight bits of the sync word and the two of the layer
 abbrev pub may_begin_header : ℕ → ℕ → Bool

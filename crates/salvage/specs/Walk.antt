@@ -5,10 +5,10 @@ use Rattle.std.specs.Prelude.{Option, option_and_then, Some, suc, true, zero, â„
 use Rattle.frame_header.specs.Fields.{ClassFields}
 use Rattle.salvage.specs.{UsableFrames.{is_usable, next_usable_frame}, declared.gap.Gap.Gap}
 use Rattle.salvage.specs.declared.usable.Role.{Role, TheVariants.{First, Later}}
-use Rattle.sync_survey.specs.{Items.size_of, Runs.{block_of_item, frame_of_item, whole_item_at}}
-use Rattle.sync_survey.specs.declared.{items.Item.{Item, TheVariants.Frame}, places.Piece.Piece}
+use Rattle.sync_survey.specs.{Chains.{block_of_item, frame_of_item, whole_item_at}, Items.size_of}
+use Rattle.sync_survey.specs.declared.{chains.Region.TheVariants.Stream, items.Item.Item}
+use Rattle.sync_survey.specs.declared.{items.Item.TheVariants.Frame, places.Piece.Piece}
 use Rattle.sync_survey.specs.declared.places.PlacedFrame.{PlacedFrame}
-use Rattle.sync_survey.specs.declared.runs.Region.TheVariants.{Stream}
 
 -- ---- what is read at an offset
 

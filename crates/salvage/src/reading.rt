@@ -4,13 +4,13 @@ ghost use Rattle.outside.specs.Files.{IsFileThere};
 ghost use Rattle.outside.specs.Counts.{OnlyReads};
 ghost use Rattle.outside.specs.Seen.{OnFile};
 ghost use Rattle.outside.specs.Feed.{IsFedFrom};
-ghost use Rattle.sync_survey.specs.declared.runs.Region.TheVariants.{Front};
+ghost use Rattle.sync_survey.specs.declared.chains.Region.TheVariants.{Front};
 ghost use Rattle.sync_survey.specs.declared.survey_fault.SurveyFault.TheVariants.{NoFrame};
 ghost use Rattle.sync_survey.specs.declared.items.Item.TheVariants.{Frame};
 ghost use Rattle.sync_survey.specs.Items.{size_of};
 ghost use Rattle.sync_survey.specs.Walk.{numbered_offset};
 ghost use Rattle.sync_survey.specs.MainData.{head_area};
-ghost use Rattle.sync_survey.specs.Runs.{item_run, blocks_of};
+ghost use Rattle.sync_survey.specs.Chains.{item_chain, blocks_of};
 ghost use Rattle.sync_survey.specs.SurveyFaultKinds.{HasRightNumbers};
 ghost use Rattle.sync_survey.specs.Survey.{HasLength, IsWholeFrom, ReadsBy, HoldsOctets, BlocksAreLaid};
 ghost use Rattle.salvage.specs.declared.usable.Role.TheVariants.{Later};
@@ -252,7 +252,7 @@ fn begin<D: Folder>(
     requires none { pieces.old.items ≡ [] }
     ensures begun { IfOk result (IsBegunFile (D.seen folder.old).files name.now) }
     ensures blocks { OnOk result (OnFile (D.seen folder.old) name.now
-        (λ bytes. pieces.new.items ≡ blocks_of (item_run Front bytes 0).items)) }
+        (λ bytes. pieces.new.items ≡ blocks_of (item_chain Front bytes 0).items)) }
     ensures laid { IfOk result (λ b. BlocksAreLaid 0 pieces.new.items b.start.front_end) }
     ensures reads { ReadsBy feed.new name.now result (D.seen folder.old) (D.seen folder.new) }
     ensures refused { IfErr result (IsDamagedRefusal name.now (D.seen folder.old).files
@@ -282,7 +282,7 @@ fn read_on<D: Folder>(
     requires begun { IsBegunFile (D.seen folder.old).files name.now begun.now }
     requires fed { IsFedFrom feed.old (D.seen folder.old).files name.now }
     requires blocks { OnFile (D.seen folder.old) name.now
-        (λ bytes. pieces.items ≡ blocks_of (item_run Front bytes 0).items) }
+        (λ bytes. pieces.items ≡ blocks_of (item_chain Front bytes 0).items) }
     requires laid { BlocksAreLaid 0 pieces.items begun.now.start.front_end }
     requires octets { HoldsOctets name.now (D.seen folder.old).files }
     ensures { DamagedAnswer name.now (D.seen folder.old) (D.seen folder.new) result }

@@ -6,7 +6,7 @@ ghost use Rattle.side_info.specs.Frame.{right_crc};
 ghost use Rattle.sync_survey.specs.Items.{size_of, header_front};
 ghost use Rattle.sync_survey.specs.Looks.{look_size, Shows, PassesFront, ReachArea};
 ghost use Rattle.salvage.specs.UsableFrames.{has_right_crc, is_usable, usable_frame_at};
-ghost use Rattle.sync_survey.specs.Runs.{frame_of_item};
+ghost use Rattle.sync_survey.specs.Chains.{frame_of_item};
 ghost use Rattle.salvage.specs.Walk.{item_read};
 ghost use Rattle.salvage.specs.Steps.{admits_item, IsItemRead};
 

@@ -20,14 +20,14 @@ use Rattle.salvage.specs.Walk.{block_of_thing, blocks_of_things, first_frame, Is
 use Rattle.salvage.specs.Walk.{PlacedThing, size_of_thing, thing_at, thing_or_gap, things}
 use Rattle.salvage.specs.Walk.{things_up_to}
 use Rattle.side_info.proofs.FrameLemmas.{shaped-side_in}
+use Rattle.sync_survey.proofs.ChainLemmas.{IsItemOf, item_chain-ends}
 use Rattle.sync_survey.proofs.ItemsLemmas.{header_front-in_range, stands-at}
-use Rattle.sync_survey.{proofs.RunsLemmas.{IsItemOf, item_run-ends}, specs.HeadApart.emptied_survey}
-use Rattle.sync_survey.specs.{MainData.head_area, Row.Row, Runs.{blocks_of, item_run}}
-use Rattle.sync_survey.specs.{Start.front_end_of, Survey.FramesAreLaid, Walk.head_of}
+use Rattle.sync_survey.specs.{Chains.{blocks_of, item_chain}, HeadApart.emptied_survey}
+use Rattle.sync_survey.specs.{MainData.head_area, Row.Row, Start.front_end_of, Survey.FramesAreLaid}
+use Rattle.sync_survey.specs.{Walk.head_of, declared.chains.Region.TheVariants.{Front, Stream}}
 use Rattle.sync_survey.specs.declared.{items.Item.{Item, TheVariants.Frame}, places.Head.Head}
 use Rattle.sync_survey.specs.declared.places.{Piece.Piece, PlacedFrame.PlacedFrame}
 use Rattle.sync_survey.specs.declared.rows.ReservoirState.{ReservoirState}
-use Rattle.sync_survey.specs.declared.runs.Region.TheVariants.{Front, Stream}
 
 -- ---- the first frame
 
@@ -127,14 +127,14 @@ module _ (file : List ℕ) where
     things-blocks at = up-to-blocks (length file) at
 
   all-blocks : (first : PlacedFrame) → AreBlocks (map (block_bytes file)
-      (blocks_of (item_run Front file 0).items ++ blocks_of_things (things_from file first)))
+      (blocks_of (item_chain Front file 0).items ++ blocks_of_things (things_from file first)))
   all-blocks first =
-      let front = item_run Front file 0 in
+      let front = item_chain Front file 0 in
       let found = things_from file first in
       rw (map-append (block_bytes file) (blocks_of front.items) (blocks_of_things found))
       (blocks-append (map (block_bytes file) (blocks_of front.items))
       (map (block_bytes file) (blocks_of_things found))
-      (ends-blocks Front file 0 front.items front.stop (item_run-ends Front file 0))
+      (ends-blocks Front file 0 front.items front.stop (item_chain-ends Front file 0))
       (things-blocks (class_of first.header) _))
 
   -- ---- the whole file

@@ -19,26 +19,26 @@ use Rattle.salvage.specs.Walk.{blocks_of_things, first_frame, gaps_of, is_item_r
 use Rattle.salvage.specs.Walk.{item_read, PlacedThing, things}
 use Rattle.salvage_laws.specs.Laws.{SalvageKeepsStreams}
 use Rattle.side_info.specs.Frame.{stored_crc}
+use Rattle.sync_survey.proofs.ChainLemmas.{frames-next, item_chain-ends, whole_item_at-is}
 use Rattle.sync_survey.proofs.{FaultsLemmas.length-marked_rows, ProgressLemmas.first_of_stream}
-use Rattle.sync_survey.proofs.RunsLemmas.{frames-next, item_run-ends, whole_item_at-is}
 use Rattle.sync_survey.proofs.StartLemmas.{anchored_frame-is, first_of-is, start-front, start_is}
 use Rattle.sync_survey.proofs.SurveyPartsLemmas.{all_faults-none_sound, AreSound, frames_from}
 use Rattle.sync_survey.proofs.SurveyPartsLemmas.{some_frames, StandWell, survey_fields-parts}
 use Rattle.sync_survey.proofs.SurveyPartsLemmas.{told_from}
 use Rattle.sync_survey.proofs.WalkLemmas.{no_fault, nothing_left, numbered-blocks, numbered-stop}
-use Rattle.sync_survey.proofs.WalkLemmas.{numbered_frames-run}
+use Rattle.sync_survey.proofs.WalkLemmas.{numbered_frames-chain}
+use Rattle.sync_survey.specs.Chains.{AreEndToEnd, block_of_item, blocks_of, frame_of_item}
+use Rattle.sync_survey.specs.Chains.{frames_of, item_chain, PlacedItem, whole_item_at}
 use Rattle.sync_survey.specs.Faults.{class_from, has_wrong_crc, SurveyFields}
 use Rattle.sync_survey.specs.Items.{item_at, item_fits, size_of}
 use Rattle.sync_survey.specs.MainData.{data_end_after, data_end_before, is_lost, lacks_data}
 use Rattle.sync_survey.specs.{MainData.{marked_row, marked_rows, place, row_of, rows_of}, Row.Row}
-use Rattle.sync_survey.specs.Runs.{AreEndToEnd, block_of_item, blocks_of, frame_of_item, frames_of}
-use Rattle.sync_survey.specs.Runs.{item_run, PlacedItem, whole_item_at}
 use Rattle.sync_survey.specs.Start.{anchored_frame, first_anchored, front_end_of, longest_junk}
 use Rattle.sync_survey.specs.Start.{start_after_junk, start_at}
-use Rattle.sync_survey.specs.Walk.{head_of, numbered_frames, numbered_offset, stream_run}
-use Rattle.sync_survey.specs.declared.items.Item.{Item, TheVariants.{Block, Frame, Free}}
+use Rattle.sync_survey.specs.Walk.{head_of, numbered_frames, numbered_offset, stream_chain}
+use Rattle.sync_survey.specs.declared.{chains.Region.TheVariants.Stream, items.Item.Item}
+use Rattle.sync_survey.specs.declared.items.Item.TheVariants.{Block, Frame, Free}
 use Rattle.sync_survey.specs.declared.places.{Head.Head, PlacedFrame.PlacedFrame, Start.Start}
-use Rattle.sync_survey.specs.declared.runs.Region.TheVariants.{Stream}
 use Rattle.sync_survey.specs.declared.survey_fault.SurveyFault.{SurveyFault}
 
 -- ---- frames without fault are usable
@@ -182,7 +182,7 @@ head_seen file p is = ap is_some is
 first_usable : (file : List ℕ) (class : ClassFields) (start : Start) (o : Option Head)
     → whole_item_at Stream file start.first.offset ≡ Some (Frame start.first.header)
     → head_of file start.first ≡ o → ((i : ℕ) (r : Row) → slice_get (rows_of file (numbered_frames o
-    (frames_of (stream_run file start).items))) i ≡ Some r → HasNoFault file class r)
+    (frames_of (stream_chain file start).items))) i ≡ Some r → HasNoFault file class r)
     → is_usable first_role start.first (drop start.first.offset file) ≡ true
 first_usable file class start (Some head) here is sound = grind (arith, or_right, head_seen)
 first_usable file class start None here is sound =
@@ -255,7 +255,8 @@ with_junk s = record { survey = s; gaps = gap_between s.junk s.first }
 
 told_read : (file : List ℕ) (start : Start) (ps : List PlacedItem)
     → start.front_end ≡ front_end_of file → things_from file start.first ≡ map as_thing ps
-    → frames_of ps ≡ frames_from file start → blocks_of ps ≡ blocks_of (stream_run file start).items
+    → frames_of ps ≡ frames_from file start
+    → blocks_of ps ≡ blocks_of (stream_chain file start).items
     → judged_rows (head_of file start.first) (rows_of file (frames_from file start))
     ≡ marked_rows (head_of file start.first) (rows_of file (frames_from file start))
     → damaged_from file (front_end_of file) start.first ≡ with_junk (told_from file start)
@@ -287,18 +288,18 @@ keeps_streams = λ file allowed s is few.
     let first = first_by file at start item.within usable (item_at file at) refl
     (sym (start_is file at (item_at file at) refl refl) ∙ read.start_is) here item.some in
     let from = numbered_offset start.first head in
-    let items = (item_run Stream file from).items in
-    let frames = numbered_frames-run file start head here in
+    let items = (item_chain Stream file from).items in
+    let frames = numbered_frames-chain file start head here in
     let nothing = nothing_left file
-    (stream_run file start).stop (no_fault file (frames_from file start) {o = _} read.end) in
-    let past : length file ≤ (item_run Stream file from).stop = omega (
+    (stream_chain file start).stop (no_fault file (frames_from file start) {o = _} read.end) in
+    let past : length file ≤ (item_chain Stream file from).stop = omega (
       arith,
       ap length nothing,
-      length-drop (stream_run file start).stop file,
+      length-drop (stream_chain file start).stop file,
       numbered-stop file start head here,
     ) in
-    let are = things_are file (class_from start) from items (item_run Stream file from).stop
-    (item_run-ends Stream file from) (subst (AreUsable file (class_from start)) (sym frames)
+    let are = things_are file (class_from start) from items (item_chain Stream file from).stop
+    (item_chain-ends Stream file from) (subst (AreUsable file (class_from start)) (sym frames)
     (usable_all file (class_from start) (frames_from file start) fine)) past in
     let marks = judged_rows-marked_rows file head (class_from start) allowed rows sound in
     let all_read =

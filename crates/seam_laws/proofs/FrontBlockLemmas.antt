@@ -10,15 +10,15 @@ use Rattle.frame_writer.specs.Frames.{bytes_of_frames, Frame}
 use Rattle.info_header.specs.{InfoFrame.info_frame, declared.fields.Info.Info}
 use Rattle.laying.specs.LaidFiles.{block_bytes, blocks_from, frames_offset, laid_fields, laid_file}
 use Rattle.laying.specs.Written.{front_blocks, goes_in_front, is_id3v2_kind}
+use Rattle.sync_survey.proofs.ChainLemmas.{item_chain-ends, whole_item_at-is}
 use Rattle.sync_survey.proofs.{ItemBytesLemmas.block_front-bytes, ItemsLemmas.stands-at}
-use Rattle.sync_survey.proofs.RunsLemmas.{item_run-ends, whole_item_at-is}
 use Rattle.sync_survey.proofs.SurveyPartsLemmas.{survey_fields-parts}
+use Rattle.sync_survey.specs.Chains.{AreEndToEnd, block_of_item, blocks_of, item_chain, PlacedItem}
 use Rattle.sync_survey.specs.{Faults.{survey_fields, SurveyFields}, Items.{item_at, size_of}}
-use Rattle.sync_survey.specs.Runs.{AreEndToEnd, block_of_item, blocks_of, item_run, PlacedItem}
-use Rattle.sync_survey.specs.{Walk.{all_blocks, stream_run}, declared.items.Item.Item}
+use Rattle.sync_survey.specs.{Walk.{all_blocks, stream_chain}, declared.chains.Region.Region}
+use Rattle.sync_survey.specs.declared.{chains.Region.TheVariants.{Front, Stream}, items.Item.Item}
 use Rattle.sync_survey.specs.declared.{items.Item.TheVariants.Block, places.Piece.Piece}
-use Rattle.sync_survey.specs.declared.{places.Start.Start, runs.Region.Region}
-use Rattle.sync_survey.specs.declared.runs.Region.TheVariants.{Front, Stream}
+use Rattle.sync_survey.specs.declared.places.Start.{Start}
 use Rattle.tag_blocks.{proofs.BlocksLemmas.block_front-least, specs.Blocks.block_front}
 use Rattle.tag_blocks.specs.declared.block.Block.{Block as TagBlock}
 
@@ -67,12 +67,12 @@ own-append file (x ∷ xs) ys front back = (front.0, own-append file xs ys front
 
 all-own : (file : List ℕ) (start : Start) → AreOwn file (all_blocks file start)
 all-own file start =
-    let front = item_run Front file 0 in
-    let stream = stream_run file start in
+    let front = item_chain Front file 0 in
+    let stream = stream_chain file start in
     own-append file (blocks_of front.items) (blocks_of stream.items)
-    (ends-own Front file 0 front.items front.stop (item_run-ends Front file 0))
+    (ends-own Front file 0 front.items front.stop (item_chain-ends Front file 0))
     (ends-own Stream file start.first.offset stream.items stream.stop
-    (item_run-ends Stream file start.first.offset))
+    (item_chain-ends Stream file start.first.offset))
 
 survey_fields-own : (file : List ℕ) (allowed : ℕ) {s : SurveyFields}
     → survey_fields file allowed ≡ Ok s → AreOwn file s.blocks

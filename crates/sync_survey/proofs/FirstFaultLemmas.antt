@@ -6,18 +6,19 @@ use Rattle.std.specs.List.{enumerate_from}
 use Rattle.frame_header.specs.Fields.{ClassFields}
 use Rattle.outside.specs.{Counts.Counts, Files.{Files, Holds}}
 use Rattle.side_info.specs.Frame.{stored_crc}
-use Rattle.sync_survey.proofs.{BytesFaultLemmas.fault_is, ItemListLemmas.ends-within}
-use Rattle.sync_survey.proofs.{RunsLemmas.{cons_list, item_run-ends}, StartLemmas.start-first}
+use Rattle.sync_survey.proofs.{BytesFaultLemmas.fault_is, ChainLemmas.{cons_list, item_chain-ends}}
+use Rattle.sync_survey.proofs.{ItemListLemmas.ends-within, StartLemmas.start-first}
+use Rattle.sync_survey.specs.Chains.{AreEndToEnd, frame_of_item, frames_of, PlacedItem}
 use Rattle.sync_survey.specs.Faults.{all_faults, data_faults, fault_if_true, fault_offset}
 use Rattle.sync_survey.specs.Faults.{faults_at, faults_from, fields_from, first_of, frame_faults}
 use Rattle.sync_survey.specs.Faults.{NoneBefore, own_faults, survey_fields, survey_from_start}
 use Rattle.sync_survey.specs.{Items.{item_at, size_of}, MainData.{data_end_before, place, rows_of}}
-use Rattle.sync_survey.specs.{Row.Row, Runs.{AreEndToEnd, frame_of_item, frames_of, PlacedItem}}
-use Rattle.sync_survey.specs.{Start.start_of, Survey.{IsSurveyFault, IsSurveyRefusal, survey_of}}
+use Rattle.sync_survey.specs.{Row.Row, Start.start_of}
+use Rattle.sync_survey.specs.Survey.{IsSurveyFault, IsSurveyRefusal, survey_of}
 use Rattle.sync_survey.specs.SurveyFaultKinds.{IsRefused, kind_of}
 use Rattle.sync_survey.specs.Walk.{end_fault, fault_at, numbered_frames, walk_from}
-use Rattle.sync_survey.specs.declared.{items.Item.Item, places.{Head.Head, PlacedFrame.PlacedFrame}}
-use Rattle.sync_survey.specs.declared.{places.Start.Start, runs.Region.{Region, TheVariants.Stream}}
+use Rattle.sync_survey.specs.declared.{chains.Region.{Region, TheVariants.Stream}, items.Item.Item}
+use Rattle.sync_survey.specs.declared.places.{Head.Head, PlacedFrame.PlacedFrame, Start.Start}
 use Rattle.sync_survey.specs.declared.survey_fault.SurveyFault.{SurveyFault, TheVariants.TooLong}
 use Rattle.sync_survey.specs.declared.surveys.Survey.{Survey}
 
@@ -192,7 +193,7 @@ unfolding faults_from walk_from
 first_is_least file allowed start within is =
     grind (
       arith,
-      item_run-ends Stream file start.first.offset,
+      item_chain-ends Stream file start.first.offset,
       all_least,
       numbered_frames-rise,
       items_rise,

@@ -1,17 +1,17 @@
 -- The front of a file, item by item.
 use Rattle.std.proofs.Common.{append-nil, append_assoc, arith, length, List, None, option_to_list}
 use Rattle.std.proofs.Common.{subst, sym, ℕ, [], ◌++◌, ◌+◌, ◌∷◌, ◌≡◌, ◌≤◌}
-use Rattle.sync_survey.proofs.RunsLemmas.{item_run-stopped_run, whole_item_at-past}
-use Rattle.sync_survey.specs.{Items.size_of, Looks.Passes}
-use Rattle.sync_survey.specs.Runs.{block_of_item, blocks_of, item_run, whole_item_at}
-use Rattle.sync_survey.specs.{Start.front_end_of, Survey.BlocksAreLaid, declared.items.Item.Item}
-use Rattle.sync_survey.specs.declared.{places.Piece.Piece, runs.Region.TheVariants.Front}
+use Rattle.sync_survey.proofs.ChainLemmas.{item_chain-stopped_chain, whole_item_at-past}
+use Rattle.sync_survey.specs.Chains.{block_of_item, blocks_of, item_chain, whole_item_at}
+use Rattle.sync_survey.specs.{Items.size_of, Looks.Passes, Start.front_end_of, Survey.BlocksAreLaid}
+use Rattle.sync_survey.specs.declared.{chains.Region.TheVariants.Front, items.Item.Item}
+use Rattle.sync_survey.specs.declared.places.Piece.{Piece}
 
 -- these blocks were passed, and no others
 pub record IsPassedTo (file : List ℕ) (blocks : List Piece) (at : ℕ) : Type 0 where
-  pub pieces : blocks ++ blocks_of (item_run Front file at).items
-      ≡ blocks_of (item_run Front file 0).items
-  pub stop : (item_run Front file at).stop ≡ front_end_of file
+  pub pieces : blocks ++ blocks_of (item_chain Front file at).items
+      ≡ blocks_of (item_chain Front file 0).items
+  pub stop : (item_chain Front file at).stop ≡ front_end_of file
 
 -- at the beginning no blocks were passed
 pub passed_none : (file : List ℕ) {blocks : List Piece} → blocks ≡ [] → IsPassedTo file blocks 0
@@ -26,13 +26,13 @@ passed_more so_far passes kept = grind (arith, append_assoc)
 
 -- the blocks are the blocks of the front, which ends here
 pub record IsFrontPassed (file : List ℕ) (blocks : List Piece) (at : ℕ) : Type 0 where
-  pub pieces : blocks ≡ blocks_of (item_run Front file 0).items
+  pub pieces : blocks ≡ blocks_of (item_chain Front file 0).items
   pub end : at ≡ front_end_of file
 
 -- if no further item of the front begins, the front was passed
 pub passed_all : {file : List ℕ} {blocks : List Piece} {at : ℕ} → IsPassedTo file blocks at
     → whole_item_at Front file at ≡ None → IsFrontPassed file blocks at
-passed_all so_far none = grind (arith, item_run-stopped_run, append-nil)
+passed_all so_far none = grind (arith, item_chain-stopped_chain, append-nil)
 
 -- at the end of the file, the front was passed
 pub passed_end : {file : List ℕ} {blocks : List Piece} {at size : ℕ} → size ≡ length file

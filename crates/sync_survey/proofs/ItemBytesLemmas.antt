@@ -6,11 +6,10 @@ use Rattle.std.proofs.lemmas.List.{take-append-le, take-take, take_at}
 use Rattle.frame_header.proofs.{HeaderLemmas.IsClass-class_of, LengthLemmas.area_some}
 use Rattle.frame_header.specs.{Fields.{HeaderFields, IsHeader}, Tables.{class_of, length_of}}
 use Rattle.sync_survey.proofs.ItemsLemmas.{header_front-in_range, stands-at}
-use Rattle.sync_survey.proofs.OneItemLemmas.{stands-only}
+use Rattle.sync_survey.{proofs.OneItemLemmas.stands-only, specs.Chains.belongs}
 use Rattle.sync_survey.specs.Items.{header_front, IsItemFront, item_at, item_front, size_of}
-use Rattle.sync_survey.specs.{Runs.belongs, declared.items.Item.Item}
+use Rattle.sync_survey.specs.declared.{chains.Region.TheVariants.Stream, items.Item.Item}
 use Rattle.sync_survey.specs.declared.items.Item.TheVariants.{Block, Frame, Zero}
-use Rattle.sync_survey.specs.declared.runs.Region.TheVariants.{Stream}
 use Rattle.tag_blocks.proofs.BlocksLemmas.{block_front-any, block_front-begins, block_front-own}
 use Rattle.tag_blocks.proofs.BlocksLemmas.{long_take, part_take, text_take}
 use Rattle.tag_blocks.specs.Blocks.{ape_length, begins, block_front, block_of_kind, id3v2_length}

@@ -3,14 +3,14 @@ use Rattle.std.proofs.Common.{ap, append_assoc, arith, drop, filter_map, length,
 use Rattle.std.proofs.Common.{length-drop, List, map, None, Option, option_map, refl, sym, true, ℕ}
 use Rattle.std.proofs.Common.{[], ◌++◌, ◌+◌, ◌-◌, ◌<◌, ◌∙◌, ◌∷◌, ◌≡◌, ◌≤◌}
 use Rattle.std.{proofs.lemmas.List.{drop-drop, drop_at}, specs.List.cons_option}
+use Rattle.sync_survey.proofs.ChainLemmas.{item_chain-only, whole_item_at-is, whole_item_at-whole}
 use Rattle.sync_survey.proofs.ItemBytesLemmas.{IsItem, kept_item}
-use Rattle.sync_survey.proofs.RunsLemmas.{item_run-only, whole_item_at-is, whole_item_at-whole}
-use Rattle.sync_survey.specs.Items.{item_at, item_front, size_of}
-use Rattle.sync_survey.specs.Runs.{AreEndToEnd, belongs, block_of_item, blocks_of, bytes_of_items}
-use Rattle.sync_survey.specs.Runs.{frame_of_item, frames_of, item_bytes_in, item_run, PlacedItem}
-use Rattle.sync_survey.specs.{Runs.whole_item_at, declared.{items.Item.Item, places.Piece.Piece}}
-use Rattle.sync_survey.specs.declared.{places.PlacedFrame.PlacedFrame, runs.Region.Region}
-use Rattle.sync_survey.specs.declared.runs.Region.TheVariants.{Stream}
+use Rattle.sync_survey.specs.Chains.{AreEndToEnd, belongs, block_of_item, blocks_of, bytes_of_items}
+use Rattle.sync_survey.specs.Chains.{frame_of_item, frames_of, item_bytes_in, item_chain}
+use Rattle.sync_survey.specs.Chains.{PlacedItem, whole_item_at}
+use Rattle.sync_survey.specs.{Items.{item_at, item_front, size_of}, declared.chains.Region.Region}
+use Rattle.sync_survey.specs.declared.{chains.Region.TheVariants.Stream, items.Item.Item}
+use Rattle.sync_survey.specs.declared.places.{Piece.Piece, PlacedFrame.PlacedFrame}
 
 -- ---- items before the first frame
 
@@ -170,12 +170,13 @@ module _ (part : Region) (file : List ℕ) where
         items-end (at + size) items are.1 behind are.5 room next,
       )
 
-  -- they are the run there, if no further item of the part begins after them
-  pub items-item_run : {at : ℕ} (items : List Item) (bytes behind : List ℕ)
+  -- they are the chain there, if no further item of the part begins after them
+  pub items-item_chain : {at : ℕ} (items : List Item) (bytes behind : List ℕ)
       → AreItems part items bytes → at ≤ length file → drop at file ≡ bytes ++ behind
       → whole_item_at part file (at + length bytes) ≡ None
-      → item_run part file at ≡ record { items = placed at items; stop = at + length bytes }
-  items-item_run items bytes behind are within is none = search (arith, item_run-only, items-end)
+      → item_chain part file at ≡ record { items = placed at items; stop = at + length bytes }
+  items-item_chain items bytes behind are within is none =
+      search (arith, item_chain-only, items-end)
 
 -- ---- frames and blocks among them
 

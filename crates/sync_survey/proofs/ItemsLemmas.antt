@@ -5,9 +5,10 @@ use Rattle.frame_header.proofs.HeaderLemmas.{IsClass-class_of, IsHeader-header_a
 use Rattle.frame_header.{proofs.LengthLemmas.area_some, specs.Fields.{HeaderFields, IsHeader}}
 use Rattle.frame_header.specs.{Reading.header_at, Tables.{class_of, length_of}}
 use Rattle.frame_header.specs.declared.header.NotHeader.{NotHeader, TheVariants.No}
+use Rattle.sync_survey.specs.Chains.{belongs}
 use Rattle.sync_survey.specs.Items.{block_or_item, byte_item, header_front, header_or_item}
-use Rattle.sync_survey.specs.{Items.{IsItemFront, item_at, item_front, size_of}, Runs.belongs}
-use Rattle.sync_survey.specs.declared.{items.Item.{Item, TheVariants.Frame}, runs.Region.Region}
+use Rattle.sync_survey.specs.Items.{IsItemFront, item_at, item_front, size_of}
+use Rattle.sync_survey.specs.declared.{chains.Region.Region, items.Item.{Item, TheVariants.Frame}}
 use Rattle.tag_blocks.{proofs.BlocksLemmas.block_front-least, specs.Blocks.block_front}
 use Rattle.tag_blocks.specs.declared.block.Block.{Block as TagBlock}
 

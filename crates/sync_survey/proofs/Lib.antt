@@ -1,6 +1,6 @@
 -- The lemmas of this crate.
 pub mod ItemsLemmas
-pub mod RunsLemmas
+pub mod ChainLemmas
 pub mod OneItemLemmas
 pub mod ItemBytesLemmas
 pub mod LooksLemmas

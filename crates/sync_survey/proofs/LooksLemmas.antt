@@ -4,15 +4,13 @@ use Rattle.std.proofs.Common.{None, refl, Some, subst, sym, take, true, ℕ, [],
 use Rattle.std.proofs.{Common.{◌==◌, ◌∙◌, ◌∷◌, ◌≡◌, ◌≤◌}, lemmas.Bool.{eqb-true, false≢true}}
 use Rattle.std.proofs.lemmas.List.{drop-drop, drop-take, take-append-drop, take-take}
 use Rattle.std.{proofs.lemmas.List.Sums.prefix_len-le-length, specs.List.prefix_len}
-use Rattle.sync_survey.proofs.{ItemBytesLemmas.header_front-four, ItemsLemmas.{some_by, stands}}
-use Rattle.sync_survey.proofs.OneItemLemmas.{stands-only_at}
-use Rattle.sync_survey.proofs.RunsLemmas.{blocks-next, frames-next, item_run-next}
-use Rattle.sync_survey.proofs.RunsLemmas.{whole_item_at-whole}
+use Rattle.sync_survey.proofs.ChainLemmas.{blocks-next, frames-next, item_chain-next}
+use Rattle.sync_survey.proofs.{ChainLemmas.whole_item_at-whole, ItemBytesLemmas.header_front-four}
+use Rattle.sync_survey.proofs.{ItemsLemmas.{some_by, stands}, OneItemLemmas.stands-only_at}
+use Rattle.sync_survey.specs.Chains.{belongs, blocks_of, frames_of, item_chain, whole_item_at}
 use Rattle.sync_survey.specs.Items.{byte_item, IsItemFront, item_at, item_fits, item_front, size_of}
-use Rattle.sync_survey.specs.Looks.{look_size, Passes, Shows}
-use Rattle.sync_survey.specs.Runs.{belongs, blocks_of, frames_of, item_run, whole_item_at}
+use Rattle.sync_survey.specs.{Looks.{look_size, Passes, Shows}, declared.chains.Region.Region}
 use Rattle.sync_survey.specs.declared.items.Item.{Item, TheVariants.{Block, Frame, Zero}}
-use Rattle.sync_survey.specs.declared.runs.Region.{Region}
 use Rattle.tag_blocks.proofs.BlocksLemmas.{block_front-take}
 
 -- ---- 32 bytes and the length decide what is at an offset
@@ -151,19 +149,19 @@ module _ (file : List ℕ) (at : ℕ) (front : List ℕ) (left : ℕ)
   pub passes_zeros : (part : Region) {size : ℕ} → size ≡ prefix_len zero_test front
       → Passes part file at Zero size
   passes_zeros part {size} many = record {
-    frames = zeros_shown (λ n. frames_of (item_run part file n).items) size many
+    frames = zeros_shown (λ n. frames_of (item_chain part file n).items) size many
         (λ bytes place zero. frames-next part file place (zero_at part file bytes place zero));
-    blocks = zeros_shown (λ n. blocks_of (item_run part file n).items) size many
+    blocks = zeros_shown (λ n. blocks_of (item_chain part file n).items) size many
         (λ bytes place zero. blocks-next part file place (zero_at part file bytes place zero));
-    stop = zeros_shown (λ n. (item_run part file n).stop) size many
+    stop = zeros_shown (λ n. (item_chain part file n).stop) size many
         (λ bytes place zero. ap (λ r. r.stop)
-        (item_run-next part file (zero_at part file bytes place zero)));
+        (item_chain-next part file (zero_at part file bytes place zero)));
   }
 
   -- passing all of an item's bytes is passing it
   pub passes_whole : {part : Region} {item : Item} {size : ℕ}
       → whole_item_at part file at ≡ Some item → size ≡ size_of item → Passes part file at item size
-  passes_whole here is = grind (arith, frames-next, blocks-next, item_run-next)
+  passes_whole here is = grind (arith, frames-next, blocks-next, item_chain-next)
 
   step_by : {part : Region} (item : Item) {size : ℕ} → whole_item_at part file at ≡ Some item
       → Counts item front size → Passes part file at item size

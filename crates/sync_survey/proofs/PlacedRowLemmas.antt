@@ -6,26 +6,26 @@ use Rattle.std.{proofs.lemmas.List.Sums.sum_by-cons, specs.List.{cons_option, en
 use Rattle.frame_header.proofs.{ClassLemmas.same_class-is, HeaderLemmas.IsClass-class_of}
 use Rattle.frame_header.specs.{Fields.{ClassFields, IsClass, IsHeader, same_class}, Tables.class_of}
 use Rattle.side_info.{proofs.FrameLemmas.fits-side_in, specs.Side.SideFits}
+use Rattle.sync_survey.proofs.ChainLemmas.{item_chain-ends, whole_item_at-is}
 use Rattle.sync_survey.proofs.FaultsLemmas.{each_push, end-more, end-next, none-of, place-more}
 use Rattle.sync_survey.proofs.FaultsLemmas.{place-next, place-none}
 use Rattle.sync_survey.proofs.ItemsLemmas.{header_front-in_range, stands-at}
-use Rattle.sync_survey.proofs.RunsLemmas.{item_run-ends, whole_item_at-is}
 use Rattle.sync_survey.proofs.StartLemmas.{start-first}
 use Rattle.sync_survey.proofs.SurveyPartsLemmas.{all_faults-none_sound, AreSound, faults-none_sound}
 use Rattle.sync_survey.proofs.SurveyPartsLemmas.{frames_from, IsSound, sound-no_data}
 use Rattle.sync_survey.proofs.SurveyPartsLemmas.{survey_fields-parts}
+use Rattle.sync_survey.specs.Chains.{AreEndToEnd, frame_of_item, frames_of, PlacedItem}
 use Rattle.sync_survey.specs.Faults.{class_from, data_faults, faults_at, first_of, survey_fields}
 use Rattle.sync_survey.specs.{Faults.SurveyFields, Items.{item_at, size_of}, Looks.KeepsFrame}
 use Rattle.sync_survey.specs.MainData.{data_end_after, data_end_before, head_area, lacks_data}
 use Rattle.sync_survey.specs.{MainData.{marked_row, marked_rows, own_area, place, rows_of}, Row.Row}
-use Rattle.sync_survey.specs.Runs.{AreEndToEnd, frame_of_item, frames_of, PlacedItem}
 use Rattle.sync_survey.specs.{Start.start_of, Survey.{AreWellPlaced, IsWellPlaced}}
-use Rattle.sync_survey.specs.Walk.{head_of, numbered_frames, stream_run}
+use Rattle.sync_survey.specs.Walk.{head_of, numbered_frames, stream_chain}
+use Rattle.sync_survey.specs.declared.chains.Region.{Region, TheVariants.Stream}
 use Rattle.sync_survey.specs.declared.{found.SurveySoFar.SurveySoFar, items.Item.Item}
 use Rattle.sync_survey.specs.declared.{items.Item.TheVariants.Frame, places.Head.Head}
 use Rattle.sync_survey.specs.declared.places.{PlacedFrame.PlacedFrame, Start.Start}
-use Rattle.sync_survey.specs.declared.{rows.ReservoirState.ReservoirState, runs.Region.Region}
-use Rattle.sync_survey.specs.declared.runs.Region.TheVariants.{Stream}
+use Rattle.sync_survey.specs.declared.rows.ReservoirState.{ReservoirState}
 
 -- ---- the same class
 
@@ -236,9 +236,9 @@ survey_fields-placed file allowed {s} e =
     let parts = survey_fields-parts e in
     let start = parts.0 in
     let head = head_of file start.first in
-    let stream = stream_run file start in
+    let stream = stream_chain file start in
     let all = numbered_frames-known head (frames_of stream.items) (known_items Stream file
-    start.first.offset stream.items stream.stop (item_run-ends Stream file start.first.offset)) in
+    start.first.offset stream.items stream.stop (item_chain-ends Stream file start.first.offset)) in
     let sound = all_faults-none_sound file head (class_from start) allowed _ parts.1.frames in
     subst (λ (t : SurveyFields). AreWellPlaced t.head t.class t.frames) parts.2
     (well_placed file (frames_from file start) parts.1.start_is all sound)

@@ -5,38 +5,39 @@ use Rattle.std.proofs.Common.{Option, refl, Some, sym, ℕ, [], ◌++◌, ◌+�
 use Rattle.std.proofs.lemmas.List.{drop_all}
 use Rattle.frame_header.specs.Fields.{ClassFields, HeaderFields}
 use Rattle.side_info.specs.Frame.{stored_crc}
+use Rattle.sync_survey.proofs.ChainLemmas.{item_chain-stopped_chain, whole_item_at-past}
+use Rattle.sync_survey.proofs.ChainLemmas.{whole_item_at-whole}
 use Rattle.sync_survey.proofs.FaultsLemmas.{end-next, end-none, faults-none, faults_of, first_more}
 use Rattle.sync_survey.proofs.FaultsLemmas.{none_more, place-next, place-none}
-use Rattle.sync_survey.proofs.OneItemLemmas.{stands-only_at}
-use Rattle.sync_survey.proofs.RunsLemmas.{item_run-stopped_run, whole_item_at-past}
-use Rattle.sync_survey.proofs.{RunsLemmas.whole_item_at-whole, StartLemmas.start-first}
+use Rattle.sync_survey.proofs.{OneItemLemmas.stands-only_at, StartLemmas.start-first}
 use Rattle.sync_survey.proofs.SurveyLemmas.{survey-frame, survey-stopped, survey-whole, told_by}
 use Rattle.sync_survey.proofs.WalkLemmas.{IsFound, numbered-blocks, numbered-stop}
-use Rattle.sync_survey.proofs.WalkLemmas.{numbered_frames-run}
+use Rattle.sync_survey.proofs.WalkLemmas.{numbered_frames-chain}
+use Rattle.sync_survey.specs.Chains.{blocks_of, frames_of, item_chain, whole_item_at}
 use Rattle.sync_survey.specs.Faults.{all_faults, class_from, faults_at, first_of, survey_fields}
 use Rattle.sync_survey.specs.{Items.item_at, Looks.Passes}
 use Rattle.sync_survey.specs.MainData.{data_end_after, data_end_before, head_area, marked_rows}
-use Rattle.sync_survey.specs.{MainData.{own_area, place, row_of, rows_of}, Row.Row}
-use Rattle.sync_survey.specs.{Runs.{blocks_of, frames_of, item_run, whole_item_at}, Start.start_of}
+use Rattle.sync_survey.specs.{MainData.{own_area, place, row_of, rows_of}, Row.Row, Start.start_of}
 use Rattle.sync_survey.specs.Walk.{all_blocks, end_fault, fault_at, head_of, numbered_frames}
-use Rattle.sync_survey.specs.Walk.{numbered_offset, stream_run}
+use Rattle.sync_survey.specs.Walk.{numbered_offset, stream_chain}
+use Rattle.sync_survey.specs.declared.chains.Region.TheVariants.{Front, Stream}
 use Rattle.sync_survey.specs.declared.items.Item.TheVariants.{Block, End, Frame, Zero}
 use Rattle.sync_survey.specs.declared.places.{Head.Head, Piece.Piece, PlacedFrame.PlacedFrame}
-use Rattle.sync_survey.specs.declared.{places.Start.Start, runs.Region.TheVariants.{Front, Stream}}
-use Rattle.sync_survey.specs.declared.survey_fault.SurveyFault.{SurveyFault, TheVariants.NoFrame}
+use Rattle.sync_survey.specs.declared.{places.Start.Start, survey_fault.SurveyFault.SurveyFault}
+use Rattle.sync_survey.specs.declared.survey_fault.SurveyFault.TheVariants.{NoFrame}
 
 -- the frames of the file that are numbered, with their side information
 abbrev pub rows_from : List ℕ → Start → Option Head → List Row
 rows_from file start head =
-    rows_of file (numbered_frames head (frames_of (stream_run file start).items))
+    rows_of file (numbered_frames head (frames_of (stream_chain file start).items))
 
 -- the frames and blocks up to an offset were met, and none of the frames has a fault
 pub record IsSurveyedTo (file : List ℕ) (start : Start) (head : Option Head) (allowed : ℕ)
     (rows : List Row) (blocks : List Piece) (place_now ended at : ℕ) : Type 0 where
-  pub frames : rows ++ rows_of file (frames_of (item_run Stream file at).items)
+  pub frames : rows ++ rows_of file (frames_of (item_chain Stream file at).items)
       ≡ rows_from file start head
-  pub pieces : blocks ++ blocks_of (item_run Stream file at).items ≡ all_blocks file start
-  pub stop : (item_run Stream file at).stop ≡ (stream_run file start).stop
+  pub pieces : blocks ++ blocks_of (item_chain Stream file at).items ≡ all_blocks file start
+  pub stop : (item_chain Stream file at).stop ≡ (stream_chain file start).stop
   pub none : all_faults file head (class_from start) allowed rows ≡ []
   pub place_is : place_now ≡ place head rows (length rows)
   pub ended_is : ended ≡ data_end_before head rows (length rows)
@@ -65,11 +66,11 @@ module _ (file : List ℕ) (start : Start) (head : Option Head) (allowed : ℕ)
     (begun : IsBegun file start head) where
   -- before the first numbered frame nothing of the stream was met
   pub surveyed_none : {blocks : List Piece} {place_now : ℕ}
-      → blocks ≡ blocks_of (item_run Front file 0).items → place_now ≡ head_area head →
+      → blocks ≡ blocks_of (item_chain Front file 0).items → place_now ≡ head_area head →
       IsSurveyedTo file start head allowed [] blocks place_now 0 (numbered_offset start.first head)
   surveyed_none are is =
       let first = first_of_stream file begun.start_is in record {
-        frames = ap (rows_of file) (numbered_frames-run file start head first);
+        frames = ap (rows_of file) (numbered_frames-chain file start head first);
         pieces = ap₂ (λ (xs ys : List Piece). xs ++ ys) are (numbered-blocks file start head first);
         stop = numbered-stop file start head first;
         none = faults-none file head (class_from start) allowed;
@@ -104,7 +105,7 @@ module _ (file : List ℕ) (start : Start) (head : Option Head) (allowed : ℕ) 
     pieces = append_assoc blocks (piece ∷ []) _ ∙ ap (λ l. blocks ++ l) (ap (λ n. record {
       offset = n;
       block = piece.block;
-    } ∷ blocks_of (item_run Stream file (at + size)).items) here ∙ sym passes.blocks)
+    } ∷ blocks_of (item_chain Stream file (at + size)).items) here ∙ sym passes.blocks)
         ∙ so_far.pieces;
     stop = sym passes.stop ∙ so_far.stop;
     none = so_far.none;
@@ -144,8 +145,8 @@ module _ (file : List ℕ) (start : Start) (head : Option Head) (allowed : ℕ) 
 
   module _ (begun : IsBegun file start head) where
     found : (frames : List PlacedFrame) (pieces : List Piece) (stop : ℕ) → frames
-        ≡ numbered_frames head (frames_of (stream_run file start).items)
-        → pieces ≡ all_blocks file start → stop ≡ (stream_run file start).stop
+        ≡ numbered_frames head (frames_of (stream_chain file start).items)
+        → pieces ≡ all_blocks file start → stop ≡ (stream_chain file start).stop
         → IsFound file start head frames pieces stop
     found frames pieces stop are those is = record {
       start_is = begun.start_is;
@@ -163,7 +164,7 @@ module _ (file : List ℕ) (start : Start) (head : Option Head) (allowed : ℕ) 
         (length rows) r) ≡ Some fault → survey_fields file allowed ≡ Err fault
     first_fault h size fault passes is =
         let r = row_of file (record { offset = at; header = h }) in
-        let later = rows_of file (frames_of (item_run Stream file (at + size)).items) in
+        let later = rows_of file (frames_of (item_chain Stream file (at + size)).items) in
         survey-frame file allowed start head _ _ _ (found _ _ _ refl refl refl)
         (ap (λ l. first_of (all_faults file head class allowed l))
         (sym so_far.frames ∙ ap (λ l. rows ++ rows_of file l) passes.frames)
@@ -172,9 +173,9 @@ module _ (file : List ℕ) (start : Start) (head : Option Head) (allowed : ℕ) 
 
     -- all frames that were met are all that there are
     all_met : whole_item_at Stream file at ≡ None → (rows ≡ rows_from file start head)
-        × (blocks ≡ all_blocks file start) × (at ≡ (stream_run file start).stop)
+        × (blocks ≡ all_blocks file start) × (at ≡ (stream_chain file start).stop)
     all_met none =
-        let stopped = item_run-stopped_run Stream file at none in (
+        let stopped = item_chain-stopped_chain Stream file at none in (
           sym (append-nil rows) ∙ ap (λ l. rows ++ l)
               (sym (ap (λ r. rows_of file (frames_of r.items)) stopped)) ∙ so_far.frames,
           sym (append-nil blocks)
@@ -194,7 +195,7 @@ module _ (file : List ℕ) (start : Start) (head : Option Head) (allowed : ℕ) 
     stopped_fault fault none is =
         survey-stopped file allowed start head _ _ _ (found _ _ at refl refl (all_met none).2) fault
         (none_of_all none)
-        (ap (end_fault file (numbered_frames head (frames_of (stream_run file start).items))) is)
+        (ap (end_fault file (numbered_frames head (frames_of (stream_chain file start).items))) is)
 
     ended_at : length file ≤ at → fault_at at (item_at file at) ≡ None
     ended_at past = ap (fault_at at) (sym (stands-only_at file at End (drop_all at file past)))

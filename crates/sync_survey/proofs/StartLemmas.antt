@@ -6,15 +6,16 @@ use Rattle.std.proofs.Common.{◌≡◌, ◌≤◌}
 use Rattle.std.proofs.lemmas.{Bool.{and_parts, le-leb, leb-false, leb-true, lt-leb}, List.drop_all}
 use Rattle.std.specs.List.{cons_option, range_with_len}
 use Rattle.frame_header.specs.{Fields.HeaderFields, Tables.{class_of, length_of}}
+use Rattle.sync_survey.proofs.ChainLemmas.{IsItemOf, within_file}
 use Rattle.sync_survey.proofs.LooksLemmas.{item_at-behind, item_at-shown, item_fits-left}
-use Rattle.sync_survey.proofs.{OneItemLemmas.stands-only_at, RunsLemmas.{IsItemOf, within_file}}
+use Rattle.sync_survey.proofs.OneItemLemmas.{stands-only_at}
 use Rattle.sync_survey.specs.{Items.{item_at, item_fits, item_front}, Looks.Shows}
 use Rattle.sync_survey.specs.Start.{anchored_frame, anchored_item, first_anchored, front_end_of}
 use Rattle.sync_survey.specs.Start.{has_anchor, is_anchor, is_anchored, IsLeastOffset, IsLeastStart}
 use Rattle.sync_survey.specs.Start.{longest_junk, start_after_junk, start_at, start_of}
-use Rattle.sync_survey.specs.declared.items.Item.{Item, TheVariants.{Block, End, Frame, Free}}
+use Rattle.sync_survey.specs.declared.{chains.Region.TheVariants.Stream, items.Item.Item}
+use Rattle.sync_survey.specs.declared.items.Item.TheVariants.{Block, End, Frame, Free}
 use Rattle.sync_survey.specs.declared.places.{PlacedFrame.PlacedFrame, Start.Start}
-use Rattle.sync_survey.specs.declared.runs.Region.TheVariants.{Stream}
 use Rattle.sync_survey.specs.declared.survey_fault.SurveyFault.{SurveyFault}
 
 -- ---- the first of `count` offsets

@@ -19,6 +19,7 @@ use Rattle.sync_survey.proofs.PlacedRowLemmas.{ArePlacedTo, placed_next, placed_
 use Rattle.sync_survey.proofs.ProgressLemmas.{first_fault, IsBegun, IsMarkedTo, IsSurveyedTo}
 use Rattle.sync_survey.proofs.ProgressLemmas.{passed_block, passed_frame, passed_zeros}
 use Rattle.sync_survey.proofs.{SurveyLemmas.overhead-within, SurveyPartsLemmas.faults-none_sound}
+use Rattle.sync_survey.specs.Chains.{block_of_item, frame_of_item}
 use Rattle.sync_survey.specs.Faults.{class_from, faults_at, first_of, survey_fields}
 use Rattle.sync_survey.specs.Items.{header_front, item_front, size_of}
 use Rattle.sync_survey.specs.Looks.{IsFrameFault, IsNotPassed, KeepsBlocks, KeepsFrame, KeepsItem}
@@ -26,13 +27,12 @@ use Rattle.sync_survey.specs.Looks.{look_size, Passes, PassesFault, PassesFront,
 use Rattle.sync_survey.specs.Looks.{StopsThere}
 use Rattle.sync_survey.specs.MainData.{data_end_after, lacks_data, marked_row, marked_rows}
 use Rattle.sync_survey.specs.{MainData.{own_area, row_in, row_of}, Row.Row}
-use Rattle.sync_survey.specs.Runs.{block_of_item, frame_of_item}
 use Rattle.sync_survey.specs.Survey.{BlocksAreLaid, FramesAreLaid, HasLength, IsSurveyRefusal}
 use Rattle.sync_survey.specs.SurveyFaultKinds.{RefusesRightly}
+use Rattle.sync_survey.specs.declared.chains.{Region.TheVariants.Stream, Step.Step}
 use Rattle.sync_survey.specs.declared.{found.SurveySoFar.SurveySoFar, items.Item.Item}
 use Rattle.sync_survey.specs.declared.items.Item.TheVariants.{Block, Frame, Free, Zero}
 use Rattle.sync_survey.specs.declared.places.{Head.Head, Piece.Piece, Start.Start}
-use Rattle.sync_survey.specs.declared.runs.{Region.TheVariants.Stream, Step.Step}
 use Rattle.sync_survey.specs.declared.survey_fault.SurveyFault.{SurveyFault}
 
 -- ---- a whole frame is shown up to its area

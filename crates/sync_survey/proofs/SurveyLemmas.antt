@@ -7,11 +7,12 @@ use Rattle.frame_header.specs.Tables.{class_of, length_of, overhead_of}
 use Rattle.side_info.proofs.FrameLemmas.{overhead-most}
 use Rattle.sync_survey.proofs.FaultsLemmas.{none-of}
 use Rattle.sync_survey.proofs.WalkLemmas.{IsFound, no_fault, nothing_left, walk-is}
+use Rattle.sync_survey.specs.Chains.{frames_of}
 use Rattle.sync_survey.specs.Faults.{all_faults, class_from, fault_or_survey, faults_from}
 use Rattle.sync_survey.specs.Faults.{fields_from, first_of, survey_fields, survey_from_start}
 use Rattle.sync_survey.specs.{Faults.SurveyFields, Items.item_at, MainData.{marked_rows, rows_of}}
-use Rattle.sync_survey.specs.{Row.Row, Runs.frames_of, Start.start_of}
-use Rattle.sync_survey.specs.Walk.{end_fault, fault_at, head_of, numbered_frames, stream_run}
+use Rattle.sync_survey.specs.{Row.Row, Start.start_of}
+use Rattle.sync_survey.specs.Walk.{end_fault, fault_at, head_of, numbered_frames, stream_chain}
 use Rattle.sync_survey.specs.{Walk.walk_from, declared.places.{Head.Head, Piece.Piece}}
 use Rattle.sync_survey.specs.declared.places.{PlacedFrame.PlacedFrame, Start.Start}
 use Rattle.sync_survey.specs.declared.survey_fault.SurveyFault.{SurveyFault}
@@ -115,17 +116,17 @@ pub record IsWalked (file : List ℕ) (s : SurveyFields) (start : Start) : Type 
   pub head_is : s.head ≡ head_of file start.first
   pub frames_are : s.frames
       ≡ marked_rows s.head (rows_of file
-      (numbered_frames s.head (frames_of (stream_run file start).items)))
+      (numbered_frames s.head (frames_of (stream_chain file start).items)))
   pub junk_is : s.junk ≡ start.front_end
   pub first_is : s.first ≡ start.first.offset
-  pub nothing_behind : drop (stream_run file start).stop file ≡ []
+  pub nothing_behind : drop (stream_chain file start).stop file ≡ []
 
 walk_fault : (file : List ℕ) (start : Start) → (walk_from file start).fault ≡ None
-    → drop (stream_run file start).stop file ≡ []
+    → drop (stream_chain file start).stop file ≡ []
 unfolding walk_from
-walk_fault file start none = nothing_left file (stream_run file start).stop (no_fault file _ none)
+walk_fault file start none = nothing_left file (stream_chain file start).stop (no_fault file _ none)
 
-walked_by : {file : List ℕ} {start : Start} → drop (stream_run file start).stop file ≡ []
+walked_by : {file : List ℕ} {start : Start} → drop (stream_chain file start).stop file ≡ []
     → IsWalked file (fields_from file start) start
 unfolding fields_from walk_from
 walked_by left = grind arith

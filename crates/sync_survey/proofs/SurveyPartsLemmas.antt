@@ -7,20 +7,21 @@ use Rattle.std.proofs.lemmas.{Bool.ne_eqb, List.{length-map, FromFn.length-enume
 use Rattle.std.{proofs.lemmas.Option.slice_get_within, specs.List.enumerate_from}
 use Rattle.frame_header.specs.{Fields.ClassFields, Tables.class_of}
 use Rattle.side_info.specs.Frame.{stored_crc}
-use Rattle.sync_survey.proofs.{FaultsLemmas.none-of, ItemListLemmas.{ends-within, frames-few}}
-use Rattle.sync_survey.proofs.{RunsLemmas.item_run-ends, StartLemmas.start-first}
+use Rattle.sync_survey.proofs.{ChainLemmas.item_chain-ends, FaultsLemmas.none-of}
+use Rattle.sync_survey.proofs.{ItemListLemmas.{ends-within, frames-few}, StartLemmas.start-first}
 use Rattle.sync_survey.proofs.SurveyLemmas.{survey-whole, survey_fields-is, told_by}
+use Rattle.sync_survey.specs.Chains.{frames_of}
 use Rattle.sync_survey.specs.Faults.{all_faults, class_from, data_faults, fault_if_true, faults_at}
 use Rattle.sync_survey.specs.Faults.{faults_from, fields_from, frame_faults, has_wrong_crc}
 use Rattle.sync_survey.specs.Faults.{HoldsStream, overlaps, overruns, own_faults, points_too_far}
 use Rattle.sync_survey.specs.Faults.{stream_of, stream_of_survey, survey_fields, SurveyFields}
 use Rattle.sync_survey.specs.Items.{item_at, same_class}
 use Rattle.sync_survey.specs.MainData.{data_end_before, lacks_data, place, row_of, rows_of}
-use Rattle.sync_survey.specs.{MainData.stream_frames, Row.Row, Runs.frames_of, Start.start_of}
+use Rattle.sync_survey.specs.{MainData.stream_frames, Row.Row, Start.start_of}
 use Rattle.sync_survey.specs.Walk.{all_blocks, end_fault, fault_at, head_of, numbered_frames}
-use Rattle.sync_survey.specs.{Walk.{stream_run, walk_from}, declared.places.Head.Head}
+use Rattle.sync_survey.specs.Walk.{stream_chain, walk_from}
+use Rattle.sync_survey.specs.declared.{chains.Region.TheVariants.Stream, places.Head.Head}
 use Rattle.sync_survey.specs.declared.places.{PlacedFrame.PlacedFrame, Start.Start}
-use Rattle.sync_survey.specs.declared.runs.Region.TheVariants.{Stream}
 use Rattle.sync_survey.specs.declared.survey_fault.SurveyFault.{SurveyFault}
 
 -- ---- a survey, given its start
@@ -28,7 +29,7 @@ use Rattle.sync_survey.specs.declared.survey_fault.SurveyFault.{SurveyFault}
 -- the frames that are numbered in a file with this start
 abbrev pub frames_from : List ℕ → Start → List PlacedFrame
 frames_from file start =
-    numbered_frames (head_of file start.first) (frames_of (stream_run file start).items)
+    numbered_frames (head_of file start.first) (frames_of (stream_chain file start).items)
 
 -- the survey of a file with this start that has no fault
 abbrev pub told_from : List ℕ → Start → SurveyFields
@@ -41,7 +42,7 @@ pub record IsRead (file : List ℕ) (allowed : ℕ) (start : Start) : Type 0 whe
   pub frames : all_faults file (head_of file start.first) (class_from start) allowed
       (rows_of file (frames_from file start)) ≡ []
   pub end : end_fault file (frames_from file start)
-      (fault_at (stream_run file start).stop (item_at file (stream_run file start).stop)) ≡ None
+      (fault_at (stream_chain file start).stop (item_at file (stream_chain file start).stop)) ≡ None
 
 -- a file without fault has the survey that its start gives
 pub survey_fields-told : {file : List ℕ} {allowed : ℕ} {start : Start} → IsRead file allowed start
@@ -209,10 +210,10 @@ numbered_frames-few head frames = grind arith
 pub numbered-few : (file : List ℕ) {start : Start} → start_of file ≡ Ok start
     → length (rows_of file (frames_from file start)) ≤ length file
 numbered-few file {start} is =
-    let stream = stream_run file start in
+    let stream = stream_chain file start in
     let first = start.first.offset in
     let frame = (start-first is).frame in
-    let ends = item_run-ends Stream file first in
+    let ends = item_chain-ends Stream file first in
     omega (
       arith,
       length-map (frames_from file start) (row_of file),

@@ -4,18 +4,18 @@ use Rattle.std.proofs.Common.{take, unwrap_or, ℕ, [], ◌++◌, ◌+◌, ◌<�
 use Rattle.std.proofs.{Math.Seq.drop-length, lemmas.List.take-take}
 use Rattle.frame_header.specs.Tables.{class_of, length_of}
 use Rattle.info_header.specs.HeadText.{head_text_of}
+use Rattle.sync_survey.proofs.ChainLemmas.{blocks-next, bytes-ends, frames-next, item_chain-ends}
+use Rattle.sync_survey.proofs.ChainLemmas.{item_chain-next, whole_item_at-whole}
 use Rattle.sync_survey.proofs.ItemsLemmas.{stands, stands-at}
-use Rattle.sync_survey.proofs.RunsLemmas.{blocks-next, bytes-ends, frames-next, item_run-ends}
-use Rattle.sync_survey.proofs.RunsLemmas.{item_run-next, whole_item_at-whole}
+use Rattle.sync_survey.specs.Chains.{blocks_of, bytes_of_items, frames_of, item_chain}
+use Rattle.sync_survey.specs.Chains.{whole_item_at}
 use Rattle.sync_survey.specs.Items.{IsItemFront, item_at, item_front, size_of}
-use Rattle.sync_survey.specs.Looks.{look_size, Shows}
-use Rattle.sync_survey.specs.Runs.{blocks_of, bytes_of_items, frames_of, item_run, whole_item_at}
-use Rattle.sync_survey.specs.Start.{start_of}
+use Rattle.sync_survey.specs.{Looks.{look_size, Shows}, Start.start_of}
 use Rattle.sync_survey.specs.Walk.{all_blocks, end_fault, fault_at, head_of, numbered_frames}
-use Rattle.sync_survey.specs.Walk.{numbered_offset, stream_run, walk_from}
-use Rattle.sync_survey.specs.declared.{items.Item.{Item, TheVariants.Frame}, places.Head.Head}
+use Rattle.sync_survey.specs.Walk.{numbered_offset, stream_chain, walk_from}
+use Rattle.sync_survey.specs.declared.{chains.Region.TheVariants.Stream, items.Item.Item}
+use Rattle.sync_survey.specs.declared.{items.Item.TheVariants.Frame, places.Head.Head}
 use Rattle.sync_survey.specs.declared.places.{Piece.Piece, PlacedFrame.PlacedFrame, Start.Start}
-use Rattle.sync_survey.specs.declared.runs.Region.TheVariants.{Stream}
 use Rattle.sync_survey.specs.declared.survey_fault.SurveyFault.{SurveyFault}
 
 -- ---- after the head
@@ -27,26 +27,27 @@ pub first_item : (file : List ℕ) (first : PlacedFrame) → item_at file first.
 first_item file first is within = grind (arith, whole_item_at-whole)
 
 -- the frames, the blocks and the stop of the stream, from where its numbered frames begin
-pub numbered_frames-run : (file : List ℕ) (start : Start) (head : Option Head)
+pub numbered_frames-chain : (file : List ℕ) (start : Start) (head : Option Head)
     → whole_item_at Stream file start.first.offset ≡ Some (Frame start.first.header) →
-    frames_of (item_run Stream file (numbered_offset start.first head)).items
-    ≡ numbered_frames head (frames_of (stream_run file start).items)
-numbered_frames-run file start head first =
+    frames_of (item_chain Stream file (numbered_offset start.first head)).items
+    ≡ numbered_frames head (frames_of (stream_chain file start).items)
+numbered_frames-chain file start head first =
     grind (arith, frames-next Stream file start.first.offset first)
 
 -- the blocks from the first numbered frame on are the blocks of the stream
 pub numbered-blocks : (file : List ℕ) (start : Start) (head : Option Head)
     → whole_item_at Stream file start.first.offset ≡ Some (Frame start.first.header) →
-    blocks_of (item_run Stream file (numbered_offset start.first head)).items
-    ≡ blocks_of (stream_run file start).items
+    blocks_of (item_chain Stream file (numbered_offset start.first head)).items
+    ≡ blocks_of (stream_chain file start).items
 numbered-blocks file start head first =
     grind (arith, blocks-next Stream file start.first.offset first)
 
--- a run from there stops where the stream does
+-- a chain from there stops where the stream does
 pub numbered-stop : (file : List ℕ) (start : Start) (head : Option Head)
     → whole_item_at Stream file start.first.offset ≡ Some (Frame start.first.header) →
-    (item_run Stream file (numbered_offset start.first head)).stop ≡ (stream_run file start).stop
-numbered-stop file start head first = grind (arith, item_run-next Stream file first)
+    (item_chain Stream file (numbered_offset start.first head)).stop
+    ≡ (stream_chain file start).stop
+numbered-stop file start head first = grind (arith, item_chain-next Stream file first)
 
 -- ---- the whole walk
 
@@ -55,9 +56,9 @@ pub record IsFound (file : List ℕ) (start : Start) (head : Option Head) (frame
     (blocks : List Piece) (stop : ℕ) : Type 0 where
   pub start_is : start_of file ≡ Ok start
   pub head_is : head ≡ head_of file start.first
-  pub frames_are : frames ≡ numbered_frames head (frames_of (stream_run file start).items)
+  pub frames_are : frames ≡ numbered_frames head (frames_of (stream_chain file start).items)
   pub blocks_are : blocks ≡ all_blocks file start
-  pub stop_is : stop ≡ (stream_run file start).stop
+  pub stop_is : stop ≡ (stream_chain file start).stop
 
 -- what was found is what the walk over the file finds
 pub walk-is : {file : List ℕ} {start : Start} {head : Option Head} {frames : List PlacedFrame}
@@ -102,11 +103,12 @@ nothing_left file stop none = search (arith, at_end, stands-at)
 -- offset
 abbrev pub ReachesTo : List ℕ → Start → ℕ → Type 0
 ReachesTo file start to =
-    bytes_of_items file (stream_run file start).items ++ drop to file ≡ drop start.first.offset file
+    bytes_of_items file (stream_chain file start).items ++ drop to file
+    ≡ drop start.first.offset file
 
 -- if nothing is at fault, they reach to the end of the file
 pub reach-end : (file : List ℕ) (start : Start) (frames : List PlacedFrame) {stop : ℕ}
-    → stop ≡ (stream_run file start).stop
+    → stop ≡ (stream_chain file start).stop
     → end_fault file frames (fault_at stop (item_at file stop)) ≡ None
     → ReachesTo file start (length file)
 reach-end file start frames is none =
@@ -116,7 +118,7 @@ reach-end file start frames is none =
       no_fault,
       drop-length file,
       bytes-ends,
-      item_run-ends Stream file start.first.offset,
+      item_chain-ends Stream file start.first.offset,
     )
 
 -- ---- a head that a look shows

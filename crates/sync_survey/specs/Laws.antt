@@ -2,36 +2,37 @@
 use Rattle.std.specs.Prelude.{drop, length, List, None, Ok, Option, slice_get, Some, true, ℕ, ◌++◌}
 use Rattle.std.specs.Prelude.{◌+◌, ◌<◌, ◌↔◌, ◌≡◌, ◌≤◌, ◌⊎◌}
 use Rattle.frame_header.specs.Fields.{ClassFields}
+use Rattle.sync_survey.specs.Chains.{AreEndToEnd, bytes_of_items, item_chain, PlacedItem}
+use Rattle.sync_survey.specs.Chains.{whole_item_at}
 use Rattle.sync_survey.specs.Faults.{HoldsStream, stream_of_survey, survey_fields, SurveyFields}
 use Rattle.sync_survey.specs.HeadApart.{emptied_survey, head_apart, rows_set_apart}
 use Rattle.sync_survey.specs.Items.{IsItemFront, item_at, item_front, size_of}
 use Rattle.sync_survey.specs.{MainData.{is_lost, is_silent, place, points_too_far}, Row.Row}
-use Rattle.sync_survey.specs.Runs.{AreEndToEnd, bytes_of_items, item_run, PlacedItem, whole_item_at}
 use Rattle.sync_survey.specs.Start.{IsLeastStart, start_of}
-use Rattle.sync_survey.specs.{Survey.{AreWellPlaced, IsSurveyLaidOut}, declared.items.Item.Item}
-use Rattle.sync_survey.specs.declared.{items.Item.TheVariants.Frame, places.Head.Head}
-use Rattle.sync_survey.specs.declared.{places.Start.Start, runs.Region.Region}
+use Rattle.sync_survey.specs.Survey.{AreWellPlaced, IsSurveyLaidOut}
+use Rattle.sync_survey.specs.declared.{chains.Region.Region, items.Item.{Item, TheVariants.Frame}}
+use Rattle.sync_survey.specs.declared.places.{Head.Head, Start.Start}
 
 -- bytes begin with one item, and with no other
 abbrev pub OneItemStands : Type 0
 OneItemStands = (bytes : List ℕ) (item : Item) → IsItemFront bytes item ↔ (item ≡ item_front bytes)
 
--- The items of a run are whole and follow end to end, and none is after them; with the bytes after
--- them they are the file's bytes; and they are the only such items of the part.
-pub record IsOnlyRun (part : Region) (file : List ℕ) (from : ℕ) : Type 0 where
+-- The items of a chain are whole and follow end to end, and none is after them; with the
+-- bytes after them they are the file's bytes; and they are the only such items of the part.
+pub record IsOnlyChain (part : Region) (file : List ℕ) (from : ℕ) : Type 0 where
   pub items : AreEndToEnd part file from
-      (item_run part file from).items (item_run part file from).stop
-  pub last : whole_item_at part file (item_run part file from).stop ≡ None
-  pub bytes : bytes_of_items file (item_run part file from).items
-      ++ drop (item_run part file from).stop file
+      (item_chain part file from).items (item_chain part file from).stop
+  pub last : whole_item_at part file (item_chain part file from).stop ≡ None
+  pub bytes : bytes_of_items file (item_chain part file from).items
+      ++ drop (item_chain part file from).stop file
       ≡ drop from file
   pub only : (others : List PlacedItem) (stop : ℕ) → AreEndToEnd part file from others stop
       → whole_item_at part file stop ≡ None
-      → item_run part file from ≡ record { items = others; stop = stop }
+      → item_chain part file from ≡ record { items = others; stop = stop }
 
--- this holds for every run
-abbrev pub RunsAreOnly : Type 0
-RunsAreOnly = (part : Region) (file : List ℕ) (from : ℕ) → IsOnlyRun part file from
+-- this holds for every chain
+abbrev pub ChainsAreOnly : Type 0
+ChainsAreOnly = (part : Region) (file : List ℕ) (from : ℕ) → IsOnlyChain part file from
 
 -- The first frame of a stream is whole. It is where the front ends, or, after junk, at the smallest
 -- offset at which an anchored frame begins.

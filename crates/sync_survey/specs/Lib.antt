@@ -2,7 +2,7 @@
 pub mod Row
 pub mod Limits
 pub mod Items
-pub mod Runs
+pub mod Chains
 pub mod Looks
 pub mod Start
 pub mod Walk

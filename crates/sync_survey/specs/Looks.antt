@@ -5,16 +5,17 @@ use Rattle.std.specs.Prelude.{◌++◌, ◌+◌, ◌-◌, ◌<◌, ◌==◌, ◌
 use Rattle.frame_header.specs.{Fields.{ClassFields, HeaderFields}, Limits.most_frame_length}
 use Rattle.frame_header.specs.Tables.{class_of, overhead_of}
 use Rattle.side_info.specs.{Frame.stored_crc, Side.SideFits}
+use Rattle.sync_survey.specs.Chains.{block_of_item, blocks_of, frame_of_item, frames_of, item_chain}
+use Rattle.sync_survey.specs.Chains.{whole_item_at}
 use Rattle.sync_survey.specs.Faults.{data_faults, faults_at, first_of, later_faults}
 use Rattle.sync_survey.specs.Items.{item_front, size_of}
 use Rattle.sync_survey.specs.{MainData.{data_end_after, lacks_data, own_area, row_in}, Row.Row}
-use Rattle.sync_survey.specs.Runs.{block_of_item, blocks_of, frame_of_item, frames_of, item_run}
-use Rattle.sync_survey.specs.{Runs.whole_item_at, SurveyFaultKinds.RefusesRightly, Walk.fault_at}
+use Rattle.sync_survey.specs.{SurveyFaultKinds.RefusesRightly, Walk.fault_at}
+use Rattle.sync_survey.specs.declared.chains.{Region.{Region, TheVariants.Stream}, Step.Step}
 use Rattle.sync_survey.specs.declared.{found.SurveySoFar.SurveySoFar, items.Item.Item}
 use Rattle.sync_survey.specs.declared.items.Item.TheVariants.{Block, Frame, Zero}
 use Rattle.sync_survey.specs.declared.{places.Piece.Piece, rows.JudgedFrame.JudgedFrame}
-use Rattle.sync_survey.specs.declared.{rows.ReservoirState.ReservoirState, runs.Region.Region}
-use Rattle.sync_survey.specs.declared.runs.{Region.TheVariants.Stream, Step.Step}
+use Rattle.sync_survey.specs.declared.rows.ReservoirState.{ReservoirState}
 use Rattle.sync_survey.specs.declared.survey_fault.SurveyFault.{SurveyFault, TheVariants.Memory}
 
 -- how many bytes a look shows: 4,096 if the file has them, which is more than a frame and the 32
@@ -30,11 +31,11 @@ pub record Shows (file : List ℕ) (at : ℕ) (front : List ℕ) (left : ℕ) : 
 -- the items of the part that follow end to end from the offset on are this one and those from
 -- `size` bytes later on, except for zero bytes between them
 pub record Passes (part : Region) (file : List ℕ) (at : ℕ) (item : Item) (size : ℕ) : Type 0 where
-  pub frames : frames_of (item_run part file at).items
-      ≡ option_to_list (frame_of_item at item) ++ frames_of (item_run part file (at + size)).items
-  pub blocks : blocks_of (item_run part file at).items
-      ≡ option_to_list (block_of_item at item) ++ blocks_of (item_run part file (at + size)).items
-  pub stop : (item_run part file at).stop ≡ (item_run part file (at + size)).stop
+  pub frames : frames_of (item_chain part file at).items
+      ≡ option_to_list (frame_of_item at item) ++ frames_of (item_chain part file (at + size)).items
+  pub blocks : blocks_of (item_chain part file at).items
+      ≡ option_to_list (block_of_item at item) ++ blocks_of (item_chain part file (at + size)).items
+  pub stop : (item_chain part file at).stop ≡ (item_chain part file (at + size)).stop
 
 -- An item that is passed, given the bytes of a look and how many are left: it is the one with which
 -- they begin, and is whole. The bytes that are passed with it are its own, or for a zero byte all

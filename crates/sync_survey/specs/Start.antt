@@ -4,12 +4,11 @@ use Rattle.std.specs.Prelude.{Bool, Err, false, filter_map, if◌then◌else◌,
 use Rattle.std.specs.Prelude.{Option, Result, slice_get, Some, true, ℕ, ◌&&◌, ◌+◌, ◌<◌, ◌≡◌, ◌≤◌}
 use Rattle.std.specs.Prelude.{◌⊎◌}
 use Rattle.frame_header.specs.{Fields.{ClassFields, HeaderFields}, Tables.{class_of, length_of}}
-use Rattle.sync_survey.specs.{Items.{item_at, item_fits, same_class}, Runs.item_run}
-use Rattle.sync_survey.specs.declared.items.Item.{Item}
+use Rattle.sync_survey.specs.{Chains.item_chain, Items.{item_at, item_fits, same_class}}
+use Rattle.sync_survey.specs.declared.{chains.Region.TheVariants.Front, items.Item.Item}
 use Rattle.sync_survey.specs.declared.items.Item.TheVariants.{Block, End, Frame, Free, Nothing}
 use Rattle.sync_survey.specs.declared.{items.Item.TheVariants.Zero, places.PlacedFrame.PlacedFrame}
-use Rattle.sync_survey.specs.declared.{places.Start.Start, runs.Region.TheVariants.Front}
-use Rattle.sync_survey.specs.declared.survey_fault.SurveyFault.{SurveyFault}
+use Rattle.sync_survey.specs.declared.{places.Start.Start, survey_fault.SurveyFault.SurveyFault}
 use Rattle.sync_survey.specs.declared.survey_fault.SurveyFault.TheVariants.{FreeFormat, NoFrame}
 use Rattle.sync_survey.specs.declared.survey_fault.SurveyFault.TheVariants.{Truncated}
 
@@ -76,7 +75,7 @@ start_at file at Nothing = start_after_junk at (first_anchored longest_junk file
 
 -- the offset that is reached from 0 past whole blocks and zero bytes, at which neither begins
 unfoldable pub front_end_of : List ℕ → ℕ
-front_end_of file = (item_run Front file 0).stop
+front_end_of file = (item_chain Front file 0).stop
 
 -- the start of the stream, or why there is none
 unfoldable pub start_of : List ℕ → Result Start SurveyFault

@@ -3,19 +3,18 @@ use Rattle.std.specs.Prelude.{drop, length, List, None, Option, option_map, Some
 use Rattle.std.specs.Prelude.{◌+◌, ◌∷◌, ◌≡◌}
 use Rattle.frame_header.specs.Tables.{class_of, length_of}
 use Rattle.info_header.specs.HeadText.{head_text_of}
-use Rattle.sync_survey.specs.{Items.item_at, Runs.{blocks_of, frames_of, item_run, ItemRun}}
-use Rattle.sync_survey.specs.declared.items.Item.{Item}
+use Rattle.sync_survey.specs.{Chains.{blocks_of, frames_of, item_chain, ItemChain}, Items.item_at}
+use Rattle.sync_survey.specs.declared.{chains.Region.TheVariants.{Front, Stream}, items.Item.Item}
 use Rattle.sync_survey.specs.declared.items.Item.TheVariants.{Block, End, Frame, Free, Nothing}
 use Rattle.sync_survey.specs.declared.{items.Item.TheVariants.Zero, places.{Head.Head, Piece.Piece}}
 use Rattle.sync_survey.specs.declared.places.{PlacedFrame.PlacedFrame, Start.Start}
-use Rattle.sync_survey.specs.declared.runs.Region.TheVariants.{Front, Stream}
 use Rattle.sync_survey.specs.declared.survey_fault.SurveyFault.{SurveyFault}
 use Rattle.sync_survey.specs.declared.survey_fault.SurveyFault.TheVariants.{FreeFormat, LostSync}
 use Rattle.sync_survey.specs.declared.survey_fault.SurveyFault.TheVariants.{NoFrame, Truncated}
 
 -- the items from the first frame on
-abbrev pub stream_run : List ℕ → Start → ItemRun
-stream_run file start = item_run Stream file start.first.offset
+abbrev pub stream_chain : List ℕ → Start → ItemChain
+stream_chain file start = item_chain Stream file start.first.offset
 
 -- ---- the head
 
@@ -55,7 +54,7 @@ numbered_offset first (Some head) =
 -- the blocks of the front, and those from the first frame on
 abbrev pub all_blocks : List ℕ → Start → List Piece
 all_blocks file start =
-    blocks_of (item_run Front file 0).items ++ blocks_of (stream_run file start).items
+    blocks_of (item_chain Front file 0).items ++ blocks_of (stream_chain file start).items
 
 -- ---- where the walk ends
 
@@ -89,7 +88,7 @@ pub record WalkFields : Type 0 where
 -- what is in a file with this start
 unfoldable pub walk_from : List ℕ → Start → WalkFields
 walk_from file start =
-    let stream = stream_run file start in
+    let stream = stream_chain file start in
     let head = head_of file start.first in
     let frames = numbered_frames head (frames_of stream.items) in record {
       start = start;

@@ -5,10 +5,10 @@ ghost use Rattle.sync_survey.specs.Faults.{longest_file};
 ghost use Rattle.sync_survey.specs.Items.{header_front, item_front};
 ghost use Rattle.sync_survey.specs.Looks.{look_size, ReachArea, KeepsItem, IsFrameFault, PassesItem, IsNotPassed};
 
+use crate::chains::{Region, step_at};
 use crate::items::{Item, header_of_class, is_same_class, stop_fault};
 use crate::places::Piece;
 use crate::rows::{Limit, ReservoirState, Row};
-use crate::runs::{Region, step_at};
 use crate::survey_fault::SurveyFault;
 use frame_header::{Class, Header};
 

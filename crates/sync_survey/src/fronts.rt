@@ -2,15 +2,15 @@
 ghost use Rattle.std.specs.Prelude.{◌≡◌, ℕ, List, ◌+◌, ◌++◌, [], ◌≤◌, IfOk, IfErr, OnOk, option_to_list};
 ghost use Rattle.outside.specs.Seen.{OnFile};
 ghost use Rattle.outside.specs.Feed.{IsFedFrom};
-ghost use Rattle.sync_survey.specs.Runs.{item_run, block_of_item, blocks_of};
+ghost use Rattle.sync_survey.specs.Chains.{item_chain, block_of_item, blocks_of};
 ghost use Rattle.sync_survey.specs.Start.{front_end_of};
 ghost use Rattle.sync_survey.specs.SurveyFaultKinds.{IsFromOutside};
 ghost use Rattle.sync_survey.specs.Survey.{HasLength, ReadsBy, IsEarlyRefusal, BlocksAreLaid};
 
+use crate::chains::{Region, step_at};
 use crate::items::Item;
 use crate::looks::look;
 use crate::places::Piece;
-use crate::runs::{Region, step_at};
 use crate::survey_fault::SurveyFault;
 use outside::{Feed, Folder};
 use std::alloc::AllocError;
@@ -51,7 +51,7 @@ pub fn pass_front<D: Folder>(
     ensures front_end { IfOk result (λ at. OnFile (D.seen folder.old) name.now
         (λ bytes. at ≡ front_end_of bytes)) }
     ensures blocks { OnOk result (OnFile (D.seen folder.old) name.now
-        (λ bytes. pieces.new.items ≡ blocks_of (item_run Region.Front bytes 0).items)) }
+        (λ bytes. pieces.new.items ≡ blocks_of (item_chain Region.Front bytes 0).items)) }
     ensures laid { IfOk result (λ at. BlocksAreLaid 0 pieces.new.items at) }
     ensures within { IfOk result (λ at. at ≤ size) }
     ensures reads { ReadsBy feed.new name.now result (D.seen folder.old) (D.seen folder.new) }

@@ -1,6 +1,6 @@
 //! Laws of the definitions that the survey's contract cites. Each function does nothing: a proof that needs
 //! its law calls it.
-ghost use Rattle.sync_survey.specs.Laws.{OneItemStands, RunsAreOnly, StartsAreLeast, LostFramesLead, SurveysHoldStreams, SurveysArePlaced, ApartFramesLead, HeadsApartArePlaced, HeadsApartAreLaid, NearFramesStay};
+ghost use Rattle.sync_survey.specs.Laws.{OneItemStands, ChainsAreOnly, StartsAreLeast, LostFramesLead, SurveysHoldStreams, SurveysArePlaced, ApartFramesLead, HeadsApartArePlaced, HeadsApartAreLaid, NearFramesStay};
 
 /// Bytes begin with one item and no other: a header, a header of free format, a block, a zero byte, the
 /// end, or none of these.
@@ -8,10 +8,10 @@ pub fn one_item_stands()
     ensures { OneItemStands }
 {}
 
-/// The items of a run are whole and follow end to end, and no other items do; with the bytes after
+/// The items of a chain are whole and follow end to end, and no other items do; with the bytes after
 /// them they are the file's bytes.
-pub fn runs_are_only()
-    ensures { RunsAreOnly }
+pub fn chains_are_only()
+    ensures { ChainsAreOnly }
 {}
 
 /// The first frame of a stream is whole, and after junk it is at the smallest offset at which an anchored

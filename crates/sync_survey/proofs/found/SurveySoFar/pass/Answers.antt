@@ -5,8 +5,8 @@ use Rattle.frame_header.specs.{Fields.HeaderFields, Tables.length_of}
 use Rattle.sync_survey.proofs.{LooksLemmas.step_passes, StepLemmas.{frame_passes, room_passed}}
 use Rattle.sync_survey.{proofs.found.SurveySoFar.pass.Goals.Then-size-left, specs.Items.item_front}
 use Rattle.sync_survey.specs.Looks.{IsFrameFault, IsNotPassed, KeepsItem, Passes, PassesFront}
-use Rattle.sync_survey.specs.{Looks.Shows, declared.items.Item.{Item, TheVariants.Frame}}
-use Rattle.sync_survey.specs.declared.runs.Region.TheVariants.{Stream}
+use Rattle.sync_survey.specs.{Looks.Shows, declared.chains.Region.TheVariants.Stream}
+use Rattle.sync_survey.specs.declared.items.Item.{Item, TheVariants.Frame}
 use Rattle.sync_survey.specs.declared.survey_fault.SurveyFault.{SurveyFault, TheVariants.Memory}
 use Rattle.sync_survey.proofs.found.SurveySoFar.pass.Goals as goal
 

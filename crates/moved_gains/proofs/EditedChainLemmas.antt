@@ -1,4 +1,4 @@
--- The runs of the edited file are the file's, without the junk between them.
+-- The chains of the edited file are the file's, without the junk between them.
 use Rattle.std.proofs.Common.{ap, append-nil, ap₂, arith, Bool, drop, length, length-append, List}
 use Rattle.std.proofs.Common.{map, None, Ok, Option, option_map, refl, Some, subst, sym, true, ℕ}
 use Rattle.std.proofs.Common.{[], ◌++◌, ◌+◌, ◌-◌, ◌∙◌, ◌∷◌, ◌≡◌, ◌≤◌}
@@ -10,26 +10,26 @@ use Rattle.moved_gains.proofs.EditedItemLemmas.{moved_are}
 use Rattle.moved_gains.proofs.ImageLemmas.{area-image, image_moved, IsImage}
 use Rattle.moved_gains.proofs.MovedFrameLemmas.{IsMoved, IsWhole, moved_whole, whole_item}
 use Rattle.moved_gains.proofs.MovedRowLemmas.{numbered_frames-by}
-use Rattle.moved_gains.proofs.ReadFileLemmas.{has_stream, HasStream, later_run}
+use Rattle.moved_gains.proofs.ReadFileLemmas.{has_stream, HasStream, later_chain}
 use Rattle.moved_gains.proofs.WholeFileLemmas.{front_end-is, not_in_front, start_by}
 use Rattle.moved_gains.specs.Edited.{edited_file, is_lost_at, moved_frame_unless_lost, moved_items}
 use Rattle.moved_gains.specs.Edited.{moved_stream}
 use Rattle.requests.specs.declared.shift.Steps.{Steps}
+use Rattle.sync_survey.proofs.ChainLemmas.{item_chain-ends, whole_item_at-past}
 use Rattle.sync_survey.proofs.ItemBytesLemmas.{IsItem}
 use Rattle.sync_survey.proofs.ItemListLemmas.{AreItems, blocks-nearer, frames-nearer, item_at-known}
-use Rattle.sync_survey.proofs.ItemListLemmas.{items-item_run, items-length, items_of, kept_items}
+use Rattle.sync_survey.proofs.ItemListLemmas.{items-item_chain, items-length, items_of, kept_items}
 use Rattle.sync_survey.proofs.ItemListLemmas.{nearer, nearer-none, nearer_frame, nearer_piece}
 use Rattle.sync_survey.proofs.ItemListLemmas.{placed, placed-nearer}
-use Rattle.sync_survey.proofs.RunsLemmas.{item_run-ends, whole_item_at-past}
 use Rattle.sync_survey.proofs.SameHeadLemmas.{head_bytes-nearer, head_of-nearer, nearer_head}
 use Rattle.sync_survey.proofs.SurveyPartsLemmas.{frames_from, IsRead, told_from}
-use Rattle.sync_survey.specs.{Items.{item_at, size_of}, MainData.head_bytes}
-use Rattle.sync_survey.specs.Runs.{AreEndToEnd, blocks_of, bytes_of_items, frames_of, item_run}
-use Rattle.sync_survey.specs.{Runs.{ItemRun, PlacedItem}, Start.start_of}
-use Rattle.sync_survey.specs.Walk.{all_blocks, frame_bytes, head_of, numbered_frames, stream_run}
+use Rattle.sync_survey.specs.Chains.{AreEndToEnd, blocks_of, bytes_of_items, frames_of, item_chain}
+use Rattle.sync_survey.specs.{Chains.{ItemChain, PlacedItem}, Items.{item_at, size_of}}
+use Rattle.sync_survey.specs.{MainData.head_bytes, Start.start_of}
+use Rattle.sync_survey.specs.Walk.{all_blocks, frame_bytes, head_of, numbered_frames, stream_chain}
+use Rattle.sync_survey.specs.declared.chains.Region.TheVariants.{Front, Stream}
 use Rattle.sync_survey.specs.declared.{items.Item.TheVariants.Frame, places.Head.Head}
 use Rattle.sync_survey.specs.declared.places.{Piece.Piece, PlacedFrame.PlacedFrame, Start.Start}
-use Rattle.sync_survey.specs.declared.runs.Region.TheVariants.{Front, Stream}
 
 -- ---- the start of the edited file
 
@@ -98,24 +98,24 @@ module _ (steps : ℕ → Steps) (file : List ℕ) (allowed : ℕ) (start : Star
   has : HasStream file start
   has = has_stream read
 
-  -- ---- the runs of the file
+  -- ---- the chains of the file
 
-  abbrev front : ItemRun
-  front = item_run Front file 0
+  abbrev front : ItemChain
+  front = item_chain Front file 0
 
-  abbrev later : ItemRun
-  later = later_run file start
+  abbrev later : ItemChain
+  later = later_chain file start
 
   abbrev items : List PlacedItem
   items = record { offset = first; item = Frame h } ∷ later.items
 
   -- the items of the front are end to end
   pub front_ends : AreEndToEnd Front file 0 front.items front.stop
-  front_ends = item_run-ends Front file 0
+  front_ends = item_chain-ends Front file 0
 
   -- the items after the first frame are end to end too
   pub later_ends : AreEndToEnd Stream file (first + size) later.items later.stop
-  later_ends = item_run-ends Stream file (first + size)
+  later_ends = item_chain-ends Stream file (first + size)
 
   ends : AreEndToEnd Stream file first items later.stop
   ends = (refl, has.there, later_ends)
@@ -151,7 +151,7 @@ module _ (steps : ℕ → Steps) (file : List ℕ) (allowed : ℕ) (start : Star
   new-is : new_file ≡ before ++ (own ++ after)
   unfolding edited_file
   new-is =
-      ap (λ (r : ItemRun). before ++ moved_stream steps lost file head r.items) has.stream
+      ap (λ (r : ItemChain). before ++ moved_stream steps lost file head r.items) has.stream
       ∙ ap (λ l. before ++ l) (moved_first steps lost file start.first later.items head)
 
   -- the bytes of the front end where the front ends
@@ -181,7 +181,7 @@ module _ (steps : ℕ → Steps) (file : List ℕ) (allowed : ℕ) (start : Star
         has.first.within,
       )
 
-  -- ---- the runs of the edited file
+  -- ---- the chains of the edited file
 
   new_first : item_at new_file front_end ≡ Frame h
   new_first = item_at-known new_file front_end front_end (own ++ after) (Frame h) refl new-stands
@@ -191,19 +191,19 @@ module _ (steps : ℕ → Steps) (file : List ℕ) (allowed : ℕ) (start : Star
   new_room = omega (arith, new-length, has.low, has.first.within)
 
   -- the front of the edited file is the file's
-  pub new-front : item_run Front new_file 0 ≡ record { items = front.items; stop = front_end }
+  pub new-front : item_chain Front new_file 0 ≡ record { items = front.items; stop = front_end }
   new-front =
       let stop : 0 + length before ≡ front_end = omega (arith, before_long) in
       let same : placed 0 (items_of front.items) ≡ front.items =
       placed-nearer Front file 0 0 0 front.items front.stop front_ends (omega arith)
       ∙ nearer-none front.items in
-      items-item_run Front new_file (items_of front.items) before (own ++ after) before_are
+      items-item_chain Front new_file (items_of front.items) before (own ++ after) before_are
       (omega arith) new-is
       (not_in_front new_file (0 + length before) (ap (item_at new_file) stop ∙ new_first))
       ∙ (λ i. record { items = same i; stop = stop i })
 
   -- the stream of the edited file has the same items, nearer by the junk
-  pub new-stream : item_run Stream new_file front_end
+  pub new-stream : item_chain Stream new_file front_end
       ≡ record { items = map (nearer gap) items; stop = later.stop - gap }
   new-stream =
       let long : front_end + length (own ++ after) ≡ length new_file =
@@ -213,7 +213,7 @@ module _ (steps : ℕ → Steps) (file : List ℕ) (allowed : ℕ) (start : Star
       let same : placed front_end (items_of items) ≡ map (nearer gap) items =
       placed-nearer Stream file gap first front_end items later.stop ends
       (omega (arith, has.low)) in
-      items-item_run Stream new_file (items_of items) (own ++ after) []
+      items-item_chain Stream new_file (items_of items) (own ++ after) []
       (own, after, refl, own_item, refl, after_are) (omega (arith, new_room))
       (new-stands ∙ sym (append-nil (own ++ after)))
       (whole_item_at-past Stream new_file (front_end + length (own ++ after)) (omega (arith, long)))
@@ -254,7 +254,7 @@ module _ (steps : ℕ → Steps) (file : List ℕ) (allowed : ℕ) (start : Star
 
   -- the frames of the file are in the edited one, with moved gains if they aren't lost
   pub frames-moved : AreMovedAt steps lost file new_file gap (frames_from file start)
-  frames-moved = subst (λ (r : ItemRun). AreMovedAt steps lost file new_file gap
+  frames-moved = subst (λ (r : ItemChain). AreMovedAt steps lost file new_file gap
       (numbered_frames head (frames_of r.items))) (sym has.stream) (moved_by head new-stands)
 
   first_image : IsImage (λ at. at - gap) steps (λ at. first_stays lost start.first head) file
@@ -283,15 +283,15 @@ module _ (steps : ℕ → Steps) (file : List ℕ) (allowed : ℕ) (start : Star
       ≡ map (nearer_frame gap) (frames_from file start)
   new-frames =
       ap₂ numbered_frames new-head
-      (ap (λ (r : ItemRun). frames_of r.items) new-stream ∙ frames-nearer gap items)
+      (ap (λ (r : ItemChain). frames_of r.items) new-stream ∙ frames-nearer gap items)
       ∙ numbered_frames-by (λ at. at - gap) head (frames_of items)
-      ∙ ap (λ (r : ItemRun). map (nearer_frame gap) (numbered_frames head (frames_of r.items)))
+      ∙ ap (λ (r : ItemChain). map (nearer_frame gap) (numbered_frames head (frames_of r.items)))
       (sym has.stream)
 
   -- the blocks of the front stay, and those of the stream are nearer by the junk
   pub new-blocks : all_blocks new_file (moved_start start)
-      ≡ blocks_of front.items ++ map (nearer_piece gap) (blocks_of (stream_run file start).items)
+      ≡ blocks_of front.items ++ map (nearer_piece gap) (blocks_of (stream_chain file start).items)
   new-blocks =
-      ap₂ (λ (a b : List Piece). a ++ b) (ap (λ (r : ItemRun). blocks_of r.items) new-front)
-      (ap (λ (r : ItemRun). blocks_of r.items) new-stream ∙ blocks-nearer gap items
-      ∙ ap (λ (r : ItemRun). map (nearer_piece gap) (blocks_of r.items)) (sym has.stream))
+      ap₂ (λ (a b : List Piece). a ++ b) (ap (λ (r : ItemChain). blocks_of r.items) new-front)
+      (ap (λ (r : ItemChain). blocks_of r.items) new-stream ∙ blocks-nearer gap items
+      ∙ ap (λ (r : ItemChain). map (nearer_piece gap) (blocks_of r.items)) (sym has.stream))

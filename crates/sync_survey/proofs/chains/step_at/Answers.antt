@@ -1,7 +1,7 @@
 -- A whole item is passed, or none of the part is there whole.
 use Rattle.std.proofs.{Common.{arith, sym, ◌∙◌}, lemmas.Bool.false≢true}
 use Rattle.sync_survey.proofs.LooksLemmas.{not_here, sized, step_passes}
-use Rattle.sync_survey.proofs.runs.step_at.Goals as goal
+use Rattle.sync_survey.proofs.chains.step_at.Goals as goal
 
 pub returns-then-not-belongs-clause-step : goal.returns-then-not-belongs-clause-step
 returns-then-not-belongs-clause-step c = grind (arith, not_here, false≢true)

@@ -1,11 +1,11 @@
 -- Items that follow end to end.
 use Rattle.std.specs.Prelude.{Bool, drop, false, filter_map, flat_map, if◌then◌else◌, length, List}
 use Rattle.std.specs.Prelude.{None, Option, Some, suc, take, true, zero, ℕ, [], ◌&&◌, ◌+◌, ◌∷◌, ◌≡◌}
-use Rattle.sync_survey.specs.{Items.{item_at, item_fits, size_of}, declared.items.Item.Item}
+use Rattle.sync_survey.specs.{Items.{item_at, item_fits, size_of}, declared.chains.Region.Region}
+use Rattle.sync_survey.specs.declared.{chains.Region.TheVariants.{Front, Stream}, items.Item.Item}
 use Rattle.sync_survey.specs.declared.items.Item.TheVariants.{Block, End, Frame, Free, Nothing}
 use Rattle.sync_survey.specs.declared.{items.Item.TheVariants.Zero, places.Piece.Piece}
-use Rattle.sync_survey.specs.declared.{places.PlacedFrame.PlacedFrame, runs.Region.Region}
-use Rattle.sync_survey.specs.declared.runs.Region.TheVariants.{Front, Stream}
+use Rattle.sync_survey.specs.declared.places.PlacedFrame.{PlacedFrame}
 
 -- an item and the offset at which it begins
 pub record PlacedItem : Type 0 where
@@ -33,35 +33,38 @@ whole_item_at part file at = item_if_whole part file at (item_at file at)
 
 -- the items of the part that follow end to end from
 -- an offset on, and the offset at which none begins
-pub record ItemRun : Type 0 where
+pub record ItemChain : Type 0 where
   pub items : List PlacedItem
   pub stop : ℕ
 
 -- no item is at this offset
-abbrev pub stopped_run : ℕ → ItemRun
-stopped_run at = record { items = []; stop = at }
+abbrev pub stopped_chain : ℕ → ItemChain
+stopped_chain at = record { items = []; stop = at }
 
--- a run with this item before it
-abbrev pub run_with_item : ℕ → Item → ItemRun → ItemRun
-run_with_item at item item_run =
-    record { items = record { offset = at; item = item } ∷ item_run.items; stop = item_run.stop }
+-- a chain with this item before it
+abbrev pub chain_with_item : ℕ → Item → ItemChain → ItemChain
+chain_with_item at item item_chain =
+    record {
+      items = record { offset = at; item = item } ∷ item_chain.items;
+      stop = item_chain.stop;
+    }
 
--- the item, and the run from its end on; without an item the run stops
-abbrev pub run_onward : ℕ → (ℕ → ItemRun) → Option Item → ItemRun
-run_onward at next None = stopped_run at
-run_onward at next (Some item) = run_with_item at item (next (at + size_of item))
+-- the item, and the chain from its end on; without an item the chain stops
+abbrev pub chain_onward : ℕ → (ℕ → ItemChain) → Option Item → ItemChain
+chain_onward at next None = stopped_chain at
+chain_onward at next (Some item) = chain_with_item at item (next (at + size_of item))
 
--- a run of at most this many items
-unfoldable pub run_up_to : ℕ → Region → List ℕ → ℕ → ItemRun
-run_up_to zero part file at = stopped_run at
-run_up_to (suc most) part file at =
-    run_onward at (λ later. run_up_to most part file later) (whole_item_at part file at)
+-- a chain of at most this many items
+unfoldable pub chain_up_to : ℕ → Region → List ℕ → ℕ → ItemChain
+chain_up_to zero part file at = stopped_chain at
+chain_up_to (suc most) part file at =
+    chain_onward at (λ later. chain_up_to most part file later) (whole_item_at part file at)
 
--- a run of all of them: there are no more items than bytes
-unfoldable pub item_run : Region → List ℕ → ℕ → ItemRun
-item_run part file from = run_up_to (length file) part file from
+-- a chain of all of them: there are no more items than bytes
+unfoldable pub item_chain : Region → List ℕ → ℕ → ItemChain
+item_chain part file from = chain_up_to (length file) part file from
 
--- ---- what a run says, without its recursion
+-- ---- what a chain says, without its recursion
 
 -- these whole items of the part follow end to end in the file, from one offset to another
 abbrev pub AreEndToEnd : Region → List ℕ → ℕ → List PlacedItem → ℕ → Type 0

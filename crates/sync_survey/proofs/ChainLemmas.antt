@@ -4,12 +4,13 @@ use Rattle.std.proofs.Common.{None, Option, option_to_list, refl, Some, suc, sym
 use Rattle.std.proofs.Common.{◌++◌, ◌+◌, ◌-◌, ◌<◌, ◌∙◌, ◌∷◌, ◌≡◌, ◌≤◌}
 use Rattle.std.proofs.lemmas.{Bool.{and_parts, leb-true}, List.{drop-drop, take-append-drop}}
 use Rattle.std.{proofs.lemmas.List.Elements.filter_map-append, specs.List.cons_option}
-use Rattle.sync_survey.{proofs.ItemsLemmas.size-some, specs.Items.{item_at, item_fits, size_of}}
-use Rattle.sync_survey.specs.Runs.{AreEndToEnd, belongs, block_of_item, blocks_of, bytes_of_items}
-use Rattle.sync_survey.specs.Runs.{frame_of_item, frames_of, item_bytes_in, item_run, ItemRun}
-use Rattle.sync_survey.specs.Runs.{PlacedItem, run_onward, run_up_to, run_with_item, stopped_run}
-use Rattle.sync_survey.specs.{Runs.whole_item_at, declared.{items.Item.Item, runs.Region.Region}}
-use Rattle.sync_survey.specs.declared.runs.Region.TheVariants.{Front}
+use Rattle.sync_survey.proofs.ItemsLemmas.{size-some}
+use Rattle.sync_survey.specs.Chains.{AreEndToEnd, belongs, block_of_item, blocks_of, bytes_of_items}
+use Rattle.sync_survey.specs.Chains.{chain_onward, chain_up_to, chain_with_item, frame_of_item}
+use Rattle.sync_survey.specs.Chains.{frames_of, item_bytes_in, item_chain, ItemChain, PlacedItem}
+use Rattle.sync_survey.specs.Chains.{stopped_chain, whole_item_at}
+use Rattle.sync_survey.specs.{Items.{item_at, item_fits, size_of}, declared.chains.Region.Region}
+use Rattle.sync_survey.specs.declared.{chains.Region.TheVariants.Front, items.Item.Item}
 
 -- ---- one item
 
@@ -24,10 +25,10 @@ pub record IsItemOf (part : Region) (file : List ℕ) (at : ℕ) (item : Item) :
 pub whole_cases : {b : Bool} {i j : Item} → cond b (Some i) None ≡ Some j → (b ≡ true) × (i ≡ j)
 whole_cases e = grind arith
 
-run_onward-same : (at : ℕ) (next later : ℕ → ItemRun) (o : Option Item)
+chain_onward-same : (at : ℕ) (next later : ℕ → ItemChain) (o : Option Item)
     → ((item : Item) → o ≡ Some item → next (at + size_of item) ≡ later (at + size_of item))
-    → run_onward at next o ≡ run_onward at later o
-run_onward-same at next later o same = grind arith
+    → chain_onward at next o ≡ chain_onward at later o
+chain_onward-same at next later o same = grind arith
 
 module _ (part : Region) (file : List ℕ) where
   -- an item that fits is within the file
@@ -61,102 +62,104 @@ module _ (part : Region) (file : List ℕ) where
   pub whole_item_at-past : (at : ℕ) → length file ≤ at → whole_item_at part file at ≡ None
   whole_item_at-past at past = none_behind at (whole_item_at part file at) refl past
 
-  -- ---- a run
+  -- ---- a chain
 
-  one_more : (n at : ℕ) → run_up_to (suc n) part file at
-      ≡ run_onward at (λ later. run_up_to n part file later) (whole_item_at part file at)
-  unfolding run_up_to
+  one_more : (n at : ℕ) → chain_up_to (suc n) part file at
+      ≡ chain_onward at (λ later. chain_up_to n part file later) (whole_item_at part file at)
+  unfolding chain_up_to
   one_more n at = refl
 
-  none_more : (at : ℕ) → run_up_to zero part file at ≡ stopped_run at
-  unfolding run_up_to
+  none_more : (at : ℕ) → chain_up_to zero part file at ≡ stopped_chain at
+  unfolding chain_up_to
   none_more at = refl
 
-  -- past the end any bound gives the same run
-  past : (n at : ℕ) → length file ≤ at → run_up_to n part file at ≡ stopped_run at
+  -- past the end any bound gives the same chain
+  past : (n at : ℕ) → length file ≤ at → chain_up_to n part file at ≡ stopped_chain at
   past zero at le = none_more at
   past (suc n) at le = grind (arith, one_more, whole_item_at-past)
 
-  -- any bound that is at least the number of bytes left gives the same run
+  -- any bound that is at least the number of bytes left gives the same chain
   enough : (m n at : ℕ) → length file ≤ m + at
-      → length file ≤ n + at → run_up_to m part file at ≡ run_up_to n part file at
+      → length file ≤ n + at → chain_up_to m part file at ≡ chain_up_to n part file at
   enough zero n at le le' = past zero at (omega (arith, le)) ∙ sym (past n at (omega (arith, le)))
   enough (suc m) zero at le le' = grind (arith, past)
   enough (suc m) (suc n) at le le' =
       one_more m at
-      ∙ run_onward-same at (λ later. run_up_to m part file later)
-      (λ later. run_up_to n part file later)
+      ∙ chain_onward-same at (λ later. chain_up_to m part file later)
+      (λ later. chain_up_to n part file later)
       (whole_item_at part file at) (λ item is.
       let here = whole_item_at-is at item is in
       enough m n (at + size_of item) (omega (arith, le, here.some))
       (omega (arith, le', here.some)))
       ∙ sym (one_more n at)
 
-  -- a run takes the item at its offset, and continues after it
-  pub item_run-step : (at : ℕ)
-      → item_run part file at ≡ run_onward at (item_run part file) (whole_item_at part file at)
-  unfolding item_run
-  item_run-step at = grind (arith, enough (length file) (suc (length file)), one_more (length file))
+  -- a chain takes the item at its offset, and continues after it
+  pub item_chain-step : (at : ℕ) → item_chain part file at
+      ≡ chain_onward at (item_chain part file) (whole_item_at part file at)
+  unfolding item_chain
+  item_chain-step at =
+      grind (arith, enough (length file) (suc (length file)), one_more (length file))
 
-  -- if an item is at the offset, the run begins with it
-  pub item_run-next : {at : ℕ} {item : Item} → whole_item_at part file at ≡ Some item
-      → item_run part file at ≡ run_with_item at item (item_run part file (at + size_of item))
-  item_run-next {at} is = item_run-step at ∙ ap (run_onward at (item_run part file)) is
+  -- if an item is at the offset, the chain begins with it
+  pub item_chain-next : {at : ℕ} {item : Item} → whole_item_at part file at ≡ Some item
+      → item_chain part file at ≡ chain_with_item at item (item_chain part file (at + size_of item))
+  item_chain-next {at} is = item_chain-step at ∙ ap (chain_onward at (item_chain part file)) is
 
-  -- if none is there, the run stops
-  pub item_run-stopped_run : (at : ℕ) → whole_item_at part file at ≡ None
-      → item_run part file at ≡ stopped_run at
-  item_run-stopped_run at is = item_run-step at ∙ ap (run_onward at (item_run part file)) is
+  -- if none is there, the chain stops
+  pub item_chain-stopped_chain : (at : ℕ) → whole_item_at part file at ≡ None
+      → item_chain part file at ≡ stopped_chain at
+  item_chain-stopped_chain at is =
+      item_chain-step at ∙ ap (chain_onward at (item_chain part file)) is
 
-  -- ---- what the items of a run are together
+  -- ---- what the items of a chain are together
 
-  run_onward-ends : (at : ℕ) (next : ℕ → ItemRun) (o : Option Item) → whole_item_at part file at ≡ o
-      → ((later : ℕ) → AreEndToEnd part file later (next later).items (next later).stop) →
-      AreEndToEnd part file at (run_onward at next o).items (run_onward at next o).stop
-  run_onward-ends at next o is ends = grind arith
+  chain_onward-ends : (at : ℕ) (next : ℕ → ItemChain) (o : Option Item) → whole_item_at part file at
+      ≡ o → ((later : ℕ) → AreEndToEnd part file later (next later).items (next later).stop) →
+      AreEndToEnd part file at (chain_onward at next o).items (chain_onward at next o).stop
+  chain_onward-ends at next o is ends = grind arith
 
-  ends_up_to : (n at : ℕ)
-      → AreEndToEnd part file at (run_up_to n part file at).items (run_up_to n part file at).stop
-  unfolding run_up_to
+  ends_up_to : (n at : ℕ) → AreEndToEnd part file at
+      (chain_up_to n part file at).items (chain_up_to n part file at).stop
+  unfolding chain_up_to
   ends_up_to zero at = refl
-  ends_up_to (suc n) at = run_onward-ends at (λ later. run_up_to n part file later)
+  ends_up_to (suc n) at = chain_onward-ends at (λ later. chain_up_to n part file later)
       (whole_item_at part file at) refl (λ later. ends_up_to n later)
 
-  -- the items of a run follow end to end from its beginning to its stop
-  pub item_run-ends : (from : ℕ)
-      → AreEndToEnd part file from (item_run part file from).items (item_run part file from).stop
-  unfolding item_run
-  item_run-ends from = ends_up_to (length file) from
+  -- the items of a chain follow end to end from its beginning to its stop
+  pub item_chain-ends : (from : ℕ) → AreEndToEnd part file from
+      (item_chain part file from).items (item_chain part file from).stop
+  unfolding item_chain
+  item_chain-ends from = ends_up_to (length file) from
 
   -- no item is after them: there are no more items than bytes
-  run_onward-last : (at : ℕ) (next : ℕ → ItemRun) (o : Option Item)
+  chain_onward-last : (at : ℕ) (next : ℕ → ItemChain) (o : Option Item)
       → whole_item_at part file at ≡ o → ((item : Item) → o ≡ Some item
       → whole_item_at part file (next (at + size_of item)).stop ≡ None)
-      → whole_item_at part file (run_onward at next o).stop ≡ None
-  run_onward-last at next o is last = grind arith
+      → whole_item_at part file (chain_onward at next o).stop ≡ None
+  chain_onward-last at next o is last = grind arith
 
   last_up_to : (n at : ℕ) → length file ≤ n + at
-      → whole_item_at part file (run_up_to n part file at).stop ≡ None
-  unfolding run_up_to
+      → whole_item_at part file (chain_up_to n part file at).stop ≡ None
+  unfolding chain_up_to
   last_up_to zero at le = whole_item_at-past at (omega (arith, le))
   last_up_to (suc n) at le =
-      run_onward-last at (λ later. run_up_to n part file later)
+      chain_onward-last at (λ later. chain_up_to n part file later)
       (whole_item_at part file at) refl
       (λ item is. last_up_to n (at + size_of item)
       (omega (arith, le, (whole_item_at-is at item is).some)))
 
-  -- no further item begins where a run stops
-  pub item_run-last : (from : ℕ) → whole_item_at part file (item_run part file from).stop ≡ None
-  unfolding item_run
-  item_run-last from = last_up_to (length file) from (omega arith)
+  -- no further item begins where a chain stops
+  pub item_chain-last : (from : ℕ) → whole_item_at part file (item_chain part file from).stop ≡ None
+  unfolding item_chain
+  item_chain-last from = last_up_to (length file) from (omega arith)
 
-  -- items that follow end to end, with no further one after them, are the run
-  pub item_run-only : (from : ℕ) (ps : List PlacedItem) {to : ℕ}
+  -- items that follow end to end, with no further one after them, are the chain
+  pub item_chain-only : (from : ℕ) (ps : List PlacedItem) {to : ℕ}
       → AreEndToEnd part file from ps to → whole_item_at part file to ≡ None
-      → item_run part file from ≡ record { items = ps; stop = to }
-  item_run-only from [] ends none = grind (arith, item_run-stopped_run)
-  item_run-only from (p ∷ ps) {to} ends none =
-      grind (arith, item_run-next, item_run-only (p.offset + size_of p.item) ps ends.2 none)
+      → item_chain part file from ≡ record { items = ps; stop = to }
+  item_chain-only from [] ends none = grind (arith, item_chain-stopped_chain)
+  item_chain-only from (p ∷ ps) {to} ends none =
+      grind (arith, item_chain-next, item_chain-only (p.offset + size_of p.item) ps ends.2 none)
 
   -- items that follow end to end and the bytes after them are the file's bytes from their beginning
   -- on
@@ -171,7 +174,7 @@ module _ (part : Region) (file : List ℕ) where
       ∙ take-append-drop size (drop p.offset file)
       ∙ ap (λ at. drop at file) ends.0
 
--- ---- frames and blocks among the items of a run
+-- ---- frames and blocks among the items of a chain
 
 -- an item that may be there comes before the others
 pub cons_list : {X : Type 0} (o : Option X) (xs : List X)
@@ -181,37 +184,37 @@ cons_list o xs = grind arith
 no_frame : (at : ℕ) (item : Item) → belongs Front item ≡ true → frame_of_item at item ≡ None
 no_frame at item is = grind arith
 
-run_onward-front : (file : List ℕ) (at : ℕ) (next : ℕ → ItemRun) (o : Option Item)
+chain_onward-front : (file : List ℕ) (at : ℕ) (next : ℕ → ItemChain) (o : Option Item)
     → whole_item_at Front file at ≡ o → ((later : ℕ) → frames_of (next later).items ≡ [])
-    → frames_of (run_onward at next o).items ≡ []
-run_onward-front file at next o is none = grind (arith, whole_item_at-is, no_frame)
+    → frames_of (chain_onward at next o).items ≡ []
+chain_onward-front file at next o is none = grind (arith, whole_item_at-is, no_frame)
 
-front_up_to : (n : ℕ) (file : List ℕ) (at : ℕ) → frames_of (run_up_to n Front file at).items ≡ []
-unfolding run_up_to
+front_up_to : (n : ℕ) (file : List ℕ) (at : ℕ) → frames_of (chain_up_to n Front file at).items ≡ []
+unfolding chain_up_to
 front_up_to zero file at = refl
-front_up_to (suc n) file at = run_onward-front file at (λ later. run_up_to n Front file later)
+front_up_to (suc n) file at = chain_onward-front file at (λ later. chain_up_to n Front file later)
     (whole_item_at Front file at) refl (λ later. front_up_to n file later)
 
 -- there are no frames in the front
-pub front-frames : (file : List ℕ) (from : ℕ) → frames_of (item_run Front file from).items ≡ []
-unfolding item_run
+pub front-frames : (file : List ℕ) (from : ℕ) → frames_of (item_chain Front file from).items ≡ []
+unfolding item_chain
 front-frames file from = front_up_to (length file) file from
 
 -- the frame, if any, at the offset comes first of the frames
 pub frames-next : (part : Region) (file : List ℕ) (at : ℕ) {item : Item}
     → whole_item_at part file at ≡ Some item →
-    frames_of (item_run part file at).items
+    frames_of (item_chain part file at).items
     ≡ option_to_list (frame_of_item at item)
-    ++ frames_of (item_run part file (at + size_of item)).items
-frames-next part file at is = grind (arith, item_run-next, is, cons_list)
+    ++ frames_of (item_chain part file (at + size_of item)).items
+frames-next part file at is = grind (arith, item_chain-next, is, cons_list)
 
 -- the block, if any, at the offset comes first of the blocks
 pub blocks-next : (part : Region) (file : List ℕ) (at : ℕ) {item : Item}
     → whole_item_at part file at ≡ Some item →
-    blocks_of (item_run part file at).items
+    blocks_of (item_chain part file at).items
     ≡ option_to_list (block_of_item at item)
-    ++ blocks_of (item_run part file (at + size_of item)).items
-blocks-next part file at is = grind (arith, item_run-next, is, cons_list)
+    ++ blocks_of (item_chain part file (at + size_of item)).items
+blocks-next part file at is = grind (arith, item_chain-next, is, cons_list)
 
 -- one more item was kept
 pub kept_more : {X : Type 0} (old here : List X) {kept rest : List X} (later : List X)

@@ -7,18 +7,18 @@ use Rattle.file_laws.proofs.CutItemLemmas.{cut, cut-none, IsCutItem, IsCutThroug
 use Rattle.file_laws.proofs.{CutItemLemmas.{item-kept, length-cut}, CutStartLemmas.no-start}
 use Rattle.file_laws.specs.CutLaws.{IsCutFault}
 use Rattle.frame_header.specs.Fields.{HeaderFields}
-use Rattle.laying.proofs.LaidRunLemmas.{front_end-is}
+use Rattle.laying.proofs.LaidChainLemmas.{front_end-is}
+use Rattle.sync_survey.proofs.ChainLemmas.{IsItemOf, item_chain-ends, item_chain-only}
+use Rattle.sync_survey.proofs.ChainLemmas.{whole_item_at-is, whole_item_at-whole}
 use Rattle.sync_survey.proofs.{ItemListLemmas.stream_belongs, OneItemLemmas.stands-only_at}
-use Rattle.sync_survey.proofs.RunsLemmas.{IsItemOf, item_run-ends, item_run-only, whole_item_at-is}
-use Rattle.sync_survey.proofs.RunsLemmas.{whole_item_at-whole}
 use Rattle.sync_survey.proofs.StartLemmas.{start-first, start-front, start_is}
-use Rattle.sync_survey.specs.Items.{item_at, item_fits, size_of}
-use Rattle.sync_survey.specs.Runs.{AreEndToEnd, belongs, item_if_whole, item_run, PlacedItem}
-use Rattle.sync_survey.specs.{Runs.whole_item_at, Start.{front_end_of, start_at, start_of}}
-use Rattle.sync_survey.specs.{Walk.fault_at, declared.items.Item.Item}
+use Rattle.sync_survey.specs.Chains.{AreEndToEnd, belongs, item_chain, item_if_whole, PlacedItem}
+use Rattle.sync_survey.specs.{Chains.whole_item_at, Items.{item_at, item_fits, size_of}}
+use Rattle.sync_survey.specs.{Start.{front_end_of, start_at, start_of}, Walk.fault_at}
+use Rattle.sync_survey.specs.declared.chains.Region.{Region, TheVariants.{Front, Stream}}
+use Rattle.sync_survey.specs.declared.items.Item.{Item}
 use Rattle.sync_survey.specs.declared.items.Item.TheVariants.{Block, End, Frame, Free, Nothing}
 use Rattle.sync_survey.specs.declared.{items.Item.TheVariants.Zero, places.Start.Start}
-use Rattle.sync_survey.specs.declared.runs.Region.{Region, TheVariants.{Front, Stream}}
 use Rattle.sync_survey.specs.declared.survey_fault.SurveyFault.{SurveyFault}
 use Rattle.sync_survey.specs.declared.survey_fault.SurveyFault.TheVariants.{NoFrame, Truncated}
 
@@ -26,15 +26,15 @@ module _ (file : List ℕ) (n : ℕ) (within : n ≤ length file) where
   abbrev now : List ℕ
   now = cut file n within
 
-  -- ---- a run
+  -- ---- a chain
 
-  -- where the run stops now: where it did, or at an item that was cut through
+  -- where the chain stops now: where it did, or at an item that was cut through
   abbrev pub IsStop : Region → ℕ → ℕ → List PlacedItem → Type 0
   IsStop part to stop rest =
       ((stop ≡ to) × (rest ≡ [])) ⊎ ((item : Item) × IsCutThrough file n within part stop item)
 
-  -- the items that are still whole, end to end, and where and why the run stops
-  pub record IsCutRun (part : Region) (from : ℕ) (ps : List PlacedItem) (to : ℕ) : Type 0 where
+  -- the items that are still whole, end to end, and where and why the chain stops
+  pub record IsCutChain (part : Region) (from : ℕ) (ps : List PlacedItem) (to : ℕ) : Type 0 where
     pub front : List PlacedItem
     pub rest : List PlacedItem
     pub stop : ℕ
@@ -43,12 +43,12 @@ module _ (file : List ℕ) (n : ℕ) (within : n ≤ length file) where
     pub low : stop ≤ n
     pub last : IsStop part to stop rest
 
-  run-more : {part : Region} {from : ℕ} {p : PlacedItem} {ps : List PlacedItem} {to : ℕ}
+  chain-more : {part : Region} {from : ℕ} {p : PlacedItem} {ps : List PlacedItem} {to : ℕ}
       → AreEndToEnd part file from (p ∷ ps) to → from ≤ n
-      → (p.offset + size_of p.item ≤ n → IsCutRun part (p.offset + size_of p.item) ps to)
+      → (p.offset + size_of p.item ≤ n → IsCutChain part (p.offset + size_of p.item) ps to)
       → (n < p.offset + size_of p.item) ⊎ (p.offset + size_of p.item ≤ n)
-      → IsCutRun part from (p ∷ ps) to
-  run-more {from = from} {p = p} {ps = ps} ends low later (inl over) = record {
+      → IsCutChain part from (p ∷ ps) to
+  chain-more {from = from} {p = p} {ps = ps} ends low later (inl over) = record {
     front = [];
     rest = p ∷ ps;
     stop = from;
@@ -57,7 +57,7 @@ module _ (file : List ℕ) (n : ℕ) (within : n ≤ length file) where
     low = low;
     last = grind (arith, low);
   }
-  run-more {part} {p = p} ends low later (inr kept) =
+  chain-more {part} {p = p} ends low later (inr kept) =
       let behind = later kept in
       record {
         front = p ∷ behind.front;
@@ -69,10 +69,10 @@ module _ (file : List ℕ) (n : ℕ) (within : n ≤ length file) where
         last = behind.last;
       }
 
-  -- the run has the items that are still whole, and stops after them
-  pub cut-run : {part : Region} (from : ℕ) (ps : List PlacedItem) {to : ℕ}
-      → AreEndToEnd part file from ps to → from ≤ n → IsCutRun part from ps to
-  cut-run from [] ends low = record {
+  -- the chain has the items that are still whole, and stops after them
+  pub cut-chain : {part : Region} (from : ℕ) (ps : List PlacedItem) {to : ℕ}
+      → AreEndToEnd part file from ps to → from ≤ n → IsCutChain part from ps to
+  cut-chain from [] ends low = record {
     front = [];
     rest = [];
     stop = from;
@@ -81,8 +81,8 @@ module _ (file : List ℕ) (n : ℕ) (within : n ≤ length file) where
     low = low;
     last = grind (arith, ends);
   }
-  cut-run {part} from (p ∷ ps) {to} ends low =
-      run-more ends low (λ kept. cut-run
+  cut-chain {part} from (p ∷ ps) {to} ends low =
+      chain-more ends low (λ kept. cut-chain
       (p.offset + size_of p.item) ps ends.2 kept) (cases_lt n (p.offset + size_of p.item))
 
   -- ---- where no item of the part is whole
@@ -170,7 +170,7 @@ module _ (file : List ℕ) (n : ℕ) (within : n ≤ length file) where
   -- the front ends at this offset now
   front-now : (front : List PlacedItem) {stop : ℕ} → AreEndToEnd Front now 0 front stop
       → whole_item_at Front now stop ≡ None → stop ≡ front_end_of now
-  front-now front ends none = grind (arith, item_run-only, ends, front_end-is)
+  front-now front ends none = grind (arith, item_chain-only, ends, front_end-is)
 
   module _ (start : Start) (is : start_of file ≡ Ok start)
       (no_junk : start.first.offset ≡ start.front_end) where
@@ -205,8 +205,9 @@ module _ (file : List ℕ) (n : ℕ) (within : n ≤ length file) where
         let same : Ok (record { front_end = at; first = start.first }) ≡ Ok start = grind arith in
         inl (start_is now at (Frame h) front here.is ∙ rw fit refl ∙ same, kept)
 
-    by_front : (r : IsCutRun Front 0 (item_run Front file 0).items (item_run Front file 0).stop)
-        → IsStop Front (item_run Front file 0).stop r.stop r.rest → IsCutStart start
+    by_front :
+        (r : IsCutChain Front 0 (item_chain Front file 0).items (item_chain Front file 0).stop)
+        → IsStop Front (item_chain Front file 0).stop r.stop r.rest → IsCutStart start
     by_front r (inl end) =
         let stop : r.stop ≡ at = end.0 ∙ front_end-is file ∙ sym at_front in
         let none : whole_item_at Front now r.stop ≡ None =
@@ -229,7 +230,7 @@ module _ (file : List ℕ) (n : ℕ) (within : n ≤ length file) where
     -- the start is the same and its frame still whole, or there is none, with a fault of a cut file
     pub cut-start : IsCutStart start
     cut-start =
-        let r = cut-run 0
-        (item_run Front file 0).items (item_run-ends Front file 0)
+        let r = cut-chain 0
+        (item_chain Front file 0).items (item_chain-ends Front file 0)
         (omega arith) in
         by_front r r.last

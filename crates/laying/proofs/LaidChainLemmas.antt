@@ -1,4 +1,4 @@
--- The runs of a laid file, where its stream starts, and its head.
+-- The chains of a laid file, where its stream starts, and its head.
 use Rattle.std.proofs.Common.{ap, append-nil, arith, drop, length, length-append, List, None, Ok}
 use Rattle.std.proofs.Common.{Option, option_map, refl, Some, sym, take, ℕ, [], ◌++◌, ◌+◌, ◌<◌, ◌∙◌}
 use Rattle.std.proofs.{Common.{◌∷◌, ◌≡◌, ◌≤◌}, lemmas.List.{drop-drop, drop_all, drop_at, take_at}}
@@ -13,22 +13,22 @@ use Rattle.laying.proofs.{InfoByteLemmas.length-info_frame, LaidDataLemmas.lengt
 use Rattle.laying.proofs.LaidFrameLemmas.{areas-all, blocks-behind, frame_items, framed_bytes-items}
 use Rattle.laying.proofs.LaidFrameLemmas.{framed_bytes-stand, frames-placed, frames_at, StandFrom}
 use Rattle.laying.specs.LaidFiles.{blocks_from, frames_offset, head_at, IsLaidFile, laid_file}
-use Rattle.sync_survey.proofs.ItemListLemmas.{AreItems, item_at-known, items-append, items-item_run}
-use Rattle.sync_survey.proofs.{ItemListLemmas.placed, OneItemLemmas.stands-only_at}
-use Rattle.sync_survey.proofs.{RunsLemmas.whole_item_at-past, SameHeadLemmas.area-frame}
+use Rattle.sync_survey.proofs.ChainLemmas.{whole_item_at-past}
+use Rattle.sync_survey.proofs.ItemListLemmas.{AreItems, item_at-known, items-append}
+use Rattle.sync_survey.proofs.ItemListLemmas.{items-item_chain, placed}
+use Rattle.sync_survey.proofs.{OneItemLemmas.stands-only_at, SameHeadLemmas.area-frame}
 use Rattle.sync_survey.proofs.{StartLemmas.start_is, SurveyLemmas.overhead-within}
-use Rattle.sync_survey.{proofs.SurveyPartsLemmas.frames_from, specs.Items.{item_at, size_of}}
-use Rattle.sync_survey.specs.MainData.{head_area, head_bytes}
-use Rattle.sync_survey.specs.Runs.{item_if_whole, item_run, ItemRun, whole_item_at}
+use Rattle.sync_survey.proofs.SurveyPartsLemmas.{frames_from}
+use Rattle.sync_survey.specs.Chains.{item_chain, item_if_whole, ItemChain, whole_item_at}
+use Rattle.sync_survey.specs.{Items.{item_at, size_of}, MainData.{head_area, head_bytes}}
 use Rattle.sync_survey.specs.Start.{front_end_of, start_of}
 use Rattle.sync_survey.specs.Walk.{all_blocks, end_fault, fault_at, frame_bytes, head_of}
-use Rattle.sync_survey.specs.{Walk.stream_run, declared.items.Item.Item}
-use Rattle.sync_survey.specs.declared.items.Item.TheVariants.{End, Frame as FrameItem}
+use Rattle.sync_survey.specs.{Walk.stream_chain, declared.chains.Region.TheVariants.{Front, Stream}}
+use Rattle.sync_survey.specs.declared.items.Item.{Item, TheVariants.{End, Frame as FrameItem}}
 use Rattle.sync_survey.specs.declared.places.{Head.Head, PlacedFrame.PlacedFrame, Start.Start}
-use Rattle.sync_survey.specs.declared.runs.Region.TheVariants.{Front, Stream}
 
--- the front of a file ends where its run stops
-pub front_end-is : (file : List ℕ) → (item_run Front file 0).stop ≡ front_end_of file
+-- the front of a file ends where its chain stops
+pub front_end-is : (file : List ℕ) → (item_chain Front file 0).stop ≡ front_end_of file
 unfolding front_end_of
 front_end-is file = refl
 
@@ -118,19 +118,20 @@ module _ (c : ClassFields) (front : List (List ℕ)) (first : HeaderFields) (inf
   pub frames-stand : StandFrom file (frames_offset front first info) frames area_data
   frames-stand = grind (arith, framed_bytes-stand, many, place-is, frames_stand)
 
-  -- ---- the runs
+  -- ---- the chains
 
   first_item : item_at file from ≡ FrameItem h
   first_item = item_at-known file from from (own ++ after) (FrameItem h) refl stands
       ((info_item first info is.header is.sizes).known after)
 
-  front_run : item_run Front file 0
+  front_chain : item_chain Front file 0
       ≡ record { items = placed 0 (block_items front is.blocks_before); stop = from }
-  front_run = grind (arith, items-item_run, blocks-items, file-is, not_in_front, first_item, placed)
+  front_chain =
+      grind (arith, items-item_chain, blocks-items, file-is, not_in_front, first_item, placed)
 
   -- the stream starts with the Info frame
   pub start-is : start_of file ≡ Ok start
-  start-is = start_by file (sym (ap (λ (r : ItemRun). r.stop) front_run) ∙ front_end-is file)
+  start-is = start_by file (sym (ap (λ (r : ItemChain). r.stop) front_chain) ∙ front_end-is file)
       first_item (omega (arith, long_file))
 
   later_are : AreItems Stream later_items after
@@ -144,11 +145,11 @@ module _ (c : ClassFields) (front : List (List ℕ)) (first : HeaderFields) (inf
   unfolding stop
   stop-past = omega (arith, long_file, long_own, length-append own after)
 
-  stream : stream_run file start
+  stream : stream_chain file start
       ≡ record { items = placed from (FrameItem h ∷ later_items); stop = stop }
   unfolding stop
   stream =
-      items-item_run Stream file (FrameItem h ∷ later_items) (own ++ after) []
+      items-item_chain Stream file (FrameItem h ∷ later_items) (own ++ after) []
       (own, after, refl, info_item first info is.header is.sizes, refl, later_are)
       (omega (arith, long_file))
       (stands ∙ sym (append-nil (own ++ after)))
@@ -182,19 +183,19 @@ module _ (c : ClassFields) (front : List (List ℕ)) (first : HeaderFields) (inf
   -- the blocks are those before the frames and those after them
   pub blocks-are : all_blocks file start ≡ blocks_from 0 front
       ++ blocks_from (frames_offset front first info + length (bytes_of_frames frames)) back
-  blocks-are = grind (arith, front_run, blocks-placed, stream, blocks-behind, many, place-is)
+  blocks-are = grind (arith, front_chain, blocks-placed, stream, blocks-behind, many, place-is)
 
   -- ---- the end
 
   ended : fault_at stop (item_at file stop) ≡ None
   ended = ap (fault_at stop) (sym (stands-only_at file stop End (drop_all stop file stop-past)))
 
-  ended_at : {r : ItemRun}
+  ended_at : {r : ItemChain}
       → r ≡ record { items = placed from (FrameItem h ∷ later_items); stop = stop }
       → fault_at r.stop (item_at file r.stop) ≡ None
-  ended_at same = ap (λ (q : ItemRun). fault_at q.stop (item_at file q.stop)) same ∙ ended
+  ended_at same = ap (λ (q : ItemChain). fault_at q.stop (item_at file q.stop)) same ∙ ended
 
   -- nothing is at fault at the end
   pub no-end_fault : end_fault file (frames_from file start)
-      (fault_at (stream_run file start).stop (item_at file (stream_run file start).stop)) ≡ None
+      (fault_at (stream_chain file start).stop (item_at file (stream_chain file start).stop)) ≡ None
   no-end_fault = grind (arith, frames-are, ended_at, stream, some_frames)

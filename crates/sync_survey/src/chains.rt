@@ -2,7 +2,7 @@
 ghost use Rattle.std.specs.Prelude.{◌≡◌, ℕ, List, ◌≤◌, ◌==◌, length, IfSome};
 ghost use Rattle.std.specs.List.{prefix_len};
 ghost use Rattle.sync_survey.specs.Items.{size_of, item_front};
-ghost use Rattle.sync_survey.specs.Runs.{belongs};
+ghost use Rattle.sync_survey.specs.Chains.{belongs};
 ghost use Rattle.sync_survey.specs.Looks.{Shows, IsStep, PassesFront};
 
 use crate::items::{Item, item_front};
