@@ -87,7 +87,7 @@ SeamlessPlansAreFirst =
     (needs_of (run_of (part_brought first) (join_of_parts first parts)) ∷ []) (run_plan first parts)
 
 -- The output of a salvage holds exactly what is left of the damaged file: the
--- frames of all runs, each sound frame as it is, and each other frame empty.
+-- frames of all islands, each sound frame as it is, and each other frame empty.
 abbrev pub SalvagedStreamsAreExact : Type 0
 SalvagedStreamsAreExact = (file : List ℕ) (d : DamagedFields) → damaged_of file ≡ Ok d
     → IsExactly (salvaged_stream file ∷ []) (left_stream file d)

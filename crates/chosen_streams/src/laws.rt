@@ -44,7 +44,7 @@ pub fn seamless_plans_are_first()
     ensures { SeamlessPlansAreFirst }
 {}
 
-/// The output of a salvage holds exactly what is left of the damaged file, after at most one lead-in: the frames of all runs
+/// The output of a salvage holds exactly what is left of the damaged file, after at most one lead-in: the frames of all islands
 /// between gaps, in order, each sound frame as it is, and each other frame as an empty one.
 pub fn salvaged_streams_are_exact()
     ensures { SalvagedStreamsAreExact }

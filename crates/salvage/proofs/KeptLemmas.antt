@@ -1,4 +1,5 @@
--- The main data of the frames that are kept are where they may be among the main data of all runs.
+-- The main data of the frames that are kept are where
+-- they may be among the main data of all islands.
 use Rattle.std.proofs.Common.{ap₂, arith, Bool, cond, false, length, List, not, Option, refl, true}
 use Rattle.std.proofs.Common.{ℕ, [], ◌&&◌, ◌++◌, ◌+◌, ◌||◌, ◌∙◌, ◌∷◌, ◌≡◌, ◌≤◌}
 use Rattle.std.proofs.lemmas.Bool.{and_parts, le-ltb, ltb-false, not-false, not-true}
@@ -34,7 +35,7 @@ module _ (head : Option Head) where
   unfolding end_of_kept
   kept_none = grind (arith, place-none)
 
-  -- after a gap the frames kept so far are the same, and the next run begins without areas
+  -- after a gap the frames kept so far are the same, and the next island begins without areas
   pub kept_gap : {rows : List Row} {b : ReservoirState} → AreKeptTo head rows b
       → AreKeptTo head rows empty_state
   kept_gap {rows} kept = record {

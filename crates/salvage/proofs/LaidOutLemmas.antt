@@ -9,7 +9,7 @@ use Rattle.frame_header.proofs.{ClassLemmas.same_class-is, HeaderLemmas.IsClass-
 use Rattle.frame_header.specs.{Fields.{ClassFields, HeaderFields, IsHeader}, Tables.class_of}
 use Rattle.salvage.proofs.KeptLemmas.{kept_frame, kept_gap, kept_none}
 use Rattle.salvage.proofs.{ProgressLemmas.no_frame_or_damaged-few, ReadFaultLemmas.damaged_of-short}
-use Rattle.salvage.proofs.SoundLemmas.{runs-left}
+use Rattle.salvage.proofs.SoundLemmas.{islands-left}
 use Rattle.salvage.proofs.WalkLemmas.{gap_end-is, IsGapTo, IsNext, item_read-is}
 use Rattle.salvage.proofs.WalkLemmas.{next_usable_frame-is}
 use Rattle.salvage.specs.DamagedFiles.{damaged_by, damaged_fields, damaged_from, damaged_of}
@@ -19,7 +19,7 @@ use Rattle.salvage.specs.JudgedFrames.{empty_state, row_judged_in, rows_left, st
 use Rattle.salvage.specs.JudgedFrames.{state_after_thing, thing_rows}
 use Rattle.salvage.specs.KeptFrames.{AreKeptTo, AreKeptWell}
 use Rattle.salvage.specs.Progress.{GapsAreLaid, IsDamagedLaidOut, RowsAreOfClass}
-use Rattle.salvage.specs.{SoundFrames.{judged_runs, runs_of}, UsableFrames.next_usable_frame}
+use Rattle.salvage.specs.{SoundFrames.{islands_of, judged_islands}, UsableFrames.next_usable_frame}
 use Rattle.salvage.specs.Walk.{blocks_of_things, first_frame, frame_of_thing, frames_of_things}
 use Rattle.salvage.specs.Walk.{gaps_of, is_item_read, IsGap, IsItem, item_if_read, item_read}
 use Rattle.salvage.specs.Walk.{ItemOrGap, PlacedThing, size_of_thing, thing_at, thing_or_gap}
@@ -330,9 +330,9 @@ module _ (file : List ℕ) (first : PlacedFrame)
   abbrev begin : ReservoirState
   begin = record { place = head_area head; ended = 0 }
 
-  rows-are : judged_runs file head (runs_of (things_from file first))
+  rows-are : judged_islands file head (islands_of (things_from file first))
       ≡ rows_left file begin (things_from file first)
-  rows-are = runs-left file head (things_from file first)
+  rows-are = islands-left file head (things_from file first)
 
   from-laid : length file ≤ longest_file
       → 0 < length (damaged_from file (front_end_of file) first).survey.frames
@@ -411,7 +411,7 @@ frames-many : (file : List ℕ) (front_end : ℕ) (first : PlacedFrame)
     ≡ length (frames_of_things (things_from file first))
 unfolding damaged_from
 frames-many file front_end first =
-    ap length (runs-left file (head_of file first) (things_from file first)) ∙ rows-many file
+    ap length (islands-left file (head_of file first) (things_from file first)) ∙ rows-many file
     (record { place = head_area (head_of file first); ended = 0 }) (things_from file first)
 
 -- a file that isn't too long, its first frame, and how

@@ -6,7 +6,7 @@ use Rattle.std.{proofs.lemmas.{Bool.and_parts, Option.slice_get_past}, specs.Lis
 use Rattle.frame_header.proofs.{ClassLemmas.same_class-is, HeaderLemmas.IsClass-class_of}
 use Rattle.frame_header.specs.{Fields.{ClassFields, HeaderFields, IsHeader}, Tables.class_of}
 use Rattle.salvage.proofs.KeptLemmas.{kept_frame, kept_gap, kept_none}
-use Rattle.salvage.proofs.{ReadFaultLemmas.damaged_of-short, SoundLemmas.runs-left}
+use Rattle.salvage.proofs.{ReadFaultLemmas.damaged_of-short, SoundLemmas.islands-left}
 use Rattle.salvage.proofs.WalkLemmas.{item_passed, things-gap, things-item, things-past}
 use Rattle.salvage.specs.DamagedFiles.{damaged_fields, damaged_from, damaged_of, damaged_with_count}
 use Rattle.salvage.specs.DamagedFiles.{DamagedFields, gap_between, most_frames, no_frame_or_damaged}
@@ -342,7 +342,7 @@ begun_read {file} {b} begins first blocks =
     let ahead =
     λ (h : Option Head). things file (begun_class b) (numbered_offset b.start.first h) in
     record {
-      rows = grind (arith, runs-left);
+      rows = grind (arith, islands-left);
       blocks = grind (arith, blocks);
       gaps = grind arith;
     }

@@ -1,18 +1,18 @@
--- The frames of all runs, judged in order.
+-- The frames of all islands, judged in order.
 use Rattle.std.proofs.Common.{ap, append_assoc, ap₂, arith, flat_map, length, length-append, List}
 use Rattle.std.proofs.Common.{map, None, Option, refl, sym, ℕ, [], ◌++◌, ◌+◌, ◌∙◌, ◌∷◌, ◌≡◌}
 use Rattle.std.specs.List.{enumerate_from}
 use Rattle.salvage.specs.JudgedFrames.{empty_state, row_judged_in, rows_left, state_after_frame}
 use Rattle.salvage.specs.JudgedFrames.{state_after_thing, thing_rows}
-use Rattle.salvage.specs.SoundFrames.{end_of_sound, FrameRuns, judged_row, judged_rows, judged_runs}
-use Rattle.salvage.specs.SoundFrames.{runs_of, runs_with_thing, sound_end}
+use Rattle.salvage.specs.SoundFrames.{end_of_sound, FrameIslands, islands_of, islands_with_thing}
+use Rattle.salvage.specs.SoundFrames.{judged_islands, judged_row, judged_rows, sound_end}
 use Rattle.salvage.specs.Walk.{ItemOrGap, PlacedThing}
 use Rattle.sync_survey.proofs.FaultsLemmas.{IsRuled, place-more, place-next, place-none, ruled}
 use Rattle.sync_survey.specs.{MainData.{head_area, place, rows_of}, Row.Row}
 use Rattle.sync_survey.specs.declared.places.{Head.Head, PlacedFrame.PlacedFrame}
 use Rattle.sync_survey.specs.declared.rows.ReservoirState.{ReservoirState}
 
--- ---- one run
+-- ---- one island
 
 -- the rows marked in order
 abbrev pub judged_from : ReservoirState → List Row → List Row
@@ -61,36 +61,37 @@ module _ (head : Option Head) where
   unfolding judged_rows
   judged_rows-from rows = judged_rest [] rows ∙ ap (λ b. judged_from b rows) behind-none
 
--- ---- all runs
+-- ---- all islands
 
-abbrev runs_from : List ℕ → ReservoirState → FrameRuns → List Row
-runs_from file b runs = judged_from b (rows_of file runs.first)
-    ++ flat_map (λ run. judged_from empty_state (rows_of file run)) runs.later
+abbrev islands_from : List ℕ → ReservoirState → FrameIslands → List Row
+islands_from file b islands = judged_from b (rows_of file islands.first)
+    ++ flat_map (λ island. judged_from empty_state (rows_of file island)) islands.later
 
 later_same : (file : List ℕ) (later : List (List PlacedFrame))
-    → flat_map (λ run. judged_rows None (rows_of file run)) later
-    ≡ flat_map (λ run. judged_from empty_state (rows_of file run)) later
+    → flat_map (λ island. judged_rows None (rows_of file island)) later
+    ≡ flat_map (λ island. judged_from empty_state (rows_of file island)) later
 later_same file [] = refl
-later_same file (run ∷ later) = grind (arith, judged_rows-from, later_same file later)
+later_same file (island ∷ later) = grind (arith, judged_rows-from, later_same file later)
 
-runs-from : (file : List ℕ) (head : Option Head) (runs : FrameRuns) → judged_runs file head runs
-    ≡ runs_from file (record { place = head_area head; ended = 0 }) runs
-runs-from file head runs = grind (arith, judged_rows-from, later_same)
+islands-from : (file : List ℕ) (head : Option Head) (islands : FrameIslands)
+    → judged_islands file head islands
+    ≡ islands_from file (record { place = head_area head; ended = 0 }) islands
+islands-from file head islands = grind (arith, judged_rows-from, later_same)
 
 -- one more thing before the others
-thing_first : (file : List ℕ) (b : ReservoirState) (at : ℕ) (thing : ItemOrGap) (runs : FrameRuns)
-    → runs_from file b (runs_with_thing at thing runs)
-    ≡ thing_rows file b at thing ++ runs_from file (state_after_thing file b at thing) runs
-thing_first file b at thing runs = grind arith
+thing_first : (file : List ℕ) (b : ReservoirState) (at : ℕ) (thing : ItemOrGap)
+    (islands : FrameIslands) → islands_from file b (islands_with_thing at thing islands)
+    ≡ thing_rows file b at thing ++ islands_from file (state_after_thing file b at thing) islands
+thing_first file b at thing islands = grind arith
 
 all_things : (file : List ℕ) (b : ReservoirState) (ts : List PlacedThing)
-    → runs_from file b (runs_of ts) ≡ rows_left file b ts
+    → islands_from file b (islands_of ts) ≡ rows_left file b ts
 all_things file b [] = refl
 all_things file b (t ∷ ts) =
     grind (arith, thing_first, all_things file (state_after_thing file b t.offset t.thing) ts)
 
--- the frames of all runs are the frames that are met, in order
-pub runs-left : (file : List ℕ) (head : Option Head) (ts : List PlacedThing)
-    → judged_runs file head (runs_of ts)
+-- the frames of all islands are the frames that are met, in order
+pub islands-left : (file : List ℕ) (head : Option Head) (ts : List PlacedThing)
+    → judged_islands file head (islands_of ts)
     ≡ rows_left file (record { place = head_area head; ended = 0 }) ts
-runs-left file head ts = grind (arith, runs-from, all_things)
+islands-left file head ts = grind (arith, islands-from, all_things)

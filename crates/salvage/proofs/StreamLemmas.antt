@@ -1,4 +1,4 @@
--- The stream of what is read, run by run, is the stream of all frames in the survey.
+-- The stream of what is read, island by island, is the stream of all frames in the survey.
 use Rattle.std.proofs.Common.{ap, append_assoc, ap₂, arith, Bool, cond, drop, false, flat_map}
 use Rattle.std.proofs.Common.{IfSome, length, length-append, length-drop, length-take, List, map}
 use Rattle.std.proofs.Common.{None, not, Ok, Option, refl, Some, subst, suc, sym, take, true, ℕ, []}
@@ -12,8 +12,9 @@ use Rattle.salvage.proofs.{KeptLemmas.sound_within, LaidOutLemmas.damaged_fields
 use Rattle.salvage.proofs.SoundLemmas.{judged_from, judged_rows-from}
 use Rattle.salvage.specs.DamagedFiles.{damaged_fields, damaged_from, DamagedFields, things_from}
 use Rattle.salvage.specs.{JudgedFrames.state_after_frame, Progress.IsDamagedLaidOut}
-use Rattle.salvage.specs.SoundFrames.{FrameRuns, is_sound, judged_rows, judged_runs, runs_of}
-use Rattle.salvage.specs.Stream.{run_stream, runs_stream, salvaged_stream, stream_from}
+use Rattle.salvage.specs.SoundFrames.{FrameIslands, is_sound, islands_of, judged_islands}
+use Rattle.salvage.specs.SoundFrames.{judged_rows}
+use Rattle.salvage.specs.Stream.{island_stream, islands_stream, salvaged_stream, stream_from}
 use Rattle.salvage.specs.Walk.{first_frame}
 use Rattle.side_info.specs.{Side.{no_side, payload_bits, payload_bytes}, declared.side.Side.Side}
 use Rattle.sync_survey.proofs.EmptiedLemmas.{no_bits}
@@ -97,7 +98,7 @@ payload_among before main behind start s within =
     ∙ take-append-le n (drop (8 * start) (bits main)) (bits behind)
     (omega (arith, within, length-bits main, length-drop (8 * start) (bits main)))
 
--- the main data of a frame that is kept are among the main data of its run
+-- the main data of a frame that is kept are among the main data of its island
 abbrev Fits : ℕ → ℕ → Row → Type 0
 Fits size place r = (r.side.main_data_begin ≤ place)
     × (8 * (place - r.side.main_data_begin) + payload_bits r.side ≤ 8 * size)
@@ -153,7 +154,7 @@ frames_among before main behind place (r ∷ rows) fit =
           fit.1,
     )
 
--- ---- the frames of a run that are kept
+-- ---- the frames of an island that are kept
 
 areas_judged : (b : ReservoirState) (rows : List Row) → areas (judged_from b rows) ≡ areas rows
 areas_judged b [] = refl
@@ -215,24 +216,25 @@ module _ (file : List ℕ) where
   unfolding main_bytes
   main-is head rows = refl
 
-  -- ---- run by run
+  -- ---- island by island
 
-  abbrev of_run : List PlacedFrame → List Row
-  of_run run = judged_rows None (rows_of file run)
+  abbrev of_island : List PlacedFrame → List Row
+  of_island island = judged_rows None (rows_of file island)
 
-  run_fits : (head : Option Head) (rows : List Row) {size : ℕ}
+  island_fits : (head : Option Head) (rows : List Row) {size : ℕ}
       → head_area head + areas (judged_rows head rows) ≤ size
       → AllFit size (head_area head) (judged_rows head rows)
-  run_fits head rows room = grind (arith, judged_rows-from, judged_fit, areas_judged)
+  island_fits head rows room = grind (arith, judged_rows-from, judged_fit, areas_judged)
 
   later_stream : (before : List ℕ) (later : List (List PlacedFrame))
-      → AreWhole file (flat_map of_run later)
-      → frames_at (before ++ flat_map area_in (flat_map of_run later)) (length before)
-      (flat_map of_run later) ≡ flat_map (λ run. run_stream file None (of_run run)) later
+      → AreWhole file (flat_map of_island later)
+      → frames_at (before ++ flat_map area_in (flat_map of_island later)) (length before)
+      (flat_map of_island later)
+      ≡ flat_map (λ island. island_stream file None (of_island island)) later
   later_stream before [] whole = refl
-  later_stream before (run ∷ later) whole =
-      let own = of_run run in
-      let others = flat_map of_run later in
+  later_stream before (island ∷ later) whole =
+      let own = of_island island in
+      let others = flat_map of_island later in
       let main = flat_map area_in own in
       let behind = flat_map area_in others in
       let parts = whole_parts file own others whole in
@@ -247,7 +249,7 @@ module _ (file : List ℕ) where
       ∙ ap₂ (λ (a b : List StreamFrame). a ++ b)
       (ap (λ n. frames_at (before ++ (main ++ behind)) n own) none
       ∙ frames_among before main behind 0 own
-      (run_fits None (rows_of file run) (omega (arith, size)))
+      (island_fits None (rows_of file island) (omega (arith, size)))
       ∙ ap (λ l. frames_at l 0 own) (sym (main-is None own))
       ∙ sym (frames-at (main_bytes file None own) None own))
       (ap₂ (λ l n. frames_at l n others) (sym (append_assoc before main behind)) start
@@ -258,13 +260,13 @@ module _ (file : List ℕ) where
       → length (head_bytes file head) ≡ head_area head
   length_head head first class whole few = grind (arith, length_area)
 
-  all_stream : (head : Option Head) (runs : FrameRuns)
-      → length (head_bytes file head) ≡ head_area head → AreWhole file (judged_runs file head runs)
-      → stream_frames (main_bytes file head (judged_runs file head runs)) head
-      (judged_runs file head runs) ≡ runs_stream file head runs
-  all_stream head runs known whole =
-      let own = judged_rows head (rows_of file runs.first) in
-      let others = flat_map of_run runs.later in
+  all_stream : (head : Option Head) (islands : FrameIslands) → length (head_bytes file head)
+      ≡ head_area head → AreWhole file (judged_islands file head islands)
+      → stream_frames (main_bytes file head (judged_islands file head islands)) head
+      (judged_islands file head islands) ≡ islands_stream file head islands
+  all_stream head islands known whole =
+      let own = judged_rows head (rows_of file islands.first) in
+      let others = flat_map of_island islands.later in
       let main = head_bytes file head ++ flat_map area_in own in
       let behind = flat_map area_in others in
       let parts = whole_parts file own others whole in
@@ -283,16 +285,16 @@ module _ (file : List ℕ) where
       ∙ ap₂ (λ (a b : List StreamFrame). a ++ b)
       (ap (λ n. frames_at (main ++ behind) n own) none
       ∙ frames_among [] main behind (head_area head) own
-      (run_fits head (rows_of file runs.first) (omega (arith, size)))
+      (island_fits head (rows_of file islands.first) (omega (arith, size)))
       ∙ ap (λ l. frames_at l (head_area head) own) (sym (main-is head own))
       ∙ sym (frames-at (main_bytes file head own) head own))
       (ap (λ n. frames_at (main ++ behind) n others) (sym size)
-      ∙ later_stream main runs.later parts.1)
+      ∙ later_stream main islands.later parts.1)
 
 -- ---- the stream of a file
 
 from_first : (file : List ℕ) {first : PlacedFrame} → first_frame file (front_end_of file)
-    ≡ Some first → runs_stream file (head_of file first) (runs_of (things_from file first))
+    ≡ Some first → islands_stream file (head_of file first) (islands_of (things_from file first))
     ≡ salvaged_stream file
 unfolding salvaged_stream
 from_first file is = sym (ap (stream_from file) is)
@@ -300,11 +302,11 @@ from_first file is = sym (ap (stream_from file) is)
 told_stream : (file : List ℕ) (front_end : ℕ) (first : PlacedFrame)
     → IsDamagedLaidOut (damaged_from file front_end first)
     → stream_of_survey file (damaged_from file front_end first).survey
-    ≡ runs_stream file (head_of file first) (runs_of (things_from file first))
+    ≡ islands_stream file (head_of file first) (islands_of (things_from file first))
 unfolding damaged_from stream_of_survey
 told_stream file front_end first laid = grind (arith, all_stream, length_head, laid_whole)
 
--- the stream of a file is the stream of its runs of frames
+-- the stream of a file is the stream of its islands of frames
 pub stream-told : (file : List ℕ) {d : DamagedFields} → damaged_fields file ≡ Ok d
     → IsDamagedLaidOut d → stream_of_survey file d.survey ≡ salvaged_stream file
 stream-told file {d} e laid =

@@ -4,7 +4,7 @@ use Rattle.std.specs.Prelude.{Err, if◌then◌else◌, length, List, nat_lt, No
 use Rattle.std.specs.Prelude.{slice_get, Some, ℕ, [], ◌++◌, ◌-◌, ◌∷◌, ◌≡◌}
 use Rattle.frame_header.specs.Tables.{class_of}
 use Rattle.outside.specs.{Counts.Counts, Files.{Files, Holds, IsFileThere}}
-use Rattle.salvage.specs.SoundFrames.{judged_runs, runs_of}
+use Rattle.salvage.specs.SoundFrames.{islands_of, judged_islands}
 use Rattle.salvage.specs.Walk.{blocks_of_things, first_frame, gaps_of, PlacedThing, things}
 use Rattle.salvage.specs.declared.{damaged.Damaged.Damaged, gap.Gap.Gap}
 use Rattle.sync_survey.specs.Chains.{blocks_of, item_chain}
@@ -40,7 +40,7 @@ damaged_from file front_end first =
     let head = head_of file first in
     let found = things_from file first in record {
       survey = record {
-        frames = judged_runs file head (runs_of found);
+        frames = judged_islands file head (islands_of found);
         blocks = blocks_of (item_chain Front file 0).items ++ blocks_of_things found;
         head = head;
         junk = front_end;

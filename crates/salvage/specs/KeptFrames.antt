@@ -21,7 +21,7 @@ end_of_kept head rows (suc i) =
 -- The main data that are kept before a frame end before its own area. The main data of each frame
 -- that is kept begin neither before all areas nor before the end of the main data kept before them,
 -- and end within its own area, so they are in the areas of all frames as they are in the areas of
--- its run.
+-- its island.
 pub record IsKeptWell (head : Option Head) (rows : List Row) (i : ℕ) (r : Row) : Type 0 where
   pub before : end_of_kept head rows i ≤ place head rows i
   pub sound : r.lost ≡ false → is_sound (place head rows i) (end_of_kept head rows i) r ≡ true
@@ -30,7 +30,7 @@ pub record IsKeptWell (head : Option Head) (rows : List Row) (i : ℕ) (r : Row)
 abbrev pub AreKeptWell : Option Head → List Row → Type 0
 AreKeptWell head rows = (i : ℕ) (r : Row) → slice_get rows i ≡ Some r → IsKeptWell head rows i r
 
--- the frames so far, and where in their areas the run began
+-- the frames so far, and where in their areas the island began
 pub record AreKeptTo (head : Option Head) (rows : List Row) (b : ReservoirState) : Type 0 where
   pub frames : AreKeptWell head rows
   pub base : ℕ

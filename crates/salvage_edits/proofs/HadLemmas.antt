@@ -10,12 +10,12 @@ use Rattle.laying.proofs.{ReadLemmas.laid-behind, SurveyFrameLemmas.{head-whole,
 use Rattle.laying.specs.LaidFiles.{AreBlocks, block_bytes, HasPairs}
 use Rattle.laying.specs.Surveys.{AreWholeRows, CanBeRelaid, IsWholeFrameAt}
 use Rattle.salvage.proofs.LaidOutLemmas.{damaged_fields-from, first_frame-is}
-use Rattle.salvage.proofs.{MendedLemmas.survey-mended, SoundLemmas.runs-left}
+use Rattle.salvage.proofs.{MendedLemmas.survey-mended, SoundLemmas.islands-left}
 use Rattle.salvage.proofs.WalkLemmas.{item_read-is}
 use Rattle.salvage.specs.DamagedFiles.{damaged_fields, damaged_from, DamagedFields, things_from}
 use Rattle.salvage.specs.JudgedFrames.{rows_left, state_after_thing, thing_rows}
 use Rattle.salvage.specs.Progress.{IsDamagedLaidOut, RowsAreOfClass}
-use Rattle.salvage.specs.SoundFrames.{judged_runs, runs_of}
+use Rattle.salvage.specs.SoundFrames.{islands_of, judged_islands}
 use Rattle.salvage.specs.Walk.{block_of_thing, blocks_of_things, first_frame, IsItem, ItemOrGap}
 use Rattle.salvage.specs.Walk.{PlacedThing, size_of_thing, thing_at, thing_or_gap, things}
 use Rattle.salvage.specs.Walk.{things_up_to}
@@ -65,10 +65,10 @@ module _ (file : List ℕ) where
       (here-paired b t.offset t.thing)
       (left-paired (state_after_thing file b t.offset t.thing) ts)
 
-  runs-paired : (head : Option Head) (ts : List PlacedThing)
-      → ArePaired (judged_runs file head (runs_of ts))
-  runs-paired head ts =
-      rw (runs-left file head ts) (left-paired (record { place = head_area head; ended = 0 }) ts)
+  islands-paired : (head : Option Head) (ts : List PlacedThing)
+      → ArePaired (judged_islands file head (islands_of ts))
+  islands-paired head ts =
+      rw (islands-left file head ts) (left-paired (record { place = head_area head; ended = 0 }) ts)
 
   rows-whole : (class : ClassFields) (from : ℕ) {to : ℕ} (rows : List Row) → to ≤ length file
       → RowsAreOfClass class rows → FramesAreLaid from rows to → ArePaired rows
@@ -145,13 +145,13 @@ module _ (file : List ℕ) where
   unfolding damaged_from
   begun-had front_end {first} whole laid =
       let head = head_of file first in
-      let rows = judged_runs file head (runs_of (things_from file first)) in
+      let rows = judged_islands file head (islands_of (things_from file first)) in
       record {
         long = refl;
         head = head-whole whole;
         rows = emptied_whole file rows (rows-whole (class_of first.header) first.offset rows
             (omega arith) laid.class laid.frames
-            (runs-paired head (things_from file first)));
+            (islands-paired head (things_from file first)));
         placed = (survey-mended (damaged_from file front_end first) laid).placed;
         blocks = all-blocks first;
       }

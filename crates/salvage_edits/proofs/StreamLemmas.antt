@@ -1,4 +1,4 @@
--- The stream of the file that is written for a damaged one: what is left, run by run.
+-- The stream of the file that is written for a damaged one: what is left, island by island.
 use Rattle.std.proofs.Common.{ap, ap₂, arith, Bool, cond, false, length, List, map, Ok, Option}
 use Rattle.std.proofs.Common.{refl, sym, true, ℕ, [], ◌++◌, ◌+◌, ◌∙◌, ◌∷◌, ◌≡◌}
 use Rattle.std.specs.{List.enumerate_from, Prelude.{flat_map, slice_range}}

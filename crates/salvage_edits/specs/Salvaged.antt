@@ -24,7 +24,7 @@ unfoldable pub salvaged_file : List ℕ → DamagedFields → List ℕ
 salvaged_file file d =
     chosen_file (all_chosen (emptied_survey d.survey)) file (emptied_survey d.survey)
 
--- its stream: the lead-ins of the plan, and what is left of the file, run by run
+-- its stream: the lead-ins of the plan, and what is left of the file, island by island
 unfoldable pub left_stream : List ℕ → DamagedFields → List StreamFrame
 left_stream file d =
     stream_with_lead_ins (own_slots_plan (all_chosen (emptied_survey d.survey))

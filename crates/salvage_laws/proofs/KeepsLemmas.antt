@@ -12,8 +12,8 @@ use Rattle.salvage.proofs.UsableLemmas.{first_role, later_role}
 use Rattle.salvage.proofs.WalkLemmas.{things-item, things-past}
 use Rattle.salvage.specs.DamagedFiles.{damaged_by, damaged_fields, damaged_from, damaged_with_count}
 use Rattle.salvage.specs.DamagedFiles.{DamagedFields, gap_between, things_from}
-use Rattle.salvage.specs.SoundFrames.{end_of_sound, FrameRuns, is_sound, judged_row, judged_rows}
-use Rattle.salvage.specs.SoundFrames.{runs_of, sound_end}
+use Rattle.salvage.specs.SoundFrames.{end_of_sound, FrameIslands, is_sound, islands_of, judged_row}
+use Rattle.salvage.specs.SoundFrames.{judged_rows, sound_end}
 use Rattle.salvage.specs.UsableFrames.{has_right_crc, is_head, is_usable, usable_frame_at}
 use Rattle.salvage.specs.Walk.{blocks_of_things, first_frame, gaps_of, is_item_read, IsItem}
 use Rattle.salvage.specs.Walk.{item_read, PlacedThing, things}
@@ -114,17 +114,17 @@ same_blocks : (ps : List PlacedItem) → blocks_of_things (map as_thing ps) ≡ 
 same_blocks [] = refl
 same_blocks (p ∷ ps) = ap (cons_option (block_of_item p.offset p.item)) (same_blocks ps)
 
-abbrev runs_as : List PlacedFrame → List (List PlacedFrame) → FrameRuns
-runs_as first later = record { first = first; later = later }
+abbrev islands_as : List PlacedFrame → List (List PlacedFrame) → FrameIslands
+islands_as first later = record { first = first; later = later }
 
-frame_run : (o : Option PlacedFrame) {runs : FrameRuns} {ps : List PlacedFrame}
-    → runs ≡ runs_as ps []
-    → runs_as (option_to_list o ++ runs.first) runs.later ≡ runs_as (cons_option o ps) []
-frame_run o is = grind arith
+frame_island : (o : Option PlacedFrame) {islands : FrameIslands} {ps : List PlacedFrame}
+    → islands ≡ islands_as ps [] → islands_as (option_to_list o ++ islands.first) islands.later
+    ≡ islands_as (cons_option o ps) []
+frame_island o is = grind arith
 
-one_run : (ps : List PlacedItem) → runs_of (map as_thing ps) ≡ runs_as (frames_of ps) []
-one_run [] = refl
-one_run (p ∷ ps) = grind (arith, frame_run, one_run ps)
+one_island : (ps : List PlacedItem) → islands_of (map as_thing ps) ≡ islands_as (frames_of ps) []
+one_island [] = refl
+one_island (p ∷ ps) = grind (arith, frame_island, one_island ps)
 
 -- ---- the marks of the survey are the same
 
@@ -262,7 +262,7 @@ told_read : (file : List ℕ) (start : Start) (ps : List PlacedItem)
     → damaged_from file (front_end_of file) start.first ≡ with_junk (told_from file start)
 unfolding damaged_from
 told_read file start ps front are frames blocks marks =
-    grind (arith, frames_from, one_run, append-nil, same_blocks, no_gaps)
+    grind (arith, frames_from, one_island, append-nil, same_blocks, no_gaps)
 
 length_rows : (file : List ℕ) (ps : List PlacedFrame) → length (rows_of file ps) ≡ length ps
 length_rows file [] = refl

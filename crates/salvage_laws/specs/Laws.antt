@@ -12,8 +12,9 @@ SalvageKeepsStreams =
     → length s.frames ≤ most_frames
     → damaged_fields file ≡ Ok (record { survey = s; gaps = gap_between s.junk s.first })
 
--- The stream of the survey of what is read is the stream of the runs of frames between gaps: the
--- main data of each frame that is kept are those of its run, and every other one is an empty frame.
+-- The stream of the survey of what is read is the stream of the
+-- islands of frames between gaps: the main data of each frame that is
+-- kept are those of its island, and every other one is an empty frame.
 abbrev pub SalvageTellsStreams : Type 0
 SalvageTellsStreams = (file : List ℕ) (d : DamagedFields) → damaged_of file ≡ Ok d
     → stream_of_survey file d.survey ≡ salvaged_stream file

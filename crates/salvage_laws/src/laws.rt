@@ -7,7 +7,7 @@ pub fn salvage_keeps_streams()
     ensures { SalvageKeepsStreams }
 {}
 
-/// The stream of the survey of what is read is the stream of the runs of frames between gaps: each
+/// The stream of the survey of what is read is the stream of the islands of frames between gaps: each
 /// sound frame as it is, and every other one as an empty frame.
 pub fn salvage_tells_streams()
     ensures { SalvageTellsStreams }
