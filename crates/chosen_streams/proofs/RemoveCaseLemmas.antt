@@ -1,4 +1,4 @@
--- A file without stretches: the longest ranges of frames that stay, as one run.
+-- A file without stretches: the longest ranges of frames that stay, as one splice.
 use Rattle.std.proofs.Common.{ap, append_assoc, ap₂, arith, Bool, false, flat_map, inl, inr, length}
 use Rattle.std.proofs.Common.{List, map, None, Ok, Option, option_to_list, refl, replicate}
 use Rattle.std.proofs.Common.{slice_range, Some, subst, sym, true, ℕ, [], ◌++◌, ◌<◌, ◌∙◌, ◌∷◌, ◌≡◌}
@@ -24,10 +24,11 @@ use Rattle.remove_edits.specs.Removed.{file_parts, item_places, items_left, part
 use Rattle.remove_edits.specs.Removed.{parts_left, place_as, removal_file, removal_plan}
 use Rattle.remove_edits.specs.Removed.{removal_stream, remove_making, remove_stream}
 use Rattle.remove_edits.specs.Removed.{remove_surveyed_stream, remove_task, stream_of_parts}
-use Rattle.seam_plan.proofs.PartJointLemmas.{joined_in, run_part_items-is}
+use Rattle.seam_plan.proofs.PartJointLemmas.{joined_in, splice_part_items-is}
 use Rattle.seam_plan.specs.Joins.{join_slot, lead_in_header}
-use Rattle.seam_plan.specs.PartRuns.{frame_item, items_behind, lead_in_run_item, run_items}
-use Rattle.seam_plan.specs.{PartRuns.{run_part_items, RunItem}, declared.stretches.Part.Part}
+use Rattle.seam_plan.specs.PartSplices.{frame_item, items_behind, lead_in_splice_item, splice_items}
+use Rattle.seam_plan.specs.PartSplices.{splice_part_items, SpliceItem}
+use Rattle.seam_plan.specs.declared.stretches.Part.{Part}
 use Rattle.slot_plan.specs.{FreeBytes.need_in_slot, declared.needs.{Need.Need, Placed.Placed}}
 use Rattle.sync_survey.proofs.SurveyPartsLemmas.{survey_fields-allowed}
 use Rattle.sync_survey.proofs.SurveyedFileLemmas.{survey_of-parts}
@@ -41,8 +42,8 @@ abbrev marks : List Placed → List Bool
 marks placed = map (λ (p : Placed). p.lead_in) placed
 
 -- for each item whether it is a lead-in
-abbrev item_marks : List RunItem → List Bool
-item_marks items = map (λ (item : RunItem). item.lead_in) items
+abbrev item_marks : List SpliceItem → List Bool
+item_marks items = map (λ (item : SpliceItem). item.lead_in) items
 
 -- as many frames
 abbrev frame_marks : ℕ → List Bool
@@ -116,7 +117,7 @@ parts-marked c (p ∷ parts) placed are marked =
           (subst (AreMarksOf (map part_needs parts)) (sym on.4) marked.3),
     )
 
--- ---- the items of a run of parts
+-- ---- the items of a splice of parts
 
 -- frames as items are no lead-ins
 frame_items-marks : (needs : List Need)
@@ -125,13 +126,13 @@ frame_items-marks [] = refl
 frame_items-marks (need ∷ needs) = ap (λ (l : List Bool). false ∷ l) (frame_items-marks needs)
 
 -- the items are at most one lead-in and then as many frames
-abbrev IsMarked : ℕ → List RunItem → Type 0
+abbrev IsMarked : ℕ → List SpliceItem → Type 0
 IsMarked count items = (led : Bool) × (item_marks items ≡ lead_marks led ++ frame_marks count)
 
 -- a part behind its lead-in, if it has one
 led-marked : (needs : List Need) (o : Option HeaderFields)
     → IsMarked (length needs)
-    (option_to_list (option_map lead_in_run_item o) ++ map frame_item needs)
+    (option_to_list (option_map lead_in_splice_item o) ++ map frame_item needs)
 led-marked needs None = (false, frame_items-marks needs)
 led-marked needs (Some header) = (true, ap (λ (l : List Bool). true ∷ l) (frame_items-marks needs))
 
@@ -143,13 +144,13 @@ joined-marked window first needs None =
 joined-marked window first needs (Some slot) =
     (false, frame_items-marks (need_in_slot slot first ∷ needs))
 
--- a part behind a run is at most one lead-in and then its frames
-items-marked : (window : ℕ) (run needs : List Need) → 0 < length needs
-    → IsMarked (length needs) (run_part_items window run needs)
-items-marked window run [] some = absurd (omega (arith, some))
-items-marked window run (first ∷ needs) some =
-    subst (IsMarked (length (first ∷ needs))) (sym (run_part_items-is window run first needs))
-    (joined-marked window first needs (join_slot window run first needs))
+-- a part behind a splice is at most one lead-in and then its frames
+items-marked : (window : ℕ) (splice needs : List Need) → 0 < length needs
+    → IsMarked (length needs) (splice_part_items window splice needs)
+items-marked window splice [] some = absurd (omega (arith, some))
+items-marked window splice (first ∷ needs) some =
+    subst (IsMarked (length (first ∷ needs))) (sym (splice_part_items-is window splice first needs))
+    (joined-marked window first needs (join_slot window splice first needs))
 
 -- each part has a frame
 abbrev HaveFrames : List (List Need) → Type 0
@@ -157,30 +158,30 @@ HaveFrames [] = Unit {0}
 HaveFrames (part ∷ parts) = (0 < length part) × HaveFrames parts
 
 -- the items of two lists
-items-append : (xs ys : List RunItem) → item_marks (xs ++ ys) ≡ item_marks xs ++ item_marks ys
-items-append xs ys = map-append (λ (item : RunItem). item.lead_in) xs ys
+items-append : (xs ys : List SpliceItem) → item_marks (xs ++ ys) ≡ item_marks xs ++ item_marks ys
+items-append xs ys = map-append (λ (item : SpliceItem). item.lead_in) xs ys
 
--- the parts behind a run are at most one lead-in each, and then their frames
-behind-marked : (window : ℕ) (run : List Need) (parts : List (List Need)) → HaveFrames parts
-    → AreMarksOf parts (item_marks (items_behind window run parts))
+-- the parts behind a splice are at most one lead-in each, and then their frames
+behind-marked : (window : ℕ) (splice : List Need) (parts : List (List Need)) → HaveFrames parts
+    → AreMarksOf parts (item_marks (items_behind window splice parts))
 unfolding items_behind
-behind-marked window run [] some = refl
-behind-marked window run (needs ∷ parts) some =
-    let items = run_part_items window run needs in
-    let rest = items_behind window (run ++ map (λ (item : RunItem). item.need) items) parts in
-    let here = items-marked window run needs some.0 in (
+behind-marked window splice [] some = refl
+behind-marked window splice (needs ∷ parts) some =
+    let items = splice_part_items window splice needs in
+    let rest = items_behind window (splice ++ map (λ (item : SpliceItem). item.need) items) parts in
+    let here = items-marked window splice needs some.0 in (
       here.0,
       item_marks rest,
       items-append items rest ∙ ap (λ (l : List Bool). l ++ item_marks rest) here.1,
-      behind-marked window (run ++ map (λ (item : RunItem). item.need) items) parts some.1,
+      behind-marked window (splice ++ map (λ (item : SpliceItem). item.need) items) parts some.1,
     )
 
--- so is a run of parts, whether or not there is a lead-in before it
-run-marked : (window : ℕ) (led : Bool) (parts : List (List Need)) → 0 < length parts
-    → HaveFrames parts → AreMarksOf parts (lead_marks led ++ item_marks (run_items window parts))
-unfolding run_items
-run-marked window led [] some have = absurd (omega (arith, some))
-run-marked window led (first ∷ parts) some have =
+-- so is a splice of parts, whether or not there is a lead-in before it
+splice-marked : (window : ℕ) (led : Bool) (parts : List (List Need)) → 0 < length parts
+    → HaveFrames parts → AreMarksOf parts (lead_marks led ++ item_marks (splice_items window parts))
+unfolding splice_items
+splice-marked window led [] some have = absurd (omega (arith, some))
+splice-marked window led (first ∷ parts) some have =
     let rest = items_behind window first parts in (
       led,
       item_marks rest,
@@ -190,9 +191,9 @@ run-marked window led (first ∷ parts) some have =
       behind-marked window first parts have.1,
     )
 
--- ---- the places of a run
+-- ---- the places of a splice
 
--- the place before a run is that of a lead-in
+-- the place before a splice is that of a lead-in
 front-marks : {front : List Placed}
     → (front ≡ []) ⊎ ((p : Placed) × (front ≡ p ∷ []) × (p.lead_in ≡ true))
     → (led : Bool) × (marks front ≡ lead_marks led)
@@ -205,7 +206,7 @@ place-as true p own = refl
 place-as false p own = own
 
 -- places of frames are marked as the items in them
-items-placed : (items : List RunItem) (placed : List Placed) → AreFramePlaces placed
+items-placed : (items : List SpliceItem) (placed : List Placed) → AreFramePlaces placed
     → length placed ≡ length items → marks (item_places items placed) ≡ item_marks items
 unfolding item_places
 items-placed [] [] own same = refl
@@ -255,7 +256,7 @@ module _ (file : List ℕ) (s : SurveyFields) (parts : List Part) (has : CanBeRe
       omega (arith, length-map parts (part_needs_of s), can.some) in
       parts-marked s.class filed (removal_plan s parts) are
       (subst (λ (l : List (List Need)). AreMarksOf l (marks (removal_plan s parts))) (sym same)
-      (subst (AreMarksOf needs) (sym marked.1) (run-marked window marked.0 needs some have)))
+      (subst (AreMarksOf needs) (sym marked.1) (splice-marked window marked.0 needs some have)))
 
 -- ---- the command
 

@@ -3,7 +3,7 @@ use Rattle.std.proofs.Common.{ap, append-nil, arith, flat_map, List, Ok, Option,
 use Rattle.std.proofs.Common.{◌∙◌, ◌∷◌, ◌≡◌}
 use Rattle.chosen_streams.{proofs.ExactLemmas.{IsSized, no-frames, part-on}, specs.Exact.IsExactly}
 use Rattle.chosen_streams.specs.Laws.{HoldsChosen, SeamlessPlansAreFirst}
-use Rattle.command_table.specs.Chosen.{joined_run_frames}
+use Rattle.command_table.specs.Chosen.{joined_splice_frames}
 use Rattle.commands.proofs.{MadeLemmas.makes-parts, RefusingLemmas.then_ok}
 use Rattle.commands.proofs.TellingLemmas.{text-parts}
 use Rattle.frame_header.specs.{Fields.{HeaderFields, SlotFields}, Tables.window_of}
@@ -11,12 +11,12 @@ use Rattle.job_words.specs.Request.{Join}
 use Rattle.joined_inputs.specs.Parts.{join_parts, join_parts_from}
 use Rattle.laying.specs.{NeedsFit.own_choice, Relaid.{FilePart, part_stream, stream_with_lead_ins}}
 use Rattle.outside.specs.Files.{Contents}
-use Rattle.seam_plan.specs.{Frames.needs_of, Seams.run_of}
-use Rattle.seamless_edits.proofs.RunFileLemmas.{parts-whole}
-use Rattle.seamless_edits.proofs.RunPartLemmas.{AreWholeFiles, IsWholeFile, run-many, run-planned}
-use Rattle.seamless_edits.proofs.RunPartLemmas.{run-some}
-use Rattle.seamless_edits.specs.Seamless.{join_of_parts, part_brought, run_parts, run_plan}
-use Rattle.seamless_edits.specs.Seamless.{seamless_stream}
+use Rattle.seam_plan.specs.{Frames.needs_of, Seams.splice_of}
+use Rattle.seamless_edits.proofs.SpliceFileLemmas.{parts-whole}
+use Rattle.seamless_edits.proofs.SplicePartLemmas.{AreWholeFiles, IsWholeFile, splice-many}
+use Rattle.seamless_edits.proofs.SplicePartLemmas.{splice-planned, splice-some}
+use Rattle.seamless_edits.specs.Seamless.{join_of_parts, part_brought, seamless_stream}
+use Rattle.seamless_edits.specs.Seamless.{splice_parts, splice_plan}
 use Rattle.slot_plan.specs.{Parts.{all_items, AreLeadIns}, Plans.{AreItemSlots, IsPlan}}
 use Rattle.slot_plan.specs.declared.needs.{Need.Need, Placed.Placed}
 use Rattle.sync_survey.specs.MainData.{StreamFrame}
@@ -40,23 +40,24 @@ module _ (window : ℕ) (choices : HeaderFields → List SlotFields) (needs : Li
       → IsExactly (fs ∷ []) (stream_with_lead_ins placed fs)
   planned-one plan = exact-by plan.lead_ins plan.alone plan.whole.slots
 
--- ---- the run
+-- ---- the splice
 
-run-exact : {first : FilePart} (parts : List FilePart) → IsWholeFile first.survey.class first
+splice-exact : {first : FilePart} (parts : List FilePart) → IsWholeFile first.survey.class first
     → AreWholeFiles first.survey.class parts → IsExactly
-    (flat_map part_stream (run_parts first parts) ∷ []) (seamless_stream (first ∷ parts))
+    (flat_map part_stream (splice_parts first parts) ∷ []) (seamless_stream (first ∷ parts))
 unfolding seamless_stream
-run-exact parts is are = grind (arith, flat_map, run-some, run-many, planned-one, run-planned)
+splice-exact parts is are =
+    grind (arith, flat_map, splice-some, splice-many, planned-one, splice-planned)
 
 -- ---- the command
 
 parts-exact : (files : Contents) (names : List (List ℕ)) {parts : List FilePart}
     → join_parts files names ≡ Ok parts
-    → IsExactly (joined_run_frames (Ok parts) ∷ []) (seamless_stream parts)
+    → IsExactly (joined_splice_frames (Ok parts) ∷ []) (seamless_stream parts)
 unfolding IsExactly seamless_stream join_parts_from
 parts-exact files [] e = grind arith
 parts-exact files (name ∷ names) {parts} e =
-    grind (arith, parts-whole files (name ∷ names) (omega arith) e, run-exact)
+    grind (arith, parts-whole files (name ∷ names) (omega arith) e, splice-exact)
 
 -- a seamless join holds exactly the frames that the job chooses
 pub seamless-chosen : (output : List ℕ) (inputs : List (List ℕ))
@@ -64,15 +65,16 @@ pub seamless-chosen : (output : List ℕ) (inputs : List (List ℕ))
 seamless-chosen output inputs files made e =
     grind (arith, text-parts, makes-parts, then_ok, parts-exact)
 
--- the run is planned as one part
+-- the splice is planned as one part
 first-planned : {first : FilePart} {parts : List FilePart} {other : FilePart} {more : List FilePart}
     → other ∷ more ≡ first ∷ parts → IsWholeFile other.survey.class other
     → AreWholeFiles other.survey.class more
     → IsPlan (window_of first.survey.class.version) own_choice
-    (needs_of (run_of (part_brought first) (join_of_parts first parts)) ∷ []) (run_plan first parts)
-first-planned same is are = grind (arith, run-planned)
+    (needs_of (splice_of (part_brought first) (join_of_parts first parts)) ∷ [])
+    (splice_plan first parts)
+first-planned same is are = grind (arith, splice-planned)
 
--- the plan of the run is the first of all its plans
+-- the plan of the splice is the first of all its plans
 pub seamless-first : SeamlessPlansAreFirst
 unfolding join_parts_from
 seamless-first files [] first parts e = absurd cc

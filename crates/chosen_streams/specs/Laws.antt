@@ -17,8 +17,8 @@ use Rattle.pack_edits.specs.Modes.{mode_planning}
 use Rattle.requests.specs.declared.mode.PackMode.{PackMode}
 use Rattle.salvage.specs.{DamagedFiles.{damaged_of, DamagedFields}, Stream.salvaged_stream}
 use Rattle.salvage_edits.specs.Salvaged.{all_chosen, left_stream}
-use Rattle.seam_plan.specs.{Frames.needs_of, Seams.run_of}
-use Rattle.seamless_edits.specs.Seamless.{join_of_parts, part_brought, run_plan}
+use Rattle.seam_plan.specs.{Frames.needs_of, Seams.splice_of}
+use Rattle.seamless_edits.specs.Seamless.{join_of_parts, part_brought, splice_plan}
 use Rattle.side_info.specs.Side.{no_side}
 use Rattle.slot_plan.specs.{Plans.IsPlan, declared.needs.Placed.Placed}
 use Rattle.sync_survey.specs.{Faults.{stream_of, SurveyFields}, HeadApart.emptied_survey}
@@ -77,14 +77,15 @@ JoinedPlansAreFirst =
     (joined_plan first.survey.class (first ∷ parts))
 
 -- The plan of a join without seams is the plan of one part: the first
--- of all lists of the slots of the run's frames, which are their own
+-- of all lists of the slots of the splice's frames, which are their own
 -- slots, except for first frames of inputs that joined in greater ones.
 abbrev pub SeamlessPlansAreFirst : Type 0
 SeamlessPlansAreFirst =
     (files : Contents) (inputs : List (List ℕ)) (first : FilePart) (parts : List FilePart)
     → join_parts files inputs ≡ Ok (first ∷ parts)
     → IsPlan (window_of first.survey.class.version) own_choice
-    (needs_of (run_of (part_brought first) (join_of_parts first parts)) ∷ []) (run_plan first parts)
+    (needs_of (splice_of (part_brought first) (join_of_parts first parts)) ∷ [])
+    (splice_plan first parts)
 
 -- The output of a salvage holds exactly what is left of the damaged file: the
 -- frames of all islands, each sound frame as it is, and each other frame empty.

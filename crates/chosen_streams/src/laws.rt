@@ -38,7 +38,7 @@ pub fn joined_plans_are_first()
     ensures { JoinedPlansAreFirst }
 {}
 
-/// The plan of a join without seams is the first of all lists too, as the plan of one part: each frame of the run in its own
+/// The plan of a join without seams is the first of all lists too, as the plan of one part: each frame of the splice in its own
 /// slot, except for first frames of inputs that joined in greater ones.
 pub fn seamless_plans_are_first()
     ensures { SeamlessPlansAreFirst }

@@ -14,7 +14,7 @@ use Rattle.laying.specs.{KeptFields.fields_of_head, Relaid.{FilePart, part_strea
 use Rattle.outside.specs.Files.{Contents}
 use Rattle.remove_edits.specs.Removed.{parts_left}
 use Rattle.seam_plan.specs.declared.stretches.Part.{Part}
-use Rattle.seamless_edits.specs.Seamless.{run_parts}
+use Rattle.seamless_edits.specs.Seamless.{splice_parts}
 use Rattle.sync_survey.specs.Faults.{stream_of, stream_of_survey, SurveyFields, unbounded_survey}
 use Rattle.sync_survey.specs.{MainData.StreamFrame, declared.survey_fault.SurveyFault.SurveyFault}
 
@@ -86,9 +86,9 @@ frames_needed_between file from to = frames_needed from to file
 -- The frames of inputs that are joined without seams: of each input all frames but those that are
 -- left out at its front, as they are in the stream of the file whose head is set apart. How many
 -- are left out depends on where the other inputs have room (`seamless_join` of `seam_plan`).
-abbrev pub joined_run_frames : Result (List FilePart) EditFault → List StreamFrame
-joined_run_frames (Ok (first ∷ parts)) = flat_map part_stream (run_parts first parts)
-joined_run_frames _ = []
+abbrev pub joined_splice_frames : Result (List FilePart) EditFault → List StreamFrame
+joined_splice_frames (Ok (first ∷ parts)) = flat_map part_stream (splice_parts first parts)
+joined_splice_frames _ = []
 
 -- The frames of each longest range of frames that stay when stretches are taken out of a file with
 -- this survey, as they are in the stream of the file whose head is set apart; none where the
@@ -131,4 +131,4 @@ sheet_piece_frames true files input sheet =
 -- the frames of a join: of each input all, or those that aren't left out
 abbrev pub frames_joined : Bool → Contents → List (List ℕ) → Frames
 frames_joined false files inputs = InParts (map (named_frames files) inputs)
-frames_joined true files inputs = InParts (joined_run_frames (join_parts files inputs) ∷ [])
+frames_joined true files inputs = InParts (joined_splice_frames (join_parts files inputs) ∷ [])

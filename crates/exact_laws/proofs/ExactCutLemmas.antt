@@ -13,10 +13,10 @@ use Rattle.exact_laws.proofs.ExactFileLemmas.{IsFound, laid, own, piece-by, plai
 use Rattle.exact_laws.proofs.ExactNumberLemmas.{delay, delay-is, frames-many, goal, led-same}
 use Rattle.exact_laws.proofs.ExactNumberLemmas.{padding-is, whole-first, whole-found, whole-last}
 use Rattle.exact_laws.proofs.ExactNumberLemmas.{whole_span}
-use Rattle.exact_laws.proofs.ExactRunLemmas.{at, ends-later, first_of, FirstSpan, high, inputs, low}
-use Rattle.exact_laws.proofs.ExactRunLemmas.{mid, run-fits, run-frames, run-stream, run_frames, st}
-use Rattle.exact_laws.proofs.ExactRunLemmas.{stays-fit, whole}
 use Rattle.exact_laws.proofs.ExactSpanLemmas.{has-led-span, has-own-span, has-span, read-head}
+use Rattle.exact_laws.proofs.ExactSpliceLemmas.{at, ends-later, first_of, FirstSpan, high, inputs}
+use Rattle.exact_laws.proofs.ExactSpliceLemmas.{low, mid, splice-fits, splice-frames, splice-stream}
+use Rattle.exact_laws.proofs.ExactSpliceLemmas.{splice_frames, st, stays-fit, whole}
 use Rattle.exact_laws.proofs.InfoFieldLemmas.{gain-same, Keeps, keeps-by, made-again, made-front}
 use Rattle.exact_laws.proofs.InfoFieldLemmas.{quality-again, quality_bytes, sealed-front}
 use Rattle.exact_laws.proofs.InfoFieldLemmas.{sealed-same}
@@ -37,8 +37,8 @@ use Rattle.laying.specs.NeedsFit.{own_choice}
 use Rattle.laying.specs.Relaid.{FilePart, IsPart, lead_in_with_place, part_frames, part_stream}
 use Rattle.laying.specs.{Relaid.{relaid_frames, silent_lead_in}, Written.{info_for, slot_in}}
 use Rattle.seam_laws.proofs.FrameRangeLemmas.{between-append, between-needs, range-append}
-use Rattle.seam_laws.proofs.{FrameRangeLemmas.run_between, LaidInputLemmas.{BringsLed, front-same}}
-use Rattle.seam_laws.proofs.LedLemmas.{led-needed}
+use Rattle.seam_laws.proofs.FrameRangeLemmas.{splice_between}
+use Rattle.seam_laws.proofs.{LaidInputLemmas.{BringsLed, front-same}, LedLemmas.led-needed}
 use Rattle.seam_laws.proofs.LedPlanLemmas.{IsLedAs, lead_need, led-as, own-same, OwnBegins}
 use Rattle.seam_laws.proofs.LedPlanLemmas.{plan-begins}
 use Rattle.seam_laws.proofs.OwnLeadInLemmas.{lead-where-wanted, own-none}
@@ -46,17 +46,18 @@ use Rattle.seam_laws.proofs.PieceListLemmas.{later-at, no_pieces, piece_then, Re
 use Rattle.seam_laws.proofs.PiecePartLemmas.{frames-need, IsLed, IsPiece, IsPlain, IsUnled}
 use Rattle.seam_laws.proofs.PiecePartLemmas.{laid-input, leads, own_frames, own_stream, read}
 use Rattle.seam_laws.proofs.PiecePartLemmas.{read-extension, read-is, read-quality, row-after}
-use Rattle.seam_laws.proofs.{PiecePartLemmas.{row-need, ways}, PieceRunLemmas.front-fits}
-use Rattle.seam_laws.proofs.SeamlessRunLemmas.{front-few, front-parts, run, run-planned, stream}
+use Rattle.seam_laws.proofs.{PiecePartLemmas.{row-need, ways}, PieceSpliceLemmas.front-fits}
+use Rattle.seam_laws.proofs.SeamlessSpliceLemmas.{front-few, front-parts, splice, splice-planned}
+use Rattle.seam_laws.proofs.SeamlessSpliceLemmas.{stream}
 use Rattle.seam_laws.proofs.SplitFileLemmas.{file-same, frames-by, frames-of-part}
 use Rattle.seam_laws.specs.{LeadInLaws.{AreInOwnSlots, AreLedInOwnSlots}, SeamlessLaws.bare_file}
 use Rattle.seam_plan.proofs.{FitLemmas.fits-tested, LeadInLemmas.lead-in-is}
-use Rattle.seam_plan.specs.Frames.{needs_of, RunFrame}
+use Rattle.seam_plan.specs.Frames.{needs_of, SpliceFrame}
 use Rattle.seam_plan.specs.Joins.{fits_behind, has_lead_in, lead_in_header}
-use Rattle.seamless_edits.specs.Seamless.{delay_of_run, gain_of, join_of_parts, part_brought}
-use Rattle.seamless_edits.specs.Seamless.{part_head, part_says_gain, replay_gain, run_extension}
-use Rattle.seamless_edits.specs.Seamless.{run_plan, seamless_file, seamless_frames, seamless_info}
-use Rattle.seamless_edits.specs.Seamless.{seamless_padding}
+use Rattle.seamless_edits.specs.Seamless.{delay_of_splice, gain_of, join_of_parts, part_brought}
+use Rattle.seamless_edits.specs.Seamless.{part_head, part_says_gain, replay_gain, seamless_file}
+use Rattle.seamless_edits.specs.Seamless.{seamless_frames, seamless_info, seamless_padding}
+use Rattle.seamless_edits.specs.Seamless.{splice_extension, splice_plan}
 use Rattle.slot_plan.proofs.FreeByteLemmas.{more-behind}
 use Rattle.slot_plan.specs.{FreeBytes.{FitsBehind, IsLeadInHeader}, Layouts.begins_of}
 use Rattle.slot_plan.specs.{LeastPlan.led_plan, Lists.CanBeLaid, Parts.{open_frame, part_items}}
@@ -99,21 +100,22 @@ lead-header window first needs is = grind arith
 
 -- what the plan of frames after an unconditional lead-in
 -- is, and the plan of the lead-in and the frames
-record IsLedRun (window : ℕ) (first : Need) (needs : List Need) (led run : List Placed) : Type 0
+record IsLedSplice (window : ℕ) (first : Need) (needs : List Need)
+    (led splice : List Placed) : Type 0
   where
     lead : Placed
     rest : List Placed
     led_is : led ≡ lead ∷ rest
     leads : lead.lead_in ≡ true
-    run_is : run ≡ record lead { lead_in = false } ∷ rest
+    splice_is : splice ≡ record lead { lead_in = false } ∷ rest
 
-led-run : {window : ℕ} {first : Need} {needs : List Need} {led run : List Placed}
+led-splice : {window : ℕ} {first : Need} {needs : List Need} {led splice : List Placed}
     (is : IsLedAs window first needs led)
-    → AreInOwnSlots (lead_need first.header is.lead.slot ∷ first ∷ needs) run
-    → OwnBegins window (lead_need first.header is.lead.slot ∷ first ∷ needs) run
-    → IsLedRun window first needs led run
+    → AreInOwnSlots (lead_need first.header is.lead.slot ∷ first ∷ needs) splice
+    → OwnBegins window (lead_need first.header is.lead.slot ∷ first ∷ needs) splice
+    → IsLedSplice window first needs led splice
 unfolding AreItemSlots AreLedInOwnSlots
-led-run {window} {first} {needs} {run = run} is own begins =
+led-splice {window} {first} {needs} {splice = splice} is own begins =
     let lead : Placed = record is.lead { lead_in = false } in
     let all = lead_need first.header is.lead.slot ∷ first ∷ needs in
     let is_led = subst (AreLedInOwnSlots window (first ∷ needs)) is.are is.led in
@@ -122,8 +124,8 @@ led-run {window} {first} {needs} {run = run} is own begins =
       rest = is.rest;
       led_is = is.are;
       leads = is_led.0;
-      run_is =
-          own-same all run (lead ∷ is.rest) own (refl, (zero, omega arith, refl), is.own)
+      splice_is =
+          own-same all splice (lead ∷ is.rest) own (refl, (zero, omega arith, refl), is.own)
           (begins ∙ sym is.begins ∙ ap (map (λ (p : Placed). p.begin)) is.are);
     }
 
@@ -216,14 +218,14 @@ module _ {file : List ℕ} {s : SurveyFields} (r : Recording file s) {place next
   abbrev front : ℕ
   front = (join_of_parts first parts).front
 
-  abbrev run_all : List RunFrame
-  run_all = run_frames r pieces
+  abbrev splice_all : List SpliceFrame
+  splice_all = splice_frames r pieces
 
   abbrev stream_all : List StreamFrame
   stream_all = whole r pieces
 
-  run-needs : needs_of run_all ≡ needs
-  run-needs =
+  splice-needs : needs_of splice_all ≡ needs
+  splice-needs =
       between-needs (has-own r) (low r pieces) (high r pieces)
       ∙ ap₂ (λ i j. map need_of (slice_range t.frames i j)) first-same last-same
 
@@ -263,13 +265,13 @@ module _ {file : List ℕ} {s : SurveyFields} (r : Recording file s) {place next
       sym ((led-is chosen t (has-own r).placed there.some there.within least).0
       (led-needed window own_choice needs least (never-laid (lacks refl)) plan))
 
-  run-least : needs_of (run (inputs r pieces)) ≡ needs → run_plan first parts ≡ least
-  run-least same =
+  splice-least : needs_of (splice (inputs r pieces)) ≡ needs → splice_plan first parts ≡ least
+  splice-least same =
       ap₂ (λ (d : ClassFields) (ns : List Need). first_plan own_choice d ns) piece.is.of_class same
 
-  -- if the run has the stream and the plan of the cut,
+  -- if the splice has the stream and the plan of the cut,
   -- the frames of the join are the frames that are cut
-  bare-frames : stream (inputs r pieces) ≡ stream_all → run_plan first parts ≡ placed
+  bare-frames : stream (inputs r pieces) ≡ stream_all → splice_plan first parts ≡ placed
       → seamless_frames first parts ≡ relaid_frames (part_frames part) placed
   bare-frames streams plans =
       frames-of-part r.known (inputs r pieces) part-is (streams ∙ part-streams) plans
@@ -287,13 +289,13 @@ module _ {file : List ℕ} {s : SurveyFields} (r : Recording file s) {place next
   same-own : IsUnled piece → front ≡ 0 → IsSame
   same-own own stays =
       let sp = has-own-span r (at r pieces) own in
-      let run_is =
-      ap needs_of (run-frames r pieces sp ∙ ap (λ n. drop n run_all) stays) ∙ run-needs in
+      let splice_is =
+      ap needs_of (splice-frames r pieces sp ∙ ap (λ n. drop n splice_all) stays) ∙ splice-needs in
       let plans = ap (λ b. span_plan b s.class needs) (sym led-as-first ∙ own.unled) in
       record {
         frames =
-            bare-frames (run-stream r pieces sp ∙ ap (λ n. drop n stream_all) stays)
-            (run-least run_is ∙ sym plans);
+            bare-frames (splice-stream r pieces sp ∙ ap (λ n. drop n stream_all) stays)
+            (splice-least splice_is ∙ sym plans);
         header = headers (stays ∙ sym own.none);
       }
 
@@ -306,19 +308,20 @@ module _ {file : List ℕ} {s : SurveyFields} (r : Recording file s) {place next
     abbrev brought : BringsLed s.class first piece.is (own_frames piece) (own_stream piece)
     brought = led.brings
 
-    -- where the lead-in leaves the run, the run gets it again
+    -- where the lead-in leaves the splice, the splice gets it again
     same-again : front ≡ 1 → IsSame
     same-again out =
-        let run_is = ap needs_of
-        (run-frames r pieces with_lead ∙ ap (λ n. drop n (brought.lead_in ∷ run_all)) out)
-        ∙ run-needs in
-        let streams = run-stream r pieces with_lead
+        let splice_is = ap needs_of
+        (splice-frames r pieces with_lead ∙ ap (λ n. drop n (brought.lead_in ∷ splice_all)) out)
+        ∙ splice-needs in
+        let streams = splice-stream r pieces with_lead
         ∙ ap (λ n. drop n (silent_lead_in brought.first ∷ stream_all)) out in
-        let lacks = ap (fits_behind window 0) (sym run_is)
+        let lacks = ap (fits_behind window 0) (sym splice_is)
         ∙ (front-parts (inputs r pieces) (omega (arith, out))).1 in
         record {
           frames =
-              bare-frames streams (run-least run_is ∙ sym (plan-by cut_span.led (λ led. lacks)));
+              bare-frames streams
+              (splice-least splice_is ∙ sym (plan-by cut_span.led (λ led. lacks)));
           header = headers (out ∙ sym led.one);
         }
 
@@ -334,8 +337,8 @@ module _ {file : List ℕ} {s : SurveyFields} (r : Recording file s) {place next
       abbrev high_end : ℕ
       high_end = high r pieces
 
-      abbrev own_run : List RunFrame
-      own_run = run_between file t begin_at middle
+      abbrev own_splice : List SpliceFrame
+      own_splice = splice_between file t begin_at middle
 
       abbrev more : List Need
       more = map need_of (slice_range t.frames (cut_span.first + 1) cut_span.last)
@@ -346,7 +349,7 @@ module _ {file : List ℕ} {s : SurveyFields} (r : Recording file s) {place next
       needs-cons : needs ≡ need_of row ∷ more
       needs-cons = ap (map need_of) (range-next t.frames row-is there.some)
 
-      own-cons : needs_of own_run ≡ need_of row ∷ own_more
+      own-cons : needs_of own_splice ≡ need_of row ∷ own_more
       own-cons =
           between-needs (has-own r) begin_at middle
           ∙ ap (map need_of)
@@ -356,15 +359,15 @@ module _ {file : List ℕ} {s : SurveyFields} (r : Recording file s) {place next
       ends = ends-later r pieces
 
       all-fit : fits_behind window 0 needs ≡ true
-      all-fit = ap (fits_behind window 0) (sym run-needs) ∙ stays-fit r pieces led stays
+      all-fit = ap (fits_behind window 0) (sym splice-needs) ∙ stays-fit r pieces led stays
 
-      own-fit : fits_behind window 0 (needs_of own_run) ≡ true
+      own-fit : fits_behind window 0 (needs_of own_splice) ≡ true
       own-fit =
-          front-fits window 0 own_run (run_between file t middle high_end)
+          front-fits window 0 own_splice (splice_between file t middle high_end)
           (ap (λ l. fits_behind window 0 (needs_of l))
           (between-append (has-own r)
           (omega (arith, piece.right.some)) ends)
-          ∙ ap (fits_behind window 0) run-needs ∙ all-fit)
+          ∙ ap (fits_behind window 0) splice-needs ∙ all-fit)
 
       is-led : cut_span.led ≡ true
       is-led =
@@ -372,7 +375,7 @@ module _ {file : List ℕ} {s : SurveyFields} (r : Recording file s) {place next
           ∙ elim led.lacks [
             | inl is ↦ is
             | inr lacks ↦
-                absurd (both_ways (fits_behind window 0 (needs_of own_run))
+                absurd (both_ways (fits_behind window 0 (needs_of own_splice))
                 (ap (fits_behind window 0) (frames-need piece) ∙ lacks) own-fit)
           ]
 
@@ -415,31 +418,31 @@ module _ {file : List ℕ} {s : SurveyFields} (r : Recording file s) {place next
           let header : brought.lead_in.need.header ≡ lead.header = cc in
           ap₂ (λ (h : HeaderFields) (n : ℕ). record { header = h; bytes = n }) header brought.empty
 
-      run-all : needs_of (run (inputs r pieces)) ≡ lead ∷ need_of row ∷ more
-      run-all =
+      splice-all : needs_of (splice (inputs r pieces)) ≡ lead ∷ need_of row ∷ more
+      splice-all =
           ap needs_of
-          (run-frames r pieces with_lead
-          ∙ ap (λ n. drop n (brought.lead_in ∷ run_all)) stays)
-          ∙ ap₂ ◌∷◌ lead-is (run-needs ∙ needs-cons)
+          (splice-frames r pieces with_lead
+          ∙ ap (λ n. drop n (brought.lead_in ∷ splice_all)) stays)
+          ∙ ap₂ ◌∷◌ lead-is (splice-needs ∙ needs-cons)
 
-      run-plan : IsPlan window own_choice ((lead ∷ need_of row ∷ more) ∷ [])
-          (run_plan first parts)
-      run-plan =
-          subst (λ ns. IsPlan window own_choice (ns ∷ []) (run_plan first parts))
-          run-all
-          (run-planned (inputs r pieces))
+      splice-plan : IsPlan window own_choice ((lead ∷ need_of row ∷ more) ∷ [])
+          (splice_plan first parts)
+      splice-plan =
+          subst (λ ns. IsPlan window own_choice (ns ∷ []) (splice_plan first parts))
+          splice-all
+          (splice-planned (inputs r pieces))
 
-      run-fit : FitsBehind window 0 (lead ∷ need_of row ∷ more)
-      run-fit =
+      splice-fit : FitsBehind window 0 (lead ∷ need_of row ∷ more)
+      splice-fit =
           (fits-tested window 0 (lead ∷ need_of row ∷ more)).0
-          (ap (fits_behind window 0) (sym run-all) ∙ run-fits r pieces led stays)
+          (ap (fits_behind window 0) (sym splice-all) ∙ splice-fits r pieces led stays)
 
-      as-run : IsLedRun window (need_of row) more led_places (run_plan first parts)
-      as-run =
-          led-run as-led
-          ((lead-where-wanted window (lead ∷ need_of row ∷ more) (run_plan first parts)
-          run-plan).0 run-fit)
-          (plan-begins run-plan run-fit)
+      as-splice : IsLedSplice window (need_of row) more led_places (splice_plan first parts)
+      as-splice =
+          led-splice as-led
+          ((lead-where-wanted window (lead ∷ need_of row ∷ more) (splice_plan first parts)
+          splice-plan).0 splice-fit)
+          (plan-begins splice-plan splice-fit)
 
       lead-begins : as-led.lead.begin ≡ 0
       unfolding begins_of
@@ -450,7 +453,7 @@ module _ {file : List ℕ} {s : SurveyFields} (r : Recording file s) {place next
 
       streams : stream (inputs r pieces) ≡ silent_lead_in brought.first ∷ stream_all
       streams =
-          run-stream r pieces with_lead
+          splice-stream r pieces with_lead
           ∙ ap (λ n. drop n (silent_lead_in brought.first ∷ stream_all)) stays
 
       stream-first : stream_all
@@ -463,7 +466,7 @@ module _ {file : List ℕ} {s : SurveyFields} (r : Recording file s) {place next
 
       frames-led : (all : List Frame) → part_frames part ≡ all
           → seamless_frames first parts ≡ relaid_frames (part_frames part) placed
-      unfolding as-run as-led led-run
+      unfolding as-splice as-led led-splice
       frames-led [] are =
           let none = sym (ap (map stream_entry) are) ∙ part-entry ∙ stream-first in
           absurd cc
@@ -472,19 +475,19 @@ module _ {file : List ℕ} {s : SurveyFields} (r : Recording file s) {place next
           let all = sym (ap (map stream_entry) are) ∙ part-entry in
           let begins = all ∙ stream-first in
           let entry : stream_entry f ≡ brought.first = cc in
-          let led_frame = lead_in_with_place as-run.lead f in
+          let led_frame = lead_in_with_place as-splice.lead f in
           let near : as-led.lead.begin ≤ window = omega (arith, lead-begins) in
           let own_entry =
           one-entry s.class as-led.lead f (slot_among as-led.slot.chosen) near
           entries.0 true in
           let heard = ap₂ ◌∷◌
-          (one-stream true as-run.lead f ∙ ap silent_lead_in entry) all in
+          (one-stream true as-splice.lead f ∙ ap silent_lead_in entry) all in
           frames-by r.known (inputs r pieces) (led_frame ∷ f ∷ fs) (own_entry, entries)
           (streams ∙ sym heard)
-          ∙ ap (relaid_frames (led_frame ∷ f ∷ fs)) as-run.run_is
-          ∙ led-relaid_frames as-run.lead as-run.rest f fs as-run.leads
+          ∙ ap (relaid_frames (led_frame ∷ f ∷ fs)) as-splice.splice_is
+          ∙ led-relaid_frames as-splice.lead as-splice.rest f fs as-splice.leads
           ∙ ap₂ (λ (xs : List Frame) (ps : List Placed). relaid_frames xs ps) (sym are)
-          (sym (placed-led ∙ as-run.led_is))
+          (sym (placed-led ∙ as-splice.led_is))
 
       same-led : IsSame
       same-led = record {
@@ -531,8 +534,8 @@ module _ {file : List ℕ} {s : SurveyFields} (r : Recording file s) {place next
       ∙ made-again (read piece) written (padding_of cut_span) (piece-keeps r (at r pieces))
 
   -- peak and gains stay as they are
-  run-made : run_extension written first parts ≡ made
-  run-made =
+  splice-made : splice_extension written first parts ≡ made
+  splice-made =
       let gain = gain-same made (kept_extension (head r))
       (ap (take 21) made-is
       ∙ made-front (head r) (head_long file s.head) written (padding_of cut_span)) in
@@ -553,11 +556,11 @@ module _ {file : List ℕ} {s : SurveyFields} (r : Recording file s) {place next
       ∙ quality-again (number_or_zero (quality_of (head r)))
 
   module _ (is : IsSame) where
-    extension-is : run_extension written first parts ≡ (plain r cut_span).extension
-    extension-is = grind (arith, run-made, made-is, s.class, is.frames, frames-many, placed-many)
+    extension-is : splice_extension written first parts ≡ (plain r cut_span).extension
+    extension-is = grind (arith, splice-made, made-is, s.class, is.frames, frames-many, placed-many)
 
     info-is : {q : Row} → slice_get first.survey.frames front ≡ Some q
-        → info_frame q.header (seamless_info (delay_of_run first parts) q first parts)
+        → info_frame q.header (seamless_info (delay_of_splice first parts) q first parts)
         ≡ info_frame row.header (info_laid cut file t)
     info-is {q} found_row =
         let quality = quality_of (part_head first) in

@@ -25,12 +25,12 @@ use Rattle.laying.proofs.{LaidLemmas.first-there, PlacesLemmas.range-whole}
 use Rattle.laying.specs.{KeptFields.fields_of_head, Laid.{frames_laid, info_laid, LaidPart}}
 use Rattle.laying.specs.{Needs.need_of, Relaid.FilePart, Surveys.CanBeRelaid}
 use Rattle.seam_laws.proofs.FrameRangeLemmas.{all_stream, between-needs, between-sounds}
-use Rattle.seam_laws.proofs.FrameRangeLemmas.{run_between, stream-many}
+use Rattle.seam_laws.proofs.FrameRangeLemmas.{splice_between, stream-many}
 use Rattle.seam_laws.proofs.LaidInputLemmas.{frames-same}
 use Rattle.seam_laws.proofs.PieceListLemmas.{AreAt, Cuts, IsAt, IsLaidAs, Recording}
 use Rattle.seam_laws.proofs.PiecePartLemmas.{laid_piece}
 use Rattle.seam_laws.specs.PlayedParts.{input_played, sample_named}
-use Rattle.seam_plan.{proofs.FollowLemmas.sounds, specs.Frames.{needs_of, RunFrame}}
+use Rattle.seam_plan.{proofs.FollowLemmas.sounds, specs.Frames.{needs_of, SpliceFrame}}
 use Rattle.seamless_edits.specs.Seamless.{sound_of}
 use Rattle.sync_survey.specs.{Faults.SurveyFields, Row.Row}
 
@@ -208,32 +208,32 @@ module _ {file : List ℕ} {s : SurveyFields} (r : Recording file s) where
 
   -- ---- the frames of the recording
 
-  -- all frames of the recording, as frames of a run
-  abbrev pub all_run : List RunFrame
-  all_run = run_between file own 0 (length own.frames)
+  -- all frames of the recording, as frames of a splice
+  abbrev pub all_splice : List SpliceFrame
+  all_splice = splice_between file own 0 (length own.frames)
 
   range-map : {X Y : Type 0} (f : X → Y) (from to : ℕ) (xs : List X)
       → map f (slice_range xs from to) ≡ slice_range (map f xs) from to
   range-map f from to xs = grind (arith, drop-map, take-map)
 
-  all-needs : needs_of all_run ≡ map need_of own.frames
+  all-needs : needs_of all_splice ≡ map need_of own.frames
   all-needs =
       between-needs has-own 0 (length own.frames)
       ∙ ap (map need_of) (range-whole own.frames)
 
-  all-sounds : sounds all_run ≡ map (sound_of s.class) (all_stream file own)
+  all-sounds : sounds all_splice ≡ map (sound_of s.class) (all_stream file own)
   all-sounds =
       between-sounds has-own 0 (length own.frames)
       ∙ ap (λ n. map (sound_of s.class) (slice_range (all_stream file own) 0 n))
       (sym (stream-many has-own))
       ∙ ap (map (sound_of s.class)) (range-whole (all_stream file own))
 
-  -- the run has a frame for each frame of the recording
-  pub all-many : length all_run ≡ length own.frames
+  -- the splice has a frame for each frame of the recording
+  pub all-many : length all_splice ≡ length own.frames
   all-many = grind (arith, length-map, all-needs)
 
-  -- a range of these frames is the run between the two numbers
-  pub all-range : (i j : ℕ) → slice_range all_run i j ≡ run_between file own i j
+  -- a range of these frames is the splice between the two numbers
+  pub all-range : (i j : ℕ) → slice_range all_splice i j ≡ splice_between file own i j
   all-range i j =
       grind (
         arith,

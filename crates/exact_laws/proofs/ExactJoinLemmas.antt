@@ -10,8 +10,8 @@ use Rattle.exact_laws.proofs.ExactNumberLemmas.{delay, delay-is, delay-most, inf
 use Rattle.exact_laws.proofs.ExactNumberLemmas.{padding-is, padding-least, padding-most}
 use Rattle.exact_laws.proofs.ExactNumberLemmas.{whole-first, whole-found, whole-last, whole_span}
 use Rattle.exact_laws.proofs.ExactReadLemmas.{read-plays}
-use Rattle.exact_laws.proofs.ExactRunLemmas.{all-follow, at, first_leads, inputs, IsJoined}
-use Rattle.exact_laws.proofs.ExactRunLemmas.{joined-is, st}
+use Rattle.exact_laws.proofs.ExactSpliceLemmas.{all-follow, at, first_leads, inputs, IsJoined}
+use Rattle.exact_laws.proofs.ExactSpliceLemmas.{joined-is, st}
 use Rattle.exact_laws.specs.ExactSeamLaws.{ExactSplitThenSeamlessJoin, HasTheSpan, PlaysTheSpan}
 use Rattle.exact_span.specs.declared.exact_place.ExactPlace.{ExactPlace}
 use Rattle.laying.specs.Relaid.{FilePart}

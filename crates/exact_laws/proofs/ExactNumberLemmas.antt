@@ -6,10 +6,10 @@ use Rattle.std.{proofs.lemmas.List.{length-append, length-map}, specs.Prelude.na
 use Rattle.cut_edits.{proofs.SealedLemmas.for-whole, specs.Exact.quality_of}
 use Rattle.exact_laws.proofs.ExactFileLemmas.{AreExact, has-own, inside, IsExact, IsFound, position}
 use Rattle.exact_laws.proofs.ExactFileLemmas.{sample, span, span-of-places}
-use Rattle.exact_laws.proofs.ExactRunLemmas.{at, begins, ended_at, ends, first_leads, high, inputs}
-use Rattle.exact_laws.proofs.ExactRunLemmas.{IsJoined, joined-is, low, st}
 use Rattle.exact_laws.proofs.ExactSpanLemmas.{first-before, has-span, HasSpan, leads-are, places-of}
-use Rattle.exact_laws.proofs.SpanRunLemmas.{span-many}
+use Rattle.exact_laws.proofs.ExactSpliceLemmas.{at, begins, ended_at, ends, first_leads, high}
+use Rattle.exact_laws.proofs.ExactSpliceLemmas.{inputs, IsJoined, joined-is, low, st}
+use Rattle.exact_laws.proofs.SpanSpliceLemmas.{span-many}
 use Rattle.exact_span.proofs.{SealLemmas.frames-sealed, SpanLemmas.span-in_range}
 use Rattle.exact_span.specs.Laws.{IsPieceHead, KeepsPlaces, SaysNumbers}
 use Rattle.exact_span.specs.PlayedPositions.{decoder_delay, length_of_played, played_of, rest_of}
@@ -21,15 +21,15 @@ use Rattle.frame_header.specs.{Fields.ClassFields, Tables.samples_of}
 use Rattle.frame_header.specs.declared.version.Version.{Version}
 use Rattle.laying.specs.{Relaid.FilePart, Written.info_for}
 use Rattle.seam_laws.proofs.FrameRangeLemmas.{range-length, stream-many}
-use Rattle.seam_laws.proofs.JoinNumberLemmas.{run-long, run-says}
+use Rattle.seam_laws.proofs.JoinNumberLemmas.{splice-long, splice-says}
 use Rattle.seam_laws.proofs.PieceListLemmas.{later-at, no_pieces, piece_then, Recording}
 use Rattle.seam_laws.proofs.SeamlessInputLemmas.{brought-many, input-whole, inputs-whole, own-class}
 use Rattle.seam_laws.specs.{PlayedParts.input_played, SeamlessLaws.last_place}
-use Rattle.seamless_edits.proofs.{NumberLemmas.rest-counted, RunPartLemmas.run-laid}
-use Rattle.seamless_edits.specs.Seamless.{delay_of_run, join_of_parts, last_part, part_head}
-use Rattle.seamless_edits.specs.Seamless.{part_rest, run_extension, run_lead_ins, seamless_delay}
-use Rattle.seamless_edits.specs.Seamless.{seamless_frames, seamless_info, seamless_padding}
-use Rattle.seamless_edits.specs.Seamless.{seamless_stream}
+use Rattle.seamless_edits.proofs.{NumberLemmas.rest-counted, SplicePartLemmas.splice-laid}
+use Rattle.seamless_edits.specs.Seamless.{delay_of_splice, join_of_parts, last_part, part_head}
+use Rattle.seamless_edits.specs.Seamless.{part_rest, seamless_delay, seamless_frames, seamless_info}
+use Rattle.seamless_edits.specs.Seamless.{seamless_padding, seamless_stream, splice_extension}
+use Rattle.seamless_edits.specs.Seamless.{splice_lead_ins}
 use Rattle.sync_survey.specs.{Faults.SurveyFields, Row.Row}
 
 -- ---- positions
@@ -170,11 +170,11 @@ module _ {file : List ℕ} {s : SurveyFields} (r : Recording file s) {place next
       ∙ begins r place next))
       ∙ first-span.spans.start in
       ap (λ d.
-      played.start + run_lead_ins first parts * samples_in d
+      played.start + splice_lead_ins first parts * samples_in d
       - (join_of_parts first parts).front * samples_in d - decoder_delay)
       (at r pieces).piece.is.of_class
       ∙ delay-same v played.start (warm_up_frame (samples_in s.class) p)
-      (length first-span.spans.lead_ins) (run_lead_ins first parts)
+      (length first-span.spans.lead_ins) (splice_lead_ins first parts)
       (join_of_parts first parts).front many
       starts (first-before v p) (omega (arith, joined.many, first-span.many_is))
       ∙ ap (λ n. many * samples_in s.class + n - decoder_delay) (sym (from-is s.class p q))
@@ -184,7 +184,7 @@ module _ {file : List ℕ} {s : SurveyFields} (r : Recording file s) {place next
   delay-most = (span-in_range whole-found.there.is many-leads).delay_most
 
   -- it is the delay of the join
-  pub delay-is : delay_of_run first parts ≡ Some delay
+  pub delay-is : delay_of_splice first parts ≡ Some delay
   delay-is = grind (arith, delay-value, le-leb, delay-most)
 
   -- the padding of the join is the padding of the span
@@ -211,7 +211,7 @@ module _ {file : List ℕ} {s : SurveyFields} (r : Recording file s) {place next
   frames-many =
       let raw = own-class (inputs r pieces) in
       let laid =
-      run-laid first parts (input-whole raw.head)
+      splice-laid first parts (input-whole raw.head)
       (inputs-whole first.survey.class parts raw.others) in
       let all = st r in
       let there = inside r whole_span whole-found.there in
@@ -235,10 +235,10 @@ module _ {file : List ℕ} {s : SurveyFields} (r : Recording file s) {place next
         there.within,
       )
 
-  run-numbers : SaysNumbers delay (padding_of whole_span) (run_extension delay first parts)
-  run-numbers =
-      subst (λ n. SaysNumbers delay n (run_extension delay first parts)) padding-is
-      (run-says first parts delay (omega (arith, delay-most))
+  splice-numbers : SaysNumbers delay (padding_of whole_span) (splice_extension delay first parts)
+  splice-numbers =
+      subst (λ n. SaysNumbers delay n (splice_extension delay first parts)) padding-is
+      (splice-says first parts delay (omega (arith, delay-most))
       (omega (arith, padding-is, padding-most)))
 
   -- the Info frame describes the span
@@ -246,13 +246,13 @@ module _ {file : List ℕ} {s : SurveyFields} (r : Recording file s) {place next
       → IsPieceHead s.class many whole_span (seamless_info (Some delay) row first parts)
   info-head row =
       let info = info_for first.survey.class (seamless_frames first parts)
-      (quality_of (part_head first)) (run_extension delay first parts) in
+      (quality_of (part_head first)) (splice_extension delay first parts) in
       let sealed = frames-sealed row.header
       (for-whole first.survey.class (seamless_frames first parts) (quality_of (part_head first))
-      (run-long first parts delay)) in
+      (splice-long first parts delay)) in
       record {
         frames = ap Some frames-many;
-        numbers = sealed.says delay (padding_of whole_span) run-numbers;
+        numbers = sealed.says delay (padding_of whole_span) splice-numbers;
       }
 
   -- the join plays the samples from the first place to the last

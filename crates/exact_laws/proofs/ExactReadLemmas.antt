@@ -5,7 +5,7 @@ use Rattle.cut_edits.proofs.HeadLemmas.{survey_without_head-length}
 use Rattle.exact_laws.proofs.ExactFileLemmas.{AreExact, inside, sample}
 use Rattle.exact_laws.proofs.ExactNumberLemmas.{delay, delay-is, frames-many, goal, info-head, many}
 use Rattle.exact_laws.proofs.ExactNumberLemmas.{many-leads, whole-found, whole_span}
-use Rattle.exact_laws.proofs.{ExactRunLemmas.{at, inputs}, ExactSpanLemmas.places-of}
+use Rattle.exact_laws.proofs.{ExactSpanLemmas.places-of, ExactSpliceLemmas.{at, inputs}}
 use Rattle.exact_span.specs.{Laws.{IsPieceHead, KeepsPlaces}, PlayedPositions.played_of}
 use Rattle.exact_span.specs.declared.{exact_place.ExactPlace.ExactPlace, span.Span.Span}
 use Rattle.frame_header.specs.Fields.{ClassFields}
@@ -14,7 +14,7 @@ use Rattle.laying.specs.Relaid.{FilePart}
 use Rattle.seam_laws.proofs.JoinReadLemmas.{front-row, read-count, read-played, read-says}
 use Rattle.seam_laws.proofs.{JoinReadLemmas.{read_info, written_info}, PieceListLemmas.Recording}
 use Rattle.seam_laws.{proofs.SeamlessInputLemmas.{Joins, own-class}, specs.PlayedParts.input_played}
-use Rattle.seamless_edits.specs.Seamless.{delay_of_run, seamless_file}
+use Rattle.seamless_edits.specs.Seamless.{delay_of_splice, seamless_file}
 use Rattle.sync_survey.specs.{Faults.SurveyFields, Survey.survey_of}
 
 module _ {file : List ℕ} {s : SurveyFields} (r : Recording file s) {place next : ExactPlace}
@@ -29,7 +29,7 @@ module _ {file : List ℕ} {s : SurveyFields} (r : Recording file s) {place next
   abbrev written : ℕ
   written = delay r pieces
 
-  written-is : delay_of_run first parts ≡ Some written
+  written-is : delay_of_splice first parts ≡ Some written
   written-is = delay-is r pieces
 
   raw : Joins first.survey.class first parts

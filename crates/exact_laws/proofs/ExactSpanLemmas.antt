@@ -3,7 +3,7 @@ use Rattle.std.proofs.Common.{ap, ap₂, arith, inl, inr, length, List, refl, So
 use Rattle.std.proofs.Common.{◌*◌, ◌++◌, ◌+◌, ◌-◌, ◌<◌, ◌^◌, ◌∙◌, ◌∷◌, ◌≡◌, ◌≤◌}
 use Rattle.std.{proofs.lemmas.List.{length-append, length-map}, specs.Prelude.slice_range}
 use Rattle.cut_edits.{proofs.HeadLemmas.survey_without_head-length, specs.Exact.span_lead_ins}
-use Rattle.exact_laws.proofs.ExactFileLemmas.{all-many, all-range, all_run, counted-is, has-own}
+use Rattle.exact_laws.proofs.ExactFileLemmas.{all-many, all-range, all_splice, counted-is, has-own}
 use Rattle.exact_laws.proofs.ExactFileLemmas.{head, inside, IsExact, IsFound, laid, own, piece-is}
 use Rattle.exact_laws.proofs.{ExactFileLemmas.{position, sample, span}, PlayLemmas.pieces-play}
 use Rattle.exact_laws.specs.{SampleLaws.PlaysItsSamples, SpanLaws.{AreEmptyFrames, IsSpanOf}}
@@ -18,13 +18,13 @@ use Rattle.frame_header.specs.declared.version.Version.{Version}
 use Rattle.info_header.specs.declared.fields.Info.{Info}
 use Rattle.laying.specs.{Laid.{info_laid, LaidPart}, Needs.need_of}
 use Rattle.laying.specs.Relaid.{FilePart, silent_lead_in}
-use Rattle.seam_laws.proofs.FrameRangeLemmas.{between-needs, range-length, run_between}
+use Rattle.seam_laws.proofs.FrameRangeLemmas.{between-needs, range-length, splice_between}
 use Rattle.seam_laws.proofs.PieceListLemmas.{Recording}
 use Rattle.seam_laws.proofs.PiecePartLemmas.{IsLed, IsUnled, leads, own_frames, own_stream, read}
 use Rattle.seam_laws.proofs.PiecePartLemmas.{read-count, read-extension, read-is, ways}
 use Rattle.seam_laws.proofs.SeamlessInputLemmas.{brought-many, whole_stream}
 use Rattle.seam_laws.specs.PlayedParts.{input_played}
-use Rattle.seam_plan.specs.Frames.{RunFrame}
+use Rattle.seam_plan.specs.Frames.{SpliceFrame}
 use Rattle.seamless_edits.specs.Seamless.{part_brought}
 use Rattle.sync_survey.specs.{Faults.SurveyFields, MainData.StreamFrame}
 
@@ -67,12 +67,12 @@ last-rises v later = grind arith
 -- ---- one piece
 
 module _ {file : List ℕ} {s : SurveyFields} (r : Recording file s) where
-  -- the run between two numbers has as many frames as their difference
-  pub run-many : (i : ℕ) {j : ℕ} → j ≤ length (own r).frames
-      → length (run_between file (own r) i j) ≡ j - i
-  run-many i {j} within =
-      let run = run_between file (own r) i j in
-      sym (length-map run (λ (f : RunFrame). f.need))
+  -- the splice between two numbers has as many frames as their difference
+  pub splice-many : (i : ℕ) {j : ℕ} → j ≤ length (own r).frames
+      → length (splice_between file (own r) i j) ≡ j - i
+  splice-many i {j} within =
+      let splice = splice_between file (own r) i j in
+      sym (length-map splice (λ (f : SpliceFrame). f.need))
       ∙ ap length (between-needs (has-own r) i j)
       ∙ length-map (slice_range (own r).frames i j) need_of
       ∙ range-length (own r).frames i within
@@ -136,8 +136,8 @@ module _ {file : List ℕ} {s : SurveyFields} (r : Recording file s) where
         (played_of (Some (read at.piece)) s.class (many + (t.last - t.first))) (input_played file s)
     kept = places-of at.there leads-are read-head
 
-    abbrev pub all : List RunFrame
-    all = all_run r
+    abbrev pub all : List SpliceFrame
+    all = all_splice r
 
     abbrev pub start : ℕ
     start = position r from
@@ -155,7 +155,7 @@ module _ {file : List ℕ} {s : SurveyFields} (r : Recording file s) where
       pub stream_is : whole_stream at.piece.is ≡ leads ++ own_stream at.piece
       pub same : length leads ≡ length spans.lead_ins
 
-    module _ (lead_ins : List RunFrame)
+    module _ (lead_ins : List SpliceFrame)
         (frames_are : (part_brought p).frames ≡ lead_ins ++ own_frames at.piece)
         (empty : AreEmptyFrames lead_ins) (same : length lead_ins ≡ many) where
       -- the head of the input counts what is played by it
@@ -165,7 +165,7 @@ module _ {file : List ℕ} {s : SurveyFields} (r : Recording file s) where
           let count = sym (brought-many at.piece.is)
           ∙ ap length frames_are
           ∙ length-append lead_ins (own_frames at.piece)
-          ∙ ap₂ (λ m n. m + n) same (run-many t.first (inside r t at.there.there).within) in
+          ∙ ap₂ (λ m n. m + n) same (splice-many t.first (inside r t at.there.there).within) in
           ap (λ h. counted_positions h p.survey.class (length p.survey.frames)) (read-is at.piece)
           ∙ ap₂ (λ (d : ClassFields) (n : ℕ). counted_positions (Some (read at.piece)) d n)
           at.piece.is.of_class count

@@ -2,7 +2,7 @@
 use Rattle.std.proofs.Common.{◌++◌}
 use Rattle.exact_laws.proofs.ExactCutLemmas.{cut-file, is-same}
 use Rattle.exact_laws.proofs.ExactFileLemmas.{exact-laid, exact_cuts, has-own, own, span-right}
-use Rattle.exact_laws.proofs.{ExactNumberLemmas.{whole-found, whole_span}, ExactRunLemmas.at}
+use Rattle.exact_laws.proofs.{ExactNumberLemmas.{whole-found, whole_span}, ExactSpliceLemmas.at}
 use Rattle.exact_laws.specs.ExactSeamLaws.{ExactInSteps}
 use Rattle.seam_laws.proofs.PieceListLemmas.{laid-pieces, map-pieces, recording, two-steps}
 use Rattle.seam_laws.proofs.SplitStepLemmas.{never-alike}

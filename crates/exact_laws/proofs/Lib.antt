@@ -1,10 +1,10 @@
 -- The lemmas of this crate.
 pub mod PlayLemmas
 pub mod RecordingLemmas
-pub mod SpanRunLemmas
+pub mod SpanSpliceLemmas
 pub mod ExactFileLemmas
 pub mod ExactSpanLemmas
-pub mod ExactRunLemmas
+pub mod ExactSpliceLemmas
 pub mod ExactNumberLemmas
 pub mod ExactReadLemmas
 pub mod ExactCutLemmas

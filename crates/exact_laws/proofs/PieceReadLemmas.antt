@@ -11,7 +11,7 @@ use Rattle.exact_laws.proofs.ExactFileLemmas.{choice, has-own, head, inside, IsE
 use Rattle.exact_laws.proofs.ExactFileLemmas.{own, piece-is, span, span-found, span-right}
 use Rattle.exact_laws.proofs.{ExactSpanLemmas.{has-span, kept}, PlayLemmas.pieces-play}
 use Rattle.exact_laws.proofs.RecordingLemmas.{between-plays, pieces-recording}
-use Rattle.exact_laws.proofs.SpanRunLemmas.{span-many}
+use Rattle.exact_laws.proofs.SpanSpliceLemmas.{span-many}
 use Rattle.exact_laws.specs.PieceLaws.{all_read_samples, AreSurveysOf, ExactPiecesPlayAsRead}
 use Rattle.exact_laws.specs.PieceLaws.{ExactPlansAreFirst, first_position, HoldsInTurn, IsExactPlan}
 use Rattle.exact_laws.specs.PieceLaws.{IsPlanFrom, piece_file, PlaysAsRead, read_samples}

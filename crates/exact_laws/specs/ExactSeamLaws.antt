@@ -13,8 +13,8 @@ use Rattle.seam_laws.specs.SeamlessLaws.{ArePieceInputs, bare_file, has_no_look_
 use Rattle.seam_laws.specs.SeamlessLaws.{HasNoEmptyFrame, is_empty_frame, IsJoinedInSteps}
 use Rattle.seam_laws.specs.SeamlessLaws.{last_place}
 use Rattle.seam_plan.specs.Seams.{JointFrames}
-use Rattle.seamless_edits.specs.Seamless.{delay_of_run, join_of_parts, seamless_file, seamless_info}
-use Rattle.seamless_edits.specs.Seamless.{seamless_padding, seamless_stream}
+use Rattle.seamless_edits.specs.Seamless.{delay_of_splice, join_of_parts, seamless_file}
+use Rattle.seamless_edits.specs.Seamless.{seamless_info, seamless_padding, seamless_stream}
 use Rattle.split_edits.specs.{Cutting.piece_parts, Split.exact_cutting_of}
 use Rattle.split_edits.specs.declared.exact_points.ExactPoints.{ExactPoints}
 use Rattle.sync_survey.specs.{Faults.{stream_of_survey, SurveyFields}, MainData.StreamFrame}
@@ -49,14 +49,14 @@ pub record HasTheSpan (from to : ExactPlace) (file : List ℕ) (s : SurveyFields
 -- a + k of the recording, where the first place is sample a, is in the same frame.
 pub record PlaysTheSpan (from to : ExactPlace) (file : List ℕ) (s : SurveyFields) (first : FilePart)
     (parts : List FilePart) (leads : ℕ) (span : Span) : Type 0 where
-  -- the row of the first frame of the run, from whose header the Info frame is made
+  -- the row of the first frame of the splice, from whose header the Info frame is made
   pub row : Row
-  -- it is in the first input, after what leaves the run
+  -- it is in the first input, after what leaves the splice
   pub row_is : slice_get first.survey.frames (join_of_parts first parts).front ≡ Some row
   -- the delay
   pub delay : ℕ
   -- the delay and the padding are written
-  pub delay_is : delay_of_run first parts ≡ Some delay
+  pub delay_is : delay_of_splice first parts ≡ Some delay
   -- both are in range
   pub delay_most : delay ≤ 2830
   pub padding_least : 529 ≤ seamless_padding first parts

@@ -4,23 +4,23 @@ use Rattle.std.specs.Prelude.{Bool, false, length, List, slice_range, Some, true
 use Rattle.std.specs.Prelude.{◌+◌, ◌<◌, ◌∷◌, ◌≡◌, ◌≤◌}
 use Rattle.exact_span.specs.{PlayedPositions.samples_in, declared.played.Played.Played}
 use Rattle.frame_header.specs.{Fields.ClassFields, Tables.window_of}
-use Rattle.seam_laws.specs.RunLaws.{AreHeadersKnown}
-use Rattle.seam_plan.specs.{Frames.{Brought, needs_of, RunFrame}, Joins.fits_behind}
-use Rattle.seam_plan.specs.{Seams.{JointFrames, joints_of, run_with}, declared.seam.Seam.Seam}
+use Rattle.seam_laws.specs.SpliceLaws.{AreHeadersKnown}
+use Rattle.seam_plan.specs.{Frames.{Brought, needs_of, SpliceFrame}, Joins.fits_behind}
+use Rattle.seam_plan.specs.{Seams.{JointFrames, joints_of, splice_with}, declared.seam.Seam.Seam}
 use Rattle.seam_plan.specs.declared.seam.Seam.TheVariants.{Follows}
 
 -- ---- spans of one recording whose neighbours share frames
 
 -- the frames have no main data
-abbrev pub AreEmptyFrames : List RunFrame → Type 0
+abbrev pub AreEmptyFrames : List SpliceFrame → Type 0
 AreEmptyFrames [] = Unit {0}
 AreEmptyFrames (f ∷ frames) = (f.need.bytes ≡ 0) × AreEmptyFrames frames
 
 -- The input is frames of a recording, from `from` to before `to`, after lead-ins. Its played
 -- positions are the recording's from `begin` to before `end`, and are in these frames.
-pub record IsSpanOf (class : ClassFields) (all : List RunFrame) (begin end : ℕ) (input : Brought)
+pub record IsSpanOf (class : ClassFields) (all : List SpliceFrame) (begin end : ℕ) (input : Brought)
     : Type 0 where
-  pub lead_ins : List RunFrame
+  pub lead_ins : List SpliceFrame
   pub from : ℕ
   pub to : ℕ
   pub frames_are : input.frames ≡ lead_ins ++ slice_range all from to
@@ -37,7 +37,7 @@ pub record IsSpanOf (class : ClassFields) (all : List RunFrame) (begin end : ℕ
 -- Each of these inputs plays from where the one before it ends, up to the point at its
 -- place. None begins before the frame `low`, nor ends before the one before it; and each
 -- has a frame before the one in which it begins to play, or begins to play within a frame.
-abbrev pub AreSpansOf : ClassFields → List RunFrame → ℕ → ℕ → ℕ → List Brought → List ℕ → Type 0
+abbrev pub AreSpansOf : ClassFields → List SpliceFrame → ℕ → ℕ → ℕ → List Brought → List ℕ → Type 0
 AreSpansOf class all low last begin [] [] = Unit {0}
 AreSpansOf class all low last begin (input ∷ inputs) (end ∷ points) =
     (is : IsSpanOf class all begin end input) × (low ≤ is.from)
@@ -46,7 +46,7 @@ AreSpansOf class all low last begin (input ∷ inputs) (end ∷ points) =
 AreSpansOf class all low last begin _ _ = ⊥
 
 -- the frame after the last frame of the last span
-abbrev pub spans_end : (class : ClassFields) (all : List RunFrame) (low last begin : ℕ)
+abbrev pub spans_end : (class : ClassFields) (all : List SpliceFrame) (low last begin : ℕ)
     (inputs : List Brought) (points : List ℕ)
     → AreSpansOf class all low last begin inputs points → ℕ
 spans_end class all low last begin [] [] are = last
@@ -60,11 +60,11 @@ abbrev pub is_following_seam : Seam → Bool
 is_following_seam (Follows frames) = true
 is_following_seam _ = false
 
--- Each input follows, and the run is the first input's lead-ins
+-- Each input follows, and the splice is the first input's lead-ins
 -- and then the frames from its first to the last of all inputs.
-abbrev pub SpansAreOneRun : Type 0
-SpansAreOneRun =
-    (class : ClassFields) (all : List RunFrame) (begin end : ℕ) (first : Brought)
+abbrev pub SpansAreOneSplice : Type 0
+SpansAreOneSplice =
+    (class : ClassFields) (all : List SpliceFrame) (begin end : ℕ) (first : Brought)
     (inputs : List Brought) (points : List ℕ) →
     let window = window_of class.version in
     (is : IsSpanOf class all begin end first)
@@ -72,6 +72,6 @@ SpansAreOneRun =
     → AreHeadersKnown all → fits_behind window window (needs_of all) ≡ true →
     let joints = joints_of class first inputs in
     (list_all (λ (j : JointFrames). is_following_seam j.seam) joints ≡ true)
-    × (run_with first joints
+    × (splice_with first joints
     ≡ is.lead_ins ++ slice_range all is.from
     (spans_end class all is.from is.to end inputs points are))

@@ -9,4 +9,4 @@ mod span_laws;
 pub use laws::{exact_in_steps, exact_split_then_seamless_join};
 pub use piece_laws::{exact_pieces_play_as_read, exact_plans_are_first};
 pub use sample_laws::{pieces_are_the_recording, pieces_play_their_samples};
-pub use span_laws::spans_are_one_run;
+pub use span_laws::spans_are_one_splice;

@@ -63,10 +63,10 @@ use Rattle.salvage_edits.specs.Salvaged.{all_chosen, input_salvage_text, input_s
 use Rattle.salvage_edits.specs.Salvaged.{salvage_command, salvage_task, salvaged_file}
 use Rattle.salvage_edits.specs.Salvaged.{salvaged_or_fault}
 use Rattle.seam_plan.specs.declared.stretches.Part.{Part}
-use Rattle.seamless_edits.proofs.RunFileLemmas.{blocks, file-is, found, info, parts-whole}
-use Rattle.seamless_edits.proofs.RunFileLemmas.{seamless-is}
-use Rattle.seamless_edits.proofs.RunPartLemmas.{AreWholeFiles, IsWholeFile}
-use Rattle.seamless_edits.specs.Seamless.{delay_of_run, seamless_command, seamless_file}
+use Rattle.seamless_edits.proofs.SpliceFileLemmas.{blocks, file-is, found, info, parts-whole}
+use Rattle.seamless_edits.proofs.SpliceFileLemmas.{seamless-is}
+use Rattle.seamless_edits.proofs.SplicePartLemmas.{AreWholeFiles, IsWholeFile}
+use Rattle.seamless_edits.specs.Seamless.{delay_of_splice, seamless_command, seamless_file}
 use Rattle.seamless_edits.specs.Seamless.{seamless_frames, seamless_info}
 use Rattle.slot_plan.specs.declared.needs.{Need.Need, Placed.Placed}
 use Rattle.split_edits.proofs.{CommandLemmas.first-parts, PartsLemmas.split-parts}
@@ -356,22 +356,22 @@ salvage-stay input output files made e =
 
 -- ---- several files without seams
 
--- the Info frame of a run gives its numbers, with or without delay and padding
-run-frames : (delay : Option ℕ) (row : Row) (first : FilePart) (parts : List FilePart)
+-- the Info frame of a splice gives its numbers, with or without delay and padding
+splice-frames : (delay : Option ℕ) (row : Row) (first : FilePart) (parts : List FilePart)
     → (seamless_info delay row first parts).frames ≡ Some (length (seamless_frames first parts))
-run-frames None row first parts = refl
-run-frames (Some delay) row first parts = refl
+splice-frames None row first parts = refl
+splice-frames (Some delay) row first parts = refl
 
-run-bytes : (delay : Option ℕ) (row : Row) (first : FilePart) (parts : List FilePart)
+splice-bytes : (delay : Option ℕ) (row : Row) (first : FilePart) (parts : List FilePart)
     → (seamless_info delay row first parts).bytes
     ≡ Some (all_bytes first.survey.class slot_in (seamless_frames first parts))
-run-bytes None row first parts = refl
-run-bytes (Some delay) row first parts = refl
+splice-bytes None row first parts = refl
+splice-bytes (Some delay) row first parts = refl
 
-run-stays : {first : FilePart} (parts : List FilePart)
+splice-stays : {first : FilePart} (parts : List FilePart)
     → IsWholeFile first.survey.class first → AreWholeFiles first.survey.class parts
     → IsCountedFile (seamless_file (first ∷ parts))
-run-stays {first} parts is are =
+splice-stays {first} parts is are =
     let row : Row = (found first parts is are).0 in
     record {
       class = first.survey.class;
@@ -382,13 +382,13 @@ run-stays {first} parts is are =
       back = [];
       is = seamless-is first parts is are;
       laid = file-is first parts is are;
-      frames_are = run-frames (delay_of_run first parts) row first parts;
-      bytes_are = run-bytes (delay_of_run first parts) row first parts;
+      frames_are = splice-frames (delay_of_splice first parts) row first parts;
+      bytes_are = splice-bytes (delay_of_splice first parts) row first parts;
     }
 
 files-stay : (files : Contents) (names : List (List ℕ)) {parts : List FilePart}
     → 1 ≤ length names → join_parts files names ≡ Ok parts → IsCountedFile (seamless_file parts)
-files-stay files names {parts} some e = grind (arith, parts-whole files names some e, run-stays)
+files-stay files names {parts} some e = grind (arith, parts-whole files names some e, splice-stays)
 
 seamless-stay : (output : List ℕ) (inputs : List (List ℕ)) → 1 ≤ length inputs
     → WritesOnly IsCountedFile (seamless_command output inputs)

@@ -2,7 +2,7 @@
 pub mod InputLemmas
 pub mod PartLemmas
 pub mod RestLemmas
-pub mod RunPlanLemmas
+pub mod SplicePlanLemmas
 pub mod SourceLemmas
 pub mod StepLemmas
 pub mod BorrowLemmas

@@ -12,7 +12,7 @@ mod written;
 
 pub use inputs::{JoinInput, input_at};
 pub use laid::lay_all;
-pub use planned::{plan_run, run_info_bytes};
+pub use planned::{plan_splice, splice_info_bytes};
 pub use ranges::{LaidRange, LaidRanges};
 pub use stopped::Stopped;
 pub use surveys::survey_all;

@@ -1,4 +1,4 @@
-//! The plan of a run of frames, which is one part, and the Info frame before it.
+//! The plan of a splice of frames, which is one part, and the Info frame before it.
 ghost use Rattle.std.specs.Prelude.{◌≡◌, ◌<◌, ◌≤◌, List, length, map, slice_get, Some, IfOk};
 ghost use Rattle.frame_header.specs.Fields.{ClassFields};
 ghost use Rattle.frame_header.specs.Limits.{most_output_frames};
@@ -15,7 +15,7 @@ ghost use Rattle.slot_plan.specs.Plans.{entries};
 ghost use Rattle.sync_survey.specs.Row.{Row};
 ghost use Rattle.sync_survey.specs.Faults.{survey_view};
 ghost use Rattle.commands.specs.SingleOutput.{most_frames};
-ghost use Rattle.joined_inputs.specs.Planned.{info_kept, plan_of_run_needs};
+ghost use Rattle.joined_inputs.specs.Planned.{info_kept, plan_of_splice_needs};
 
 use arrayvec::ArrayVec;
 use cut_edits::sealed_info_bytes;
@@ -27,7 +27,7 @@ use sync_survey::Survey;
 /// The bytes of the Info frame before frames of a surveyed input in the slots of a plan, with what
 /// it keeps of the heads, sealed if it keeps something. The first of the frames is frame `from`,
 /// whose header it has.
-pub fn run_info_bytes(
+pub fn splice_info_bytes(
     survey: &Survey,
     from: usize,
     kept: Option<Kept>,
@@ -48,13 +48,13 @@ pub fn run_info_bytes(
     sealed_info_bytes(survey, from, &kept, placed)
 }
 
-/// The plan of a run, which is one part: each frame keeps the slot that it needs.
-pub fn plan_run(alloc: Global, needs: &[Need]) -> Result<Plan, AllocError>
+/// The plan of a splice, which is one part: each frame keeps the slot that it needs.
+pub fn plan_splice(alloc: Global, needs: &[Need]) -> Result<Plan, AllocError>
     requires some { 0 < length needs.now }
     requires few { length needs.now ≤ most_frames }
     requires fits { FitBehindWindow needs.now }
     ensures plan { IfOk result (λ plan. (class : ClassFields) → AreNeedsOfClass class needs.now
-        → entries plan ≡ plan_of_run_needs (window_of class.version) needs.now) }
+        → entries plan ≡ plan_of_splice_needs (window_of class.version) needs.now) }
     ensures fits { IfOk result (λ plan. (class : ClassFields) → AreNeedsOfClass class needs.now
         → FitsFromReach (window_of class.version) 0 needs.now (entries plan)) }
 {

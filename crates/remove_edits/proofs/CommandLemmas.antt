@@ -46,7 +46,7 @@ module _ (stretches : List (ExactPlace × ExactPlace)) where
       staying-order frames numbers
       (ok-parts frames (staying_parts frames numbers) e)
 
-  -- they can be laid as one run, once the head is set apart
+  -- they can be laid as one splice, once the head is set apart
   pub left-parts : (file : List ℕ) {s : SurveyFields} {parts : List Part}
       → survey_of file most_frames ≡ Ok s → parts_left stretches s ≡ Ok parts
       → ArePartsLeft (survey_without_head s) parts

@@ -1,4 +1,4 @@
--- What a removal prepares: the parts that stay can be laid as one run, the work is ready for the
+-- What a removal prepares: the parts that stay can be laid as one splice, the work is ready for the
 -- pass over its input, and its file is that of the parts.
 use Rattle.std.proofs.Common.{ap, append_assoc, arith, Err, length, length-append, List, map, Ok}
 use Rattle.std.proofs.Common.{Option, refl, Result, subst, sym, ℕ, [], ◌++◌, ◌+◌, ◌∙◌, ◌∷◌, ◌≡◌}
@@ -67,13 +67,13 @@ left-few stretches s {parts} e few =
       few,
     )
 
--- ---- the run
+-- ---- the splice
 
--- the parts that stay can be laid as one run, once the head is set apart
-pub parts-run : (s : SurveyFields) {t : SurveyFields} {parts : List Part}
+-- the parts that stay can be laid as one splice, once the head is set apart
+pub parts-splice : (s : SurveyFields) {t : SurveyFields} {parts : List Part}
     → t ≡ survey_without_head s → IsSurveyLaidOut t
     → (1 ≤ length parts) × AreInOrder 0 (length s.frames) parts → ArePartsLeft t parts
-parts-run s {t} {parts} is laid there =
+parts-splice s {t} {parts} is laid there =
     let same : length t.frames ≡ length s.frames =
     ap (λ (u : SurveyFields). length u.frames) is ∙ survey_without_head-length s in
     record {

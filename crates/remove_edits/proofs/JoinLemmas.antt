@@ -1,12 +1,12 @@
--- How a part joins the run, and which part is next.
+-- How a part joins the splice, and which part is next.
 use Rattle.std.proofs.Common.{ap, arith, drop, length, List, refl, slice_index_or, slice_set, suc}
 use Rattle.std.proofs.Common.{sym, take, zero, ℕ, [], ◌++◌, ◌+◌, ◌-◌, ◌<◌, ◌∷◌, ◌≡◌, ◌≤◌}
 use Rattle.std.proofs.Math.Seq.{drop-cons}
 use Rattle.frame_header.specs.Fields.{SlotFields}
-use Rattle.remove_edits.{proofs.RunLemmas.order-at, specs.Ready.{ArePartsLeft, end_of_parts}}
+use Rattle.remove_edits.{proofs.SpliceLemmas.order-at, specs.Ready.{ArePartsLeft, end_of_parts}}
 use Rattle.remove_edits.specs.Removed.{lead_in_count, parts_written}
 use Rattle.seam_plan.proofs.PartJointLemmas.{needs-items}
-use Rattle.seam_plan.specs.PartRuns.{item_needs, joint_items, RunItem}
+use Rattle.seam_plan.specs.PartSplices.{item_needs, joint_items, SpliceItem}
 use Rattle.seam_plan.specs.declared.{parts.PartJoint.TheVariants.InSlot, stretches.Part.Part}
 use Rattle.slot_plan.specs.FreeBytes.{need_in_slot, needs_with_first_slot}
 use Rattle.slot_plan.specs.declared.needs.Need.{Need}
@@ -24,7 +24,7 @@ put-first slot (n ∷ needs) (suc at) d within =
     ap (λ l. n ∷ l) (put-first slot needs at d (omega (arith, within)))
 
 -- each part is written once
-pub written-count : (parts : List Part) (at : ℕ) (items : List RunItem)
+pub written-count : (parts : List Part) (at : ℕ) (items : List SpliceItem)
     → length (parts_written at items parts) ≡ length parts
 unfolding parts_written
 written-count [] at items = refl

@@ -1,6 +1,6 @@
 -- The lemmas of this crate.
 pub mod ItemLemmas
-pub mod RunLemmas
+pub mod SpliceLemmas
 pub mod MarkLemmas
 pub mod PlanLemmas
 pub mod RemovalLemmas

@@ -9,7 +9,8 @@ use Rattle.laying.specs.Fits.{AreInSlots, FitsFromReach, placed_area, placed_byt
 use Rattle.laying.specs.Relaid.{rest_behind}
 use Rattle.remove_edits.specs.Ready.{lead_in_places, with_lead_in, with_lead_ins}
 use Rattle.remove_edits.specs.Removed.{item_places, place_as}
-use Rattle.seam_plan.specs.PartRuns.{AreRunItemsOf, IsItemOf, IsLeadInOf, item_needs, RunItem}
+use Rattle.seam_plan.specs.PartSplices.{AreSpliceItemsOf, IsItemOf, IsLeadInOf, item_needs}
+use Rattle.seam_plan.specs.PartSplices.{SpliceItem}
 use Rattle.slot_plan.specs.declared.needs.{Need.Need, Placed.Placed}
 
 -- ---- how they are marked
@@ -34,7 +35,7 @@ with-next true {k} front p placed ats long =
 with-next false front p placed ats long =
     ap (with_lead_ins ats) (sym (append_assoc front (p ∷ []) placed))
 
-with-all : (k : ℕ) (front : List Placed) (items : List RunItem) (placed : List Placed)
+with-all : (k : ℕ) (front : List Placed) (items : List SpliceItem) (placed : List Placed)
     → length front ≡ k → length placed ≡ length items
     → with_lead_ins (lead_in_places k items) (front ++ placed)
     ≡ front ++ item_places items placed
@@ -49,12 +50,12 @@ with-all k front (item ∷ items) (p ∷ placed) long many =
     ∙ append_assoc front (here ∷ []) (item_places items placed)
 
 -- the places of the lead-ins among items are marked as such
-pub marks-are : (items : List RunItem) (placed : List Placed) → length placed ≡ length items
+pub marks-are : (items : List SpliceItem) (placed : List Placed) → length placed ≡ length items
     → with_lead_ins (lead_in_places 0 items) placed ≡ item_places items placed
 marks-are items placed many = with-all 0 [] items placed refl many
 
 -- the lead-ins are among the items
-pub places-within : (at : ℕ) (items : List RunItem) {count : ℕ} → at + length items ≤ count
+pub places-within : (at : ℕ) (items : List SpliceItem) {count : ℕ} → at + length items ≤ count
     → All (λ place. place < count) (lead_in_places at items)
 unfolding lead_in_places
 places-within at [] {count} within = All-nil (λ place. place < count)
@@ -88,7 +89,7 @@ area-by : {b : Bool} (p : Placed) (item need : Need) → b ≡ false
     ≡ area_of (class_of item.header) p.slot (cond b false item.header.protected)
 area-by p item need frame class word = grind arith
 
-frame-takes : {p : Placed} {item : RunItem} {need : Need} → p.lead_in ≡ false
+frame-takes : {p : Placed} {item : SpliceItem} {need : Need} → p.lead_in ≡ false
     → IsItemOf item need → TakesAsMuch p p item.need need
 frame-takes {p} {item} {need} frame is =
     let moved = is.moved in
@@ -102,7 +103,7 @@ frame-takes {p} {item} {need} frame is =
       area = area-by p item.need need frame class word;
     }
 
-lead-takes : {p : Placed} {item : RunItem} {need : Need} → p.lead_in ≡ false
+lead-takes : {p : Placed} {item : SpliceItem} {need : Need} → p.lead_in ≡ false
     → IsLeadInOf item need → TakesAsMuch p (place_as true p) item.need need
 lead-takes {item = item} {need = need} frame is =
     let header = is.before.0 in
@@ -146,11 +147,11 @@ rest-fits window reach p item needs placed frame fits =
     subst (λ l. FitsFromReach window reach l placed) (frame-behind p item needs frame) fits
 
 -- if the items fit in the places, the frames fit in the marked places
-pub fits-marked : (window reach : ℕ) (items : List RunItem) (needs : List Need)
-    (placed : List Placed) → AreRunItemsOf items needs → AreFramePlaces placed
+pub fits-marked : (window reach : ℕ) (items : List SpliceItem) (needs : List Need)
+    (placed : List Placed) → AreSpliceItemsOf items needs → AreFramePlaces placed
     → FitsFromReach window reach (item_needs items) placed
     → FitsFromReach window reach needs (item_places items placed)
-unfolding AreRunItemsOf FitsFromReach item_places
+unfolding AreSpliceItemsOf FitsFromReach item_places
 fits-marked window reach [] [] placed are frames fits = fits
 fits-marked window reach [] (m ∷ needs) placed are frames fits = absurd are
 fits-marked window reach (item ∷ items) [] placed are frames fits = absurd are
@@ -173,7 +174,7 @@ fits-marked window reach (item ∷ items) (m ∷ needs) (p ∷ placed) (inr lead
     (item_places items placed) refl (lead-takes frames.0 lead.0) refl fits.0 fits.1 later)
 
 -- the places stay in their slots
-pub marked-slots : (items : List RunItem) (placed : List Placed) → AreInSlots placed
+pub marked-slots : (items : List SpliceItem) (placed : List Placed) → AreInSlots placed
     → AreInSlots (item_places items placed)
 unfolding item_places
 marked-slots [] placed in_slots = in_slots

@@ -5,18 +5,20 @@ use Rattle.std.proofs.Common.{true, ℕ, [], ◌++◌, ◌<◌, ◌∙◌, ◌�
 use Rattle.std.proofs.lemmas.List.{drop_at, take_at}
 use Rattle.frame_header.specs.Fields.{ClassFields, IsClass, IsHeader, IsSlot, SlotFields}
 use Rattle.frame_header.specs.{Slots.all_slots, Tables.{class_of, window_of}}
-use Rattle.joined_inputs.{proofs.RunPlanLemmas.run-planned, specs.Planned.plan_of_run_needs}
+use Rattle.joined_inputs.proofs.SplicePlanLemmas.{splice-planned}
+use Rattle.joined_inputs.specs.Planned.{plan_of_splice_needs}
 use Rattle.laying.proofs.{FitLemmas.{AreHeaders, parts-fitting}, PlannedFrameLemmas.slot_among}
 use Rattle.laying.specs.Fits.{AreInSlots, FitsFromReach, IsFittingPlan, reach_behind}
 use Rattle.laying.specs.{NeedsFit.own_choice, Relaid.{AreSlots, rest_behind}}
 use Rattle.remove_edits.proofs.MarkLemmas.{AreFramePlaces, fits-marked, marked-slots}
 use Rattle.remove_edits.specs.Removed.{item_places, marked_places, places_before}
-use Rattle.seam_plan.specs.PartRuns.{AreRunItemsOf, IsItemOf, IsLeadInOf, item_needs, RunItem}
+use Rattle.seam_plan.specs.PartSplices.{AreSpliceItemsOf, IsItemOf, IsLeadInOf, item_needs}
+use Rattle.seam_plan.specs.PartSplices.{SpliceItem}
 use Rattle.slot_plan.{proofs.AreaLemmas.only_one, specs.FreeBytes.FitsBehind}
 use Rattle.slot_plan.specs.Parts.{all_items, AreLeadIns, AreNeedsOfClass, need_item, part_items}
 use Rattle.slot_plan.specs.{Plans.{AreItemSlots, IsPlan}, declared.needs.{Need.Need, Placed.Placed}}
 
--- ---- the places of a run
+-- ---- the places of a splice
 
 -- the places of a plan of one part: those of its frames behind that of a lead-in, or alone
 pub record HasShape (many : ℕ) (placed : List Placed) : Type 0 where
@@ -84,23 +86,23 @@ unfolding AreLeadIns all_items
 plan-shape-by window needs [] leads are = absurd leads
 plan-shape-by window needs (lead ∷ leads) {placed} both are = shape-by needs lead placed are
 
--- what is known of the needs of a run: their class, their headers, and that they fit
-pub record IsRunNeeds (class : ClassFields) (needs : List Need) : Type 0 where
+-- what is known of the needs of a splice: their class, their headers, and that they fit
+pub record IsSpliceNeeds (class : ClassFields) (needs : List Need) : Type 0 where
   pub known : IsClass class
   pub same : AreNeedsOfClass class needs
   pub some : 0 < length needs
   pub fits : FitsBehind (window_of class.version) (window_of class.version) needs
   pub headers : AreHeaders needs
 
-module _ (class : ClassFields) (needs : List Need) (is : IsRunNeeds class needs) where
+module _ (class : ClassFields) (needs : List Need) (is : IsSpliceNeeds class needs) where
   abbrev window : ℕ
   window = window_of class.version
 
-  planned : IsPlan window own_choice (needs ∷ []) (plan_of_run_needs window needs)
-  planned = run-planned class needs is.known is.same is.some is.fits
+  planned : IsPlan window own_choice (needs ∷ []) (plan_of_splice_needs window needs)
+  planned = splice-planned class needs is.known is.same is.some is.fits
 
-  -- the plan of a run has a place for each item, behind at most one lead-in
-  pub plan-shape : HasShape (length needs) (plan_of_run_needs window needs)
+  -- the plan of a splice has a place for each item, behind at most one lead-in
+  pub plan-shape : HasShape (length needs) (plan_of_splice_needs window needs)
   plan-shape =
       plan-shape-by window needs planned.lead_ins planned.alone
       planned.whole.slots
@@ -109,16 +111,16 @@ module _ (class : ClassFields) (needs : List Need) (is : IsRunNeeds class needs)
   own_slots h slot known has = subst IsSlot (only_one has) known.slot
 
   -- the items fit in the slots of the plan
-  pub plan-fitting : IsFittingPlan window needs (plan_of_run_needs window needs)
+  pub plan-fitting : IsFittingPlan window needs (plan_of_splice_needs window needs)
   plan-fitting =
-      subst (λ (l : List Need). IsFittingPlan window l (plan_of_run_needs window needs))
+      subst (λ (l : List Need). IsFittingPlan window l (plan_of_splice_needs window needs))
       (append-nil needs)
       (parts-fitting window own_choice own_slots
       (is.headers, tt) planned)
 
 -- ---- the headers of items
 
-slot-by : {item : RunItem} {need : Need} → IsItemOf item need → IsHeader need.header
+slot-by : {item : SpliceItem} {need : Need} → IsItemOf item need → IsHeader need.header
     → IsSlot item.need.header.slot
 slot-by {item} {need} is known = at is.slot
   where
@@ -127,20 +129,20 @@ slot-by {item} {need} is known = at is.slot
     at (inl own) = subst IsSlot (sym own) known.slot
     at (inr other) = slot_among other
 
-frame-header : {item : RunItem} {need : Need} → IsItemOf item need → IsHeader need.header
+frame-header : {item : SpliceItem} {need : Need} → IsItemOf item need → IsHeader need.header
     → IsHeader item.need.header
 frame-header {item} {need} is known = grind (arith, slot-by is known, known)
 
-lead-header : {item : RunItem} {need : Need} → IsLeadInOf item need → IsHeader need.header
+lead-header : {item : SpliceItem} {need : Need} → IsLeadInOf item need → IsHeader need.header
     → IsHeader item.need.header
 lead-header {item} is known =
     let slot = slot_among is.before.1 in
     subst IsHeader (sym is.before.0) (grind (arith, slot, known))
 
 -- the headers of items are headers of the standard if those of the frames are
-pub items-headers : (items : List RunItem) (needs : List Need) → AreRunItemsOf items needs
+pub items-headers : (items : List SpliceItem) (needs : List Need) → AreSpliceItemsOf items needs
     → AreHeaders needs → AreHeaders (item_needs items)
-unfolding AreRunItemsOf
+unfolding AreSpliceItemsOf
 items-headers [] [] are known = tt
 items-headers [] (m ∷ needs) are known = absurd are
 items-headers (item ∷ items) [] are known = absurd are
@@ -151,10 +153,10 @@ items-headers (item ∷ items) (m ∷ needs) (inr lead) known =
 
 -- ---- the frames in the marked places
 
-class-first : (item : RunItem) (need : Need) (items : List RunItem) (needs : List Need)
-    → AreRunItemsOf (item ∷ items) (need ∷ needs)
+class-first : (item : SpliceItem) (need : Need) (items : List SpliceItem) (needs : List Need)
+    → AreSpliceItemsOf (item ∷ items) (need ∷ needs)
     → class_of item.need.header ≡ class_of need.header
-unfolding AreRunItemsOf
+unfolding AreSpliceItemsOf
 class-first item need items needs (inl own) = ap (λ (n : Need). class_of n.header) own.0.moved
 class-first item need items needs (inr lead) = ap class_of lead.0.before.0
 
@@ -162,12 +164,12 @@ lead-reach : (window : ℕ) (p : Placed) (n m : Need) → p.lead_in ≡ true
     → class_of n.header ≡ class_of m.header → reach_behind window p m ≡ reach_behind window p n
 lead-reach window p n m lead class = rw (lead, class) refl
 
-none-of : (item : RunItem) (items : List RunItem) → AreRunItemsOf (item ∷ items) [] → ⊥
-unfolding AreRunItemsOf
+none-of : (item : SpliceItem) (items : List SpliceItem) → AreSpliceItemsOf (item ∷ items) [] → ⊥
+unfolding AreSpliceItemsOf
 none-of item items are = are
 
-with-lead : (window : ℕ) (items : List RunItem) (needs : List Need) (p : Placed)
-    (frames : List Placed) → AreRunItemsOf items needs → 0 < length items → p.lead_in ≡ true
+with-lead : (window : ℕ) (items : List SpliceItem) (needs : List Need) (p : Placed)
+    (frames : List Placed) → AreSpliceItemsOf items needs → 0 < length items → p.lead_in ≡ true
     → AreFramePlaces frames → FitsFromReach window 0 (item_needs items) (p ∷ frames)
     → FitsFromReach window 0 needs (p ∷ item_places items frames)
 unfolding FitsFromReach
@@ -197,8 +199,8 @@ slots-join : (xs ys : List Placed) → AreInSlots xs → AreInSlots ys → AreIn
 slots-join [] ys first second = second
 slots-join (x ∷ xs) ys first second = (first.0, slots-join xs ys first.1 second)
 
-module _ (window : ℕ) (items : List RunItem) (needs : List Need) (placed : List Placed)
-    (own : AreRunItemsOf items needs) (some : 0 < length items)
+module _ (window : ℕ) (items : List SpliceItem) (needs : List Need) (placed : List Placed)
+    (own : AreSpliceItemsOf items needs) (some : 0 < length items)
     (shape : HasShape (length items) placed)
     (fitting : IsFittingPlan window (item_needs items) placed) where
   abbrev marked : List Placed

@@ -1,4 +1,4 @@
--- The plan of the run of the parts: how long it is,
+-- The plan of the splice of the parts: how long it is,
 -- its lead-ins, and where parts are written in it.
 use Rattle.std.proofs.Common.{All, ap, ap₂, arith, drop, inl, inr, length, length-append}
 use Rattle.std.proofs.Common.{length-drop, List, refl, slice_index_or, subst, suc, sym, take, true}
@@ -8,14 +8,15 @@ use Rattle.commands.specs.SingleOutput.{most_frames}
 use Rattle.exact_span.specs.declared.written.WrittenFrames.{WrittenFrames}
 use Rattle.frame_header.specs.Limits.{most_output_frames}
 use Rattle.remove_edits.proofs.MarkLemmas.{marks-are, places-within}
-use Rattle.remove_edits.proofs.PlanLemmas.{HasShape, IsRunNeeds}
-use Rattle.remove_edits.proofs.RemovalLemmas.{items-shape, run-needs}
-use Rattle.remove_edits.specs.Ready.{AreItemsOfParts, CanBeRun, end_of_parts, IsRunOfParts}
+use Rattle.remove_edits.proofs.PlanLemmas.{HasShape, IsSpliceNeeds}
+use Rattle.remove_edits.proofs.RemovalLemmas.{items-shape, splice-needs}
+use Rattle.remove_edits.specs.Ready.{AreItemsOfParts, CanBeSplice, end_of_parts, IsSpliceOfParts}
 use Rattle.remove_edits.specs.Ready.{put_off_by, with_lead_ins}
 use Rattle.remove_edits.specs.Removed.{all_parts_written, first_left, item_places, items_left}
 use Rattle.remove_edits.specs.Removed.{lead_in_count, parts_written, plan_of_items, removal_plan}
-use Rattle.remove_edits.specs.declared.run.DecidedRun.{DecidedRun}
-use Rattle.seam_plan.specs.{PartRuns.RunItem, Stretches.AreInOrder, declared.stretches.Part.Part}
+use Rattle.remove_edits.specs.declared.splice.DecidedSplice.{DecidedSplice}
+use Rattle.seam_plan.specs.{PartSplices.SpliceItem, Stretches.AreInOrder}
+use Rattle.seam_plan.specs.declared.stretches.Part.{Part}
 use Rattle.slot_plan.specs.declared.needs.{Need.Need, Placed.Placed}
 use Rattle.sync_survey.specs.Faults.{SurveyFields}
 
@@ -39,7 +40,7 @@ first-is (p ∷ parts) none some = refl
 -- ---- where they are written
 
 -- frames that are put off are those of parts that begin so much later
-shifted : (parts : List Part) (before at : ℕ) (items : List RunItem)
+shifted : (parts : List Part) (before at : ℕ) (items : List SpliceItem)
     → put_off_by before (parts_written at items parts) ≡ parts_written (at + before) items parts
 unfolding parts_written
 shifted [] before at items = refl
@@ -53,7 +54,7 @@ shifted (p ∷ parts) before at items =
     ∙ ap (λ n. parts_written n (drop count items) parts) behind)
 
 -- no part is written behind the last item
-written-most : (parts : List Part) (at : ℕ) (items : List RunItem) {most : ℕ}
+written-most : (parts : List Part) (at : ℕ) (items : List SpliceItem) {most : ℕ}
     → AreItemsOfParts items parts → at + length items ≤ most
     → All (λ (w : WrittenFrames). w.at ≤ most) (parts_written at items parts)
 unfolding parts_written AreItemsOfParts
@@ -69,16 +70,16 @@ written-most (p ∷ parts) at items {most} are within =
 -- ---- the plan
 
 -- items have a place each
-places-many : (items : List RunItem) (placed : List Placed)
+places-many : (items : List SpliceItem) (placed : List Placed)
     → length (item_places items placed) ≡ length placed
 unfolding item_places
 places-many [] placed = refl
 places-many (i ∷ items) [] = refl
 places-many (i ∷ items) (p ∷ placed) = ap suc (places-many items placed)
 
-module _ (s : SurveyFields) (parts : List Part) (can : CanBeRun s parts) (d : DecidedRun)
-    (run : IsRunOfParts s parts d) where
-  abbrev items : List RunItem
+module _ (s : SurveyFields) (parts : List Part) (can : CanBeSplice s parts) (d : DecidedSplice)
+    (splice : IsSpliceOfParts s parts d) where
+  abbrev items : List SpliceItem
   items = items_left s parts
 
   abbrev plan : List Placed
@@ -90,17 +91,17 @@ module _ (s : SurveyFields) (parts : List Part) (can : CanBeRun s parts) (d : De
   -- there is a need for each item
   pub needs-many : length d.needs.items ≡ length items
   needs-many =
-      ap (λ (l : List Need). length l) run.needs ∙ length-map items (λ (i : RunItem). i.need)
+      ap (λ (l : List Need). length l) splice.needs ∙ length-map items (λ (i : SpliceItem). i.need)
 
   -- no more of them than frames can be noted
   pub needs-few : length d.needs.items ≤ most_frames
   needs-few =
       let ends = end-within 0 parts can.are.some can.are.order in
-      omega (arith, run.few, ends, can.few)
+      omega (arith, splice.few, ends, can.few)
 
   -- they can be planned
-  pub needs-run : IsRunNeeds s.class d.needs.items
-  needs-run = subst (IsRunNeeds s.class) (sym run.needs) (run-needs s parts can.are)
+  pub needs-splice : IsSpliceNeeds s.class d.needs.items
+  needs-splice = subst (IsSpliceNeeds s.class) (sym splice.needs) (splice-needs s parts can.are)
 
   front-most : {front : List Placed}
       → (front ≡ []) ⊎ ((p : Placed) × (front ≡ p ∷ []) × (p.lead_in ≡ true)) → length front ≤ 1
@@ -123,10 +124,11 @@ module _ (s : SurveyFields) (parts : List Part) (can : CanBeRun s parts) (d : De
   pub written-fits : All (λ (w : WrittenFrames).
       w.at + (length plan - length items) ≤ 4294967295) d.written.items
   written-fits = subst (All (λ (w : WrittenFrames).
-      w.at + (length plan - length items) ≤ 4294967295)) (sym run.written)
+      w.at + (length plan - length items) ≤ 4294967295)) (sym splice.written)
       (λ k none within. omega (
         arith,
-        written-most parts 0 items {most = length items} run.consumed (omega arith) k none within,
+        written-most parts 0 items
+            {most = length items} splice.consumed (omega arith) k none within,
         plan-long.1,
         needs-many,
         needs-few,
@@ -135,7 +137,7 @@ module _ (s : SurveyFields) (parts : List Part) (can : CanBeRun s parts) (d : De
   -- the lead-ins are among the places of the items
   pub places-fit : All (λ at. at < length plan - (length plan - length items)) d.lead_ins.items
   places-fit =
-      subst (All (λ at. at < length plan - (length plan - length items))) (sym run.lead_ins)
+      subst (All (λ at. at < length plan - (length plan - length items))) (sym splice.lead_ins)
       (places-within 0 items
       (omega (arith, plan-long.0)))
 
@@ -148,7 +150,7 @@ module _ (s : SurveyFields) (parts : List Part) (can : CanBeRun s parts) (d : De
       let many : length rest ≡ length items =
       omega (arith, length-drop (length plan - length items) plan, plan-long.0) in
       ap (λ l. take (length plan - length items) plan ++ l)
-      (ap (λ l. with_lead_ins l rest) run.lead_ins ∙ marks-are items rest many)
+      (ap (λ l. with_lead_ins l rest) splice.lead_ins ∙ marks-are items rest many)
 
   -- it is no longer than an output
   pub marked-few : length (removal_plan s parts) ≤ most_output_frames
@@ -165,10 +167,10 @@ module _ (s : SurveyFields) (parts : List Part) (can : CanBeRun s parts) (d : De
         needs-few,
       )
 
-  -- the parts are written behind the lead-in before the whole run
+  -- the parts are written behind the lead-in before the whole splice
   pub written-are : put_off_by (length plan - length items) d.written.items
       ≡ all_parts_written s parts
   written-are =
-      ap (put_off_by (length plan - length items)) run.written
+      ap (put_off_by (length plan - length items)) splice.written
       ∙ shifted parts (length plan - length items) 0 items
       ∙ ap (λ n. parts_written n items parts) (omega arith)

@@ -1,4 +1,4 @@
--- The parts that stay can be laid as one run, and the file of them holds their stream.
+-- The parts that stay can be laid as one splice, and the file of them holds their stream.
 use Rattle.std.proofs.Common.{All, ap, arith, flat_map, length, List, map, None, Option, option_map}
 use Rattle.std.proofs.Common.{refl, Some, subst, sym, ℕ, [], ◌++◌, ◌+◌, ◌<◌, ◌∷◌, ◌≡◌, ◌≤◌}
 use Rattle.std.proofs.lemmas.List.{length-append, length-map, Elements.{All-cons, All-nil}}
@@ -19,16 +19,16 @@ use Rattle.laying.specs.{Fits.IsFittingPlan, LaidFiles.{HasInfoSizes, IsLaidFile
 use Rattle.laying.specs.{Laws.AreFramesOfStream, NeedsFit.IsPlacedSurvey}
 use Rattle.laying.specs.{Relaid.{AreParts, FilePart, part_needs}, Surveys.CanBeRelaid}
 use Rattle.laying.specs.{Written.{back_blocks, front_blocks, slot_in}, declared.info.Kept.Kept}
-use Rattle.remove_edits.proofs.PlanLemmas.{HasShape, IsRunNeeds, items-headers, marked-are}
+use Rattle.remove_edits.proofs.PlanLemmas.{HasShape, IsSpliceNeeds, items-headers, marked-are}
 use Rattle.remove_edits.proofs.PlanLemmas.{marked-fitting, plan-fitting, plan-shape}
-use Rattle.remove_edits.{proofs.RunLemmas.own-length, specs.Ready.ArePartsLeft}
+use Rattle.remove_edits.{proofs.SpliceLemmas.own-length, specs.Ready.ArePartsLeft}
 use Rattle.remove_edits.specs.Removed.{file_part, file_parts, first_left, heard_of_written}
 use Rattle.remove_edits.specs.Removed.{item_places, items_left, kept_of_written, kept_with_numbers}
 use Rattle.remove_edits.specs.Removed.{part_needs_of, part_rows_of, plan_of_items, removal_file}
 use Rattle.remove_edits.specs.Removed.{removal_frames, removal_kept, removal_plan, removal_row_file}
 use Rattle.remove_edits.specs.Removed.{removal_stream}
-use Rattle.seam_plan.proofs.PartRunLemmas.{items-are-parts, run-items-fit}
-use Rattle.seam_plan.specs.PartRuns.{AreRunItemsOf, IsPartNeeds, item_needs, RunItem}
+use Rattle.seam_plan.proofs.PartSpliceLemmas.{items-are-parts, splice-items-fit}
+use Rattle.seam_plan.specs.PartSplices.{AreSpliceItemsOf, IsPartNeeds, item_needs, SpliceItem}
 use Rattle.seam_plan.specs.{Stretches.AreInOrder, declared.stretches.Part.Part}
 use Rattle.slot_plan.specs.declared.needs.{Need.Need, Placed.Placed}
 use Rattle.sync_survey.specs.{Faults.{HoldsStream, SurveyFields}, Row.Row}
@@ -44,7 +44,7 @@ headers-append [] ys first second = second
 headers-append (x ∷ xs) ys first second = (first.0, headers-append xs ys first.1 second)
 
 module _ (s : SurveyFields) (placed : IsPlacedSurvey s) where
-  -- the frames of a part can join a run
+  -- the frames of a part can join a splice
   pub part-needs-are : {part : Part} → part.from < part.to → part.to ≤ length s.frames
       → IsPartNeeds s.class (part_needs_of s part)
   part-needs-are {part} some within =
@@ -100,13 +100,13 @@ unfolding AreInOrder
 first-within least [] some order = absurd (omega (arith, some))
 first-within least (p ∷ parts) some order = omega (arith, order.1, order.2)
 
--- ---- the run
+-- ---- the splice
 
 module _ (s : SurveyFields) (parts : List Part) (can : ArePartsLeft s parts) where
   abbrev window : ℕ
   window = window_of s.class.version
 
-  abbrev items : List RunItem
+  abbrev items : List SpliceItem
   items = items_left s parts
 
   abbrev plan : List Placed
@@ -122,7 +122,7 @@ module _ (s : SurveyFields) (parts : List Part) (can : ArePartsLeft s parts) whe
   needs-are : All (IsPartNeeds s.class) (map (part_needs_of s) parts)
   needs-are = all-needs s can.placed 0 parts can.order
 
-  own : AreRunItemsOf items (flat_needs s parts)
+  own : AreSpliceItemsOf items (flat_needs s parts)
   own = items-are-parts (map (part_needs_of s) parts) known needs-are
 
   flat-some : (ps : List Part) → 1 ≤ length ps → AreInOrder 0 (length s.frames) ps
@@ -136,9 +136,9 @@ module _ (s : SurveyFields) (parts : List Part) (can : ArePartsLeft s parts) whe
     order.1,
   )
 
-  items-some : (is : List RunItem) (needs : List Need) → AreRunItemsOf is needs → 0 < length needs
-      → 0 < length is
-  unfolding AreRunItemsOf
+  items-some : (is : List SpliceItem) (needs : List Need) → AreSpliceItemsOf is needs
+      → 0 < length needs → 0 < length is
+  unfolding AreSpliceItemsOf
   items-some [] [] are some = some
   items-some [] (n ∷ needs) are some = absurd are
   items-some (i ∷ is) needs are some = omega arith
@@ -147,14 +147,14 @@ module _ (s : SurveyFields) (parts : List Part) (can : ArePartsLeft s parts) whe
   pub some-items : 0 < length items
   some-items = items-some items (flat_needs s parts) own (flat-some parts can.some can.order)
 
-  -- the needs of the run can be planned
-  pub run-needs : IsRunNeeds s.class (item_needs items)
-  run-needs =
-      let fits = run-items-fit (map (part_needs_of s) parts) known needs-are in
+  -- the needs of the splice can be planned
+  pub splice-needs : IsSpliceNeeds s.class (item_needs items)
+  splice-needs =
+      let fits = splice-items-fit (map (part_needs_of s) parts) known needs-are in
       record {
         known = known;
         same = fits.1;
-        some = omega (arith, length-map items (λ (i : RunItem). i.need), some-items);
+        some = omega (arith, length-map items (λ (i : SpliceItem). i.need), some-items);
         fits = fits.0;
         headers = items-headers items (flat_needs s parts) own (all-headers s can.placed parts);
       }
@@ -162,21 +162,21 @@ module _ (s : SurveyFields) (parts : List Part) (can : ArePartsLeft s parts) whe
   -- the plan of the items has a place for each, behind at most one lead-in
   pub items-shape : HasShape (length items) plan
   items-shape =
-      subst (λ n. HasShape n plan) (length-map items (λ (i : RunItem). i.need))
-      (plan-shape s.class (item_needs items) run-needs)
+      subst (λ n. HasShape n plan) (length-map items (λ (i : SpliceItem). i.need))
+      (plan-shape s.class (item_needs items) splice-needs)
 
   -- the frames of the parts fit in the places of their plan
   pub removal-fitting : IsFittingPlan window (flat_needs s parts) (removal_plan s parts)
   removal-fitting =
       marked-fitting window items (flat_needs s parts) plan own some-items items-shape
-      (plan-fitting s.class (item_needs items) run-needs)
+      (plan-fitting s.class (item_needs items) splice-needs)
 
   -- the places of the plan are that of the lead-in before all, and those of the items
   pub removal-places : removal_plan s parts
       ≡ items-shape.front ++ item_places items items-shape.frames
   removal-places =
       marked-are window items (flat_needs s parts) plan own some-items items-shape
-      (plan-fitting s.class (item_needs items) run-needs)
+      (plan-fitting s.class (item_needs items) splice-needs)
 
   -- ---- the file
 

@@ -18,12 +18,13 @@ use Rattle.outside.specs.Files.{Files, Holds, IsFileThere}
 use Rattle.remove_edits.specs.Removed.{all_parts_written, file_parts, first_left, items_left}
 use Rattle.remove_edits.specs.Removed.{lead_in_count, part_rows_of, parts_written, place_as}
 use Rattle.remove_edits.specs.Removed.{removal_frames, removal_kept, removal_plan}
-use Rattle.remove_edits.specs.declared.{planned.PlannedRun.PlannedRun, run.DecidedRun.DecidedRun}
+use Rattle.remove_edits.specs.declared.planned.PlannedSplice.{PlannedSplice}
+use Rattle.remove_edits.specs.declared.splice.DecidedSplice.{DecidedSplice}
 use Rattle.remove_edits.specs.declared.work.RemovalWork.{RemovalWork}
-use Rattle.seam_plan.specs.PartRuns.{IsPartRun, IsSoundPartRun, item_needs, RunItem}
+use Rattle.seam_plan.specs.PartSplices.{IsPartSplice, IsSoundPartSplice, item_needs, SpliceItem}
 use Rattle.seam_plan.specs.{Stretches.AreInOrder, declared.parts.PartJoint.PartJoint}
-use Rattle.seam_plan.specs.declared.parts.{PartJoint.TheVariants.{InSlot, Led}, PartRun.PartRun}
-use Rattle.seam_plan.specs.declared.stretches.Part.{Part}
+use Rattle.seam_plan.specs.declared.parts.PartJoint.TheVariants.{InSlot, Led}
+use Rattle.seam_plan.specs.declared.{parts.PartSplice.PartSplice, stretches.Part.Part}
 use Rattle.slot_plan.specs.{Plans.entries, declared.needs.Placed.Placed}
 use Rattle.sync_survey.specs.{Faults.{survey_view, SurveyFields}, Row.Row, Survey.IsSurveyLaidOut}
 
@@ -41,15 +42,15 @@ pub record IsPartIn (s : SurveyFields) (part : Part) : Type 0 where
   pub ordered : part.from ≤ part.to
   pub within : part.to ≤ length s.frames
 
--- parts of a stream that can be laid as one run: at least one, in order, with a frame between each
--- and the next
+-- parts of a stream that can be laid as one splice: at least
+-- one, in order, with a frame between each and the next
 pub record ArePartsLeft (s : SurveyFields) (parts : List Part) : Type 0 where
   pub some : 1 ≤ length parts
   pub order : AreInOrder 0 (length s.frames) parts
   pub placed : IsPlacedSurvey s
 
 -- such parts, no more of them and no more frames than can be noted
-pub record CanBeRun (s : SurveyFields) (parts : List Part) : Type 0 where
+pub record CanBeSplice (s : SurveyFields) (parts : List Part) : Type 0 where
   pub are : ArePartsLeft s parts
   pub many : length parts ≤ 51
   pub few : length s.frames ≤ most_frames
@@ -60,24 +61,24 @@ end_of_parts [] = 0
 end_of_parts (part ∷ []) = part.to
 end_of_parts (part ∷ next ∷ parts) = end_of_parts (next ∷ parts)
 
--- ---- the run
+-- ---- the splice
 
 -- the places of the lead-ins among these items, if the first has the place `at`
-unfoldable pub lead_in_places : ℕ → List RunItem → List ℕ
+unfoldable pub lead_in_places : ℕ → List SpliceItem → List ℕ
 lead_in_places at [] = []
 lead_in_places at (item ∷ items) =
     if item.lead_in then at ∷ lead_in_places (at + 1) items else lead_in_places (at + 1) items
 
 -- these are the items of these parts: each has as many as it has frames, and one more if it begins
 -- with a lead-in
-unfoldable pub AreItemsOfParts : List RunItem → List Part → Type 0
+unfoldable pub AreItemsOfParts : List SpliceItem → List Part → Type 0
 AreItemsOfParts items [] = items ≡ []
 AreItemsOfParts items (part ∷ parts) =
     let count = lead_in_count items + (part.to - part.from) in
     (0 < length items) × (count ≤ length items) × AreItemsOfParts (drop count items) parts
 
--- the run of these parts, as it is noted
-pub record IsRunOfParts (s : SurveyFields) (parts : List Part) (d : DecidedRun) : Type 0 where
+-- the splice of these parts, as it is noted
+pub record IsSpliceOfParts (s : SurveyFields) (parts : List Part) (d : DecidedSplice) : Type 0 where
   pub needs : d.needs.items ≡ item_needs (items_left s parts)
   pub lead_ins : d.lead_ins.items ≡ lead_in_places 0 (items_left s parts)
   pub written : d.written.items ≡ parts_written 0 (items_left s parts) parts
@@ -95,12 +96,12 @@ abbrev pub written_last : ℕ → Part → WrittenFrames
 written_last count part =
     record { from = part.from; to = part.to; at = count - (part.to - part.from) }
 
--- the run has these parts, and can go on
-pub record HasRunTo (s : SurveyFields) (parts : List Part) (run : PartRun)
-    (d : DecidedRun) : Type 0 where
-  pub of_parts : IsRunOfParts s parts d
-  pub is_run : IsPartRun s.class (item_needs (items_left s parts)) run
-  pub sound : IsSoundPartRun run
+-- the splice has these parts, and can go on
+pub record HasSpliceTo (s : SurveyFields) (parts : List Part) (splice : PartSplice)
+    (d : DecidedSplice) : Type 0 where
+  pub of_parts : IsSpliceOfParts s parts d
+  pub is_splice : IsPartSplice s.class (item_needs (items_left s parts)) splice
+  pub sound : IsSoundPartSplice splice
 
 -- ---- the plan
 
@@ -137,10 +138,11 @@ IsRemovalInfo parts head s bytes =
 
 -- the plan of these parts with the lead-ins among them, which
 -- is no longer than an output, and where the parts are written
-pub record IsRunPlanned (s : SurveyFields) (parts : List Part) (run : PlannedRun) : Type 0 where
-  pub plan : entries run.plan ≡ removal_plan s parts
-  pub few : length (entries run.plan) ≤ most_output_frames
-  pub written : run.written.items ≡ all_parts_written s parts
+pub record IsSplicePlanned (s : SurveyFields) (parts : List Part)
+    (splice : PlannedSplice) : Type 0 where
+  pub plan : entries splice.plan ≡ removal_plan s parts
+  pub few : length (entries splice.plan) ≤ most_output_frames
+  pub written : splice.written.items ≡ all_parts_written s parts
 
 -- the plan, the Info frame before it, and the buffers
 pub record IsLaidOut (s : SurveyFields) (parts : List Part) (head : Option Info)

@@ -1,6 +1,6 @@
--- A file without some stretches of its frames, which `remove` writes: the longest ranges of frames
--- that stay are laid as one run, so that each serves as the bit reservoir of the next. The head is
--- set apart, so that no frame has main data that begin in it.
+-- A file without some stretches of its frames, which `remove` writes: the longest ranges
+-- of frames that stay are laid as one splice, so that each serves as the bit reservoir
+-- of the next. The head is set apart, so that no frame has main data that begin in it.
 use Rattle.std.specs.Prelude.{Bool, drop, Err, false, flat_map, if◌then◌else◌, length, List, map}
 use Rattle.std.specs.Prelude.{None, Ok, Option, option_and_then, option_map, Result, slice_get}
 use Rattle.std.specs.Prelude.{slice_range, Some, take, true, ℕ, [], ◌++◌, ◌+◌, ◌-◌, ◌∷◌}
@@ -16,13 +16,13 @@ use Rattle.exact_span.specs.declared.written.{Heard.Heard, WrittenFrames.Written
 use Rattle.frame_header.specs.{Fields.ClassFields, Tables.window_of}
 use Rattle.frame_writer.specs.Frames.{Frame}
 use Rattle.info_header.specs.declared.fields.Info.{Info}
-use Rattle.joined_inputs.specs.Planned.{info_kept, plan_of_run_needs}
+use Rattle.joined_inputs.specs.Planned.{info_kept, plan_of_splice_needs}
 use Rattle.laying.specs.{KeptFields.fields_of_head, LaidFiles.laid_file, Needs.need_of}
 use Rattle.laying.specs.Relaid.{FilePart, part_frames, part_stream, relaid_frames}
 use Rattle.laying.specs.{Relaid.stream_with_lead_ins, Written.{back_blocks, front_blocks}}
 use Rattle.laying.specs.declared.info.Kept.{Kept}
-use Rattle.seam_plan.specs.{PartRuns.{item_needs, run_items, RunItem}, Stretches.staying_parts}
-use Rattle.seam_plan.specs.declared.stretches.Part.{Part}
+use Rattle.seam_plan.specs.PartSplices.{item_needs, splice_items, SpliceItem}
+use Rattle.seam_plan.specs.{Stretches.staying_parts, declared.stretches.Part.Part}
 use Rattle.slot_plan.specs.declared.needs.{Need.Need, Placed.Placed}
 use Rattle.sync_survey.specs.{Faults.SurveyFields, MainData.StreamFrame, Row.Row, Survey.survey_of}
 use Rattle.sync_survey.specs.declared.survey_fault.SurveyFault.{SurveyFault}
@@ -50,7 +50,7 @@ parts_left stretches s =
     parts_or_range (length s.frames)
     (staying_parts (length s.frames) (all_stretch_frames s.class (length s.frames) stretches))
 
--- ---- the run
+-- ---- the splice
 
 -- the frames of a part
 abbrev pub part_rows_of : SurveyFields → Part → List Row
@@ -69,8 +69,8 @@ abbrev pub file_parts : List ℕ → SurveyFields → List Part → List FilePar
 file_parts file s parts = map (file_part file s) parts
 
 -- the frames of all parts in the slots in which they join, with the lead-ins that parts need
-abbrev pub items_left : SurveyFields → List Part → List RunItem
-items_left s parts = run_items (window_of s.class.version) (map (part_needs_of s) parts)
+abbrev pub items_left : SurveyFields → List Part → List SpliceItem
+items_left s parts = splice_items (window_of s.class.version) (map (part_needs_of s) parts)
 
 -- the place as that of a lead-in, or as it is
 abbrev pub place_as : Bool → Placed → Placed
@@ -78,27 +78,27 @@ place_as true p = record p { lead_in = true }
 place_as false p = p
 
 -- the places of items, those of the lead-ins among them as such
-unfoldable pub item_places : List RunItem → List Placed → List Placed
+unfoldable pub item_places : List SpliceItem → List Placed → List Placed
 item_places [] placed = placed
 item_places (item ∷ items) [] = []
 item_places (item ∷ items) (p ∷ placed) = place_as item.lead_in p ∷ item_places items placed
 
--- how many places a plan has before those of the items: that of the lead-in before the whole run,
--- if it has one
-abbrev pub places_before : List RunItem → List Placed → ℕ
+-- how many places a plan has before those of the items: that
+-- of the lead-in before the whole splice, if it has one
+abbrev pub places_before : List SpliceItem → List Placed → ℕ
 places_before items placed = length placed - length items
 
 -- the places of a plan of items, those of the lead-ins among them as such
-abbrev pub marked_places : List RunItem → List Placed → List Placed
+abbrev pub marked_places : List SpliceItem → List Placed → List Placed
 marked_places items placed =
     let before = places_before items placed in
     take before placed ++ item_places items (drop before placed)
 
 -- the plan of what the items need, which are one part: each keeps its slot
-abbrev pub plan_of_items : SurveyFields → List RunItem → List Placed
-plan_of_items s items = plan_of_run_needs (window_of s.class.version) (item_needs items)
+abbrev pub plan_of_items : SurveyFields → List SpliceItem → List Placed
+plan_of_items s items = plan_of_splice_needs (window_of s.class.version) (item_needs items)
 
--- the slots of the frames that are written, with the lead-in before them if the run has one, and
+-- the slots of the frames that are written, with the lead-in before them if the splice has one, and
 -- those among them
 abbrev pub removal_plan : SurveyFields → List Part → List Placed
 removal_plan s parts = marked_places (items_left s parts) (plan_of_items s (items_left s parts))
@@ -111,13 +111,13 @@ removal_frames parts file s =
 -- ---- the numbers
 
 -- 1 if the first of these items is a lead-in, otherwise 0
-abbrev pub lead_in_count : List RunItem → ℕ
+abbrev pub lead_in_count : List SpliceItem → ℕ
 lead_in_count [] = 0
 lead_in_count (item ∷ items) = if item.lead_in then 1 else 0
 
 -- where the frames of parts are written whose items are these, if the first item is frame `at` of
 -- what is written: each part behind its lead-in, if it has one
-unfoldable pub parts_written : ℕ → List RunItem → List Part → List WrittenFrames
+unfoldable pub parts_written : ℕ → List SpliceItem → List Part → List WrittenFrames
 parts_written at items [] = []
 parts_written at items (part ∷ parts) =
     let first = at + lead_in_count items in
@@ -125,7 +125,7 @@ parts_written at items (part ∷ parts) =
     record { from = part.from; to = part.to; at = first }
     ∷ parts_written (at + count) (drop count items) parts
 
--- where the frames of all parts are written, behind the lead-in before the whole run
+-- where the frames of all parts are written, behind the lead-in before the whole splice
 abbrev pub all_parts_written : SurveyFields → List Part → List WrittenFrames
 all_parts_written s parts =
     let items = items_left s parts in

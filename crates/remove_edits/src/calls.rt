@@ -18,10 +18,10 @@ use std::alloc::Global;
 ///
 /// The output consists of the input's ID3v2 blocks before its first frame or head, an Info frame,
 /// the frames that stay, and all other blocks. The longest ranges of frames that stay are laid as
-/// one run (ISO/IEC 11172-3, 2.4.2.7), in which each frame keeps its own bit rate and padding. But
+/// one splice (ISO/IEC 11172-3, 2.4.2.7), in which each frame keeps its own bit rate and padding. But
 /// the first frame behind a stretch has the least greater slot with which there is room for the
 /// main data of this frame and the later ones; where no slot is enough, a lead-in, one silent frame,
-/// comes before it, and it keeps its own. A lead-in comes before the whole run if its first frames
+/// comes before it, and it keeps its own. A lead-in comes before the whole splice if its first frames
 /// need more room than they have themselves.
 ///
 /// If the input's head counts, and something of what it counts stays, the Info frame has the quality

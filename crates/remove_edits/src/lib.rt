@@ -1,4 +1,4 @@
-//! `remove`: takes stretches out of a file. What stays is laid as one run, so that each part serves
+//! `remove`: takes stretches out of a file. What stays is laid as one splice, so that each part serves
 //! as the bit reservoir of the next.
 #![tactic(auto)]
 
@@ -8,7 +8,7 @@ mod kept;
 mod marked;
 mod planned;
 mod ranges;
-mod run;
+mod splice;
 mod stretches;
 mod work;
 

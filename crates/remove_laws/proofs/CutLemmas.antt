@@ -12,7 +12,7 @@ use Rattle.exact_span.specs.declared.exact_place.ExactPlace.{ExactPlace}
 use Rattle.frame_header.specs.Tables.{window_of}
 use Rattle.frame_writer.specs.Frames.{Frame}
 use Rattle.info_header.specs.declared.fields.Info.{Info}
-use Rattle.joined_inputs.specs.Planned.{info_kept, plan_of_run_needs}
+use Rattle.joined_inputs.specs.Planned.{info_kept, plan_of_splice_needs}
 use Rattle.laying.specs.{KeptFields.fields_of_head, Laid.{file_laid, file_with_first, frames_laid}}
 use Rattle.laying.specs.{LaidFiles.laid_file, NeedsFit.own_choice}
 use Rattle.laying.specs.Relaid.{FilePart, part_frames, part_stream, relaid_frames}
@@ -25,7 +25,7 @@ use Rattle.remove_edits.specs.Removed.{removal_kept, removal_plan, removal_row_f
 use Rattle.remove_edits.specs.Removed.{remove_making}
 use Rattle.remove_laws.specs.CutLaws.{chosen_part, NamePart, RemoveToTheEndIsCut}
 use Rattle.seam_plan.proofs.PartJointLemmas.{needs-items}
-use Rattle.seam_plan.specs.{PartRuns.{frame_item, item_needs, RunItem}, Stretches.AreInOrder}
+use Rattle.seam_plan.specs.{PartSplices.{frame_item, item_needs, SpliceItem}, Stretches.AreInOrder}
 use Rattle.seam_plan.specs.declared.stretches.Part.{Part}
 use Rattle.slot_plan.specs.declared.needs.{Need.Need, Placed.Placed}
 use Rattle.sync_survey.specs.{Faults.SurveyFields, Row.Row}
@@ -42,12 +42,12 @@ module _ (s : SurveyFields) (part : Part) where
   abbrev needs : List Need
   needs = part_needs_of s part
 
-  abbrev items : List RunItem
+  abbrev items : List SpliceItem
   items = items_left s (part ∷ [])
 
-  plan-is : plan_of_items s items ≡ plan_of_run_needs (window_of s.class.version) needs
+  plan-is : plan_of_items s items ≡ plan_of_splice_needs (window_of s.class.version) needs
   plan-is =
-      ap (plan_of_run_needs (window_of s.class.version))
+      ap (plan_of_splice_needs (window_of s.class.version))
       (ap item_needs (left-one s part) ∙ needs-items needs)
 
   -- the plan of one part is that of its frames in their own slots

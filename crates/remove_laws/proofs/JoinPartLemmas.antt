@@ -8,17 +8,17 @@ use Rattle.remove_edits.proofs.RemovalLemmas.{part-needs-are}
 use Rattle.remove_edits.specs.Removed.{file_parts, part_needs_of, part_rows_of}
 use Rattle.remove_laws.proofs.PieceLemmas.{alike-next, bare-known, FitAlike, IsBehindLeadIn}
 use Rattle.remove_laws.proofs.PieceLemmas.{IsWithoutLeadIn, joins-as, JoinsAs, piece-joint}
-use Rattle.remove_laws.proofs.RunStreamLemmas.{frames-streamed, item_stream, lead-streamed}
+use Rattle.remove_laws.proofs.SpliceStreamLemmas.{frames-streamed, item_stream, lead-streamed}
 use Rattle.remove_laws.specs.{CutLaws.chosen_part, PieceLaws.{ArePartPieces, IsPartPiece}}
-use Rattle.seam_laws.proofs.FrameRangeLemmas.{between-known, between-needs, run_between, same-many}
-use Rattle.seam_laws.proofs.PieceListLemmas.{Recording}
+use Rattle.seam_laws.proofs.FrameRangeLemmas.{between-known, between-needs, same-many}
+use Rattle.seam_laws.proofs.{FrameRangeLemmas.splice_between, PieceListLemmas.Recording}
 use Rattle.seam_laws.proofs.PiecePartLemmas.{frames-need, IsPiece, IsPlain, leads, left-own}
 use Rattle.seam_laws.proofs.{PiecePartLemmas.{own_stream, ways}, SeamlessInputLemmas.stream-from}
 use Rattle.seam_laws.proofs.SplitJoinLemmas.{by-fit, piece-of}
-use Rattle.seam_plan.{proofs.PartRunLemmas.part-added, specs.Frames.{Brought, needs_of, RunFrame}}
-use Rattle.seam_plan.specs.Joins.{fits_behind}
-use Rattle.seam_plan.specs.PartRuns.{IsPartNeeds, item_needs, items_behind, run_part_items, RunItem}
-use Rattle.seam_plan.specs.Seams.{joint_of, joints_from, left_out_count}
+use Rattle.seam_plan.proofs.PartSpliceLemmas.{part-added}
+use Rattle.seam_plan.specs.{Frames.{Brought, needs_of, SpliceFrame}, Joins.fits_behind}
+use Rattle.seam_plan.specs.PartSplices.{IsPartNeeds, item_needs, items_behind, splice_part_items}
+use Rattle.seam_plan.specs.{PartSplices.SpliceItem, Seams.{joint_of, joints_from, left_out_count}}
 use Rattle.seam_plan.specs.declared.stretches.Part.{Part}
 use Rattle.seamless_edits.specs.Seamless.{later_parts, part_brought, part_from}
 use Rattle.slot_plan.specs.{FreeBytes.FitsBehind, declared.needs.Need.Need}
@@ -38,16 +38,16 @@ module _ (file : List ℕ) (s : SurveyFields) where
   ArePartInputs (part ∷ parts) (p ∷ inputs) = IsPartInput part p × ArePartInputs parts inputs
   ArePartInputs _ _ = ⊥
 
-  -- the frames of a part, as frames of a run
-  abbrev pub frames_in : Part → List RunFrame
-  frames_in part = run_between file s part.from part.to
+  -- the frames of a part, as frames of a splice
+  abbrev pub frames_in : Part → List SpliceFrame
+  frames_in part = splice_between file s part.from part.to
 
 module _ {file : List ℕ} {s : SurveyFields} (r : Recording file s) where
   abbrev window : ℕ
   window = window_of s.class.version
 
   module _ {part : Part} {p : FilePart} (is : IsPartInput file s part p) where
-    abbrev frames : List RunFrame
+    abbrev frames : List SpliceFrame
     frames = frames_in file s part
 
     -- the frames of a part need what its rows do
@@ -101,7 +101,7 @@ module _ {file : List ℕ} {s : SurveyFields} (r : Recording file s) where
         ∙ length-map (part_rows_of s part) need_of
         ∙ sym (same-many r.has part.from part.to)
 
-    without-streamed : {items : List RunItem} (more : List RunItem) (rest : List StreamFrame)
+    without-streamed : {items : List SpliceItem} (more : List SpliceItem) (rest : List StreamFrame)
         {out : ℕ}
         → IsWithoutLeadIn (fits_behind window 0 (needs_of frames)) (needs_of frames) items out
         → item_stream (items ++ more) (own_part ++ rest)
@@ -113,7 +113,7 @@ module _ {file : List ℕ} {s : SurveyFields} (r : Recording file s) where
         (sym (ap (λ n. part_stream (part_from n p)) (alone.out_is ∙ leads-are)
         ∙ left-own is.piece))
 
-    behind-streamed : {items : List RunItem} (more : List RunItem) (rest : List StreamFrame)
+    behind-streamed : {items : List SpliceItem} (more : List SpliceItem) (rest : List StreamFrame)
         {out : ℕ}
         → IsBehindLeadIn (fits_behind window 0 (needs_of frames)) (needs_of frames) items out
         → item_stream (items ++ more) (own_part ++ rest)
@@ -129,7 +129,7 @@ module _ {file : List ℕ} {s : SurveyFields} (r : Recording file s) where
               ap (λ n. part_stream (part_from n p)) behind.out_is
               ∙ stream-from is.piece.is 0 ∙ led.brings.stream_is in
               let own_is = led.brings.own_is in
-              ap₂ (λ (l : List RunItem) (st : List StreamFrame). item_stream (l ++ more)
+              ap₂ (λ (l : List SpliceItem) (st : List StreamFrame). item_stream (l ++ more)
               (st ++ rest)) behind.are own_is
               ∙ lead-streamed behind.header (needs_of frames) more led.brings.rest rest
               (own-many ∙ ap length own_is)
@@ -138,7 +138,7 @@ module _ {file : List ℕ} {s : SurveyFields} (r : Recording file s) where
         ]
 
     -- what is left of the input is the stream of the items as which the part joins
-    pub part-streamed : {items : List RunItem} (more : List RunItem) (rest : List StreamFrame)
+    pub part-streamed : {items : List SpliceItem} (more : List SpliceItem) (rest : List StreamFrame)
         {out : ℕ} → JoinsAs (fits_behind window 0 (needs_of frames)) (needs_of frames) items out
         → item_stream (items ++ more) (own_part ++ rest)
         ≡ part_stream (part_from out p) ++ item_stream more rest
@@ -162,33 +162,33 @@ module _ {file : List ℕ} {s : SurveyFields} (r : Recording file s) where
   parts-need (part ∷ parts) = ap₂ ◌∷◌ (between-needs r.has part.from part.to) (parts-need parts)
 
   -- what is left of the inputs is the stream of the items of the parts
-  pub later-streamed : (run : List RunFrame) (own : List Need) (before : Brought)
+  pub later-streamed : (splice : List SpliceFrame) (own : List Need) (before : Brought)
       (parts : List Part) (inputs : List FilePart)
-      → FitAlike window (needs_of run) own × FitsBehind window window own
+      → FitAlike window (needs_of splice) own × FitsBehind window window own
       → ArePartInputs file s parts inputs
       → flat_map part_stream
-      (later_parts (joints_from s.class run before (map part_brought inputs)) inputs)
+      (later_parts (joints_from s.class splice before (map part_brought inputs)) inputs)
       ≡ item_stream (items_behind window own (map needs_of (map (frames_in file s) parts)))
       (flat_map part_stream (file_parts file s parts))
   unfolding joints_from items_behind item_stream
-  later-streamed run own before [] [] fit are = refl
-  later-streamed run own before [] (p ∷ inputs) fit are = absurd are
-  later-streamed run own before (part ∷ parts) [] fit are = absurd are
-  later-streamed run own before (part ∷ parts) (p ∷ inputs) fit are =
+  later-streamed splice own before [] [] fit are = refl
+  later-streamed splice own before [] (p ∷ inputs) fit are = absurd are
+  later-streamed splice own before (part ∷ parts) [] fit are = absurd are
+  later-streamed splice own before (part ∷ parts) (p ∷ inputs) fit are =
       let input = part_brought p in
       let frames = frames_in file s part in
       let piece = part-piece are.0 in
       let headers = bare-known s.class r.known frames piece.known in
-      let joint = joint_of s.class run before input in
-      let items = run_part_items window own (needs_of frames) in
+      let joint = joint_of s.class splice before input in
+      let items = splice_part_items window own (needs_of frames) in
       let more = items_behind window (own ++ item_needs items)
       (map needs_of (map (frames_in file s) parts)) in
-      let here = piece-joint s.class r.known run own fit.0 fit.1 before input piece headers
+      let here = piece-joint s.class r.known splice own fit.0 fit.1 before input piece headers
       in
       let added = part-added s.class r.known (needs_of frames) piece.needs fit.1 in
       let rest = flat_map part_stream (file_parts file s parts) in
       ap (λ l. part_stream (part_from (left_out_count joint.seam) p) ++ l)
-      (later-streamed (run ++ joint.frames) (own ++ item_needs items) input parts inputs
-      (alike-next s.class r.known run joint.frames own items fit.0 here, added.fits) are.1)
+      (later-streamed (splice ++ joint.frames) (own ++ item_needs items) input parts inputs
+      (alike-next s.class r.known splice joint.frames own items fit.0 here, added.fits) are.1)
       ∙ sym (part-streamed are.0 more rest
-      (joins-as s.class r.known run own fit.0 fit.1 before input piece headers))
+      (joins-as s.class r.known splice own fit.0 fit.1 before input piece headers))

@@ -5,7 +5,7 @@ use Rattle.std.proofs.Common.{refl, Some, subst, sym, true, ℕ, [], ◌++◌, �
 use Rattle.std.proofs.{Common.◌≤◌, lemmas.{Bool.and_parts, List.{length-map, map-append}}}
 use Rattle.cut_edits.proofs.PieceLemmas.{head_long}
 use Rattle.frame_header.specs.{Fields.ClassFields, Limits.most_frames, Tables.window_of}
-use Rattle.joined_inputs.specs.Planned.{plan_of_run_needs}
+use Rattle.joined_inputs.specs.Planned.{plan_of_splice_needs}
 use Rattle.laying.specs.{KeptFields.fields_of_head, Laid.{file_laid, LaidPart}}
 use Rattle.laying.specs.{LaidFiles.{laid_file, stream_entry}, Laws.AreFramesOfStream}
 use Rattle.laying.specs.Relaid.{FilePart, part_frames, part_stream, stream_with_lead_ins}
@@ -21,9 +21,9 @@ use Rattle.remove_laws.proofs.JoinPartLemmas.{ArePartInputs, frames_in, IsPartIn
 use Rattle.remove_laws.proofs.JoinPartLemmas.{leads-are, own-many, part-need, part-piece}
 use Rattle.remove_laws.proofs.JoinPartLemmas.{part-pieces, parts-need}
 use Rattle.remove_laws.proofs.PieceLemmas.{first-alike, front-out, pieces-as-parts}
-use Rattle.remove_laws.proofs.RunStreamLemmas.{frames-streamed, item_stream, items-streamed}
-use Rattle.remove_laws.proofs.RunStreamLemmas.{marked-places, place_of, relaid-places}
-use Rattle.remove_laws.{proofs.RunStreamLemmas.stream-placed, specs.CutLaws.chosen_part}
+use Rattle.remove_laws.proofs.SpliceStreamLemmas.{frames-streamed, item_stream, items-streamed}
+use Rattle.remove_laws.proofs.SpliceStreamLemmas.{marked-places, place_of, relaid-places}
+use Rattle.remove_laws.{proofs.SpliceStreamLemmas.stream-placed, specs.CutLaws.chosen_part}
 use Rattle.remove_laws.specs.JoinLaws.{all_parts_laid, IsFileOfFrames, part_laid}
 use Rattle.remove_laws.specs.JoinLaws.{PartsJoinAsRemoved}
 use Rattle.seam_laws.proofs.LaidInputLemmas.{class-same, IsFileOf, laid-whole}
@@ -31,23 +31,24 @@ use Rattle.seam_laws.proofs.PieceListLemmas.{files_of, parts-files, Recording, r
 use Rattle.seam_laws.proofs.PiecePartLemmas.{IsPiece, laid-input, left-own, plain-by}
 use Rattle.seam_laws.proofs.SeamlessInputLemmas.{AreInputs, input-whole, inputs-are, inputs-whole}
 use Rattle.seam_laws.proofs.SeamlessInputLemmas.{IsInput, Joins, own-class}
-use Rattle.seam_laws.proofs.{SeamlessRunLemmas.not-true, SplitFileLemmas.front-row}
+use Rattle.seam_laws.proofs.{SeamlessSpliceLemmas.not-true, SplitFileLemmas.front-row}
 use Rattle.seam_laws.proofs.SplitJoinLemmas.{right-between}
 use Rattle.seam_laws.specs.SeamlessLaws.{has_no_look_alike, is_look_alike}
-use Rattle.seam_plan.specs.Frames.{Brought, needs_of, RunFrame}
-use Rattle.seam_plan.specs.PartRuns.{frame_item, IsFrameFirst, item_needs, items_behind, run_items}
-use Rattle.seam_plan.specs.{PartRuns.RunItem, Seams.{run_of, seamless_join, SeamlessJoin}}
-use Rattle.seam_plan.specs.{Stretches.AreInOrder, declared.stretches.Part.Part}
-use Rattle.seamless_edits.proofs.RunPartLemmas.{run-laid}
-use Rattle.seamless_edits.specs.Seamless.{delay_of_run, join_of_parts, later_parts, part_brought}
-use Rattle.seamless_edits.specs.Seamless.{part_from, run_parts, run_plan, seamless_file}
-use Rattle.seamless_edits.specs.Seamless.{seamless_frames, seamless_info, seamless_row_file}
-use Rattle.seamless_edits.specs.Seamless.{seamless_stream}
+use Rattle.seam_plan.specs.Frames.{Brought, needs_of, SpliceFrame}
+use Rattle.seam_plan.specs.PartSplices.{frame_item, IsFrameFirst, item_needs, items_behind}
+use Rattle.seam_plan.specs.PartSplices.{splice_items, SpliceItem}
+use Rattle.seam_plan.specs.{Seams.{seamless_join, SeamlessJoin, splice_of}, Stretches.AreInOrder}
+use Rattle.seam_plan.specs.declared.stretches.Part.{Part}
+use Rattle.seamless_edits.proofs.SplicePartLemmas.{splice-laid}
+use Rattle.seamless_edits.specs.Seamless.{delay_of_splice, join_of_parts, later_parts, part_brought}
+use Rattle.seamless_edits.specs.Seamless.{part_from, seamless_file, seamless_frames, seamless_info}
+use Rattle.seamless_edits.specs.Seamless.{seamless_row_file, seamless_stream, splice_parts}
+use Rattle.seamless_edits.specs.Seamless.{splice_plan}
 use Rattle.slot_plan.specs.declared.needs.{Need.Need, Placed.Placed}
 use Rattle.sync_survey.specs.{Faults.SurveyFields, MainData.StreamFrame}
 
 -- items of a part with a frame begin with a frame
-begins-frame : (needs : List Need) (items : List RunItem) → 0 < length needs
+begins-frame : (needs : List Need) (items : List SpliceItem) → 0 < length needs
     → IsFrameFirst (map frame_item needs ++ items)
 begins-frame [] items some = absurd (omega (arith, some))
 begins-frame (n ∷ needs) items some = refl
@@ -60,10 +61,10 @@ module _ {file : List ℕ} {s : SurveyFields} (r : Recording file s) (part : Par
   abbrev window : ℕ
   window = window_of s.class.version
 
-  abbrev frames : List RunFrame
+  abbrev frames : List SpliceFrame
   frames = frames_in file s part
 
-  abbrev more : List (List RunFrame)
+  abbrev more : List (List SpliceFrame)
   more = map (frames_in file s) parts
 
   abbrev brought : Brought
@@ -75,7 +76,7 @@ module _ {file : List ℕ} {s : SurveyFields} (r : Recording file s) (part : Par
   abbrev joined : SeamlessJoin
   joined = seamless_join s.class brought inputs
 
-  abbrev items : List RunItem
+  abbrev items : List SpliceItem
   items = items_left s (part ∷ parts)
 
   abbrev stream : List StreamFrame
@@ -84,21 +85,21 @@ module _ {file : List ℕ} {s : SurveyFields} (r : Recording file s) (part : Par
   join-is : join_of_parts first others ≡ joined
   join-is = ap (λ c. seamless_join c brought inputs) is.piece.is.of_class
 
-  items-are : run_items window (map needs_of (frames ∷ more)) ≡ items
-  items-are = ap (run_items window) (parts-need r (part ∷ parts))
+  items-are : splice_items window (map needs_of (frames ∷ more)) ≡ items
+  items-are = ap (splice_items window) (parts-need r (part ∷ parts))
 
-  run-needs : needs_of (run_of brought (join_of_parts first others)) ≡ item_needs items
-  run-needs =
-      ap (λ j. needs_of (run_of brought j)) join-is
+  splice-needs : needs_of (splice_of brought (join_of_parts first others)) ≡ item_needs items
+  splice-needs =
+      ap (λ j. needs_of (splice_of brought j)) join-is
       ∙ pieces-as-parts s.class frames more brought inputs r.known (part-piece r is)
       (part-pieces r parts others are)
       ∙ ap item_needs items-are
 
   -- the plan of the join is that of the items
-  plan-is : run_plan first others ≡ plan_of_items s items
+  plan-is : splice_plan first others ≡ plan_of_items s items
   plan-is =
-      ap₂ (λ (c : ClassFields) (n : List Need). plan_of_run_needs (window_of c.version) n)
-      is.piece.is.of_class run-needs
+      ap₂ (λ (c : ClassFields) (n : List Need). plan_of_splice_needs (window_of c.version) n)
+      is.piece.is.of_class splice-needs
 
   later-is : flat_map part_stream (later_parts joined.joints others)
       ≡ item_stream (items_behind window (needs_of frames) (map needs_of more))
@@ -120,10 +121,10 @@ module _ {file : List ℕ} {s : SurveyFields} (r : Recording file s) (part : Par
       ∙ leads-are r is)
       ∙ left-own is.piece
 
-  -- the stream of the run is that of the items
-  run-stream : flat_map part_stream (run_parts first others) ≡ item_stream items stream
-  unfolding run_items
-  run-stream =
+  -- the stream of the splice is that of the items
+  splice-stream : flat_map part_stream (splice_parts first others) ≡ item_stream items stream
+  unfolding splice_items
+  splice-stream =
       ap (λ (j : SeamlessJoin).
       flat_map part_stream (part_from j.front first ∷ later_parts j.joints others)) join-is
       ∙ ap₂ ◌++◌ begin-is later-is
@@ -135,7 +136,7 @@ module _ {file : List ℕ} {s : SurveyFields} (r : Recording file s) (part : Par
 
   module _ (can : ArePartsLeft s (part ∷ parts)) where
     begins : IsFrameFirst items
-    unfolding run_items
+    unfolding splice_items
     begins =
         begins-frame (part_needs_of s part)
         (items_behind window (part_needs_of s part) (map (part_needs_of s) parts))
@@ -147,13 +148,14 @@ module _ {file : List ℕ} {s : SurveyFields} (r : Recording file s) (part : Par
     unfolding seamless_stream
     stream-is =
         let shape = items-shape s (part ∷ parts) can in
-        ap₂ stream_with_lead_ins (plan-is ∙ shape.are) run-stream
+        ap₂ stream_with_lead_ins (plan-is ∙ shape.are) splice-stream
         ∙ items-streamed items shape.frames shape.plain shape.count stream shape.lead
         begins
         ∙ ap (λ p. stream_with_lead_ins p stream) (sym (removal-places s (part ∷ parts) can))
 
     -- its frames have the same places
-    places-are : map place_of (run_plan first others) ≡ map place_of (removal_plan s (part ∷ parts))
+    places-are : map place_of (splice_plan first others)
+        ≡ map place_of (removal_plan s (part ∷ parts))
     places-are =
         let shape = items-shape s (part ∷ parts) can in
         ap (map place_of) (plan-is ∙ shape.are)
@@ -170,9 +172,9 @@ module _ {file : List ℕ} {s : SurveyFields} (r : Recording file s) (part : Par
       laid =
           let own = own-class joins in
           subst (λ c. AreFramesOfStream c (seamless_frames first others)
-          (stream_with_lead_ins (run_plan first others)
-          (flat_map part_stream (run_parts first others)))) joins.head.of_class
-          (run-laid first others (input-whole own.head)
+          (stream_with_lead_ins (splice_plan first others)
+          (flat_map part_stream (splice_parts first others)))) joins.head.of_class
+          (splice-laid first others (input-whole own.head)
           (inputs-whole first.survey.class others own.others))
 
       left : AreFramesOfStream s.class (removal_frames (part ∷ parts) file s)
@@ -190,22 +192,22 @@ module _ {file : List ℕ} {s : SurveyFields} (r : Recording file s) (part : Par
           ∙ ap length (removal-slots s (part ∷ parts) can file r.has)
           ∙ length-map (removal_plan s (part ∷ parts)) (λ (p : Placed). p.slot)
 
-      laid-many : length (seamless_frames first others) ≡ length (run_plan first others)
+      laid-many : length (seamless_frames first others) ≡ length (splice_plan first others)
       laid-many =
           sym (length-map (seamless_frames first others) stream_entry)
           ∙ ap length same-entries
           ∙ length-map (removal_frames (part ∷ parts) file s) stream_entry
           ∙ left-many
           ∙ sym (length-map (removal_plan s (part ∷ parts)) place_of)
-          ∙ ap length (sym places-are) ∙ length-map (run_plan first others) place_of
+          ∙ ap length (sym places-are) ∙ length-map (splice_plan first others) place_of
 
       -- the join has the frames that stay, in the same places
       frames-are : seamless_frames first others ≡ removal_frames (part ∷ parts) file s
       frames-are =
           stream-placed s.class r.known laid.entries left.entries (
             same-entries,
-            relaid-places (flat_map part_frames (run_parts first others))
-                (run_plan first others) laid-many
+            relaid-places (flat_map part_frames (splice_parts first others))
+                (splice_plan first others) laid-many
                 ∙ places-are
                 ∙ sym (relaid-places
                 (flat_map part_frames (file_parts file s (part ∷ parts)))
@@ -221,11 +223,11 @@ module _ {file : List ℕ} {s : SurveyFields} (r : Recording file s) (part : Par
           record {
             front = front_blocks first.file first.survey;
             header = row.0.header;
-            info = seamless_info (delay_of_run first others) row.0 first others;
+            info = seamless_info (delay_of_splice first others) row.0 first others;
             back = [];
             is = ap (λ o. seamless_row_file o first others) row.1
                 ∙ ap (λ fs. laid_file (front_blocks first.file first.survey) row.0.header
-                (seamless_info (delay_of_run first others) row.0 first others) fs []) frames-are;
+                (seamless_info (delay_of_splice first others) row.0 first others) fs []) frames-are;
           }
 
       -- so is the file without the stretches

@@ -8,8 +8,8 @@ use Rattle.remove_edits.specs.Removed.{item_places, items_left, part_needs_of, p
 use Rattle.remove_edits.specs.Removed.{places_before, plan_of_items, removal_plan}
 use Rattle.remove_laws.proofs.{NumberLemmas.{HasPlaces, shape-places}, OrderLemmas.AreFrames}
 use Rattle.remove_laws.specs.PlayLaws.{HasNoLeadInBehindFirst}
-use Rattle.seam_plan.specs.PartRuns.{frame_item, IsPartNeeds, items_behind, run_items, RunItem}
-use Rattle.seam_plan.specs.declared.stretches.Part.{Part}
+use Rattle.seam_plan.specs.PartSplices.{frame_item, IsPartNeeds, items_behind, splice_items}
+use Rattle.seam_plan.specs.{PartSplices.SpliceItem, declared.stretches.Part.Part}
 use Rattle.slot_plan.specs.declared.needs.{Need.Need, Placed.Placed}
 use Rattle.sync_survey.specs.Faults.{SurveyFields}
 
@@ -27,7 +27,7 @@ no-lead : (b : Bool) (p : Placed) → (place_as b p).lead_in ≡ false → b ≡
 no-lead true p is = absurd cc
 no-lead false p is = refl
 
-items-frames : (items : List RunItem) (placed : List Placed) → length placed ≡ length items
+items-frames : (items : List SpliceItem) (placed : List Placed) → length placed ≡ length items
     → ((n : ℕ) (p : Placed) → slice_get (item_places items placed) n ≡ Some p → p.lead_in ≡ false)
     → AreFrames items
 unfolding item_places
@@ -38,28 +38,28 @@ items-frames (item ∷ items) (p ∷ placed) long none = (
   items-frames items placed (omega (arith, long)) (λ n q is. none (suc n) q is),
 )
 
-run-frames : (needs : List Need) (behind : List RunItem) (placed : List Placed)
+splice-frames : (needs : List Need) (behind : List SpliceItem) (placed : List Placed)
     → 0 < length needs → length placed ≡ length (map frame_item needs ++ behind)
     → HasNoLeadInBehindFirst (item_places (map frame_item needs ++ behind) placed)
     → AreFrames (map frame_item needs ++ behind)
 unfolding item_places
-run-frames [] behind placed some long none = absurd (omega (arith, some))
-run-frames (need ∷ needs) behind [] some long none = absurd (omega (arith, long))
-run-frames (need ∷ needs) behind (p ∷ placed) some long none = (
+splice-frames [] behind placed some long none = absurd (omega (arith, some))
+splice-frames (need ∷ needs) behind [] some long none = absurd (omega (arith, long))
+splice-frames (need ∷ needs) behind (p ∷ placed) some long none = (
   refl,
   items-frames (map frame_item needs ++ behind) placed (omega (arith, long))
       (λ n q is. none (suc n) q (omega arith) is),
 )
 
 -- the item with this number is a lead-in
-abbrev pub IsLeadIn : List RunItem → ℕ → Type 0
-IsLeadIn items n = (item : RunItem) × (slice_get items n ≡ Some item) × (item.lead_in ≡ true)
+abbrev pub IsLeadIn : List SpliceItem → ℕ → Type 0
+IsLeadIn items n = (item : SpliceItem) × (slice_get items n ≡ Some item) × (item.lead_in ≡ true)
 
 -- the place with this number is that of a lead-in
 abbrev pub IsLeadInPlace : List Placed → ℕ → Type 0
 IsLeadInPlace placed n = (p : Placed) × (slice_get placed n ≡ Some p) × (p.lead_in ≡ true)
 
-lead-marked : (items : List RunItem) (placed : List Placed) (n : ℕ)
+lead-marked : (items : List SpliceItem) (placed : List Placed) (n : ℕ)
     → length placed ≡ length items → IsLeadIn items n
     → IsLeadInPlace (item_places items placed) n
 unfolding item_places
@@ -78,7 +78,7 @@ module _ (s : SurveyFields) (first : Part) (later : List Part)
   abbrev parts : List Part
   parts = first ∷ later
 
-  abbrev items : List RunItem
+  abbrev items : List SpliceItem
   items = items_left s parts
 
   abbrev plan : List Placed
@@ -95,13 +95,13 @@ module _ (s : SurveyFields) (first : Part) (later : List Part)
 
   -- if no place behind the first is that of a lead-in, no item is a lead-in
   pub frames-left : HasNoLeadInBehindFirst (removal_plan s parts) → AreFrames items
-  unfolding run_items
+  unfolding splice_items
   frames-left none =
       let front : length (take before plan) ≡ before =
       length-take-le before plan (omega (arith, has_places.many)) in
       let rest : length (drop before plan) ≡ length items =
       omega (arith, length-drop before plan, has_places.many) in
-      run-frames (part_needs_of s first)
+      splice-frames (part_needs_of s first)
       (items_behind (window_of s.class.version) (part_needs_of s first)
       (map (part_needs_of s) later))
       (drop before plan) (all-needed 0 (part_needs_of s first) (omega arith)).some rest

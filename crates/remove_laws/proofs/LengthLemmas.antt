@@ -26,7 +26,8 @@ use Rattle.remove_laws.proofs.PlayLemmas.{of-played, played_as, read-as}
 use Rattle.remove_laws.specs.PlayLaws.{HasNoLeadInBehindFirst, LengthIsLeft, played_between}
 use Rattle.remove_laws.specs.PlayLaws.{played_in_parts, played_outside, PlaysAllThatIsLeft}
 use Rattle.remove_laws.specs.PlayLaws.{PlaysWhatIsLeft}
-use Rattle.seam_plan.specs.{PartRuns.RunItem, Stretches.AreInOrder, declared.stretches.Part.Part}
+use Rattle.seam_plan.specs.{PartSplices.SpliceItem, Stretches.AreInOrder}
+use Rattle.seam_plan.specs.declared.stretches.Part.{Part}
 use Rattle.sync_survey.specs.Faults.{SurveyFields}
 
 -- ---- what is heard of frames that are written right behind one another
@@ -123,7 +124,7 @@ module _ (class : ClassFields) (played : Played) where
       (subst (λ at. HasLengthIf w.to (at + (w.to - w.from)) (in_written written) later)
       (sym behind.0) rest)))
 
-  in-parts : (at : ℕ) (items : List RunItem) (parts : List Part)
+  in-parts : (at : ℕ) (items : List SpliceItem) (parts : List Part)
       → in_written (parts_written at items parts) ≡ played_in_parts samples played parts
   unfolding parts_written
   in-parts at items [] = refl
@@ -184,7 +185,7 @@ module _ (s : SurveyFields) (first : Part) (later : List Part)
   abbrev parts : List Part
   parts = first ∷ later
 
-  abbrev items : List RunItem
+  abbrev items : List SpliceItem
   items = items_left s parts
 
   abbrev before : ℕ

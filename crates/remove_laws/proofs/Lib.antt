@@ -13,7 +13,7 @@ pub mod LengthLemmas
 pub mod PlaceLemmas
 pub mod CutLemmas
 pub mod PieceLemmas
-pub mod RunStreamLemmas
+pub mod SpliceStreamLemmas
 pub mod JoinPartLemmas
 pub mod JoinRemovalLemmas
 pub mod StayLemmas

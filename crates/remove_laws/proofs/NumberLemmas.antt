@@ -35,7 +35,7 @@ use Rattle.remove_laws.proofs.WrittenLemmas.{parts-before}
 use Rattle.remove_laws.specs.NumberLaws.{CountsWhatIsHeard, heard_of_parts, KeepsNumbers}
 use Rattle.remove_laws.specs.NumberLaws.{NumbersAreKept}
 use Rattle.seam_laws.proofs.JoinEndLemmas.{frames-few}
-use Rattle.seam_plan.specs.{PartRuns.{IsPartNeeds, RunItem}, declared.stretches.Part.Part}
+use Rattle.seam_plan.specs.{PartSplices.{IsPartNeeds, SpliceItem}, declared.stretches.Part.Part}
 use Rattle.slot_plan.specs.declared.needs.Placed.{Placed}
 use Rattle.sync_survey.{proofs.SurveyedFileLemmas.survey_of-parts, specs.Faults.SurveyFields}
 use Rattle.sync_survey.specs.Survey.{survey_of}
@@ -117,7 +117,7 @@ numbers-play class {n} heard info some within frames are says =
 
 -- ---- how many places there are
 
-marked-many : (items : List RunItem) (placed : List Placed)
+marked-many : (items : List SpliceItem) (placed : List Placed)
     → length (item_places items placed) ≡ length placed
 unfolding item_places
 marked-many [] placed = refl
@@ -125,12 +125,12 @@ marked-many (item ∷ items) [] = refl
 marked-many (item ∷ items) (p ∷ placed) = ap suc (marked-many items placed)
 
 -- the places of a plan are those of the items, and at most one before them
-pub record HasPlaces (items : List RunItem) (placed : List Placed) : Type 0 where
+pub record HasPlaces (items : List SpliceItem) (placed : List Placed) : Type 0 where
   pub many : length placed ≡ places_before items placed + length items
   pub one : places_before items placed ≤ 1
 
 -- a plan of such a shape has them
-pub shape-places : {items : List RunItem} {placed : List Placed} → HasShape (length items) placed
+pub shape-places : {items : List SpliceItem} {placed : List Placed} → HasShape (length items) placed
     → HasPlaces items placed
 shape-places shape =
     let long = length-append shape.front shape.frames in
@@ -150,7 +150,7 @@ module _ (s : SurveyFields) (first : Part) (later : List Part)
   abbrev parts : List Part
   parts = first ∷ later
 
-  abbrev items : List RunItem
+  abbrev items : List SpliceItem
   items = items_left s parts
 
   abbrev plan : List Placed

@@ -5,7 +5,8 @@ use Rattle.exact_span.specs.declared.written.WrittenFrames.{WrittenFrames}
 use Rattle.frame_header.specs.{Tables.samples_of, declared.version.Version.Version}
 use Rattle.frame_header.specs.declared.version.Version.TheVariants.{One, Two, TwoFive}
 use Rattle.remove_edits.specs.Removed.{lead_in_count, parts_written}
-use Rattle.seam_plan.specs.{PartRuns.RunItem, Stretches.AreInOrder, declared.stretches.Part.Part}
+use Rattle.seam_plan.specs.{PartSplices.SpliceItem, Stretches.AreInOrder}
+use Rattle.seam_plan.specs.declared.stretches.Part.{Part}
 
 -- the samples of a frame begin no earlier than those of a frame before it
 pub frame-times : (v : Version) {a b : ℕ} → a ≤ b → a * samples_of v ≤ b * samples_of v
@@ -55,13 +56,14 @@ AreRightBehind n [] = Unit {0}
 AreRightBehind n (w ∷ written) = (w.at ≡ n) × AreRightBehind (n + (w.to - w.from)) written
 
 -- none of these items is a lead-in
-abbrev pub AreFrames : List RunItem → Type 0
+abbrev pub AreFrames : List SpliceItem → Type 0
 AreFrames [] = Unit {0}
 AreFrames (item ∷ items) = (item.lead_in ≡ false) × AreFrames items
 
 -- parts in order stay so where they are written
-pub parts-in_file : (at : ℕ) (items : List RunItem) {least low : ℕ} (frames : ℕ) (parts : List Part)
-    → low ≤ least → AreInOrder least frames parts → AreInFile low (parts_written at items parts)
+pub parts-in_file : (at : ℕ) (items : List SpliceItem) {least low : ℕ} (frames : ℕ)
+    (parts : List Part) → low ≤ least → AreInOrder least frames parts
+    → AreInFile low (parts_written at items parts)
 unfolding parts_written AreInOrder
 parts-in_file at items frames [] within order = tt
 parts-in_file at items frames (part ∷ parts) within order =
@@ -72,17 +74,17 @@ parts-in_file at items frames (part ∷ parts) within order =
           (omega arith) order.3,
     )
 
-frames-drop : (n : ℕ) (items : List RunItem) → AreFrames items → AreFrames (drop n items)
+frames-drop : (n : ℕ) (items : List SpliceItem) → AreFrames items → AreFrames (drop n items)
 frames-drop zero items are = are
 frames-drop (suc n) [] are = tt
 frames-drop (suc n) (item ∷ items) are = frames-drop n items are.1
 
-frames-lead : (items : List RunItem) → AreFrames items → lead_in_count items ≡ 0
+frames-lead : (items : List SpliceItem) → AreFrames items → lead_in_count items ≡ 0
 frames-lead [] are = refl
 frames-lead (item ∷ items) are = ap (λ b. cond b 1 0) are.0
 
 -- without lead-ins the parts are written right behind one another
-pub parts-right_behind : (at : ℕ) (items : List RunItem) (parts : List Part) → AreFrames items
+pub parts-right_behind : (at : ℕ) (items : List SpliceItem) (parts : List Part) → AreFrames items
     → AreRightBehind at (parts_written at items parts)
 unfolding parts_written
 parts-right_behind at items [] are = tt

@@ -9,11 +9,13 @@ use Rattle.frame_header.specs.{Slots.all_slots, Tables.window_of}
 use Rattle.laying.specs.NeedsFit.{own_choice}
 use Rattle.remove_edits.specs.Removed.{item_places, place_as}
 use Rattle.remove_laws.specs.SlotLaws.{AreJoinedPlaces, AreLedPlaces, AreOwnPlaces, FitInNoSlot}
-use Rattle.seam_plan.proofs.{FitLemmas.fits-tested, PartJointLemmas.{joined_in, run_part_items-is}}
-use Rattle.seam_plan.proofs.{PartRunLemmas.{has-lead-in, none-passes}, RunFitLemmas.found-passes}
+use Rattle.seam_plan.proofs.FitLemmas.{fits-tested}
+use Rattle.seam_plan.proofs.PartJointLemmas.{joined_in, splice_part_items-is}
+use Rattle.seam_plan.proofs.PartSpliceLemmas.{has-lead-in, none-passes}
+use Rattle.seam_plan.proofs.SpliceFitLemmas.{found-passes}
 use Rattle.seam_plan.specs.Joins.{fits_behind, is_area_no_less, join_slot}
-use Rattle.seam_plan.specs.PartRuns.{frame_item, IsPartNeeds, item_needs, lead_in_run_item}
-use Rattle.seam_plan.specs.PartRuns.{run_part_items, RunItem}
+use Rattle.seam_plan.specs.PartSplices.{frame_item, IsPartNeeds, item_needs, lead_in_splice_item}
+use Rattle.seam_plan.specs.PartSplices.{splice_part_items, SpliceItem}
 use Rattle.slot_plan.{proofs.AreaLemmas.only_one, specs.FreeBytes.need_in_slot}
 use Rattle.slot_plan.specs.{Parts.{need_item, own_slot_area, PlanItem}, Plans.AreItemSlots}
 use Rattle.slot_plan.specs.declared.needs.{Need.Need, Placed.Placed}
@@ -54,7 +56,7 @@ in-two (x ∷ xs) {ys} (p ∷ placed) are =
     }
 
 -- two lists of items mark two lists of places
-pub marks-append : (xs ys : List RunItem) (first second : List Placed)
+pub marks-append : (xs ys : List SpliceItem) (first second : List Placed)
     → length first ≡ length xs
     → item_places (xs ++ ys) (first ++ second) ≡ item_places xs first ++ item_places ys second
 unfolding item_places
@@ -79,9 +81,9 @@ own-marked (n ∷ needs) (p ∷ placed) are =
 
 -- ---- one part
 
-module _ (window : ℕ) (run : List Need) (first : Need) (needs : List Need) where
+module _ (window : ℕ) (splice : List Need) (first : Need) (needs : List Need) where
   joined-marked : {slot : SlotFields} (placed : List Placed)
-      → join_slot window run first needs ≡ Some slot
+      → join_slot window splice first needs ≡ Some slot
       → AreItemSlots (map (need_item own_choice)
       (item_needs (map frame_item (need_in_slot slot first ∷ needs)))) placed
       → AreJoinedPlaces (first ∷ needs)
@@ -90,66 +92,66 @@ module _ (window : ℕ) (run : List Need) (first : Need) (needs : List Need) whe
   joined-marked [] is are = absurd are
   joined-marked {slot} (p ∷ placed) is are =
       let found = found-passes (λ s. is_area_no_less first s
-      && fits_behind window window (run ++ need_in_slot s first ∷ needs)) all_slots is in
+      && fits_behind window window (splice ++ need_in_slot s first ∷ needs)) all_slots is in
       let same : slot ≡ p.slot = only_one are.1 in
       let more : own_slot_area first ≤ own_slot_area (need_in_slot slot first) =
       leb-true (own_slot_area first) (own_slot_area (need_in_slot slot first))
       (and_parts (is_area_no_less first slot)
-      (fits_behind window window (run ++ need_in_slot slot first ∷ needs)) found.0).0 in (
+      (fits_behind window window (splice ++ need_in_slot slot first ∷ needs)) found.0).0 in (
         are.0,
         subst (λ s. own_slot_area first ≤ own_slot_area (need_in_slot s first)) same more,
         own-marked needs placed are.2,
       )
 
-  in-none : join_slot window run first needs ≡ None → FitInNoSlot window run (first ∷ needs)
+  in-none : join_slot window splice first needs ≡ None → FitInNoSlot window splice (first ∷ needs)
   in-none none slot has more fits =
-      let all : List Need = run ++ need_in_slot slot first ∷ needs in
+      let all : List Need = splice ++ need_in_slot slot first ∷ needs in
       let passes = and_from (is_area_no_less first slot) (fits_behind window window all)
       (le-leb (own_slot_area first) (own_slot_area (need_in_slot slot first)) more)
       ((fits-tested window window all).1 fits) in
       let fails = none-passes (λ s. is_area_no_less first s
-      && fits_behind window window (run ++ need_in_slot s first ∷ needs)) all_slots none has in
+      && fits_behind window window (splice ++ need_in_slot s first ∷ needs)) all_slots none has in
       absurd cc
 
   led-marked : (header : HeaderFields) (placed : List Placed)
-      → join_slot window run first needs ≡ None
+      → join_slot window splice first needs ≡ None
       → AreItemSlots (map (need_item own_choice)
-      (item_needs (lead_in_run_item header ∷ map frame_item (first ∷ needs)))) placed
-      → AreLedPlaces window run (first ∷ needs)
-      (item_places (lead_in_run_item header ∷ map frame_item (first ∷ needs)) placed)
+      (item_needs (lead_in_splice_item header ∷ map frame_item (first ∷ needs)))) placed
+      → AreLedPlaces window splice (first ∷ needs)
+      (item_places (lead_in_splice_item header ∷ map frame_item (first ∷ needs)) placed)
   unfolding AreItemSlots item_places
   led-marked header [] none are = absurd are
   led-marked header (p ∷ placed) none are =
       (refl, in-none none, own-marked (first ∷ needs) placed are.2)
 
--- the places of a part behind a run are those of frames that join it, or of frames behind a lead-in
--- which can't
-pub part-marked : {class : ClassFields} (run needs : List Need) (placed : List Placed)
+-- the places of a part behind a splice are those of frames
+-- that join it, or of frames behind a lead-in which can't
+pub part-marked : {class : ClassFields} (splice needs : List Need) (placed : List Placed)
     → IsClass class → IsPartNeeds class needs →
-    let items = run_part_items (window_of class.version) run needs in
+    let items = splice_part_items (window_of class.version) splice needs in
     AreItemSlots (map (need_item own_choice) (item_needs items)) placed
     → AreJoinedPlaces needs (item_places items placed)
-    ⊎ AreLedPlaces (window_of class.version) run needs (item_places items placed)
-part-marked run [] placed known part are = absurd (omega (arith, part.some))
-part-marked {class} run (first ∷ needs) placed known part are =
-    subst Stands (sym (run_part_items-is window run first needs))
-    (at (join_slot window run first needs) refl)
+    ⊎ AreLedPlaces (window_of class.version) splice needs (item_places items placed)
+part-marked splice [] placed known part are = absurd (omega (arith, part.some))
+part-marked {class} splice (first ∷ needs) placed known part are =
+    subst Stands (sym (splice_part_items-is window splice first needs))
+    (at (join_slot window splice first needs) refl)
     are
   where
     window : ℕ
     window = window_of class.version
 
-    Stands : List RunItem → Type 0
+    Stands : List SpliceItem → Type 0
     Stands items = AreItemSlots (map (need_item own_choice) (item_needs items)) placed
         → AreJoinedPlaces (first ∷ needs) (item_places items placed)
-        ⊎ AreLedPlaces window run (first ∷ needs) (item_places items placed)
+        ⊎ AreLedPlaces window splice (first ∷ needs) (item_places items placed)
 
-    at : (o : Option SlotFields) → join_slot window run first needs ≡ o
+    at : (o : Option SlotFields) → join_slot window splice first needs ≡ o
         → Stands (joined_in window first needs o)
     at None is =
         let lead = has-lead-in known part in
-        subst (λ o. Stands (option_to_list (option_map lead_in_run_item o)
+        subst (λ o. Stands (option_to_list (option_map lead_in_splice_item o)
         ++ map frame_item (first ∷ needs)))
         (sym lead.is)
-        (λ slots. inr (led-marked window run first needs lead.header placed is slots))
-    at (Some slot) is = λ slots. inl (joined-marked window run first needs placed is slots)
+        (λ slots. inr (led-marked window splice first needs lead.header placed is slots))
+    at (Some slot) is = λ slots. inl (joined-marked window splice first needs placed is slots)

@@ -9,57 +9,59 @@ use Rattle.frame_header.specs.Fields.{ClassFields, HeaderFields, IsClass, SlotFi
 use Rattle.frame_header.specs.{Slots.all_slots, Tables.window_of}
 use Rattle.remove_edits.proofs.ItemLemmas.{needs-append}
 use Rattle.remove_laws.specs.PieceLaws.{ArePartPieces, IsLedPart, IsPartPiece, PiecesJoinAsParts}
-use Rattle.seam_laws.proofs.PieceRunLemmas.{front-lacks, joining_frames-own, none-follows}
-use Rattle.seam_laws.proofs.PieceRunLemmas.{unled-without}
-use Rattle.seam_laws.specs.RunLaws.{AreHeadersKnown, IsUnledPiece}
+use Rattle.seam_laws.proofs.PieceSpliceLemmas.{front-lacks, joining_frames-own, none-follows}
+use Rattle.seam_laws.proofs.PieceSpliceLemmas.{unled-without}
+use Rattle.seam_laws.specs.SpliceLaws.{AreHeadersKnown, IsUnledPiece}
 use Rattle.seam_plan.proofs.FitLemmas.{fits-tested}
-use Rattle.seam_plan.proofs.PartJointLemmas.{joined_in, needs-bare, needs-items, run_part_items-is}
-use Rattle.seam_plan.{proofs.PartRunLemmas.part-added, specs.Frames.{Brought, needs_of, RunFrame}}
+use Rattle.seam_plan.proofs.PartJointLemmas.{joined_in, needs-bare, needs-items}
+use Rattle.seam_plan.proofs.{PartJointLemmas.splice_part_items-is, PartSpliceLemmas.part-added}
+use Rattle.seam_plan.specs.Frames.{Brought, needs_of, SpliceFrame}
 use Rattle.seam_plan.specs.Joins.{fits_behind, frame_in_slot, has_lead_in, is_area_no_less}
 use Rattle.seam_plan.specs.Joins.{join_slot, joining_frames}
-use Rattle.seam_plan.specs.PartRuns.{bare_frames, frame_item, IsPartNeeds, item_needs, items_behind}
-use Rattle.seam_plan.specs.PartRuns.{joined_items, lead_in_run_item, run_items, run_part_items}
-use Rattle.seam_plan.specs.PartRuns.{RunItem}
+use Rattle.seam_plan.specs.PartSplices.{bare_frames, frame_item, IsPartNeeds, item_needs}
+use Rattle.seam_plan.specs.PartSplices.{items_behind, joined_items, lead_in_splice_item}
+use Rattle.seam_plan.specs.PartSplices.{splice_items, splice_part_items, SpliceItem}
 use Rattle.seam_plan.specs.Seams.{front_left_out_count, joint_of, joint_with, joint_without_lead_in}
-use Rattle.seam_plan.specs.Seams.{JointFrames, joints_from, left_out_count, run_of, seamless_join}
-use Rattle.seam_plan.specs.{Seams.whole_joint, declared.seam.Seam.TheVariants.{LeadIn, Whole}}
+use Rattle.seam_plan.specs.Seams.{JointFrames, joints_from, left_out_count, seamless_join}
+use Rattle.seam_plan.specs.Seams.{splice_of, whole_joint}
+use Rattle.seam_plan.specs.declared.seam.Seam.TheVariants.{LeadIn, Whole}
 use Rattle.slot_plan.proofs.FreeByteLemmas.{cons-fits, fits-cons, more-behind, own-left, then-fits}
 use Rattle.slot_plan.specs.{FreeBytes.{FitsBehind, need_in_slot}, Parts.own_slot_area}
 use Rattle.slot_plan.specs.{Reserve.free_bytes_behind, declared.needs.Need.Need}
 
--- ---- runs behind which the same frames fit
+-- ---- splices behind which the same frames fit
 
--- the same frames fit behind both runs
+-- the same frames fit behind both splices
 abbrev pub FitAlike : ℕ → List Need → List Need → Type 0
-FitAlike window run other =
-    (more : List Need) → fits_behind window window (run ++ more)
+FitAlike window splice other =
+    (more : List Need) → fits_behind window window (splice ++ more)
     ≡ fits_behind window window (other ++ more)
 
 empty-behind : (window : ℕ) (need : Need) → need.bytes ≡ 0
     → free_bytes_behind window window need.bytes (own_slot_area need) ≡ window
 empty-behind window need empty = omega (arith, empty)
 
--- a frame without main data before a run changes nothing
-empty-alike : (window : ℕ) (need : Need) (run : List Need) → need.bytes ≡ 0
-    → FitAlike window (need ∷ run) run
-empty-alike window need run empty more =
+-- a frame without main data before a splice changes nothing
+empty-alike : (window : ℕ) (need : Need) (splice : List Need) → need.bytes ≡ 0
+    → FitAlike window (need ∷ splice) splice
+empty-alike window need splice empty more =
     grind (arith, both_ways, with-empty, without-empty)
   where
-    with-empty : fits_behind window window (run ++ more) ≡ true
-        → fits_behind window window (need ∷ (run ++ more)) ≡ true
+    with-empty : fits_behind window window (splice ++ more) ≡ true
+        → fits_behind window window (need ∷ (splice ++ more)) ≡ true
     with-empty is =
-        (fits-tested window window (need ∷ (run ++ more))).1
-        (cons-fits need (run ++ more) (omega arith) (omega (arith, empty))
-        (subst (λ n. FitsBehind window n (run ++ more)) (sym (empty-behind window need empty))
-        ((fits-tested window window (run ++ more)).0 is)))
+        (fits-tested window window (need ∷ (splice ++ more))).1
+        (cons-fits need (splice ++ more) (omega arith) (omega (arith, empty))
+        (subst (λ n. FitsBehind window n (splice ++ more)) (sym (empty-behind window need empty))
+        ((fits-tested window window (splice ++ more)).0 is)))
 
-    without-empty : fits_behind window window (need ∷ (run ++ more)) ≡ true
-        → fits_behind window window (run ++ more) ≡ true
+    without-empty : fits_behind window window (need ∷ (splice ++ more)) ≡ true
+        → fits_behind window window (splice ++ more) ≡ true
     without-empty is =
-        (fits-tested window window (run ++ more)).1
-        (subst (λ n. FitsBehind window n (run ++ more)) (empty-behind window need empty)
-        (fits-cons need (run ++ more) (omega arith)
-        ((fits-tested window window (need ∷ (run ++ more))).0 is)).1)
+        (fits-tested window window (splice ++ more)).1
+        (subst (λ n. FitsBehind window n (splice ++ more)) (empty-behind window need empty)
+        (fits-cons need (splice ++ more) (omega arith)
+        ((fits-tested window window (need ∷ (splice ++ more))).0 is)).1)
 
 find-same : {test other : SlotFields → Bool} (slots : List SlotFields)
     → ((slot : SlotFields) → test slot ≡ other slot) → find test slots ≡ find other slots
@@ -67,10 +69,10 @@ find-same [] same = refl
 find-same {test} {other} (s ∷ slots) same =
     rw (same s) (ap (λ o. if other s then Some s else o) (find-same slots same))
 
-slot-alike : (window : ℕ) (run other : List Need) (first : Need) (needs : List Need)
-    → FitAlike window run other → join_slot window run first needs
+slot-alike : (window : ℕ) (splice other : List Need) (first : Need) (needs : List Need)
+    → FitAlike window splice other → join_slot window splice first needs
     ≡ join_slot window other first needs
-slot-alike window run other first needs alike =
+slot-alike window splice other first needs alike =
     find-same all_slots
     (λ s. ap (λ b. is_area_no_less first s && b) (alike (need_in_slot s first ∷ needs)))
 
@@ -78,7 +80,7 @@ slot-alike window run other first needs alike =
 
 -- a part joins without a lead-in, and so does its piece: none of
 -- its frames is left out if it fits after no bytes, otherwise one
-pub record IsWithoutLeadIn (fits : Bool) (own : List Need) (items : List RunItem) (out : ℕ)
+pub record IsWithoutLeadIn (fits : Bool) (own : List Need) (items : List SpliceItem) (out : ℕ)
     : Type 0 where
   pub needs : List Need
   pub many : length needs ≡ length own
@@ -86,16 +88,16 @@ pub record IsWithoutLeadIn (fits : Bool) (own : List Need) (items : List RunItem
   pub out_is : out ≡ (if fits then 0 else 1)
 
 -- a part joins behind a lead-in, and its piece, which has one, with all its frames
-pub record IsBehindLeadIn (fits : Bool) (own : List Need) (items : List RunItem) (out : ℕ)
+pub record IsBehindLeadIn (fits : Bool) (own : List Need) (items : List SpliceItem) (out : ℕ)
     : Type 0 where
   pub header : HeaderFields
-  pub are : items ≡ lead_in_run_item header ∷ map frame_item own
+  pub are : items ≡ lead_in_splice_item header ∷ map frame_item own
   pub lacks : fits ≡ false
   pub out_is : out ≡ 0
 
 -- a part with these needs joins as these items, and its
 -- piece without so many frames at its front
-abbrev pub JoinsAs : Bool → List Need → List RunItem → ℕ → Type 0
+abbrev pub JoinsAs : Bool → List Need → List SpliceItem → ℕ → Type 0
 JoinsAs fits own items out = IsWithoutLeadIn fits own items out ⊎ IsBehindLeadIn fits own items out
 
 -- ---- one piece
@@ -104,49 +106,50 @@ module _ (class : ClassFields) (known : IsClass class) where
   abbrev window : ℕ
   window = window_of class.version
 
-  module _ (run : List RunFrame) (own : List Need) (alike : FitAlike window (needs_of run) own)
+  module _ (splice : List SpliceFrame) (own : List Need)
+      (alike : FitAlike window (needs_of splice) own)
       (fits : FitsBehind window window own) (before input : Brought) where
     frames-fit : (needs : List Need) → fits_behind window 0 needs ≡ true
         → FitsBehind window window (own ++ needs)
     frames-fit needs fit = grind (arith, own-left, then-fits, more-behind, fits-tested)
 
     -- a piece that fits after no bytes joins with all its frames
-    unled-whole : {frames : List RunFrame} → IsUnledPiece window frames input
-        → input.played ≡ None → joint_of class run before input ≡ joint_with Whole input.frames
+    unled-whole : {frames : List SpliceFrame} → IsUnledPiece window frames input
+        → input.played ≡ None → joint_of class splice before input ≡ joint_with Whole input.frames
     unled-whole unled uncounted = grind (arith, none-follows, unled-without)
 
     -- the items of its part are its frames
-    unled-items : (frames : List RunFrame) → fits_behind window 0 (needs_of frames) ≡ true
+    unled-items : (frames : List SpliceFrame) → fits_behind window 0 (needs_of frames) ≡ true
         → AreHeadersKnown (bare_frames (needs_of frames))
-        → run_part_items window own (needs_of frames) ≡ map frame_item (needs_of frames)
+        → splice_part_items window own (needs_of frames) ≡ map frame_item (needs_of frames)
     unled-items frames fit headers =
         let needs = needs_of frames in
         let both : needs_of (bare_frames own ++ bare_frames needs) ≡ own ++ needs =
-        map-append (λ (f : RunFrame). f.need) (bare_frames own) (bare_frames needs)
+        map-append (λ (f : SpliceFrame). f.need) (bare_frames own) (bare_frames needs)
         ∙ ap₂ (λ (x y : List Need). x ++ y) (needs-bare own) (needs-bare needs) in
         let joined = joining_frames-own window (bare_frames own) headers
         (ap (fits_behind window window) both
         ∙ (fits-tested window window (own ++ needs)).1 (frames-fit needs fit)) in
         ap (joined_items window needs) joined ∙ ap (map frame_item) (needs-bare needs)
 
-    unled-joint : {frames : List RunFrame} → IsUnledPiece window frames input
+    unled-joint : {frames : List SpliceFrame} → IsUnledPiece window frames input
         → input.played ≡ None → fits_behind window 0 (needs_of frames) ≡ true
         → AreHeadersKnown (bare_frames (needs_of frames))
-        → needs_of (joint_of class run before input).frames
-        ≡ item_needs (run_part_items window own (needs_of frames))
+        → needs_of (joint_of class splice before input).frames
+        ≡ item_needs (splice_part_items window own (needs_of frames))
     unled-joint {frames} unled uncounted fit headers =
         ap (λ (j : JointFrames). needs_of j.frames) (unled-whole unled uncounted)
         ∙ ap needs_of unled.frames_are
         ∙ sym (ap item_needs (unled-items frames fit headers) ∙ needs-items (needs_of frames))
 
-    led-without : {frames : List RunFrame} → IsLedPart window frames input
+    led-without : {frames : List SpliceFrame} → IsLedPart window frames input
         → fits_behind window 0 (needs_of frames) ≡ false
-        → joint_without_lead_in class run input
-        ≡ option_map (joint_with LeadIn) (joining_frames window run frames)
+        → joint_without_lead_in class splice input
+        ≡ option_map (joint_with LeadIn) (joining_frames window splice frames)
     unfolding joint_without_lead_in
     led-without led lacks = grind (arith, and_from, led.has, led.frames_are)
 
-    led-by : {f : RunFrame} {fs : List RunFrame} → IsLedPart window (f ∷ fs) input
+    led-by : {f : SpliceFrame} {fs : List SpliceFrame} → IsLedPart window (f ∷ fs) input
         → (o : Option SlotFields)
         → needs_of (unwrap_or (option_map (joint_with LeadIn)
         (option_map (λ slot. frame_in_slot slot f ∷ fs) o)) (whole_joint input)).frames
@@ -155,53 +158,53 @@ module _ (class : ClassFields) (known : IsClass class) where
         let needs = needs_of (f ∷ fs) in
         ap needs_of led.frames_are
         ∙ ap (λ (n : Need). n ∷ needs) led.need
-        ∙ sym (ap (λ o. item_needs (option_to_list (option_map lead_in_run_item o)
+        ∙ sym (ap (λ o. item_needs (option_to_list (option_map lead_in_splice_item o)
         ++ map frame_item needs)) led.is
         ∙ ap (λ (l : List Need). record { header = led.header; bytes = 0 } ∷ l)
         (needs-items needs))
     led-by {f} {fs} led (Some slot) = sym (needs-items (need_in_slot slot f.need ∷ needs_of fs))
 
     -- a piece that doesn't fit after no bytes joins in the slot in which its part does
-    led-is : {f : RunFrame} {fs : List RunFrame} → IsLedPart window (f ∷ fs) input
+    led-is : {f : SpliceFrame} {fs : List SpliceFrame} → IsLedPart window (f ∷ fs) input
         → input.played ≡ None → fits_behind window 0 (needs_of (f ∷ fs)) ≡ false
-        → joint_of class run before input
+        → joint_of class splice before input
         ≡ unwrap_or (option_map (joint_with LeadIn) (option_map (λ slot. frame_in_slot slot f ∷ fs)
         (join_slot window own f.need (needs_of fs)))) (whole_joint input)
     unfolding joining_frames
     led-is {f} {fs} led uncounted lacks =
         ap₂ (λ a b. unwrap_or (option_or a b) (whole_joint input))
-        (none-follows class run before input uncounted) (led-without led lacks)
+        (none-follows class splice before input uncounted) (led-without led lacks)
         ∙ ap (λ s. unwrap_or (option_map (joint_with LeadIn)
         (option_map (λ slot. frame_in_slot slot f ∷ fs) s)) (whole_joint input))
-        (slot-alike window (needs_of run) own f.need (needs_of fs) alike)
+        (slot-alike window (needs_of splice) own f.need (needs_of fs) alike)
 
-    led-joint : (frames : List RunFrame) → IsLedPart window frames input
+    led-joint : (frames : List SpliceFrame) → IsLedPart window frames input
         → input.played ≡ None → fits_behind window 0 (needs_of frames) ≡ false
         → IsPartNeeds class (needs_of frames)
-        → needs_of (joint_of class run before input).frames
-        ≡ item_needs (run_part_items window own (needs_of frames))
+        → needs_of (joint_of class splice before input).frames
+        ≡ item_needs (splice_part_items window own (needs_of frames))
     led-joint [] led uncounted lacks part = absurd (omega (arith, part.some))
     led-joint (f ∷ fs) led uncounted lacks part =
         ap (λ (j : JointFrames). needs_of j.frames) (led-is led uncounted lacks)
         ∙ led-by led (join_slot window own f.need (needs_of fs))
-        ∙ sym (ap item_needs (run_part_items-is window own f.need (needs_of fs)))
+        ∙ sym (ap item_needs (splice_part_items-is window own f.need (needs_of fs)))
 
     -- a piece joins as the part does
-    pub piece-joint : {frames : List RunFrame} → IsPartPiece class frames input
+    pub piece-joint : {frames : List SpliceFrame} → IsPartPiece class frames input
         → AreHeadersKnown (bare_frames (needs_of frames))
-        → needs_of (joint_of class run before input).frames
-        ≡ item_needs (run_part_items window own (needs_of frames))
+        → needs_of (joint_of class splice before input).frames
+        ≡ item_needs (splice_part_items window own (needs_of frames))
     piece-joint {frames} piece headers = by (fits_behind window 0 (needs_of frames)) refl
       where
         by : (b : Bool) → fits_behind window 0 (needs_of frames) ≡ b
-            → needs_of (joint_of class run before input).frames
-            ≡ item_needs (run_part_items window own (needs_of frames))
+            → needs_of (joint_of class splice before input).frames
+            ≡ item_needs (splice_part_items window own (needs_of frames))
         by true fit = unled-joint (piece.unled fit) piece.uncounted fit headers
         by false lacks = led-joint frames (piece.led lacks) piece.uncounted lacks piece.needs
 
     -- ---- how its lead-in and the items belong together
 
-    led-way : {f : RunFrame} {fs : List RunFrame} → IsLedPart window (f ∷ fs) input
+    led-way : {f : SpliceFrame} {fs : List SpliceFrame} → IsLedPart window (f ∷ fs) input
         → (o : Option SlotFields)
         → JoinsAs false (needs_of (f ∷ fs)) (joined_in window f.need (needs_of fs) o)
         (left_out_count (unwrap_or (option_map (joint_with LeadIn)
@@ -209,7 +212,7 @@ module _ (class : ClassFields) (known : IsClass class) where
     led-way {f} {fs} led None =
         inr (record {
           header = led.header;
-          are = ap (λ o. option_to_list (option_map lead_in_run_item o)
+          are = ap (λ o. option_to_list (option_map lead_in_splice_item o)
               ++ map frame_item (needs_of (f ∷ fs))) led.is;
           lacks = refl;
           out_is = refl;
@@ -222,32 +225,32 @@ module _ (class : ClassFields) (known : IsClass class) where
           out_is = refl;
         })
 
-    led-as : (frames : List RunFrame) → IsLedPart window frames input → input.played ≡ None
+    led-as : (frames : List SpliceFrame) → IsLedPart window frames input → input.played ≡ None
         → fits_behind window 0 (needs_of frames) ≡ false → IsPartNeeds class (needs_of frames)
-        → JoinsAs false (needs_of frames) (run_part_items window own (needs_of frames))
-        (left_out_count (joint_of class run before input).seam)
+        → JoinsAs false (needs_of frames) (splice_part_items window own (needs_of frames))
+        (left_out_count (joint_of class splice before input).seam)
     led-as [] led uncounted lacks part = absurd (omega (arith, part.some))
     led-as (f ∷ fs) led uncounted lacks part =
         subst (λ items. JoinsAs false (needs_of (f ∷ fs)) items
-        (left_out_count (joint_of class run before input).seam))
-        (sym (run_part_items-is window own f.need (needs_of fs)))
+        (left_out_count (joint_of class splice before input).seam))
+        (sym (splice_part_items-is window own f.need (needs_of fs)))
         (subst (λ (j : JointFrames). JoinsAs false (needs_of (f ∷ fs))
         (joined_in window f.need (needs_of fs) (join_slot window own f.need (needs_of fs)))
         (left_out_count j.seam)) (sym (led-is led uncounted lacks))
         (led-way led (join_slot window own f.need (needs_of fs))))
 
     -- a piece joins without its lead-in exactly if its part joins without one
-    pub joins-as : {frames : List RunFrame} → IsPartPiece class frames input
+    pub joins-as : {frames : List SpliceFrame} → IsPartPiece class frames input
         → AreHeadersKnown (bare_frames (needs_of frames))
         → JoinsAs (fits_behind window 0 (needs_of frames)) (needs_of frames)
-        (run_part_items window own (needs_of frames))
-        (left_out_count (joint_of class run before input).seam)
+        (splice_part_items window own (needs_of frames))
+        (left_out_count (joint_of class splice before input).seam)
     joins-as {frames} piece headers = by (fits_behind window 0 (needs_of frames)) refl
       where
         by : (b : Bool) → fits_behind window 0 (needs_of frames) ≡ b
             → JoinsAs (fits_behind window 0 (needs_of frames)) (needs_of frames)
-            (run_part_items window own (needs_of frames))
-            (left_out_count (joint_of class run before input).seam)
+            (splice_part_items window own (needs_of frames))
+            (left_out_count (joint_of class splice before input).seam)
         by true fit =
             inl (record {
               needs = needs_of frames;
@@ -258,61 +261,61 @@ module _ (class : ClassFields) (known : IsClass class) where
                   ∙ sym (ap (λ b. if b then 0 else 1) fit);
             })
         by false lacks =
-            subst (λ b. JoinsAs b (needs_of frames) (run_part_items window own (needs_of frames))
-            (left_out_count (joint_of class run before input).seam)) (sym lacks)
+            subst (λ b. JoinsAs b (needs_of frames) (splice_part_items window own (needs_of frames))
+            (left_out_count (joint_of class splice before input).seam)) (sym lacks)
             (led-as frames (piece.led lacks) piece.uncounted lacks piece.needs)
 
   -- frames of which only the needs are known have known headers if the frames do
-  pub bare-known : (frames : List RunFrame) → AreHeadersKnown frames
+  pub bare-known : (frames : List SpliceFrame) → AreHeadersKnown frames
       → AreHeadersKnown (bare_frames (needs_of frames))
   bare-known [] are = tt
   bare-known (f ∷ frames) are = (are.0, bare-known frames are.1)
 
-  frames-append : (xs ys : List RunFrame) → needs_of (xs ++ ys) ≡ needs_of xs ++ needs_of ys
-  frames-append xs ys = map-append (λ (f : RunFrame). f.need) xs ys
+  frames-append : (xs ys : List SpliceFrame) → needs_of (xs ++ ys) ≡ needs_of xs ++ needs_of ys
+  frames-append xs ys = map-append (λ (f : SpliceFrame). f.need) xs ys
 
   -- behind a piece and its part the same frames fit
-  pub alike-next : (run more : List RunFrame) (own : List Need) (items : List RunItem)
-      → FitAlike window (needs_of run) own → needs_of more ≡ item_needs items
-      → FitAlike window (needs_of (run ++ more)) (own ++ item_needs items)
-  alike-next run more own items alike here l =
+  pub alike-next : (splice more : List SpliceFrame) (own : List Need) (items : List SpliceItem)
+      → FitAlike window (needs_of splice) own → needs_of more ≡ item_needs items
+      → FitAlike window (needs_of (splice ++ more)) (own ++ item_needs items)
+  alike-next splice more own items alike here l =
       ap (λ (n : List Need). fits_behind window window (n ++ l))
-      (frames-append run more ∙ ap (λ (n : List Need). needs_of run ++ n) here)
-      ∙ ap (fits_behind window window) (append_assoc (needs_of run) (item_needs items) l)
+      (frames-append splice more ∙ ap (λ (n : List Need). needs_of splice ++ n) here)
+      ∙ ap (fits_behind window window) (append_assoc (needs_of splice) (item_needs items) l)
       ∙ alike (item_needs items ++ l)
       ∙ ap (fits_behind window window) (sym (append_assoc own (item_needs items) l))
 
   -- ---- all later pieces
 
-  pieces-join : (run : List RunFrame) (own : List Need) (before : Brought)
-      (more : List (List RunFrame)) (inputs : List Brought)
-      → FitAlike window (needs_of run) own → FitsBehind window window own
+  pieces-join : (splice : List SpliceFrame) (own : List Need) (before : Brought)
+      (more : List (List SpliceFrame)) (inputs : List Brought)
+      → FitAlike window (needs_of splice) own → FitsBehind window window own
       → ArePartPieces class more inputs
-      → needs_of (flat_map (λ (j : JointFrames). j.frames) (joints_from class run before inputs))
+      → needs_of (flat_map (λ (j : JointFrames). j.frames) (joints_from class splice before inputs))
       ≡ item_needs (items_behind window own (map needs_of more))
   unfolding joints_from items_behind
-  pieces-join run own before [] [] alike fits are = refl
-  pieces-join run own before [] (input ∷ inputs) alike fits are = absurd are
-  pieces-join run own before (frames ∷ more) [] alike fits are = absurd are
-  pieces-join run own before (frames ∷ more) (input ∷ inputs) alike fits are =
-      let joint = joint_of class run before input in
-      let items = run_part_items window own (needs_of frames) in
+  pieces-join splice own before [] [] alike fits are = refl
+  pieces-join splice own before [] (input ∷ inputs) alike fits are = absurd are
+  pieces-join splice own before (frames ∷ more) [] alike fits are = absurd are
+  pieces-join splice own before (frames ∷ more) (input ∷ inputs) alike fits are =
+      let joint = joint_of class splice before input in
+      let items = splice_part_items window own (needs_of frames) in
       let later = items_behind window (own ++ item_needs items) (map needs_of more) in
-      let here = piece-joint run own alike fits before input are.0
+      let here = piece-joint splice own alike fits before input are.0
       (bare-known frames are.0.known) in
-      let next = alike-next run joint.frames own items alike here in
+      let next = alike-next splice joint.frames own items alike here in
       let added = part-added class known (needs_of frames) are.0.needs fits in
       frames-append joint.frames (flat_map (λ (j : JointFrames). j.frames)
-      (joints_from class (run ++ joint.frames) input inputs))
+      (joints_from class (splice ++ joint.frames) input inputs))
       ∙ ap₂ (λ (x y : List Need). x ++ y) here
-      (pieces-join (run ++ joint.frames) (own ++ item_needs items) input more inputs next
+      (pieces-join (splice ++ joint.frames) (own ++ item_needs items) input more inputs next
       added.fits are.1)
       ∙ sym (needs-append items later)
 
-  module _ (frames : List RunFrame) (more : List (List RunFrame)) (first : Brought)
+  module _ (frames : List SpliceFrame) (more : List (List SpliceFrame)) (first : Brought)
       (inputs : List Brought) (piece : IsPartPiece class frames first)
       (are : ArePartPieces class more inputs) where
-    abbrev rest : List RunFrame
+    abbrev rest : List SpliceFrame
     rest = flat_map (λ (j : JointFrames). j.frames) (joints_from class first.frames first inputs)
 
     abbrev behind : List Need
@@ -323,22 +326,22 @@ module _ (class : ClassFields) (known : IsClass class) where
     rest-is alike =
         pieces-join first.frames (needs_of frames) first more inputs alike piece.needs.fits are
 
-    items-are : item_needs (run_items window (map needs_of (frames ∷ more)))
+    items-are : item_needs (splice_items window (map needs_of (frames ∷ more)))
         ≡ needs_of frames ++ behind
-    unfolding run_items
+    unfolding splice_items
     items-are =
         needs-append (map frame_item (needs_of frames))
         (items_behind window (needs_of frames) (map needs_of more))
         ∙ ap (λ (l : List Need). l ++ behind) (needs-items (needs_of frames))
 
-    run-by : {begin : List RunFrame} {count : ℕ} → first.frames ≡ begin
+    splice-by : {begin : List SpliceFrame} {count : ℕ} → first.frames ≡ begin
         → front_left_out_count class first (begin ++ rest) ≡ count
         → drop count (begin ++ rest) ≡ frames ++ rest → needs_of rest ≡ behind
-        → needs_of (run_of first (seamless_join class first inputs))
-        ≡ item_needs (run_items window (map needs_of (frames ∷ more)))
+        → needs_of (splice_of first (seamless_join class first inputs))
+        ≡ item_needs (splice_items window (map needs_of (frames ∷ more)))
     unfolding seamless_join
-    run-by {begin} is front dropped same =
-        ap (λ (l : List RunFrame). needs_of (drop (front_left_out_count class first (l ++ rest))
+    splice-by {begin} is front dropped same =
+        ap (λ (l : List SpliceFrame). needs_of (drop (front_left_out_count class first (l ++ rest))
         (l ++ rest))) is
         ∙ ap (λ n. needs_of (drop n (begin ++ rest))) front
         ∙ ap needs_of dropped ∙ frames-append frames rest
@@ -354,12 +357,14 @@ module _ (class : ClassFields) (known : IsClass class) where
     unled-alike : IsUnledPiece window frames first
         → FitAlike window (needs_of first.frames) (needs_of frames)
     unled-alike unled l =
-        ap (λ (fs : List RunFrame). fits_behind window window (needs_of fs ++ l)) unled.frames_are
+        ap (λ (fs : List SpliceFrame). fits_behind window window (needs_of fs ++ l))
+        unled.frames_are
 
-    unled-run : IsUnledPiece window frames first
-        → needs_of (run_of first (seamless_join class first inputs))
-        ≡ item_needs (run_items window (map needs_of (frames ∷ more)))
-    unled-run unled = run-by unled.frames_are (unled-front unled) refl (rest-is (unled-alike unled))
+    unled-splice : IsUnledPiece window frames first
+        → needs_of (splice_of first (seamless_join class first inputs))
+        ≡ item_needs (splice_items window (map needs_of (frames ∷ more)))
+    unled-splice unled =
+        splice-by unled.frames_are (unled-front unled) refl (rest-is (unled-alike unled))
 
     led-front : fits_behind window 0 (needs_of frames) ≡ false
         → (led : IsLedPart window frames first)
@@ -373,15 +378,15 @@ module _ (class : ClassFields) (known : IsClass class) where
     led-alike : IsLedPart window frames first
         → FitAlike window (needs_of first.frames) (needs_of frames)
     led-alike led l =
-        ap (λ (fs : List RunFrame). fits_behind window window (needs_of fs ++ l)) led.frames_are
+        ap (λ (fs : List SpliceFrame). fits_behind window window (needs_of fs ++ l)) led.frames_are
         ∙ empty-alike window led.lead_in.need (needs_of frames)
         (ap (λ (n : Need). n.bytes) led.need) l
 
-    led-run : fits_behind window 0 (needs_of frames) ≡ false → IsLedPart window frames first
-        → needs_of (run_of first (seamless_join class first inputs))
-        ≡ item_needs (run_items window (map needs_of (frames ∷ more)))
-    led-run lacks led =
-        run-by led.frames_are (led-front lacks led) refl
+    led-splice : fits_behind window 0 (needs_of frames) ≡ false → IsLedPart window frames first
+        → needs_of (splice_of first (seamless_join class first inputs))
+        ≡ item_needs (splice_items window (map needs_of (frames ∷ more)))
+    led-splice lacks led =
+        splice-by led.frames_are (led-front lacks led) refl
         (rest-is (led-alike led))
 
     -- the same frames fit behind the first piece and behind its part
@@ -393,7 +398,7 @@ module _ (class : ClassFields) (known : IsClass class) where
         by true fit = unled-alike (piece.unled fit)
         by false lacks = led-alike (piece.led lacks)
 
-    -- exactly its lead-in leaves the run at the end
+    -- exactly its lead-in leaves the splice at the end
     pub front-out : (seamless_join class first inputs).front
         ≡ (if fits_behind window 0 (needs_of frames) then 0 else 1)
     unfolding seamless_join
@@ -403,25 +408,25 @@ module _ (class : ClassFields) (known : IsClass class) where
             → front_left_out_count class first (first.frames ++ rest)
             ≡ (if fits_behind window 0 (needs_of frames) then 0 else 1)
         by true fit =
-            ap (λ (l : List RunFrame). front_left_out_count class first (l ++ rest))
+            ap (λ (l : List SpliceFrame). front_left_out_count class first (l ++ rest))
             (piece.unled fit).frames_are
             ∙ unled-front (piece.unled fit) ∙ sym (ap (λ b. if b then 0 else 1) fit)
         by false lacks =
-            ap (λ (l : List RunFrame). front_left_out_count class first (l ++ rest))
+            ap (λ (l : List SpliceFrame). front_left_out_count class first (l ++ rest))
             (piece.led lacks).frames_are
             ∙ led-front lacks (piece.led lacks) ∙ sym (ap (λ b. if b then 0 else 1) lacks)
 
-    joined-run : needs_of (run_of first (seamless_join class first inputs))
-        ≡ item_needs (run_items window (map needs_of (frames ∷ more)))
-    joined-run = by (fits_behind window 0 (needs_of frames)) refl
+    joined-splice : needs_of (splice_of first (seamless_join class first inputs))
+        ≡ item_needs (splice_items window (map needs_of (frames ∷ more)))
+    joined-splice = by (fits_behind window 0 (needs_of frames)) refl
       where
         by : (b : Bool) → fits_behind window 0 (needs_of frames) ≡ b
-            → needs_of (run_of first (seamless_join class first inputs))
-            ≡ item_needs (run_items window (map needs_of (frames ∷ more)))
-        by true fit = unled-run (piece.unled fit)
-        by false lacks = led-run lacks (piece.led lacks)
+            → needs_of (splice_of first (seamless_join class first inputs))
+            ≡ item_needs (splice_items window (map needs_of (frames ∷ more)))
+        by true fit = unled-splice (piece.unled fit)
+        by false lacks = led-splice lacks (piece.led lacks)
 
 -- the law of such pieces
 pub pieces-as-parts : PiecesJoinAsParts
 pieces-as-parts class frames more first inputs known piece are =
-    joined-run class known frames more first inputs piece are
+    joined-splice class known frames more first inputs piece are

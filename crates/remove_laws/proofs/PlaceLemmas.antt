@@ -19,7 +19,7 @@ use Rattle.remove_laws.proofs.WrittenLemmas.{AreWrittenFrom, parts-from}
 use Rattle.remove_laws.specs.NumberLaws.{IsFirstToLast, IsHeardAt}
 use Rattle.remove_laws.specs.PlayLaws.{IsBetweenHeard, IsInLeadIn, NothingElseIsPlayed}
 use Rattle.remove_laws.specs.PlayLaws.{PlaysNothingElse}
-use Rattle.seam_plan.specs.{PartRuns.RunItem, declared.stretches.Part.Part}
+use Rattle.seam_plan.specs.{PartSplices.SpliceItem, declared.stretches.Part.Part}
 use Rattle.sync_survey.specs.Faults.{SurveyFields}
 
 -- ---- frames that are written
@@ -34,7 +34,7 @@ abbrev IsBeforeEnd : ℕ → List WrittenFrames → Type 0
 IsBeforeEnd n [] = ⊥
 IsBeforeEnd n (w ∷ written) = (n < w.at + (w.to - w.from)) ⊎ IsBeforeEnd n written
 
-get-drop : (m n : ℕ) (items : List RunItem)
+get-drop : (m n : ℕ) (items : List SpliceItem)
     → slice_get (drop m items) n ≡ slice_get items (m + n)
 get-drop zero n items = ap (slice_get items) (omega arith)
 get-drop (suc m) n [] = refl
@@ -42,7 +42,7 @@ get-drop (suc m) n (item ∷ items) =
     let next : suc m + n ≡ suc (m + n) = omega arith in
     get-drop m n items ∙ sym (ap (slice_get (item ∷ items)) next)
 
-lead-first : (items : List RunItem) {n : ℕ} → n < lead_in_count items → IsLeadIn items n
+lead-first : (items : List SpliceItem) {n : ℕ} → n < lead_in_count items → IsLeadIn items n
 lead-first [] lead = absurd (omega (arith, lead))
 lead-first (item ∷ items) {n} lead = by item.lead_in refl n lead
   where
@@ -51,7 +51,7 @@ lead-first (item ∷ items) {n} lead = by item.lead_in refl n lead
     by true is (suc m) one = absurd (omega (arith, one))
     by false is m none = absurd (omega (arith, none))
 
-module _ (at : ℕ) (items : List RunItem) (part : Part) (parts : List Part) (n : ℕ) where
+module _ (at : ℕ) (items : List SpliceItem) (part : Part) (parts : List Part) (n : ℕ) where
   abbrev lead : ℕ
   lead = lead_in_count items
 
@@ -100,7 +100,7 @@ module _ (at : ℕ) (items : List RunItem) (part : Part) (parts : List Part) (n 
           from-later le (rest le (later le before))
 
 -- each frame before the end of the parts is one of a part, or a lead-in among their items
-frame-or-lead : (at : ℕ) (items : List RunItem) (parts : List Part) {n : ℕ} → at ≤ n
+frame-or-lead : (at : ℕ) (items : List SpliceItem) (parts : List Part) {n : ℕ} → at ≤ n
     → IsBeforeEnd n (parts_written at items parts)
     → IsFrameOf n (parts_written at items parts) ⊎ IsLeadIn items (n - at)
 unfolding parts_written
@@ -253,7 +253,7 @@ module _ (s : SurveyFields) (first : Part) (later : List Part)
   abbrev parts : List Part
   parts = first ∷ later
 
-  abbrev items : List RunItem
+  abbrev items : List SpliceItem
   items = items_left s parts
 
   abbrev before : ℕ

@@ -5,11 +5,11 @@ use Rattle.std.proofs.Common.{◌++◌, ◌-◌, ◌<◌, ◌∙◌, ◌∷◌, 
 use Rattle.std.proofs.lemmas.List.{length-append, length-map, map-append}
 use Rattle.cut_edits.{proofs.SpanLemmas.for_length, specs.Exact.survey_without_head}
 use Rattle.frame_header.specs.{Fields.{IsClass, SlotFields}, Tables.window_of}
-use Rattle.joined_inputs.proofs.RunPlanLemmas.{run-planned}
+use Rattle.joined_inputs.proofs.SplicePlanLemmas.{splice-planned}
 use Rattle.laying.specs.NeedsFit.{own_choice}
 use Rattle.remove_edits.proofs.CommandLemmas.{left-parts}
 use Rattle.remove_edits.proofs.ItemLemmas.{left-more, left-one, needs-append}
-use Rattle.remove_edits.proofs.RemovalLemmas.{all-needs, class-known, first-there-is, run-needs}
+use Rattle.remove_edits.proofs.RemovalLemmas.{all-needs, class-known, first-there-is, splice-needs}
 use Rattle.remove_edits.specs.Ready.{ArePartsLeft}
 use Rattle.remove_edits.specs.Removed.{item_places, items_left, part_needs_of, places_before}
 use Rattle.remove_edits.specs.Removed.{plan_of_items}
@@ -19,15 +19,16 @@ use Rattle.remove_laws.specs.SlotLaws.{AreJoinedPlaces, AreLaterPlaces, AreLeadI
 use Rattle.remove_laws.specs.SlotLaws.{AreLedPlaces, FramesKeepTheirSlots, KeepTheirSlots}
 use Rattle.remove_laws.specs.SlotLaws.{needs_written}
 use Rattle.seam_plan.proofs.PartJointLemmas.{needs-items}
-use Rattle.seam_plan.specs.PartRuns.{frame_item, IsPartNeeds, item_needs, items_behind, run_items}
-use Rattle.seam_plan.specs.{PartRuns.{run_part_items, RunItem}, declared.stretches.Part.Part}
+use Rattle.seam_plan.specs.PartSplices.{frame_item, IsPartNeeds, item_needs, items_behind}
+use Rattle.seam_plan.specs.PartSplices.{splice_items, splice_part_items, SpliceItem}
+use Rattle.seam_plan.specs.declared.stretches.Part.{Part}
 use Rattle.slot_plan.specs.Parts.{all_items, AreLeadIns, need_item, part_items as planned_items}
 use Rattle.slot_plan.specs.{Plans.{AreItemSlots, IsPlan}, declared.needs.{Need.Need, Placed.Placed}}
 use Rattle.sync_survey.specs.Faults.{SurveyFields}
 
--- ---- the plan of a run
+-- ---- the plan of a splice
 
--- the places of a run: at most one lead-in, and then a place of its own slot for each need
+-- the places of a splice: at most one lead-in, and then a place of its own slot for each need
 record HasOwnPlaces (needs : List Need) (placed : List Placed) (at : ℕ) : Type 0 where
   lead_in : AreLeadInPlaces (take at placed)
   own : AreItemSlots (map (need_item own_choice) needs) (drop at placed)
@@ -86,13 +87,13 @@ module _ (s : SurveyFields) (known : IsClass s.class) where
   abbrev window : ℕ
   window = window_of s.class.version
 
-  abbrev slots : List RunItem → List Placed → Type 0
+  abbrev slots : List SpliceItem → List Placed → Type 0
   slots items placed = AreItemSlots (map (need_item own_choice) (item_needs items)) placed
 
   abbrev needs_in : List Part → List (List Need)
   needs_in parts = map (part_needs_of s) parts
 
-  two-slots : (xs ys : List RunItem) (placed : List Placed) → slots (xs ++ ys) placed
+  two-slots : (xs ys : List SpliceItem) (placed : List Placed) → slots (xs ++ ys) placed
       → AreItemSlots (map (need_item own_choice) (item_needs xs)
       ++ map (need_item own_choice) (item_needs ys)) placed
   two-slots xs ys placed are =
@@ -106,30 +107,30 @@ module _ (s : SurveyFields) (known : IsClass s.class) where
   no-places [] are = refl
   no-places (p ∷ placed) are = absurd are
 
-  later-marked : (before parts : List Part) {run : List Need} (placed : List Placed)
-      → 1 ≤ length before → needs_written s before ≡ run
+  later-marked : (before parts : List Part) {splice : List Need} (placed : List Placed)
+      → 1 ≤ length before → needs_written s before ≡ splice
       → All (IsPartNeeds s.class) (needs_in parts)
-      → slots (items_behind window run (needs_in parts)) placed
+      → slots (items_behind window splice (needs_in parts)) placed
       → AreLaterPlaces s before parts
-      (item_places (items_behind window run (needs_in parts)) placed)
+      (item_places (items_behind window splice (needs_in parts)) placed)
   unfolding items_behind item_places
   later-marked before [] placed some is all are = no-places placed are
-  later-marked before (part ∷ parts) {run} placed some is all are =
+  later-marked before (part ∷ parts) {splice} placed some is all are =
       let needs = part_needs_of s part in
-      let items = run_part_items window run needs in
-      let later = items_behind window (run ++ item_needs items) (needs_in parts) in
+      let items = splice_part_items window splice needs in
+      let later = items_behind window (splice ++ item_needs items) (needs_in parts) in
       let two = in-two (map (need_item own_choice) (item_needs items)) placed
       (two-slots items later placed are) in
       let long : length two.first ≡ length items =
       two.long ∙ length-map (item_needs items) (need_item own_choice)
-      ∙ length-map items (λ (i : RunItem). i.need) in
-      let here = part-marked run needs two.first known (all 0 needs (omega arith))
+      ∙ length-map items (λ (i : SpliceItem). i.need) in
+      let here = part-marked splice needs two.first known (all 0 needs (omega arith))
       two.firsts in
-      let next : needs_written s (before ++ part ∷ []) ≡ run ++ item_needs items =
+      let next : needs_written s (before ++ part ∷ []) ≡ splice ++ item_needs items =
       ap item_needs (left-more s before part some)
       ∙ needs-append (items_left s before)
-      (run_part_items window (needs_written s before) needs)
-      ∙ ap (λ r. r ++ item_needs (run_part_items window r needs)) is in (
+      (splice_part_items window (needs_written s before) needs)
+      ∙ ap (λ r. r ++ item_needs (splice_part_items window r needs)) is in (
         item_places items two.first,
         item_places later two.second,
         record {
@@ -151,7 +152,7 @@ module _ (s : SurveyFields) (first : Part) (later : List Part)
   all : All (IsPartNeeds s.class) (map (part_needs_of s) (first ∷ later))
   all = all-needs s can.placed 0 (first ∷ later) can.order
 
-  abbrev items : List RunItem
+  abbrev items : List SpliceItem
   items = items_left s (first ∷ later)
 
   abbrev plan : List Placed
@@ -159,25 +160,25 @@ module _ (s : SurveyFields) (first : Part) (later : List Part)
 
   planned : IsPlan (window_of s.class.version) own_choice (item_needs items ∷ []) plan
   planned =
-      let run = run-needs s (first ∷ later) can in
-      run-planned s.class (item_needs items) run.known run.same run.some run.fits
+      let splice = splice-needs s (first ∷ later) can in
+      splice-planned s.class (item_needs items) splice.known splice.same splice.some splice.fits
 
   own : HasOwnPlaces (item_needs items) plan (places_before items plan)
   own =
       let long : before_needs (item_needs items) plan ≡ places_before items plan =
-      ap (λ n. length plan - n) (length-map items (λ (i : RunItem). i.need)) in
+      ap (λ n. length plan - n) (length-map items (λ (i : SpliceItem). i.need)) in
       subst (HasOwnPlaces (item_needs items) plan) long
       (own-places (window_of s.class.version) planned.lead_ins
-      (run-needs s (first ∷ later) can).some planned.alone planned.whole.slots)
+      (splice-needs s (first ∷ later) can).some planned.alone planned.whole.slots)
 
   abbrev needs : List Need
   needs = part_needs_of s first
 
-  abbrev behind : List RunItem
+  abbrev behind : List SpliceItem
   behind = items_behind (window_of s.class.version) needs (map (part_needs_of s) later)
 
   items-are : items ≡ map frame_item needs ++ behind
-  unfolding run_items
+  unfolding splice_items
   items-are = refl
 
   abbrev frames : List Placed
@@ -195,7 +196,7 @@ module _ (s : SurveyFields) (first : Part) (later : List Part)
   parts-keep =
       let long : length two.first ≡ length (map frame_item needs) =
       two.long ∙ length-map (item_needs (map frame_item needs)) (need_item own_choice)
-      ∙ length-map (map frame_item needs) (λ (i : RunItem). i.need) in
+      ∙ length-map (map frame_item needs) (λ (i : SpliceItem). i.need) in
       let marked : item_places items frames ≡ item_places (map frame_item needs) two.first
       ++ item_places behind two.second =
       ap₂ item_places items-are two.are

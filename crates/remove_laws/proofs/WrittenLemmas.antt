@@ -10,14 +10,15 @@ use Rattle.exact_span.specs.declared.written.{Heard.Heard, WrittenFrames.Written
 use Rattle.frame_header.specs.Fields.{ClassFields, IsClass, SlotFields}
 use Rattle.frame_header.specs.{Tables.{samples_of, window_of}, declared.version.Version.Version}
 use Rattle.frame_header.specs.declared.version.Version.TheVariants.{One, Two, TwoFive}
-use Rattle.remove_edits.proofs.{ItemLemmas.lead-append, RunLemmas.{lead-most, own-length}}
+use Rattle.remove_edits.proofs.{ItemLemmas.lead-append, SpliceLemmas.{lead-most, own-length}}
 use Rattle.remove_edits.specs.Ready.{AreItemsOfParts}
 use Rattle.remove_edits.specs.Removed.{items_left, lead_in_count, part_needs_of, parts_written}
-use Rattle.seam_plan.proofs.PartJointLemmas.{joined_in, run_part_items-is}
-use Rattle.seam_plan.{proofs.PartRunLemmas.has-lead-in, specs.Joins.join_slot}
-use Rattle.seam_plan.specs.PartRuns.{frame_item, IsPartNeeds, item_needs, items_behind}
-use Rattle.seam_plan.specs.PartRuns.{lead_in_run_item, run_items, run_part_items, RunItem}
-use Rattle.seam_plan.specs.{Stretches.AreInOrder, declared.stretches.Part.Part}
+use Rattle.seam_plan.proofs.PartJointLemmas.{joined_in, splice_part_items-is}
+use Rattle.seam_plan.{proofs.PartSpliceLemmas.has-lead-in, specs.Joins.join_slot}
+use Rattle.seam_plan.specs.PartSplices.{frame_item, IsPartNeeds, item_needs, items_behind}
+use Rattle.seam_plan.specs.PartSplices.{lead_in_splice_item, splice_items, splice_part_items}
+use Rattle.seam_plan.specs.{PartSplices.SpliceItem, Stretches.AreInOrder}
+use Rattle.seam_plan.specs.declared.stretches.Part.{Part}
 use Rattle.slot_plan.specs.declared.needs.Need.{Need}
 use Rattle.sync_survey.specs.Faults.{SurveyFields}
 
@@ -99,16 +100,17 @@ heard-within class n played written before =
 -- ---- the parts are written within what is written
 
 -- a part has as many items as frames, and one more if it has a lead-in
-record HasItems (needs : List Need) (items : List RunItem) : Type 0 where
+record HasItems (needs : List Need) (items : List SpliceItem) : Type 0 where
   some : 0 < length items
   many : length items ≡ lead_in_count items + length needs
 
-part-many : {class : ClassFields} (run needs : List Need) → IsClass class
-    → IsPartNeeds class needs → HasItems needs (run_part_items (window_of class.version) run needs)
-part-many run [] known part = absurd (omega (arith, part.some))
-part-many {class} run (first ∷ needs) known part =
-    subst (HasItems (first ∷ needs)) (sym (run_part_items-is window run first needs))
-    (at (join_slot window run first needs))
+part-many : {class : ClassFields} (splice needs : List Need) → IsClass class
+    → IsPartNeeds class needs
+    → HasItems needs (splice_part_items (window_of class.version) splice needs)
+part-many splice [] known part = absurd (omega (arith, part.some))
+part-many {class} splice (first ∷ needs) known part =
+    subst (HasItems (first ∷ needs)) (sym (splice_part_items-is window splice first needs))
+    (at (join_slot window splice first needs))
   where
     window : ℕ
     window = window_of class.version
@@ -117,14 +119,14 @@ part-many {class} run (first ∷ needs) known part =
     at None =
         let lead = has-lead-in known part in
         subst (λ o. HasItems (first ∷ needs)
-        (option_to_list (option_map lead_in_run_item o) ++ map frame_item (first ∷ needs)))
+        (option_to_list (option_map lead_in_splice_item o) ++ map frame_item (first ∷ needs)))
         (sym lead.is)
         (record { some = omega arith; many = omega (arith, length-map needs frame_item) })
     at (Some slot) =
         record { some = omega arith; many = omega (arith, length-map needs frame_item) }
 
 -- parts in order are written one behind the other, whatever their items are
-pub parts-from : (parts : List Part) (at : ℕ) (items : List RunItem) (least frames : ℕ)
+pub parts-from : (parts : List Part) (at : ℕ) (items : List SpliceItem) (least frames : ℕ)
     → AreInOrder least frames parts → AreWrittenFrom at (parts_written at items parts)
 unfolding parts_written AreInOrder
 parts-from [] at items least frames order = tt
@@ -138,7 +140,7 @@ parts-from (part ∷ parts) at items least frames order =
     )
 
 -- they are written before the end of their items
-items-before : (parts : List Part) (at : ℕ) {most : ℕ} (items : List RunItem)
+items-before : (parts : List Part) (at : ℕ) {most : ℕ} (items : List SpliceItem)
     → AreItemsOfParts items parts → at + length items ≤ most
     → AreWrittenBefore most (parts_written at items parts)
 unfolding parts_written AreItemsOfParts
@@ -151,7 +153,7 @@ items-before (part ∷ parts) at {most} items are within =
     )
 
 -- some items of a part, and then those of others
-part-and : (items more : List RunItem) (part : Part) (parts : List Part) → 0 < length items
+part-and : (items more : List SpliceItem) (part : Part) (parts : List Part) → 0 < length items
     → length items ≡ lead_in_count items + (part.to - part.from) → AreItemsOfParts more parts
     → AreItemsOfParts (items ++ more) (part ∷ parts)
 unfolding AreItemsOfParts
@@ -176,30 +178,30 @@ module _ (s : SurveyFields) (known : IsClass s.class) where
   abbrev needs_in : List Part → List (List Need)
   needs_in parts = map (part_needs_of s) parts
 
-  later-items : (least : ℕ) (run : List Need) (parts : List Part)
+  later-items : (least : ℕ) (splice : List Need) (parts : List Part)
       → AreInOrder least (length s.frames) parts → All (IsPartNeeds s.class) (needs_in parts)
-      → AreItemsOfParts (items_behind window run (needs_in parts)) parts
+      → AreItemsOfParts (items_behind window splice (needs_in parts)) parts
   unfolding items_behind AreItemsOfParts AreInOrder
-  later-items least run [] order all = refl
-  later-items least run (part ∷ parts) order all =
+  later-items least splice [] order all = refl
+  later-items least splice (part ∷ parts) order all =
       let needs = part_needs_of s part in
-      let items = run_part_items window run needs in
-      let later = items_behind window (run ++ item_needs items) (needs_in parts) in
-      let has = part-many run needs known (all 0 needs (omega arith)) in
+      let items = splice_part_items window splice needs in
+      let later = items_behind window (splice ++ item_needs items) (needs_in parts) in
+      let has = part-many splice needs known (all 0 needs (omega arith)) in
       part-and items later part parts has.some
       (has.many ∙ ap (λ n. lead_in_count items + n) (own-length s part order.2))
-      (later-items (part.to + 1) (run ++ item_needs items) parts order.3
+      (later-items (part.to + 1) (splice ++ item_needs items) parts order.3
       (λ k d within. all (suc k) d (omega (arith, within))))
 
-  later-few : (least : ℕ) (run : List Need) (parts : List Part) → least ≤ length s.frames + 1
+  later-few : (least : ℕ) (splice : List Need) (parts : List Part) → least ≤ length s.frames + 1
       → AreInOrder least (length s.frames) parts → All (IsPartNeeds s.class) (needs_in parts)
-      → length (items_behind window run (needs_in parts)) + least ≤ length s.frames + 1
+      → length (items_behind window splice (needs_in parts)) + least ≤ length s.frames + 1
   unfolding items_behind AreInOrder
-  later-few least run [] within order all = omega (arith, within)
-  later-few least run (part ∷ parts) within order all =
-      let items = run_part_items window run (part_needs_of s part) in
-      let later = items_behind window (run ++ item_needs items) (needs_in parts) in
-      let has = part-many run (part_needs_of s part) known
+  later-few least splice [] within order all = omega (arith, within)
+  later-few least splice (part ∷ parts) within order all =
+      let items = splice_part_items window splice (part_needs_of s part) in
+      let later = items_behind window (splice ++ item_needs items) (needs_in parts) in
+      let has = part-many splice (part_needs_of s part) known
       (all 0 (part_needs_of s part) (omega arith)) in
       omega (
         arith,
@@ -210,7 +212,7 @@ module _ (s : SurveyFields) (known : IsClass s.class) where
         order.0,
         order.1,
         order.2,
-        later-few (part.to + 1) (run ++ item_needs items) parts (omega (arith, order.2)) order.3
+        later-few (part.to + 1) (splice ++ item_needs items) parts (omega (arith, order.2)) order.3
             (λ k d within. all (suc k) d (omega (arith, within))),
       )
 
@@ -219,7 +221,7 @@ module _ (s : SurveyFields) (known : IsClass s.class) where
       → AreInOrder 0 (length s.frames) (first ∷ later)
       → All (IsPartNeeds s.class) (needs_in (first ∷ later))
       → length (items_left s (first ∷ later)) ≤ length s.frames
-  unfolding run_items AreInOrder
+  unfolding splice_items AreInOrder
   items-few first later order all =
       let needs = part_needs_of s first in
       omega (
@@ -238,7 +240,7 @@ module _ (s : SurveyFields) (known : IsClass s.class) where
       → AreInOrder 0 (length s.frames) (first ∷ later)
       → All (IsPartNeeds s.class) (needs_in (first ∷ later))
       → AreItemsOfParts (items_left s (first ∷ later)) (first ∷ later)
-  unfolding run_items AreInOrder
+  unfolding splice_items AreInOrder
   parts-items first later order all =
       let needs = part_needs_of s first in
       let own = map frame_item needs in

@@ -6,7 +6,7 @@ use Rattle.cut_edits.specs.Exact.{survey_without_head}
 use Rattle.exact_span.specs.declared.exact_place.ExactPlace.{ExactPlace}
 use Rattle.frame_header.specs.{Fields.SlotFields, Slots.all_slots, Tables.window_of}
 use Rattle.remove_edits.specs.Removed.{items_left, part_needs_of, parts_left, removal_plan}
-use Rattle.seam_plan.specs.{PartRuns.item_needs, declared.stretches.Part.Part}
+use Rattle.seam_plan.specs.{PartSplices.item_needs, declared.stretches.Part.Part}
 use Rattle.slot_plan.specs.{FreeBytes.{FitsBehind, need_in_slot}, Parts.own_slot_area}
 use Rattle.slot_plan.specs.declared.needs.{Need.Need, Placed.Placed}
 use Rattle.sync_survey.specs.{Faults.SurveyFields, Survey.survey_of}
@@ -28,21 +28,21 @@ AreJoinedPlaces (first ∷ needs) (p ∷ placed) =
     × AreOwnPlaces needs placed
 AreJoinedPlaces _ _ = ⊥
 
--- frames don't fit behind a run with these needs, whichever slot the first of them has, its own or
--- a greater one
+-- frames don't fit behind a splice with these needs, whichever
+-- slot the first of them has, its own or a greater one
 abbrev pub FitInNoSlot : ℕ → List Need → List Need → Type 0
-FitInNoSlot window run [] = ⊥
-FitInNoSlot window run (first ∷ needs) =
+FitInNoSlot window splice [] = ⊥
+FitInNoSlot window splice (first ∷ needs) =
     (slot : SlotFields) → Contains all_slots slot
     → own_slot_area first ≤ own_slot_area (need_in_slot slot first)
-    → FitsBehind window window (run ++ need_in_slot slot first ∷ needs) → ⊥
+    → FitsBehind window window (splice ++ need_in_slot slot first ∷ needs) → ⊥
 
--- the places of a part that can't join the run before it: one lead-in, and then all frames in their
--- own slots
+-- the places of a part that can't join the splice before
+-- it: one lead-in, and then all frames in their own slots
 abbrev pub AreLedPlaces : ℕ → List Need → List Need → List Placed → Type 0
-AreLedPlaces window run needs [] = ⊥
-AreLedPlaces window run needs (lead_in ∷ placed) =
-    (lead_in.lead_in ≡ true) × FitInNoSlot window run needs × AreOwnPlaces needs placed
+AreLedPlaces window splice needs [] = ⊥
+AreLedPlaces window splice needs (lead_in ∷ placed) =
+    (lead_in.lead_in ≡ true) × FitInNoSlot window splice needs × AreOwnPlaces needs placed
 
 -- ---- all parts
 

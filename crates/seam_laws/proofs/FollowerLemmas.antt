@@ -1,5 +1,5 @@
 -- The frames of an input that follows the one before it are the
--- last of the run, from the frame of its first played position on.
+-- last of the splice, from the frame of its first played position on.
 use Rattle.std.proofs.Common.{ap, append-nil, append_assoc, ap₂, arith, Bool, drop, eqb, false}
 use Rattle.std.proofs.Common.{length, List, min, None, Option, refl, Some, subst, suc, sym, take}
 use Rattle.std.proofs.Common.{true, zero, ℕ, [], ◌%◌, ◌*◌, ◌++◌, ◌+◌, ◌-◌, ◌/◌, ◌∙◌, ◌∷◌, ◌≡◌, ◌≤◌}
@@ -13,10 +13,10 @@ use Rattle.std.specs.Prelude.{slice_get, unwrap_or, ◌&&◌}
 use Rattle.exact_span.specs.{Overlaps.shared_overlap, PlayedPositions.{rest_of, samples_in}}
 use Rattle.exact_span.specs.declared.{overlap.Overlap.Overlap, played.Played.Played}
 use Rattle.frame_header.specs.{Fields.ClassFields, Tables.window_of}
-use Rattle.seam_laws.specs.RunLaws.{FollowersGoOn, InputGoesOn, run_after}
+use Rattle.seam_laws.specs.SpliceLaws.{FollowersGoOn, InputGoesOn, splice_after}
 use Rattle.seam_plan.proofs.FollowLemmas.{added, joining_frames-sounds, sounds}
-use Rattle.seam_plan.{proofs.SeamLemmas.{IfWithout, without-led}, specs.Frames.{Brought, RunFrame}}
-use Rattle.seam_plan.specs.Joins.{joining_frames}
+use Rattle.seam_plan.proofs.SeamLemmas.{IfWithout, without-led}
+use Rattle.seam_plan.specs.{Frames.{Brought, SpliceFrame}, Joins.joining_frames}
 use Rattle.seam_plan.specs.Seams.{are_frames_alike, compared_frames, ends_alike, following_joint}
 use Rattle.seam_plan.specs.Seams.{joint_of, joint_with, joint_without_lead_in, JointFrames}
 use Rattle.seam_plan.specs.Seams.{joints_from, joints_of, overlap_joint, whole_joint}
@@ -31,25 +31,25 @@ get-drop zero xs i = ap (slice_get xs) (omega arith)
 get-drop (suc n) [] i = refl
 get-drop (suc n) (x ∷ xs) i = grind (arith, get-drop n xs i)
 
-pub record IsSoundOf (frames : List RunFrame) (i : ℕ) (sound : List ℕ) : Type 0 where
-  pub frame : RunFrame
+pub record IsSoundOf (frames : List SpliceFrame) (i : ℕ) (sound : List ℕ) : Type 0 where
+  pub frame : SpliceFrame
   pub found : slice_get frames i ≡ Some frame
   pub is : frame.sound ≡ sound
 
 -- a sound in the list of sounds is the sound of the frame at the same place
-pub sound-of : (frames : List RunFrame) (i : ℕ) {sound : List ℕ}
+pub sound-of : (frames : List SpliceFrame) (i : ℕ) {sound : List ℕ}
     → slice_get (sounds frames) i ≡ Some sound → IsSoundOf frames i sound
 sound-of frames i {sound} is =
-    at (slice_get frames i) refl (sym (slice_get-map (λ (f : RunFrame). f.sound) frames i) ∙ is)
+    at (slice_get frames i) refl (sym (slice_get-map (λ (f : SpliceFrame). f.sound) frames i) ∙ is)
   where
-    at : (o : Option RunFrame) → slice_get frames i ≡ o
-        → option_map (λ (f : RunFrame). f.sound) o ≡ Some sound → IsSoundOf frames i sound
+    at : (o : Option SpliceFrame) → slice_get frames i ≡ o
+        → option_map (λ (f : SpliceFrame). f.sound) o ≡ Some sound → IsSoundOf frames i sound
     at None found none = absurd cc
     at (Some f) found some = record { frame = f; found = found; is = cc }
 
 -- ---- frames that are alike, and frames that join
 
-alike-sounds : (fs gs : List RunFrame) → are_frames_alike fs gs ≡ true → sounds fs ≡ sounds gs
+alike-sounds : (fs gs : List SpliceFrame) → are_frames_alike fs gs ≡ true → sounds fs ≡ sounds gs
 unfolding are_frames_alike
 alike-sounds [] [] is = refl
 alike-sounds [] (g ∷ gs) is = absurd cc
@@ -91,7 +91,7 @@ module _ (class : ClassFields) (rest start frames : ℕ) (overlap : Overlap) whe
 
 -- ---- an input that follows
 
-record IsFollowing (class : ClassFields) (run : List RunFrame) (before input : Brought)
+record IsFollowing (class : ClassFields) (splice : List SpliceFrame) (before input : Brought)
     (joint : JointFrames) : Type 0 where
   ended : Played
   played : Played
@@ -100,32 +100,32 @@ record IsFollowing (class : ClassFields) (run : List RunFrame) (before input : B
   overlap : Overlap
   shared : IsShared class (rest_of class (length before.frames) ended) played.start
       (length input.frames) overlap
-  alike : ends_alike run (compared_frames overlap input) ≡ true
-  frames : joining_frames (window_of class.version) run (drop overlap.frames input.frames)
+  alike : ends_alike splice (compared_frames overlap input) ≡ true
+  frames : joining_frames (window_of class.version) splice (drop overlap.frames input.frames)
       ≡ Some joint.frames
   seam : joint.seam ≡ Follows overlap.frames
 
-module _ (class : ClassFields) (run : List RunFrame) (before input : Brought) where
+module _ (class : ClassFields) (splice : List SpliceFrame) (before input : Brought) where
   abbrev shared_by : Played → Played → Option Overlap
   shared_by p q =
       shared_overlap class (rest_of class (length before.frames) p) q.start (length input.frames)
 
-  abbrev joined_by : Overlap → Option (List RunFrame)
+  abbrev joined_by : Overlap → Option (List SpliceFrame)
   joined_by overlap =
-      joining_frames (window_of class.version) run (drop overlap.frames input.frames)
+      joining_frames (window_of class.version) splice (drop overlap.frames input.frames)
 
   module _ (joint : JointFrames) where
-    by_joined : (overlap : Overlap) {o : Option (List RunFrame)} → joined_by overlap ≡ o
+    by_joined : (overlap : Overlap) {o : Option (List SpliceFrame)} → joined_by overlap ≡ o
         → option_map (joint_with (Follows overlap.frames)) o ≡ Some joint
         → (joined_by overlap ≡ Some joint.frames) × (joint.seam ≡ Follows overlap.frames)
     by_joined overlap found none = grind arith
 
     by_alike : {p q : Played} {overlap : Overlap} (b : Bool) → before.played ≡ Some p
         → input.played ≡ Some q → shared_by p q ≡ Some overlap
-        → ends_alike run (compared_frames overlap input) ≡ b
+        → ends_alike splice (compared_frames overlap input) ≡ b
         → (if b then option_map (joint_with (Follows overlap.frames)) (joined_by overlap) else None)
         ≡ Some joint
-        → IsFollowing class run before input joint
+        → IsFollowing class splice before input joint
     by_alike false ended_is played_is shared test none = absurd cc
     by_alike {p} {q} {overlap} true ended_is played_is shared test some =
         let joined = by_joined overlap refl some in
@@ -144,33 +144,33 @@ module _ (class : ClassFields) (run : List RunFrame) (before input : Brought) wh
 
     by_shared : {p q : Played} {o : Option Overlap} → before.played ≡ Some p → input.played ≡ Some q
         → shared_by p q ≡ o
-        → option_and_then (overlap_joint class run input) o ≡ Some joint
-        → IsFollowing class run before input joint
+        → option_and_then (overlap_joint class splice input) o ≡ Some joint
+        → IsFollowing class splice before input joint
     by_shared ended_is played_is shared none = grind (arith, by_alike)
 
     by_played : {p : Played} {o : Option Played} → before.played ≡ Some p → input.played ≡ o
-        → option_and_then (overlap_joint class run input) (option_and_then (shared_by p) o)
-        ≡ Some joint → IsFollowing class run before input joint
+        → option_and_then (overlap_joint class splice input) (option_and_then (shared_by p) o)
+        ≡ Some joint → IsFollowing class splice before input joint
     by_played ended_is played_is none = grind (arith, by_shared)
 
     by_ended : {o : Option Played} → before.played ≡ o
-        → option_and_then (overlap_joint class run input)
+        → option_and_then (overlap_joint class splice input)
         (option_and_then (λ p. option_and_then (shared_by p) input.played) o)
         ≡ Some joint
-        → IsFollowing class run before input joint
+        → IsFollowing class splice before input joint
     by_ended ended_is none = grind (arith, by_played)
 
-    following_joint-is : following_joint class run before input ≡ Some joint
-        → IsFollowing class run before input joint
+    following_joint-is : following_joint class splice before input ≡ Some joint
+        → IsFollowing class splice before input joint
     unfolding following_joint
     following_joint-is is = by_ended refl is
 
   -- what becomes of an input that follows is the joint with which it can follow
-  joint-follows : {out : ℕ} → (joint_of class run before input).seam ≡ Follows out
-      → following_joint class run before input ≡ Some (joint_of class run before input)
+  joint-follows : {out : ℕ} → (joint_of class splice before input).seam ≡ Follows out
+      → following_joint class splice before input ≡ Some (joint_of class splice before input)
   joint-follows {out} is =
-      at (following_joint class run before input)
-      (joint_without_lead_in class run input) (without-led class run input) is
+      at (following_joint class splice before input)
+      (joint_without_lead_in class splice input) (without-led class splice input) is
     where
       at : (x y : Option JointFrames) → IfWithout (window_of class.version) input y
           → (unwrap_or (option_or x y) (whole_joint input)).seam ≡ Follows out
@@ -180,9 +180,9 @@ module _ (class : ClassFields) (run : List RunFrame) (before input : Brought) wh
           absurd cc
       at None None without seam = absurd cc
 
-  -- ---- the frames of the run
+  -- ---- the frames of the splice
 
-  module _ (joint : JointFrames) (is : IsFollowing class run before input joint) where
+  module _ (joint : JointFrames) (is : IsFollowing class splice before input joint) where
     abbrev shared : ℕ
     shared = is.overlap.frames
 
@@ -190,18 +190,18 @@ module _ (class : ClassFields) (run : List RunFrame) (before input : Brought) wh
     first = is.overlap.first_alike
 
     abbrev from_end : ℕ
-    from_end = length run - (shared - first)
+    from_end = length splice - (shared - first)
 
-    abbrev new : List RunFrame
-    new = run ++ joint.frames
+    abbrev new : List SpliceFrame
+    new = splice ++ joint.frames
 
     length-compared_frames : length (compared_frames is.overlap input) ≡ shared - first
     length-compared_frames = grind (arith, length-take-le, shared, length-drop)
 
-    enough : shared - first ≤ length run
+    enough : shared - first ≤ length splice
     enough = grind (arith, length-compared_frames, leb-true)
 
-    last-sounds : sounds (drop from_end run) ≡ sounds (compared_frames is.overlap input)
+    last-sounds : sounds (drop from_end splice) ≡ sounds (compared_frames is.overlap input)
     last-sounds = grind (arith, length-compared_frames, alike-sounds)
 
     added-sounds : sounds joint.frames ≡ sounds (drop shared input.frames)
@@ -224,18 +224,18 @@ module _ (class : ClassFields) (run : List RunFrame) (before input : Brought) wh
     added-length : length joint.frames ≡ length input.frames - shared
     added-length = grind (arith, length-map, added-sounds, shared, length-drop)
 
-    new-length : length new + shared ≡ length run + length input.frames
-    new-length = omega (arith, length-append run joint.frames, added-length, is.shared.there)
+    new-length : length new + shared ≡ length splice + length input.frames
+    new-length = omega (arith, length-append splice joint.frames, added-length, is.shared.there)
 
     abbrev from : ℕ
     from = is.played.start / samples_in class
 
-    alike-at : (i : ℕ) (f : RunFrame) → from ≤ i → slice_get input.frames i ≡ Some f
-        → (g : RunFrame) × (slice_get new (i + length new - length input.frames) ≡ Some g)
+    alike-at : (i : ℕ) (f : SpliceFrame) → from ≤ i → slice_get input.frames i ≡ Some f
+        → (g : SpliceFrame) × (slice_get new (i + length new - length input.frames) ≡ Some g)
         × (g.sound ≡ f.sound)
     alike-at i f late found =
         let in_input : first + (i - first) ≡ i = omega (arith, late, is.shared.early) in
-        let in_run : from_end + (i - first) ≡ i + length new - length input.frames =
+        let in_splice : from_end + (i - first) ≡ i + length new - length input.frames =
         omega (
           arith,
           late,
@@ -251,16 +251,16 @@ module _ (class : ClassFields) (run : List RunFrame) (before input : Brought) wh
         sound-of (drop from_end new) (i - first)
         (ap (λ l. slice_get l (i - first)) new-sounds ∙ own) in (
           there.frame,
-          sym (get-drop from_end new (i - first) ∙ ap (slice_get new) in_run)
+          sym (get-drop from_end new (i - first) ∙ ap (slice_get new) in_splice)
               ∙ there.found,
           there.is,
         )
 
-    goes-on : (out : ℕ) → joint.seam ≡ Follows out → InputGoesOn class before input run new out
+    goes-on : (out : ℕ) → joint.seam ≡ Follows out → InputGoesOn class before input splice new out
     goes-on out seam =
         let both = sym is.seam ∙ seam in
         let same : shared ≡ out = cc in
-        subst (InputGoesOn class before input run new) same
+        subst (InputGoesOn class before input splice new) same
         (record {
           ended = is.ended;
           played = is.played;
@@ -276,7 +276,7 @@ module _ (class : ClassFields) (run : List RunFrame) (before input : Brought) wh
           };
         })
 
--- ---- the joints of a run
+-- ---- the joints of a splice
 
 added-next : (joints : List JointFrames) (n : ℕ) {joint : JointFrames} → slice_get joints n
     ≡ Some joint → added (take (suc n) joints) ≡ added (take n joints) ++ joint.frames
@@ -284,35 +284,37 @@ added-next [] n is = absurd cc
 added-next (j ∷ joints) zero is = grind (arith, append-nil)
 added-next (j ∷ joints) (suc n) {joint} is = grind (arith, is, append_assoc, added-next joints n is)
 
-joint-at : (class : ClassFields) (run : List RunFrame) (first : Brought) (inputs : List Brought)
+joint-at : (class : ClassFields) (splice : List SpliceFrame) (first : Brought)
+    (inputs : List Brought)
     (n : ℕ) {before input : Brought} {joint : JointFrames}
     → slice_get (first ∷ inputs) n ≡ Some before → slice_get inputs n ≡ Some input
-    → slice_get (joints_from class run first inputs) n ≡ Some joint
-    → joint ≡ joint_of class (run ++ added (take n (joints_from class run first inputs))) before
+    → slice_get (joints_from class splice first inputs) n ≡ Some joint → joint
+    ≡ joint_of class (splice ++ added (take n (joints_from class splice first inputs))) before
     input
 unfolding joints_from
-joint-at class run first [] n is_before is_input is_joint = absurd cc
-joint-at class run first (i ∷ inputs) zero is_before is_input is_joint = grind (arith, append-nil)
-joint-at class run first (i ∷ inputs) (suc n)
+joint-at class splice first [] n is_before is_input is_joint = absurd cc
+joint-at class splice first (i ∷ inputs) zero is_before is_input is_joint =
+    grind (arith, append-nil)
+joint-at class splice first (i ∷ inputs) (suc n)
     {before} {input} {joint} is_before is_input is_joint =
-    let here = joint_of class run first i in
-    joint-at class (run ++ here.frames) i inputs n is_before is_input is_joint
+    let here = joint_of class splice first i in
+    joint-at class (splice ++ here.frames) i inputs n is_before is_input is_joint
     ∙ ap (λ l. joint_of class l before input)
-    (append_assoc run here.frames
-    (added (take n (joints_from class (run ++ here.frames) i inputs))))
+    (append_assoc splice here.frames
+    (added (take n (joints_from class (splice ++ here.frames) i inputs))))
 
 -- each input that follows continues where the one before it ends
 pub followers-on : FollowersGoOn
 followers-on class first inputs number before input joint out is_before is_input is_joint seam =
     let joints = joints_of class first inputs in
-    let run = run_after first joints number in
-    let here : joint ≡ joint_of class run before input = grind (arith, joint-at) in
+    let splice = splice_after first joints number in
+    let here : joint ≡ joint_of class splice before input = grind (arith, joint-at) in
     let follows =
-    joint-follows class run before input (sym (ap (λ (j : JointFrames). j.seam) here) ∙ seam) in
-    let is = following_joint-is class run before input joint
+    joint-follows class splice before input (sym (ap (λ (j : JointFrames). j.seam) here) ∙ seam) in
+    let is = following_joint-is class splice before input joint
     (follows ∙ ap (λ j. Some j) (sym here)) in
     let next : number + 1 ≡ suc number = omega arith in
-    let after : run ++ joint.frames ≡ run_after first joints (number + 1) =
+    let after : splice ++ joint.frames ≡ splice_after first joints (number + 1) =
     grind (arith, append_assoc, added-next) in
-    subst (λ l. InputGoesOn class before input run l out) after
-    (goes-on class run before input joint is out seam)
+    subst (λ l. InputGoesOn class before input splice l out) after
+    (goes-on class splice before input joint is out seam)

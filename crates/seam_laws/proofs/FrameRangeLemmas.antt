@@ -1,4 +1,4 @@
--- The frames of a file between two numbers, as rows, in its stream and as frames of a run.
+-- The frames of a file between two numbers, as rows, in its stream and as frames of a splice.
 use Rattle.std.proofs.Common.{ap, ap₂, arith, drop, length, length-drop, length-take, List, map}
 use Rattle.std.proofs.Common.{slice_range, subst, sym, take, take-add, true, zip, ℕ, [], ◌++◌, ◌+◌}
 use Rattle.std.proofs.Common.{◌-◌, ◌∙◌, ◌∷◌, ◌≡◌, ◌≤◌}
@@ -8,11 +8,11 @@ use Rattle.laying.proofs.{HoldLemmas.all-length, NeedsFitLemmas.{AreKnown, part-
 use Rattle.laying.{proofs.SurveyFrameLemmas.frames-of, specs.LaidFiles.stream_entry}
 use Rattle.laying.specs.{Needs.need_of, Relaid.all_frames, Surveys.CanBeRelaid}
 use Rattle.seam_laws.proofs.LaidInputLemmas.{frames-same}
-use Rattle.seam_laws.proofs.SeamlessInputLemmas.{run-needs, run-sounds}
-use Rattle.seam_laws.specs.RunLaws.{AreHeadersKnown}
+use Rattle.seam_laws.proofs.SeamlessInputLemmas.{splice-needs, splice-sounds}
+use Rattle.seam_laws.specs.SpliceLaws.{AreHeadersKnown}
 use Rattle.seam_plan.proofs.{FitLemmas.fits-tested, FollowLemmas.sounds}
-use Rattle.seam_plan.specs.{Frames.{needs_of, RunFrame}, Joins.fits_behind}
-use Rattle.seamless_edits.specs.Seamless.{run_frame, sound_of}
+use Rattle.seam_plan.specs.{Frames.{needs_of, SpliceFrame}, Joins.fits_behind}
+use Rattle.seamless_edits.specs.Seamless.{sound_of, splice_frame}
 use Rattle.slot_plan.specs.FreeBytes.{FitsBehind}
 use Rattle.sync_survey.specs.{Faults.{stream_of_survey, SurveyFields}, MainData.StreamFrame}
 use Rattle.sync_survey.specs.Row.{Row}
@@ -47,17 +47,17 @@ module _ (file : List ℕ) (s : SurveyFields) where
   abbrev pub all_stream : List StreamFrame
   all_stream = stream_of_survey file s
 
-  -- the frames between two numbers, as frames of a run
-  abbrev pub run_between : ℕ → ℕ → List RunFrame
-  run_between a b =
-      map (run_frame s.class) (zip (slice_range s.frames a b) (slice_range all_stream a b))
+  -- the frames between two numbers, as frames of a splice
+  abbrev pub splice_between : ℕ → ℕ → List SpliceFrame
+  splice_between a b =
+      map (splice_frame s.class) (zip (slice_range s.frames a b) (slice_range all_stream a b))
 
 module _ {file : List ℕ} {s : SurveyFields} (has : CanBeRelaid file s) where
   abbrev st : List StreamFrame
   st = all_stream file s
 
-  abbrev run : ℕ → ℕ → List RunFrame
-  run a b = run_between file s a b
+  abbrev splice : ℕ → ℕ → List SpliceFrame
+  splice a b = splice_between file s a b
 
   abbrev window : ℕ
   window = window_of s.class.version
@@ -76,24 +76,24 @@ module _ {file : List ℕ} {s : SurveyFields} (has : CanBeRelaid file s) where
 
   -- the frames between two numbers need what the rows there do
   pub between-needs : (a b : ℕ)
-      → needs_of (run a b) ≡ map need_of (slice_range s.frames a b)
-  between-needs a b = grind (arith, run-needs, same-many)
+      → needs_of (splice a b) ≡ map need_of (slice_range s.frames a b)
+  between-needs a b = grind (arith, splice-needs, same-many)
 
   -- the frames between two numbers sound as the stream does
   pub between-sounds : (a b : ℕ)
-      → sounds (run a b) ≡ map (sound_of s.class) (slice_range st a b)
-  between-sounds a b = grind (arith, run-sounds, same-many)
+      → sounds (splice a b) ≡ map (sound_of s.class) (slice_range st a b)
+  between-sounds a b = grind (arith, splice-sounds, same-many)
 
   -- the frames of two neighbouring ranges are the frames from the first number to the last
   pub between-append : {a b c : ℕ} → a ≤ b → b ≤ c
-      → run a b ++ run b c ≡ run a c
+      → splice a b ++ splice b c ≡ splice a c
   between-append {a} {b} {c} first second =
-      frames-same (run a b ++ run b c) (run a c)
-      (map-append (λ (f : RunFrame). f.need) (run a b) (run b c)
+      frames-same (splice a b ++ splice b c) (splice a c)
+      (map-append (λ (f : SpliceFrame). f.need) (splice a b) (splice b c)
       ∙ ap₂ ◌++◌ (between-needs a b) (between-needs b c)
       ∙ sym (map-append need_of (slice_range s.frames a b) (slice_range s.frames b c))
       ∙ ap (map need_of) (range-append s.frames first second) ∙ sym (between-needs a c))
-      (map-append (λ (f : RunFrame). f.sound) (run a b) (run b c)
+      (map-append (λ (f : SpliceFrame). f.sound) (splice a b) (splice b c)
       ∙ ap₂ ◌++◌ (between-sounds a b) (between-sounds b c)
       ∙ sym (map-append (sound_of s.class) (slice_range st a b)
       (slice_range st b c))
@@ -101,21 +101,21 @@ module _ {file : List ℕ} {s : SurveyFields} (has : CanBeRelaid file s) where
       ∙ sym (between-sounds a c))
 
   -- there is nothing between a number and itself
-  pub between-none : (a : ℕ) → run a a ≡ []
+  pub between-none : (a : ℕ) → splice a a ≡ []
   between-none a = grind (arith, range-none)
 
-  known-run : (rows : List Row) (stream : List StreamFrame) → AreKnown rows
-      → AreHeadersKnown (map (run_frame s.class) (zip rows stream))
-  known-run [] stream known = tt
-  known-run (r ∷ rows) [] known = tt
-  known-run (r ∷ rows) (f ∷ stream) known = (known.0, known-run rows stream known.1)
+  known-splice : (rows : List Row) (stream : List StreamFrame) → AreKnown rows
+      → AreHeadersKnown (map (splice_frame s.class) (zip rows stream))
+  known-splice [] stream known = tt
+  known-splice (r ∷ rows) [] known = tt
+  known-splice (r ∷ rows) (f ∷ stream) known = (known.0, known-splice rows stream known.1)
 
   -- their headers are headers of the standard
-  pub between-known : (a b : ℕ) → AreHeadersKnown (run a b)
-  between-known a b = grind (arith, known-run, part-known)
+  pub between-known : (a b : ℕ) → AreHeadersKnown (splice a b)
+  between-known a b = grind (arith, known-splice, part-known)
 
   -- they fit after a whole window
-  pub between-fits : (a b : ℕ) → fits_behind window window (needs_of (run a b)) ≡ true
+  pub between-fits : (a b : ℕ) → fits_behind window window (needs_of (splice a b)) ≡ true
   between-fits a b =
-      (fits-tested window window (needs_of (run a b))).1
+      (fits-tested window window (needs_of (splice a b))).1
       (subst (FitsBehind window window) (sym (between-needs a b)) (part-fits s a b has.placed).1)

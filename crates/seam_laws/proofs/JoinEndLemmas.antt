@@ -26,7 +26,7 @@ use Rattle.laying.specs.{KeptFields.fields_of_head, Relaid.{FilePart, part_strea
 use Rattle.laying.specs.Written.{head_info}
 use Rattle.outside.specs.Files.{AreOctets, Contents}
 use Rattle.pack_edits.proofs.LimitLemmas.{few-rows}
-use Rattle.seam_laws.proofs.JoinNumberLemmas.{run-says}
+use Rattle.seam_laws.proofs.JoinNumberLemmas.{splice-says}
 use Rattle.seam_laws.proofs.JoinReadLemmas.{read-count, read-played, read-says, read_info}
 use Rattle.seam_laws.proofs.JoinReadLemmas.{written-says}
 use Rattle.seam_laws.proofs.LeftOutLemmas.{follower-at, joints-count, written-at}
@@ -34,19 +34,20 @@ use Rattle.seam_laws.proofs.SeamlessInputLemmas.{AreInputs, brought-many, input-
 use Rattle.seam_laws.proofs.SeamlessInputLemmas.{inputs-whole, IsInput, Joins, stream-from}
 use Rattle.seam_laws.proofs.SeamlessInputLemmas.{stream-many, whole_stream}
 use Rattle.seam_laws.proofs.SeamlessPlaceLemmas.{input-at, leads-enough}
-use Rattle.seam_laws.proofs.SeamlessRunLemmas.{all, front-few, HasLeads, joints-are, leads-many}
-use Rattle.seam_laws.proofs.SeamlessRunLemmas.{run, run-is, run-leads, stream, stream-length}
+use Rattle.seam_laws.proofs.SeamlessSpliceLemmas.{all, front-few, HasLeads, joints-are, leads-many}
+use Rattle.seam_laws.proofs.SeamlessSpliceLemmas.{splice, splice-is, splice-leads, stream}
+use Rattle.seam_laws.proofs.SeamlessSpliceLemmas.{stream-length}
 use Rattle.seam_laws.specs.JoinLaws.{IsInputWritten, JoinsKeepTheirEnds, KeepsEnds, MayBeLeftOut}
 use Rattle.seam_laws.specs.{JoinLaws.{part_played, seam_at}, PlayedParts.input_played}
-use Rattle.seam_laws.specs.{RunLaws.run_after, SeamlessLaws.{IsSamePosition, run_end}}
-use Rattle.seam_plan.{proofs.FollowLemmas.added, specs.Frames.{Brought, RunFrame}}
+use Rattle.seam_laws.specs.{SeamlessLaws.{IsSamePosition, splice_end}, SpliceLaws.splice_after}
+use Rattle.seam_plan.{proofs.FollowLemmas.added, specs.Frames.{Brought, SpliceFrame}}
 use Rattle.seam_plan.specs.{Joins.fits_behind, Seams.{JointFrames, joints_of, left_out_count}}
 use Rattle.seam_plan.specs.declared.seam.Seam.{Seam, TheVariants.{Follows, LeadIn, Whole}}
-use Rattle.seamless_edits.proofs.RunPartLemmas.{run-laid}
-use Rattle.seamless_edits.specs.Seamless.{delay_of_run, join_of_parts, last_part, later_parts}
-use Rattle.seamless_edits.specs.Seamless.{part_brought, part_from, part_head, run_lead_ins}
-use Rattle.seamless_edits.specs.Seamless.{run_parts, seamless_delay, seamless_file, seamless_frames}
-use Rattle.seamless_edits.specs.Seamless.{seamless_padding}
+use Rattle.seamless_edits.proofs.SplicePartLemmas.{splice-laid}
+use Rattle.seamless_edits.specs.Seamless.{delay_of_splice, join_of_parts, last_part, later_parts}
+use Rattle.seamless_edits.specs.Seamless.{part_brought, part_from, part_head, seamless_delay}
+use Rattle.seamless_edits.specs.Seamless.{seamless_file, seamless_frames, seamless_padding}
+use Rattle.seamless_edits.specs.Seamless.{splice_lead_ins, splice_parts}
 use Rattle.slot_plan.specs.declared.needs.{Need.Need, Placed.Placed}
 use Rattle.sync_survey.proofs.{FaultsLemmas.length-marked_rows, FoldersLemmas.octets_bytes}
 use Rattle.sync_survey.proofs.SurveyPartsLemmas.{all_faults-none_sound, frames_from}
@@ -278,9 +279,9 @@ rest-played v frames rises few = grind arith
 
 -- ---- the join
 
--- the delay of the run, by the first played position of the first input
+-- the delay of the splice, by the first played position of the first input
 delay-parts : (first : FilePart) (parts : List FilePart) {delay : ℕ}
-    → delay_of_run first parts ≡ Some delay
+    → delay_of_splice first parts ≡ Some delay
     → (played : Played) × ((part_brought first).played ≡ Some played)
     × (seamless_delay played first parts ≡ delay) × (delay ≤ 4095)
 delay-parts first parts {delay} is = at (part_brought first).played refl is
@@ -340,14 +341,14 @@ module _ {first : FilePart} {parts : List FilePart}
   abbrev last : FilePart
   last = last_part first parts
 
-  -- the frames of the first input are the front of the run
-  zero-end : run_end first parts 0 ≡ length first.survey.frames
+  -- the frames of the first input are the front of the splice
+  zero-end : splice_end first parts 0 ≡ length first.survey.frames
   zero-end =
       ap length (append-nil begins.frames)
       ∙ brought-many are.head
 
-  -- all of the run is up to where the last input ends
-  last-end : run_end first parts (length parts) ≡ length (all are)
+  -- all of the splice is up to where the last input ends
+  last-end : splice_end first parts (length parts) ≡ length (all are)
   last-end =
       ap (λ js. length (begins.frames ++ added js))
       (take_all (length parts) (join_of_parts first parts).joints
@@ -371,22 +372,22 @@ module _ {first : FilePart} {parts : List FilePart}
       length-append (part_stream (part_from front first))
       (flat_map part_stream (later_parts (join_of_parts first parts).joints parts))
 
-  stream-is : frames ≡ run_lead_ins first parts + length (stream are)
+  stream-is : frames ≡ splice_lead_ins first parts + length (stream are)
   stream-is =
-      let leads = run-leads are in
+      let leads = splice-leads are in
       let laid =
-      run-laid first parts (input-whole are.head) (inputs-whole c parts are.others) in
+      splice-laid first parts (input-whole are.head) (inputs-whole c parts are.others) in
       grind (arith, length-map, laid.stream_is, leads.is, length-append, leads.leads, leads-many)
 
-  -- the join has the lead-ins of the run, and all of it but for what leaves it
-  frames-many : frames + front ≡ run_lead_ins first parts + run_end first parts (length parts)
+  -- the join has the lead-ins of the splice, and all of it but for what leaves it
+  frames-many : frames + front ≡ splice_lead_ins first parts + splice_end first parts (length parts)
   frames-many =
       omega (
         arith,
         stream-is,
         stream-length are,
-        length-map (run are) (λ (f : RunFrame). f.need),
-        ap length (run-is are),
+        length-map (splice are) (λ (f : SpliceFrame). f.need),
+        ap length (splice-is are),
         length-drop front (all are),
         front-few are,
         all-some,
@@ -400,7 +401,7 @@ module _ {first : FilePart} {parts : List FilePart}
         few,
         stream-is,
         leads-many are,
-        leads-one (run-leads are),
+        leads-one (splice-leads are),
         stream-parts,
         (part-few are.head front).0,
         later-few c (join_of_parts first parts).joints parts are.others,
@@ -436,7 +437,7 @@ module _ {first : FilePart} {parts : List FilePart}
 
   -- ---- what is after the last played position of the last input
 
-  leads-most : front ≤ run_lead_ins first parts
+  leads-most : front ≤ splice_lead_ins first parts
   leads-most = omega (arith, leads-enough are, leads-many are)
 
   written : IsInputWritten first parts (length parts) last
@@ -455,7 +456,7 @@ module _ {first : FilePart} {parts : List FilePart}
       omega (
         arith,
         ap (λ l. length (last_part first l).survey.frames) none,
-        ap (λ k. run_end first parts k) same,
+        ap (λ k. splice_end first parts k) same,
         zero-end,
         frames-many,
         leads-most,
@@ -463,7 +464,7 @@ module _ {first : FilePart} {parts : List FilePart}
   few-by one (suc m) same =
       let later = later_parts (join_of_parts first parts).joints parts in
       let there =
-      subst (λ k. slice_get (run_parts first parts) k ≡ Some written.part) same written.is in
+      subst (λ k. slice_get (splice_parts first parts) k ≡ Some written.part) same written.is in
       omega (
         arith,
         one,
@@ -487,8 +488,8 @@ module _ {first : FilePart} {parts : List FilePart}
       let played =
       (counted-played (part_head last) last.survey.class n goes.played_is).0 in
       let next : m + 1 ≡ length parts = omega (arith, same) in
-      let many = ap (λ k. length (run_after begins joints k)) next
-      ∙ ap (λ js. length (run_after begins js (length parts)))
+      let many = ap (λ k. length (splice_after begins joints k)) next
+      ∙ ap (λ js. length (splice_after begins js (length parts)))
       (sym (joints-are are)) in
       rest-played c.version frames rises
       (omega (
@@ -514,7 +515,7 @@ module _ {first : FilePart} {parts : List FilePart}
   -- ---- where it is played
 
   module _ (few : frames_in (first ∷ parts) ≤ most_frames) (octets : AreOctets last.file)
-      (delay : ℕ) (delay_is : delay_of_run first parts ≡ Some delay) where
+      (delay : ℕ) (delay_is : delay_of_splice first parts ≡ Some delay) where
     padding-most : seamless_padding first parts < 4096
     padding-most =
         omega (
@@ -552,7 +553,7 @@ module _ {first : FilePart} {parts : List FilePart}
         padding-least
         (read-says are delay_is
         (written-says are delay_is
-        (run-says first parts delay (omega (arith, parts_of.3)) padding-most)))
+        (splice-says first parts delay (omega (arith, parts_of.3)) padding-most)))
 
     abbrev joined : Played
     joined = record {
@@ -566,7 +567,7 @@ module _ {first : FilePart} {parts : List FilePart}
         let many = length first.survey.frames in
         begins-at c.version many counted.1
         (omega (arith, leads-enough are, leads-many are)) parts_of.2
-        ∙ ap₂ (λ (p : Played) (m : ℕ). p.start + (run_lead_ins first parts + m) * samples_in c)
+        ∙ ap₂ (λ (p : Played) (m : ℕ). p.start + (splice_lead_ins first parts + m) * samples_in c)
         (sym counted.0) (sym zero-end)
 
     end-same : (place : ℕ)

@@ -9,8 +9,8 @@ use Rattle.exact_span.proofs.ExtensionLemmas.{extension-length, extension-says}
 use Rattle.exact_span.specs.{Extensions.{extension_of, has_encoder}, Laws.SaysNumbers}
 use Rattle.info_header.specs.declared.fields.Info.{Info}
 use Rattle.laying.specs.Relaid.{FilePart}
-use Rattle.seamless_edits.specs.Seamless.{part_head, part_says_gain, replay_gain, run_extension}
-use Rattle.seamless_edits.specs.Seamless.{seamless_padding}
+use Rattle.seamless_edits.specs.Seamless.{part_head, part_says_gain, replay_gain, seamless_padding}
+use Rattle.seamless_edits.specs.Seamless.{splice_extension}
 
 -- ---- an extension without peak and gains
 
@@ -72,13 +72,13 @@ module _ (first : FilePart) (parts : List FilePart) (delay : ℕ) where
       (head_long first.file first.survey.head)
 
   -- it has 36 bytes
-  pub run-long : length (run_extension delay first parts) ≡ 36
-  run-long = either-long kept made made-long
+  pub splice-long : length (splice_extension delay first parts) ≡ 36
+  splice-long = either-long kept made made-long
 
   -- it has the delay and the padding of the join, where both have 12 bits
-  pub run-says : delay < 4096 → seamless_padding first parts < 4096
-      → SaysNumbers delay (seamless_padding first parts) (run_extension delay first parts)
-  run-says short small =
+  pub splice-says : delay < 4096 → seamless_padding first parts < 4096
+      → SaysNumbers delay (seamless_padding first parts) (splice_extension delay first parts)
+  splice-says short small =
       either-says kept made-long
       (made-says (part_head first)
       (head_long first.file first.survey.head) short small)

@@ -14,21 +14,21 @@ use Rattle.laying.proofs.{LaidFrameLemmas.rows-length, LaidLemmas.first-there}
 use Rattle.laying.specs.KeptFields.{fields_of_head}
 use Rattle.laying.specs.LaidFiles.{frames_offset, head_at, IsLaidFile, laid_fields, laid_file}
 use Rattle.laying.specs.{Relaid.FilePart, Written.{front_blocks, head_info, info_for, table_entry}}
-use Rattle.seam_laws.proofs.JoinNumberLemmas.{run-long}
+use Rattle.seam_laws.proofs.JoinNumberLemmas.{splice-long}
 use Rattle.seam_laws.proofs.PieceHeadLemmas.{laid-count, laid-extension}
 use Rattle.seam_laws.proofs.SeamlessInputLemmas.{input-whole, inputs-whole, Joins}
 use Rattle.seam_laws.specs.PlayedParts.{input_played}
-use Rattle.seamless_edits.proofs.RunPartLemmas.{front-within, run-laid}
-use Rattle.seamless_edits.specs.Seamless.{delay_of_run, join_of_parts, part_head, run_extension}
-use Rattle.seamless_edits.specs.Seamless.{seamless_file, seamless_frames, seamless_info}
-use Rattle.seamless_edits.specs.Seamless.{seamless_row_file}
+use Rattle.seamless_edits.proofs.SplicePartLemmas.{front-within, splice-laid}
+use Rattle.seamless_edits.specs.Seamless.{delay_of_splice, join_of_parts, part_head, seamless_file}
+use Rattle.seamless_edits.specs.Seamless.{seamless_frames, seamless_info, seamless_row_file}
+use Rattle.seamless_edits.specs.Seamless.{splice_extension}
 use Rattle.sync_survey.proofs.SurveyPartsLemmas.{survey_fields-allowed}
 use Rattle.sync_survey.proofs.SurveyedFileLemmas.{survey_of-parts}
 use Rattle.sync_survey.specs.{Faults.{survey_fields, SurveyFields}, Row.Row, Survey.survey_of}
 
 module _ {first : FilePart} {parts : List FilePart}
     (inputs : Joins first.survey.class first parts) {delay : ℕ}
-    (delay_is : delay_of_run first parts ≡ Some delay) where
+    (delay_is : delay_of_splice first parts ≡ Some delay) where
   abbrev c : ClassFields
   c = first.survey.class
 
@@ -62,12 +62,12 @@ module _ {first : FilePart} {parts : List FilePart}
       delay_is
 
   abbrev unsealed : Info
-  unsealed = info_for c frames (quality_of (part_head first)) (run_extension delay first parts)
+  unsealed = info_for c frames (quality_of (part_head first)) (splice_extension delay first parts)
 
   unsealed-whole : AreInfoFields unsealed
   unsealed-whole =
       for-whole c frames (quality_of (part_head first))
-      (run-long first parts delay)
+      (splice-long first parts delay)
 
   whole : AreInfoFields written_info
   whole = sealed-whole header unsealed-whole
@@ -76,7 +76,7 @@ module _ {first : FilePart} {parts : List FilePart}
   file-is =
       let row = inputs.head.has.placed (join_of_parts first parts).front front-row.0 front-row.1 in
       let are =
-      run-laid first parts (input-whole inputs.head) (inputs-whole c parts inputs.others) in
+      splice-laid first parts (input-whole inputs.head) (inputs-whole c parts inputs.others) in
       record {
         blocks_before = (blocks-kept first.file first.survey inputs.head.has).0;
         header = row.known;
@@ -112,7 +112,7 @@ module _ {first : FilePart} {parts : List FilePart}
       (sym (laid-extension header written_info file-is.header whole blocks frames [])) says
 
   -- the Info frame says the numbers of the extension
-  pub written-says : {d p : ℕ} → SaysNumbers d p (run_extension delay first parts)
+  pub written-says : {d p : ℕ} → SaysNumbers d p (splice_extension delay first parts)
       → SaysNumbers d p written_info.extension
   written-says {d} {p} says = (frames-sealed header unsealed-whole).says d p says
 

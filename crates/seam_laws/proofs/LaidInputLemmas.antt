@@ -29,15 +29,15 @@ use Rattle.laying.specs.Relaid.{FilePart, frame_with_place, IsPart, part_frames,
 use Rattle.laying.specs.Relaid.{relaid_frames, rest_behind, silent_lead_in, stream_with_lead_ins}
 use Rattle.laying.specs.{Surveys.CanBeRelaid, Written.{back_blocks, front_blocks, slot_in}}
 use Rattle.seam_laws.proofs.{FrontBlockLemmas.front-stays, SeamlessFrontLemmas.none-zero}
-use Rattle.seam_laws.proofs.SeamlessInputLemmas.{brought-needs, brought-sounds, IsInput, run-needs}
-use Rattle.seam_laws.proofs.SeamlessInputLemmas.{run-sounds, whole_stream}
-use Rattle.seam_laws.proofs.SeamlessRunLemmas.{own-frames, own-many}
+use Rattle.seam_laws.proofs.SeamlessInputLemmas.{brought-needs, brought-sounds, IsInput}
+use Rattle.seam_laws.proofs.SeamlessInputLemmas.{splice-needs, splice-sounds, whole_stream}
+use Rattle.seam_laws.proofs.SeamlessSpliceLemmas.{own-frames, own-many}
 use Rattle.seam_laws.specs.LeadInLaws.{AreInOwnSlots, AreLedInOwnSlots}
 use Rattle.seam_laws.specs.SeamlessLaws.{bare_file, bare_row_file}
 use Rattle.seam_plan.proofs.{FollowLemmas.sounds, LeadInLemmas.lead-in-is}
-use Rattle.seam_plan.specs.Frames.{needs_of, RunFrame}
+use Rattle.seam_plan.specs.Frames.{needs_of, SpliceFrame}
 use Rattle.seam_plan.specs.Joins.{has_lead_in, lead_in_header, leads_others, matches_header}
-use Rattle.seamless_edits.specs.Seamless.{begins_blank, part_brought, run_frame, sound_of}
+use Rattle.seamless_edits.specs.Seamless.{begins_blank, part_brought, sound_of, splice_frame}
 use Rattle.side_info.specs.{Side.{no_side, payload_bits, payload_bytes}, declared.side.Side.Side}
 use Rattle.slot_plan.{proofs.AreaLemmas.only_one, specs.FreeBytes.IsLeadInHeader}
 use Rattle.slot_plan.specs.{Plans.AreItemSlots, declared.needs.{Need.Need, Placed.Placed}}
@@ -50,7 +50,7 @@ use Rattle.sync_survey.specs.Row.{Row}
 -- ---- lists of frames
 
 -- frames with the same needs and the same sounds are the same
-pub frames-same : (xs ys : List RunFrame) → needs_of xs ≡ needs_of ys → sounds xs ≡ sounds ys
+pub frames-same : (xs ys : List SpliceFrame) → needs_of xs ≡ needs_of ys → sounds xs ≡ sounds ys
     → xs ≡ ys
 frames-same [] [] needs sounding = refl
 frames-same [] (y ∷ ys) needs sounding = grind arith
@@ -179,15 +179,15 @@ led-frames window (need ∷ needs) (p ∷ placed) (f ∷ fs) same led =
 
 -- these frames and no lead-in
 pub record BringsOwn (class : ClassFields) (p : FilePart) (is : IsInput class p)
-    (frames : List RunFrame) (own : List StreamFrame) : Type 0 where
+    (frames : List SpliceFrame) (own : List StreamFrame) : Type 0 where
   pub frames_are : (part_brought p).frames ≡ frames
   pub rows_need : map need_of p.survey.frames ≡ needs_of frames
   pub stream_is : whole_stream is ≡ own
 
 -- these frames after a lead-in, which the input has at its front
 pub record BringsLed (class : ClassFields) (p : FilePart) (is : IsInput class p)
-    (frames : List RunFrame) (own : List StreamFrame) : Type 0 where
-  pub lead_in : RunFrame
+    (frames : List SpliceFrame) (own : List StreamFrame) : Type 0 where
+  pub lead_in : SpliceFrame
   pub frames_are : (part_brought p).frames ≡ lead_in ∷ frames
   pub empty : lead_in.need.bytes ≡ 0
   pub header : lead_in_header (window_of class.version) (needs_of frames)
@@ -264,9 +264,9 @@ module _ {laid : LaidPart} {file : List ℕ} {s : SurveyFields} {c : ClassFields
   abbrev own : List StreamFrame
   own = part_stream part
 
-  -- the chosen frames as frames of a run
-  abbrev pub own_run : List RunFrame
-  own_run = map (run_frame s.class) (zip (slice_range s.frames laid.from laid.to) own)
+  -- the chosen frames as frames of a splice
+  abbrev pub own_splice : List SpliceFrame
+  own_splice = map (splice_frame s.class) (zip (slice_range s.frames laid.from laid.to) own)
 
   abbrev info : Info
   info = info_laid laid file s
@@ -422,38 +422,38 @@ module _ {laid : LaidPart} {file : List ℕ} {s : SurveyFields} {c : ClassFields
       ∙ front-stays file t many e input.made.row.header info frames input.made.back
       ∙ same
 
-  own-run-needs : needs_of own_run ≡ needs
-  own-run-needs =
+  own-splice-needs : needs_of own_splice ≡ needs
+  own-splice-needs =
       let rows = slice_range s.frames laid.from laid.to in
-      run-needs s.class rows own (own-length ∙ length-map rows need_of)
+      splice-needs s.class rows own (own-length ∙ length-map rows need_of)
 
-  own-run-sounds : sounds own_run ≡ map (sound_of s.class) own
-  own-run-sounds =
+  own-splice-sounds : sounds own_splice ≡ map (sound_of s.class) own
+  own-splice-sounds =
       let rows = slice_range s.frames laid.from laid.to in
-      run-sounds s.class rows own (own-length ∙ length-map rows need_of)
+      splice-sounds s.class rows own (own-length ∙ length-map rows need_of)
 
   -- in their own slots, the input brings the frames alone
-  pub brings-own : AreInOwnSlots needs laid.placed → BringsOwn c p input.is own_run own
+  pub brings-own : AreInOwnSlots needs laid.placed → BringsOwn c p input.is own_splice own
   brings-own in_own =
       let all = own-frames needs laid.placed own-length in_own in
       record {
         frames_are =
-            frames-same (part_brought p).frames own_run
+            frames-same (part_brought p).frames own_splice
             (input-needs
             ∙ own-needs s.class needs
             (part_frames part) laid.placed entries-are needs-are in_own
-            ∙ sym own-run-needs)
-            (input-sounds ∙ ap (map (sound_of s.class)) all ∙ sym own-run-sounds);
+            ∙ sym own-splice-needs)
+            (input-sounds ∙ ap (map (sound_of s.class)) all ∙ sym own-splice-sounds);
         rows_need =
             input-rows
             ∙ own-needs s.class needs
             (part_frames part) laid.placed entries-are needs-are in_own
-            ∙ sym own-run-needs;
+            ∙ sym own-splice-needs;
         stream_is = input-stream ∙ all;
       }
 
   -- after their lead-in, the input brings the frames after it
-  pub brings-led : AreLedInOwnSlots window needs laid.placed → BringsLed c p input.is own_run own
+  pub brings-led : AreLedInOwnSlots window needs laid.placed → BringsLed c p input.is own_splice own
   unfolding has_lead_in
   brings-led led =
       let lead_needs =
@@ -461,7 +461,7 @@ module _ {laid : LaidPart} {file : List ℕ} {s : SurveyFields} {c : ClassFields
       needs-are led input.fitting.fits in
       let all = led-frames window needs laid.placed own own-length led in
       let lead_need : Need = record { header = lead_needs.header; bytes = 0 } in
-      let lead_in : RunFrame =
+      let lead_in : SpliceFrame =
       record { need = lead_need; sound = sound_of s.class (silent_lead_in all.0) } in
       let all_needs = input-needs ∙ lead_needs.are in
       let leads =
@@ -471,20 +471,20 @@ module _ {laid : LaidPart} {file : List ℕ} {s : SurveyFields} {c : ClassFields
       record {
         lead_in = lead_in;
         frames_are =
-            frames-same (part_brought p).frames (lead_in ∷ own_run)
-            (all_needs ∙ ap (lead_need ∷◌) (sym own-run-needs))
+            frames-same (part_brought p).frames (lead_in ∷ own_splice)
+            (all_needs ∙ ap (lead_need ∷◌) (sym own-splice-needs))
             (input-sounds ∙ ap (map (sound_of s.class)) all.3
             ∙ ap (sound_of s.class (silent_lead_in all.0) ∷◌)
-            (sym own-run-sounds));
+            (sym own-splice-sounds));
         empty = refl;
         header =
             subst (λ (d : ClassFields).
-            lead_in_header (window_of d.version) (needs_of own_run) ≡ Some lead_needs.header)
+            lead_in_header (window_of d.version) (needs_of own_splice) ≡ Some lead_needs.header)
             (sym class-same)
-            (ap (lead_in_header window) own-run-needs ∙ lead_needs.lead);
+            (ap (lead_in_header window) own-splice-needs ∙ lead_needs.lead);
         rows_need =
             input-rows ∙ lead_needs.are
-            ∙ ap (lead_need ∷◌) (sym own-run-needs);
+            ∙ ap (lead_need ∷◌) (sym own-splice-needs);
         has = subst
             (λ (d : ClassFields). has_lead_in (window_of d.version) (part_brought p) ≡ true)
             (sym class-same)

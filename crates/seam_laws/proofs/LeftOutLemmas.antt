@@ -17,11 +17,11 @@ use Rattle.seam_laws.proofs.SeamlessFrontLemmas.{silent_frame, whole-first, zero
 use Rattle.seam_laws.proofs.SeamlessInputLemmas.{brought-many, inputs-are, IsInput, Joins}
 use Rattle.seam_laws.proofs.SeamlessInputLemmas.{stream-from, stream-many, whole_stream}
 use Rattle.seam_laws.proofs.SeamlessPlaceLemmas.{input-at}
-use Rattle.seam_laws.proofs.SeamlessRunLemmas.{front-few, front-parts, joints-are}
+use Rattle.seam_laws.proofs.SeamlessSpliceLemmas.{front-few, front-parts, joints-are}
 use Rattle.seam_laws.specs.JoinLaws.{IsEmptyFront, IsInputWritten, LeftOutIsEmpty, MayBeLeftOut}
-use Rattle.seam_laws.specs.{JoinLaws.seam_at, RunLaws.{InputGoesOn, run_after}}
+use Rattle.seam_laws.specs.{JoinLaws.seam_at, SpliceLaws.{InputGoesOn, splice_after}}
 use Rattle.seam_plan.proofs.SeamLemmas.{follow-is, follows_with, IfWithout, without-led}
-use Rattle.seam_plan.specs.{Decisions.alike_overlap, Frames.{Brought, needs_of, RunFrame}}
+use Rattle.seam_plan.specs.{Decisions.alike_overlap, Frames.{Brought, needs_of, SpliceFrame}}
 use Rattle.seam_plan.specs.Joins.{has_lead_in, joining_frames, leads_others}
 use Rattle.seam_plan.specs.Seams.{following_joint, joint_of, joint_with, joint_without_lead_in}
 use Rattle.seam_plan.specs.Seams.{JointFrames, joints_from, joints_of, left_out_count, SeamlessJoin}
@@ -158,27 +158,27 @@ abbrev IfFollows : Option JointFrames → Type 0
 IfFollows None = Unit {0}
 IfFollows (Some joint) = (out : ℕ) × (joint.seam ≡ Follows out)
 
-map-follows : (out : ℕ) (o : Option (List RunFrame))
+map-follows : (out : ℕ) (o : Option (List SpliceFrame))
     → IfFollows (option_map (joint_with (Follows out)) o)
 map-follows out None = tt
 map-follows out (Some frames) = (out, refl)
 
-then-follows : (class : ClassFields) (run : List RunFrame) (input : Brought) (o : Option Overlap)
-    → IfFollows (option_and_then (follows_with class run input) o)
-then-follows class run input None = tt
-then-follows class run input (Some overlap) =
+then-follows : (class : ClassFields) (splice : List SpliceFrame) (input : Brought)
+    (o : Option Overlap) → IfFollows (option_and_then (follows_with class splice input) o)
+then-follows class splice input None = tt
+then-follows class splice input (Some overlap) =
     map-follows overlap.frames
-    (joining_frames (window_of class.version) run (drop overlap.frames input.frames))
+    (joining_frames (window_of class.version) splice (drop overlap.frames input.frames))
 
 -- an input that joins without its lead-in has one
-joint-led : (class : ClassFields) (run : List RunFrame) (before input : Brought)
-    → (joint_of class run before input).seam ≡ LeadIn
+joint-led : (class : ClassFields) (splice : List SpliceFrame) (before input : Brought)
+    → (joint_of class splice before input).seam ≡ LeadIn
     → has_lead_in (window_of class.version) input ≡ true
-joint-led class run before input is =
-    at (following_joint class run before input)
-    (subst IfFollows (sym (follow-is class run before input))
-    (then-follows class run input (alike_overlap class run before input)))
-    (joint_without_lead_in class run input) (without-led class run input) is
+joint-led class splice before input is =
+    at (following_joint class splice before input)
+    (subst IfFollows (sym (follow-is class splice before input))
+    (then-follows class splice input (alike_overlap class splice before input)))
+    (joint_without_lead_in class splice input) (without-led class splice input) is
   where
     at : (x : Option JointFrames) → IfFollows x
         → (y : Option JointFrames) → IfWithout (window_of class.version) input y
@@ -189,28 +189,29 @@ joint-led class run before input is =
     at None follows (Some joint) without seam = without.1
     at None follows None without seam = absurd cc
 
-joints-led : (class : ClassFields) (run : List RunFrame) (before : Brought) (inputs : List Brought)
+joints-led : (class : ClassFields) (splice : List SpliceFrame) (before : Brought)
+    (inputs : List Brought)
     (n : ℕ) {input : Brought} {joint : JointFrames} → slice_get inputs n ≡ Some input
-    → slice_get (joints_from class run before inputs) n ≡ Some joint → joint.seam ≡ LeadIn
+    → slice_get (joints_from class splice before inputs) n ≡ Some joint → joint.seam ≡ LeadIn
     → has_lead_in (window_of class.version) input ≡ true
 unfolding joints_from
-joints-led class run before [] n there found is = absurd cc
-joints-led class run before (i ∷ inputs) zero {input} {joint} there found is =
+joints-led class splice before [] n there found is = absurd cc
+joints-led class splice before (i ∷ inputs) zero {input} {joint} there found is =
     let same : i ≡ input = cc in
-    let here : joint_of class run before i ≡ joint = cc in
+    let here : joint_of class splice before i ≡ joint = cc in
     subst (λ b. has_lead_in (window_of class.version) b ≡ true) same
-    (joint-led class run before i (ap (λ (j : JointFrames). j.seam) here ∙ is))
-joints-led class run before (i ∷ inputs) (suc n) {input} {joint} there found is =
-    let here = joint_of class run before i in
-    joints-led class (run ++ here.frames) i inputs n there found is
+    (joint-led class splice before i (ap (λ (j : JointFrames). j.seam) here ∙ is))
+joints-led class splice before (i ∷ inputs) (suc n) {input} {joint} there found is =
+    let here = joint_of class splice before i in
+    joints-led class (splice ++ here.frames) i inputs n there found is
 
 -- something becomes of each input
-joints-many : (class : ClassFields) (run : List RunFrame) (before : Brought)
-    (inputs : List Brought) → length (joints_from class run before inputs) ≡ length inputs
+joints-many : (class : ClassFields) (splice : List SpliceFrame) (before : Brought)
+    (inputs : List Brought) → length (joints_from class splice before inputs) ≡ length inputs
 unfolding joints_from
-joints-many class run before [] = refl
-joints-many class run before (i ∷ inputs) =
-    grind (arith, joints-many class (run ++ (joint_of class run before i).frames) i inputs)
+joints-many class splice before [] = refl
+joints-many class splice before (i ∷ inputs) =
+    grind (arith, joints-many class (splice ++ (joint_of class splice before i).frames) i inputs)
 
 -- what becomes of the input at a place, and what is written of it
 record IsLater (joints : List JointFrames) (parts : List FilePart) (n : ℕ) (p : FilePart) : Type 0
@@ -333,8 +334,8 @@ module _ {first : FilePart} {parts : List FilePart}
     -- an input that follows continues where the one before it ends
     follower : {out : ℕ} → later.joint.seam ≡ Follows out
         → InputGoesOn c (part_brought before.0) (part_brought p)
-        (run_after begins (joints_of c begins others) n)
-        (run_after begins (joints_of c begins others) (n + 1)) out
+        (splice_after begins (joints_of c begins others) n)
+        (splice_after begins (joints_of c begins others) (n + 1)) out
     follower {out} seam =
         followers-on c begins others n (part_brought before.0) (part_brought p) later.joint out
         (slice_get-map part_brought (first ∷ parts) n ∙ ap (option_map part_brought) before.1)
@@ -350,8 +351,8 @@ module _ {first : FilePart} {parts : List FilePart}
     -- the input with this number, if its seam says that it follows
     pub follower-at : {out : ℕ} → seam_at joined.joints (suc n) ≡ Some (Follows out)
         → (q : Brought) × InputGoesOn c q (part_brought p)
-        (run_after begins (joints_of c begins others) n)
-        (run_after begins (joints_of c begins others) (n + 1)) out
+        (splice_after begins (joints_of c begins others) n)
+        (splice_after begins (joints_of c begins others) (n + 1)) out
     follower-at {out} seam =
         let own = sym (ap (option_map (λ (j : JointFrames). j.seam)) later.found) ∙ seam in
         (part_brought before.0, follower cc)

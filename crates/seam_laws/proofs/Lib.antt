@@ -2,9 +2,9 @@
 pub mod LedLemmas
 pub mod OwnLeadInLemmas
 pub mod FollowerLemmas
-pub mod PieceRunLemmas
+pub mod PieceSpliceLemmas
 pub mod SeamlessInputLemmas
-pub mod SeamlessRunLemmas
+pub mod SeamlessSpliceLemmas
 pub mod SeamlessFrontLemmas
 pub mod SeamlessPlaceLemmas
 pub mod PieceHeadLemmas

@@ -16,7 +16,7 @@ use Rattle.seam_laws.proofs.JoinEndLemmas.{frames-few}
 use Rattle.seam_laws.proofs.LaidInputLemmas.{class-same, IsFileOf, laid-bare, laid-whole}
 use Rattle.seam_laws.proofs.PiecePartLemmas.{IsPiece, IsPlain, laid-input, laid_piece, plain-by}
 use Rattle.seam_laws.proofs.SeamlessInputLemmas.{AreInputs, inputs-are, IsInput, Joins}
-use Rattle.seam_laws.proofs.SeamlessRunLemmas.{not-true}
+use Rattle.seam_laws.proofs.SeamlessSpliceLemmas.{not-true}
 use Rattle.seam_laws.specs.SeamlessLaws.{ArePieceInputs, bare_file, has_no_look_alike}
 use Rattle.seam_laws.specs.SeamlessLaws.{is_look_alike, IsJoinedInSteps, last_place}
 use Rattle.seamless_edits.specs.Seamless.{seamless_file}

@@ -15,15 +15,16 @@ use Rattle.laying.{proofs.RelayLemmas.range-next, specs.KeptFields.fields_of_hea
 use Rattle.laying.specs.{Laid.{frames_laid, info_laid, LaidPart}, LaidFiles.head_at, Needs.need_of}
 use Rattle.laying.specs.{NeedsFit.own_choice, Relaid.{FilePart, part_stream}, Surveys.CanBeRelaid}
 use Rattle.laying.specs.Written.{front_blocks, head_info}
-use Rattle.seam_laws.proofs.FrameRangeLemmas.{all_stream, between-needs, run_between}
+use Rattle.seam_laws.proofs.FrameRangeLemmas.{all_stream, between-needs, splice_between}
 use Rattle.seam_laws.proofs.LaidInputLemmas.{brings-led, brings-own, BringsLed, BringsOwn, head-is}
 use Rattle.seam_laws.proofs.LaidInputLemmas.{IsFileOf, IsLaidInput, needs-many}
 use Rattle.seam_laws.proofs.{LedPlanLemmas.led-as, OwnLeadInLemmas.lead-where-wanted}
 use Rattle.seam_laws.proofs.PieceHeadLemmas.{laid-count, laid-extension, laid-quality}
-use Rattle.seam_laws.proofs.{SeamlessInputLemmas.{IsInput, stream-from}, SeamlessRunLemmas.own-many}
+use Rattle.seam_laws.proofs.SeamlessInputLemmas.{IsInput, stream-from}
+use Rattle.seam_laws.proofs.SeamlessSpliceLemmas.{own-many}
 use Rattle.seam_laws.specs.LeadInLaws.{AreInOwnSlots, AreLedInOwnSlots}
 use Rattle.seam_laws.specs.{PlayedParts.piece_lead_ins, SeamlessLaws.is_look_alike}
-use Rattle.seam_plan.{proofs.FitLemmas.fits-tested, specs.Frames.{needs_of, RunFrame}}
+use Rattle.seam_plan.{proofs.FitLemmas.fits-tested, specs.Frames.{needs_of, SpliceFrame}}
 use Rattle.seam_plan.specs.Joins.{fits_behind, has_lead_in}
 use Rattle.seamless_edits.specs.Seamless.{part_brought, part_from, part_head}
 use Rattle.slot_plan.specs.{Plans.IsLedPlan, declared.needs.{Need.Need, Placed.Placed}}
@@ -63,9 +64,9 @@ module _ {led : Bool} {chosen : Chosen} {file : List ℕ} {s : SurveyFields} {c 
   abbrev placed_if : Bool → List Placed
   placed_if led = span_plan led s.class needs
 
-  -- the chosen frames as frames of a run, and in the stream
-  abbrev pub own_frames : List RunFrame
-  own_frames = run_between file s chosen.from chosen.to
+  -- the chosen frames as frames of a splice, and in the stream
+  abbrev pub own_frames : List SpliceFrame
+  own_frames = splice_between file s chosen.from chosen.to
 
   abbrev pub own_stream : List StreamFrame
   own_stream = slice_range (all_stream file s) chosen.from chosen.to

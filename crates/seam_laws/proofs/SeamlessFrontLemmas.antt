@@ -1,4 +1,4 @@
--- The lead-in that a run gets again is like the one that left it.
+-- The lead-in that a splice gets again is like the one that left it.
 use Rattle.std.proofs.Common.{ap, ap₂, arith, Bool, cond, Contains, false, find, flat_map, length}
 use Rattle.std.proofs.Common.{List, map, None, Option, refl, Some, subst, suc, sym, true, zero, ℕ}
 use Rattle.std.proofs.Common.{[], ◌++◌, ◌<◌, ◌==◌, ◌∙◌, ◌∷◌, ◌≡◌}
@@ -16,10 +16,10 @@ use Rattle.laying.specs.{Relaid.{FilePart, silent_lead_in}, Surveys.{AreWholeRow
 use Rattle.seam_laws.proofs.SeamlessInputLemmas.{brought-fit, brought-needs, brought-sounds}
 use Rattle.seam_laws.proofs.SeamlessInputLemmas.{has-apart, inputs-fit, IsInput, Joins, stream-from}
 use Rattle.seam_laws.proofs.SeamlessInputLemmas.{whole_stream}
-use Rattle.seam_laws.proofs.SeamlessRunLemmas.{all, brought, front-few, front-parts, joined, others}
-use Rattle.seam_laws.proofs.SeamlessRunLemmas.{stream, window}
-use Rattle.seam_plan.proofs.RunSoundLemmas.{run-sounds, sounds_left}
-use Rattle.seam_plan.specs.Frames.{needs_of, RunFrame}
+use Rattle.seam_laws.proofs.SeamlessSpliceLemmas.{all, brought, front-few, front-parts, joined}
+use Rattle.seam_laws.proofs.SeamlessSpliceLemmas.{others, stream, window}
+use Rattle.seam_plan.proofs.SpliceSoundLemmas.{sounds_left, splice-sounds}
+use Rattle.seam_plan.specs.Frames.{needs_of, SpliceFrame}
 use Rattle.seam_plan.specs.Joins.{fits_behind, has_lead_in, lead_in_header, lead_in_slot}
 use Rattle.seam_plan.specs.{Joins.{leads_others, matches_header}, Seams.joints_of}
 use Rattle.seamless_edits.specs.Seamless.{begins_blank, is_side_blank, sound_of, without_gains}
@@ -246,21 +246,21 @@ module _ {c : ClassFields} {first : FilePart} {parts : List FilePart} (are : Joi
   abbrev v : StreamFrame
   v = stream_frame main survey.head survey.frames begins-two.0 two.second
 
-  -- the stream of the run begins with the second
+  -- the stream of the splice begins with the second
   second : (f : StreamFrame) (fs : List StreamFrame) → stream are ≡ f ∷ fs → v ≡ f
   second f fs streams =
       let one : (joined are).front ≡ 1 = omega (arith, out, front-few are) in
       grind (arith, one, flat_map, stream-from are.head 1, begins-two.2)
 
-  -- what the run begins with, and what its stream begins with
-  pub front-alike : {g : RunFrame} {f : StreamFrame} {fs : List StreamFrame}
+  -- what the splice begins with, and what its stream begins with
+  pub front-alike : {g : SpliceFrame} {f : StreamFrame} {fs : List StreamFrame}
       → slice_get (all are) 0 ≡ Some g → stream are ≡ f ∷ fs
       → sound_of c (silent_lead_in f) ≡ g.sound
   front-alike {g} {f} {fs} begins streams =
       let others_sounds =
       sounds_left (joints_of c (brought are) (others are))
       (others are) in
-      let sounding = run-sounds c (brought are) (others are) (brought-fit are.head)
+      let sounding = splice-sounds c (brought are) (others are) (brought-fit are.head)
       (inputs-fit c parts are.others)
       ∙ ap (λ l. l ++ others_sounds)
       (brought-sounds are.head ∙ ap (map (sound_of c)) begins-two.2) in
@@ -273,7 +273,8 @@ module _ {c : ClassFields} {first : FilePart} {parts : List FilePart} (are : Joi
       ∙ sym (empty-sound c main survey.head survey.frames 0 two.first first-none)
       ∙ sym sound
 
-  -- where the lead-in of the first input leaves the run, it is the one that the run gets again
+  -- where the lead-in of the first input leaves the
+  -- splice, it is the one that the splice gets again
   pub front-silent : {f : StreamFrame} {fs : List StreamFrame} → stream are ≡ f ∷ fs
       → (more : List StreamFrame)
       × (whole_stream are.head ≡ silent_lead_in f ∷ more)

@@ -17,12 +17,13 @@ use Rattle.laying.{proofs.SurveyFrameLemmas.{frames-of, survey-had}, specs.LaidF
 use Rattle.laying.specs.{Needs.need_of, Relaid.{all_frames, FilePart, part_rows, part_stream}}
 use Rattle.laying.specs.Surveys.{CanBeRelaid}
 use Rattle.outside.specs.Files.{Contents}
-use Rattle.seam_plan.proofs.{FollowLemmas.sounds, RunSoundLemmas.{AreFit, IsFit}}
+use Rattle.seam_plan.proofs.{FollowLemmas.sounds, SpliceSoundLemmas.{AreFit, IsFit}}
 use Rattle.seam_plan.specs.Frames.{needs_of}
-use Rattle.seamless_edits.proofs.RunPartLemmas.{AreWholeFiles, brought-alone}
-use Rattle.seamless_edits.proofs.RunPartLemmas.{brought-many as file-many, IsWholeFile, needs-are}
-use Rattle.seamless_edits.specs.Seamless.{part_brought, part_from, part_without_head, run_frame}
-use Rattle.seamless_edits.specs.Seamless.{sound_of}
+use Rattle.seamless_edits.proofs.SplicePartLemmas.{AreWholeFiles, brought-alone}
+use Rattle.seamless_edits.proofs.SplicePartLemmas.{brought-many as file-many, IsWholeFile}
+use Rattle.seamless_edits.proofs.SplicePartLemmas.{needs-are}
+use Rattle.seamless_edits.specs.Seamless.{part_brought, part_from, part_without_head, sound_of}
+use Rattle.seamless_edits.specs.Seamless.{splice_frame}
 use Rattle.slot_plan.specs.Parts.{AreNeedsOfClass}
 use Rattle.sync_survey.specs.{Faults.{stream_of_survey, SurveyFields}, MainData.StreamFrame}
 use Rattle.sync_survey.specs.{Row.Row, Survey.survey_of}
@@ -126,23 +127,23 @@ own-class {first = first} {parts = parts} are =
 -- ---- what they bring
 
 -- frames made from rows and a stream of the same length need what the rows do
-pub run-needs : (class : ClassFields) (rows : List Row) (stream : List StreamFrame)
+pub splice-needs : (class : ClassFields) (rows : List Row) (stream : List StreamFrame)
     → length stream ≡ length rows
-    → needs_of (map (run_frame class) (zip rows stream)) ≡ map need_of rows
-run-needs class [] stream same = refl
-run-needs class (r ∷ rows) [] same = absurd (omega (arith, same))
-run-needs class (r ∷ rows) (f ∷ stream) same =
-    ap (λ l. need_of r ∷ l) (run-needs class rows stream (omega (arith, same)))
+    → needs_of (map (splice_frame class) (zip rows stream)) ≡ map need_of rows
+splice-needs class [] stream same = refl
+splice-needs class (r ∷ rows) [] same = absurd (omega (arith, same))
+splice-needs class (r ∷ rows) (f ∷ stream) same =
+    ap (λ l. need_of r ∷ l) (splice-needs class rows stream (omega (arith, same)))
 
 -- frames made from rows and a stream of the same length sound as the stream does
-pub run-sounds : (class : ClassFields) (rows : List Row) (stream : List StreamFrame)
+pub splice-sounds : (class : ClassFields) (rows : List Row) (stream : List StreamFrame)
     → length stream ≡ length rows
-    → sounds (map (run_frame class) (zip rows stream)) ≡ map (sound_of class) stream
-run-sounds class [] [] same = refl
-run-sounds class [] (f ∷ stream) same = absurd (omega (arith, same))
-run-sounds class (r ∷ rows) [] same = absurd (omega (arith, same))
-run-sounds class (r ∷ rows) (f ∷ stream) same =
-    grind (arith, run-sounds class rows stream (omega (arith, same)))
+    → sounds (map (splice_frame class) (zip rows stream)) ≡ map (sound_of class) stream
+splice-sounds class [] [] same = refl
+splice-sounds class [] (f ∷ stream) same = absurd (omega (arith, same))
+splice-sounds class (r ∷ rows) [] same = absurd (omega (arith, same))
+splice-sounds class (r ∷ rows) (f ∷ stream) same =
+    grind (arith, splice-sounds class rows stream (omega (arith, same)))
 
 counted-end : (samples frames : ℕ) (o : Option HeadCounts) {played : Played}
     → option_map (counted_played samples frames) o ≡ Some played
@@ -187,7 +188,7 @@ module _ {class : ClassFields} {p : FilePart} (is : IsInput class p) where
   stream-whole = ap (λ n. slice_range whole_stream n p.to) is.from ∙ stream-from 0
 
   frames-whole : (part_brought p).frames
-      ≡ map (run_frame p.survey.class) (zip survey.frames whole_stream)
+      ≡ map (splice_frame p.survey.class) (zip survey.frames whole_stream)
   frames-whole = grind (arith, rows-whole, stream-whole)
 
   -- the frames that it brings need what the rows do
@@ -196,7 +197,7 @@ module _ {class : ClassFields} {p : FilePart} (is : IsInput class p) where
 
   -- the frames that it brings sound as the stream does
   pub brought-sounds : sounds (part_brought p).frames ≡ map (sound_of class) whole_stream
-  brought-sounds = grind (arith, sounds, frames-whole, run-sounds, stream-length)
+  brought-sounds = grind (arith, sounds, frames-whole, splice-sounds, stream-length)
 
   -- the input brings as many frames as the survey has
   pub brought-many : length (part_brought p).frames ≡ length p.survey.frames

@@ -13,16 +13,16 @@ use Rattle.seam_laws.proofs.SeamlessFrontLemmas.{front-alike}
 use Rattle.seam_laws.proofs.SeamlessInputLemmas.{AreInputs, brought-many, brought-sounds}
 use Rattle.seam_laws.proofs.SeamlessInputLemmas.{inputs-are, IsInput, Joins, played-end}
 use Rattle.seam_laws.proofs.SeamlessInputLemmas.{stream-whole}
-use Rattle.seam_laws.proofs.SeamlessRunLemmas.{all, brought, front-few, front-parts, joined}
-use Rattle.seam_laws.proofs.SeamlessRunLemmas.{joints-are, leads-many, others, run-is, run-leads}
-use Rattle.seam_laws.proofs.SeamlessRunLemmas.{seamless-is, stream, stream-sounds}
-use Rattle.seam_laws.specs.RunLaws.{InputGoesOn, run_after}
-use Rattle.seam_laws.specs.SeamlessLaws.{ComesBehind, FollowingSamplesStay, IsPositionKept, run_end}
-use Rattle.seam_plan.{proofs.FollowLemmas.{added, sounds}, specs.Frames.{Brought, RunFrame}}
+use Rattle.seam_laws.proofs.SeamlessSpliceLemmas.{all, brought, front-few, front-parts, joined}
+use Rattle.seam_laws.proofs.SeamlessSpliceLemmas.{joints-are, leads-many, others, seamless-is}
+use Rattle.seam_laws.proofs.SeamlessSpliceLemmas.{splice-is, splice-leads, stream, stream-sounds}
+use Rattle.seam_laws.specs.SeamlessLaws.{ComesBehind, FollowingSamplesStay, IsPositionKept}
+use Rattle.seam_laws.specs.{SeamlessLaws.splice_end, SpliceLaws.{InputGoesOn, splice_after}}
+use Rattle.seam_plan.{proofs.FollowLemmas.{added, sounds}, specs.Frames.{Brought, SpliceFrame}}
 use Rattle.seam_plan.specs.{Seams.{JointFrames, joints_of}, declared.seam.Seam.TheVariants.Follows}
 use Rattle.seamless_edits.proofs.FramePlaceLemmas.{get-some}
 use Rattle.seamless_edits.specs.Seamless.{join_of_parts, part_brought, part_without_head}
-use Rattle.seamless_edits.specs.Seamless.{run_lead_ins, seamless_stream, sound_of}
+use Rattle.seamless_edits.specs.Seamless.{seamless_stream, sound_of, splice_lead_ins}
 use Rattle.sync_survey.specs.MainData.{StreamFrame}
 
 -- ---- lists
@@ -56,7 +56,7 @@ has-sound {class} stream i {sound} is =
     at None found none = absurd cc
     at (Some f) found some = record { frame = f; found = found; is = cc }
 
-sound-at : (frames : List RunFrame) (i : ℕ) {f : RunFrame} → slice_get frames i ≡ Some f
+sound-at : (frames : List SpliceFrame) (i : ℕ) {f : SpliceFrame} → slice_get frames i ≡ Some f
     → slice_get (sounds frames) i ≡ Some f.sound
 sound-at frames i is = grind (arith, slice_get-map, is)
 
@@ -106,7 +106,7 @@ within-frames : (v : Version) {x end n : ℕ} → x < end → end ≤ n * sample
     → x / samples_of v < n
 within-frames v before most = grind arith
 
--- ---- the frames of the run in the joined file
+-- ---- the frames of the splice in the joined file
 
 -- each of the parts of inputs is an input
 pub input-at : {class : ClassFields} (parts : List FilePart) (i : ℕ) {p : FilePart}
@@ -125,19 +125,19 @@ module _ {first : FilePart} {parts : List FilePart}
     abbrev front : ℕ
     front = (joined are).front
 
-    abbrev whole : List RunFrame
+    abbrev whole : List SpliceFrame
     whole = all are
 
     abbrev heard : List StreamFrame
     heard = stream are
 
     abbrev leads : List StreamFrame
-    leads = (run-leads are).leads
+    leads = (splice-leads are).leads
 
-    stays-by : {j : ℕ} (i : ℕ) {g : RunFrame} → slice_get whole j ≡ Some g → j ≡ front + i
+    stays-by : {j : ℕ} (i : ℕ) {g : SpliceFrame} → slice_get whole j ≡ Some g → j ≡ front + i
         → HasSound c (leads ++ heard) (length leads + i) g.sound
     stays-by i {g} found is =
-        let there = ap (λ l. slice_get (sounds l) i) (run-is are)
+        let there = ap (λ l. slice_get (sounds l) i) (splice-is are)
         ∙ sound-at (drop front whole) i (get-drop front whole i ∙ ap (slice_get whole) (sym is)
         ∙ found) in
         let own =
@@ -145,11 +145,11 @@ module _ {first : FilePart} {parts : List FilePart}
         (ap (λ l. slice_get l i) (stream-sounds are) ∙ there) in
         record { frame = own.frame; found = get-behind leads heard i ∙ own.found; is = own.is }
 
-    -- the first frame, where it leaves the run
-    leaves-by : {g : RunFrame} → slice_get whole 0 ≡ Some g → 0 < front
+    -- the first frame, where it leaves the splice
+    leaves-by : {g : SpliceFrame} → slice_get whole 0 ≡ Some g → 0 < front
         → HasSound c (leads ++ heard) 0 g.sound × (length leads ≡ 1)
     leaves-by {g} found out =
-        let led = (run-leads are).led (front-parts are out).1 in
+        let led = (splice-leads are).led (front-parts are out).1 in
         let f = led.0 in (
           record {
             frame = silent_lead_in f;
@@ -159,13 +159,13 @@ module _ {first : FilePart} {parts : List FilePart}
           ap length led.3,
         )
 
-    -- where a frame leaves the run, the run gets a lead-in
+    -- where a frame leaves the splice, the splice gets a lead-in
     pub leads-enough : front ≤ length leads
-    leads-enough = grind (arith, cases_lt, run-leads, front-parts, front-few)
+    leads-enough = grind (arith, cases_lt, splice-leads, front-parts, front-few)
 
-    run-stays : (j : ℕ) {place : ℕ} {g : RunFrame} → slice_get whole j ≡ Some g
+    splice-stays : (j : ℕ) {place : ℕ} {g : SpliceFrame} → slice_get whole j ≡ Some g
         → place + front ≡ length leads + j → HasSound c (leads ++ heard) place g.sound
-    run-stays j {place} {g} found is =
+    splice-stays j {place} {g} found is =
         elim (cases_lt j front) [
           | inl early ↦
               let none : j ≡ 0 = omega (arith, early, front-few are) in
@@ -190,9 +190,9 @@ module _ {first : FilePart} {parts : List FilePart}
     abbrev more : List Brought
     more = others are
 
-    -- the run after some inputs is the front of the whole run
+    -- the splice after some inputs is the front of the whole splice
     whole-parts : (number : ℕ)
-        → run_after begin (joints_of c begin more) number ++ added
+        → splice_after begin (joints_of c begin more) number ++ added
         (drop number (joints_of c begin more)) ≡ whole
     whole-parts number =
         let joints = joints_of c begin more in
@@ -213,13 +213,13 @@ module _ {first : FilePart} {parts : List FilePart}
       input_is : IsInput c input
       input_is = input-at parts number are.others is_input
 
-      abbrev old_run : List RunFrame
-      old_run = run_after begin (joints_of c begin more) number
+      abbrev old_splice : List SpliceFrame
+      old_splice = splice_after begin (joints_of c begin more) number
 
-      abbrev new_run : List RunFrame
-      new_run = run_after begin (joints_of c begin more) (number + 1)
+      abbrev new_splice : List SpliceFrame
+      new_splice = splice_after begin (joints_of c begin more) (number + 1)
 
-      goes : InputGoesOn c (part_brought before) (part_brought input) old_run new_run out
+      goes : InputGoesOn c (part_brought before) (part_brought input) old_splice new_splice out
       goes =
           followers-on c begin more number (part_brought before) (part_brought input) joint out
           (slice_get-map part_brought (first ∷ parts) number
@@ -231,24 +231,24 @@ module _ {first : FilePart} {parts : List FilePart}
       abbrev n : ℕ
       n = length input.survey.frames
 
-      abbrev own : List RunFrame
+      abbrev own : List SpliceFrame
       own = (part_brought input).frames
 
       many : length own ≡ n
       many = brought-many input_is
 
-      ends-new : run_end first parts (number + 1) ≡ length new_run
+      ends-new : splice_end first parts (number + 1) ≡ length new_splice
       ends-new =
-          ap (λ js. length (run_after begin js (number + 1)))
+          ap (λ js. length (splice_after begin js (number + 1)))
           (joints-are are)
 
-      ends-old : run_end first parts number ≡ length old_run
+      ends-old : splice_end first parts number ≡ length old_splice
       ends-old =
-          ap (λ js. length (run_after begin js number))
+          ap (λ js. length (splice_after begin js number))
           (joints-are are)
 
       enough : (x : ℕ) → goes.played.start ≤ x → n + front
-          ≤ x / samples_in c + (run_lead_ins first parts + run_end first parts (number + 1))
+          ≤ x / samples_in c + (splice_lead_ins first parts + splice_end first parts (number + 1))
       enough x late =
           omega (
             arith,
@@ -261,7 +261,7 @@ module _ {first : FilePart} {parts : List FilePart}
           )
 
       place-of : {x : ℕ} → goes.played.start ≤ x → IsPlaced c.version x n front
-          (run_lead_ins first parts) (run_end first parts (number + 1))
+          (splice_lead_ins first parts) (splice_end first parts (number + 1))
       place-of {x} late =
           placed-by c.version
           (enough x late)
@@ -269,8 +269,8 @@ module _ {first : FilePart} {parts : List FilePart}
       -- ---- one of its samples
 
       module _ (x : ℕ) (late : goes.played.start ≤ x) (early : x < goes.played.end) where
-        placed : IsPlaced c.version x n front (run_lead_ins first parts)
-            (run_end first parts (number + 1))
+        placed : IsPlaced c.version x n front (splice_lead_ins first parts)
+            (splice_end first parts (number + 1))
         placed = place-of late
 
         -- the number of its frame in the input
@@ -282,23 +282,24 @@ module _ {first : FilePart} {parts : List FilePart}
             within-frames c.version early
             (played-end input_is goes.played_is)
 
-        own_frame : (f : RunFrame) × (slice_get own i ≡ Some f)
+        own_frame : (f : SpliceFrame) × (slice_get own i ≡ Some f)
         own_frame = get-some own i (omega (arith, within, many))
 
-        -- the number of its frame in the run
+        -- the number of its frame in the splice
         abbrev j : ℕ
-        j = i + length new_run - length own
+        j = i + length new_splice - length own
 
-        run_frame : (g : RunFrame) × (slice_get new_run j ≡ Some g) × (g.sound ≡ own_frame.0.sound)
-        run_frame =
+        splice_frame : (g : SpliceFrame) × (slice_get new_splice j ≡ Some g)
+            × (g.sound ≡ own_frame.0.sound)
+        splice_frame =
             goes.alike.alike i own_frame.0 (later-frame c.version late)
             own_frame.1
 
-        in_whole : slice_get whole j ≡ Some run_frame.0
+        in_whole : slice_get whole j ≡ Some splice_frame.0
         in_whole =
             ap (λ l. slice_get l j) (sym (whole-parts (number + 1)))
-            ∙ get-front new_run (added (drop (number + 1) (joints_of c begin more))) j
-            run_frame.1
+            ∙ get-front new_splice (added (drop (number + 1) (joints_of c begin more))) j
+            splice_frame.1
 
         in_file : placed.frame + front ≡ length leads + j
         in_file =
@@ -312,8 +313,8 @@ module _ {first : FilePart} {parts : List FilePart}
               later-frame c.version late,
             )
 
-        heard_frame : HasSound c (leads ++ heard) placed.frame run_frame.0.sound
-        heard_frame = run-stays j in_whole in_file
+        heard_frame : HasSound c (leads ++ heard) placed.frame splice_frame.0.sound
+        heard_frame = splice-stays j in_whole in_file
 
         own_stream : HasSound c (part_stream (part_without_head input)) i own_frame.0.sound
         own_stream =
@@ -331,7 +332,7 @@ module _ {first : FilePart} {parts : List FilePart}
             ∙ heard_frame.found
 
         heard_alike : sound_of c heard_frame.frame ≡ sound_of c own_stream.frame
-        heard_alike = heard_frame.is ∙ run_frame.2 ∙ sym own_stream.is
+        heard_alike = heard_frame.is ∙ splice_frame.2 ∙ sym own_stream.is
 
         keeps : IsPositionKept first parts (number + 1) input x
         keeps = record {
@@ -358,8 +359,8 @@ module _ {first : FilePart} {parts : List FilePart}
             seam = place.place;
             ends =
                 meets-at c.version place.place goes.played.start n
-                (length before.survey.frames) front (run_lead_ins first parts)
-                (run_end first parts number) (run_end first parts (number + 1)) out place.at
+                (length before.survey.frames) front (splice_lead_ins first parts)
+                (splice_end first parts number) (splice_end first parts (number + 1)) out place.at
                 (ap (λ m. goes.played.start + rest_of c m goes.ended)
                 (sym (brought-many before_is)) ∙ goes.meets)
                 (played-end before_is goes.ended_is)

@@ -1,5 +1,5 @@
--- The file of a join: the frames of its run, in the slots of its plan, are those of the whole that
--- was cut, and so are its Info frame and the blocks before it.
+-- The file of a join: the frames of its splice, in the slots of its plan, are those
+-- of the whole that was cut, and so are its Info frame and the blocks before it.
 use Rattle.std.proofs.Common.{ap, ap₂, arith, drop, false, flat_map, List, map, None, refl}
 use Rattle.std.proofs.Common.{replicate, slice_get, Some, suc, sym, take, zero, ℕ, [], ◌++◌, ◌∙◌}
 use Rattle.std.proofs.{Common.{◌∷◌, ◌≡◌}, lemmas.List.{drop-map, map-append, take-map}}
@@ -20,16 +20,16 @@ use Rattle.seam_laws.proofs.{LaidInputLemmas.front-same, PieceListLemmas.{pieces
 use Rattle.seam_laws.proofs.PiecePartLemmas.{IsPiece, laid-input, row-after}
 use Rattle.seam_laws.proofs.SeamlessInputLemmas.{AreInputs, has-apart, input-whole, inputs-whole}
 use Rattle.seam_laws.proofs.SeamlessInputLemmas.{IsInput, Joins, own-class}
-use Rattle.seam_laws.proofs.SeamlessRunLemmas.{stream}
+use Rattle.seam_laws.proofs.SeamlessSpliceLemmas.{stream}
 use Rattle.seam_laws.proofs.SplitJoinLemmas.{ArePlain, begin, chosen_between, cut_whole, front-is}
-use Rattle.seam_laws.proofs.SplitJoinLemmas.{number, pieces-are, plan-is, run-stream, uncounted}
+use Rattle.seam_laws.proofs.SplitJoinLemmas.{number, pieces-are, plan-is, splice-stream, uncounted}
 use Rattle.seam_laws.proofs.SplitJoinLemmas.{whole-right, whole_cuts}
 use Rattle.seam_laws.specs.SeamlessLaws.{bare_file}
 use Rattle.seam_plan.specs.Seams.{JointFrames, left_out_count}
-use Rattle.seamless_edits.proofs.RunPartLemmas.{front-within}
-use Rattle.seamless_edits.specs.Seamless.{delay_of_run, join_of_parts, later_parts, part_from}
-use Rattle.seamless_edits.specs.Seamless.{run_parts, run_plan, seamless_delay, seamless_file}
-use Rattle.seamless_edits.specs.Seamless.{seamless_frames, seamless_info}
+use Rattle.seamless_edits.proofs.SplicePartLemmas.{front-within}
+use Rattle.seamless_edits.specs.Seamless.{delay_of_splice, join_of_parts, later_parts, part_from}
+use Rattle.seamless_edits.specs.Seamless.{seamless_delay, seamless_file, seamless_frames}
+use Rattle.seamless_edits.specs.Seamless.{seamless_info, splice_parts, splice_plan}
 use Rattle.slot_plan.specs.declared.needs.{Need.Need, Placed.Placed}
 use Rattle.sync_survey.specs.{Faults.SurveyFields, MainData.StreamFrame, Row.Row}
 
@@ -84,10 +84,10 @@ module _ (c : ClassFields) where
   parts-read (j ∷ joints) (p ∷ parts) are =
       read-append (part-read are.0 (left_out_count j.seam)) (parts-read joints parts are.1)
 
-  -- the frames of the run are read as its stream
-  run-read : {first : FilePart} {parts : List FilePart} (are : Joins c first parts)
-      → AreRead c (flat_map part_frames (run_parts first parts)) (stream are)
-  run-read {first} {parts} are =
+  -- the frames of the splice are read as its stream
+  splice-read : {first : FilePart} {parts : List FilePart} (are : Joins c first parts)
+      → AreRead c (flat_map part_frames (splice_parts first parts)) (stream are)
+  splice-read {first} {parts} are =
       read-append (part-read are.head (join_of_parts first parts).front)
       (parts-read (join_of_parts first parts).joints parts are.others)
 
@@ -95,27 +95,28 @@ module _ (c : ClassFields) where
 
 module _ {c : ClassFields} (known : IsClass c) {first : FilePart} {parts : List FilePart}
     (are : Joins c first parts) where
-  abbrev run_frames_in : List Frame
-  run_frames_in = flat_map part_frames (run_parts first parts)
+  abbrev splice_frames_in : List Frame
+  splice_frames_in = flat_map part_frames (splice_parts first parts)
 
-  -- frames with the stream of the run are laid alike by its plan
+  -- frames with the stream of the splice are laid alike by its plan
   pub frames-by : (fs : List Frame) → AreStreamEntries c fs → stream are ≡ map stream_entry fs
-      → seamless_frames first parts ≡ relaid_frames fs (run_plan first parts)
+      → seamless_frames first parts ≡ relaid_frames fs (splice_plan first parts)
   frames-by fs entries streams =
-      let read = run-read c are in
-      relaid_frames-same run_frames_in fs (run_plan first parts)
-      (bare-same c known run_frames_in fs read.entries entries (read.is ∙ streams))
+      let read = splice-read c are in
+      relaid_frames-same splice_frames_in fs (splice_plan first parts)
+      (bare-same c known splice_frames_in fs read.entries entries (read.is ∙ streams))
 
-  -- if the run has the stream and the plan of a part, the frames of the join are those of the part
+  -- if the splice has the stream and the plan of a
+  -- part, the frames of the join are those of the part
   pub frames-of-part : {part : FilePart} → IsPart c part → stream are ≡ part_stream part
-      → {placed : List Placed} → run_plan first parts ≡ placed
+      → {placed : List Placed} → splice_plan first parts ≡ placed
       → seamless_frames first parts ≡ relaid_frames (part_frames part) placed
   frames-of-part {part} is streams plans =
       frames-by (part_frames part) (part-entries is)
       (streams ∙ sym (part-stream is))
       ∙ ap (relaid_frames (part_frames part)) plans
 
-  -- a row after what leaves the run
+  -- a row after what leaves the splice
   pub front-row : (r : Row)
       × (slice_get first.survey.frames (join_of_parts first parts).front ≡ Some r)
   front-row =
@@ -130,7 +131,7 @@ module _ {c : ClassFields} (known : IsClass c) {first : FilePart} {parts : List 
     -- Info frame and the blocks before it are those of the whole
     pub file-same : seamless_frames first parts ≡ frames_laid whole file s
         → ((r : Row) → slice_get first.survey.frames (join_of_parts first parts).front ≡ Some r
-        → info_frame r.header (seamless_info (delay_of_run first parts) r first parts)
+        → info_frame r.header (seamless_info (delay_of_splice first parts) r first parts)
         ≡ info_frame row.header (info_laid whole file s))
         → front_blocks first.file first.survey ≡ front_blocks file s
         → seamless_file (first ∷ parts) ≡ bare_file whole file s
@@ -156,10 +157,10 @@ module _ {file : List ℕ} {s : SurveyFields} (r : Recording file s) {from to : 
       let right = whole-right r (pieces-are r plain) in
       frames-of-part r.known inputs
       (record { has = r.has; class = refl; some = right.some; within = right.within })
-      (run-stream r plain) (plan-is r plain)
+      (splice-stream r plain) (plan-is r plain)
 
   -- no numbers are written
-  none-counted : delay_of_run first parts ≡ None
+  none-counted : delay_of_splice first parts ≡ None
   none-counted =
       ap
       (option_and_then (λ played.
@@ -168,7 +169,8 @@ module _ {file : List ℕ} {s : SurveyFields} (r : Recording file s) {from to : 
       (uncounted one refl)
 
   infos-are : {row : Row} → slice_get first.survey.frames (join_of_parts first parts).front
-      ≡ Some row → info_frame row.header (seamless_info (delay_of_run first parts) row first parts)
+      ≡ Some row
+      → info_frame row.header (seamless_info (delay_of_splice first parts) row first parts)
       ≡ info_frame one.made.row.header (info_laid cut file s)
   infos-are {row} found =
       let need = row-after one (front-is r plain) found in

@@ -11,14 +11,15 @@ use Rattle.seam_laws.proofs.FrameRangeLemmas.{all_stream, range-append, range-no
 use Rattle.seam_laws.proofs.PieceListLemmas.{first-at, IsAt, later-at, no_pieces, piece_then}
 use Rattle.seam_laws.proofs.PieceListLemmas.{pieces-join, Recording}
 use Rattle.seam_laws.proofs.PiecePartLemmas.{IsPiece, own_stream, ways}
-use Rattle.seam_laws.proofs.PieceRunLemmas.{uncounted-joint}
+use Rattle.seam_laws.proofs.PieceSpliceLemmas.{uncounted-joint}
 use Rattle.seam_laws.proofs.SeamlessFrontLemmas.{blank-side, none-zero}
 use Rattle.seam_laws.proofs.SeamlessInputLemmas.{IsInput, Joins, stream-from, whole_stream}
-use Rattle.seam_laws.proofs.SeamlessRunLemmas.{front-few, front-parts, HasLeads, joints-are}
-use Rattle.seam_laws.proofs.SeamlessRunLemmas.{run-leads, seamless-is, stream}
+use Rattle.seam_laws.proofs.SeamlessSpliceLemmas.{front-few, front-parts, HasLeads, joints-are}
+use Rattle.seam_laws.proofs.SeamlessSpliceLemmas.{seamless-is, splice-leads, stream}
 use Rattle.seam_laws.proofs.SplitJoinLemmas.{AreWhole, number, rise, uncounted, whole_cuts}
 use Rattle.seam_laws.specs.SeamlessLaws.{full_frames, is_empty_frame, last_place}
-use Rattle.seam_plan.specs.{Frames.{Brought, needs_of, RunFrame}, Joins.{has_lead_in, leads_others}}
+use Rattle.seam_plan.specs.Frames.{Brought, needs_of, SpliceFrame}
+use Rattle.seam_plan.specs.Joins.{has_lead_in, leads_others}
 use Rattle.seam_plan.specs.Seams.{joint_of, joints_from, left_out_count}
 use Rattle.seamless_edits.specs.Seamless.{begins_blank, join_of_parts, later_parts, part_brought}
 use Rattle.seamless_edits.specs.Seamless.{part_from, seamless_stream}
@@ -103,11 +104,14 @@ module _ (c : ClassFields) (known : IsClass c) where
     whole-full : full (part_stream (part_from 0 p)) ≡ full (whole_stream is)
     whole-full = ap full (stream-from is 0)
 
-    joint-full : (run : List RunFrame) (before : Brought) → (part_brought p).played ≡ None → full
-        (part_stream (part_from (left_out_count (joint_of c run before (part_brought p)).seam) p))
+    joint-full : (splice : List SpliceFrame) (before : Brought) → (part_brought p).played ≡ None
+        → full
+        (part_stream
+        (part_from (left_out_count (joint_of c splice before (part_brought p)).seam) p))
         ≡ full (whole_stream is)
-    joint-full run before none =
-        grind (arith, uncounted-joint c run before (part_brought p) none, whole-full, without-full)
+    joint-full splice before none =
+        grind
+        (arith, uncounted-joint c splice before (part_brought p) none, whole-full, without-full)
 
 -- ---- the pieces
 
@@ -128,19 +132,19 @@ module _ {file : List ℕ} {s : SurveyFields} (r : Recording file s) where
             (silent-empty s.class r.known led.brings.first)
       ]
 
-  pieces-full : (run : List RunFrame) (before : Brought) {from : Place} {tos : List Place}
+  pieces-full : (splice : List SpliceFrame) (before : Brought) {from : Place} {tos : List Place}
       {parts : List FilePart} → AreWhole file s from tos parts → filled (flat_map part_stream
-      (later_parts (joints_from s.class run before (map part_brought parts)) parts))
+      (later_parts (joints_from s.class splice before (map part_brought parts)) parts))
       ≡ filled
       (slice_range (all_stream file s) (number s from) (number s (last_place from tos)))
   unfolding joints_from
-  pieces-full run before {from} no_pieces =
+  pieces-full splice before {from} no_pieces =
       ap filled (sym (range-none (all_stream file s) (number s from)))
-  pieces-full run before {from}
+  pieces-full splice before {from}
       (piece_then {to = to} {tos = tos} {p = p} {parts = parts} here more) =
-      let joint = joint_of s.class run before (part_brought p) in
+      let joint = joint_of s.class splice before (part_brought p) in
       let later =
-      later_parts (joints_from s.class (run ++ joint.frames) (part_brought p)
+      later_parts (joints_from s.class (splice ++ joint.frames) (part_brought p)
       (map part_brought parts))
       parts in
       let all = all_stream file s in
@@ -150,9 +154,9 @@ module _ {file : List ℕ} {s : SurveyFields} (r : Recording file s) where
       full-append s.class r.known (part_stream (part_from (left_out_count joint.seam) p))
       (flat_map part_stream later)
       ∙ ap₂ ◌++◌
-      (joint-full s.class r.known p here.piece.is run before (uncounted here.piece refl)
+      (joint-full s.class r.known p here.piece.is splice before (uncounted here.piece refl)
       ∙ piece-full here.piece)
-      (pieces-full (run ++ joint.frames) (part_brought p) more)
+      (pieces-full (splice ++ joint.frames) (part_brought p) more)
       ∙ sym (full-append s.class r.known (slice_range all a b) (slice_range all b end))
       ∙ ap filled
       (range-append all (omega (arith, here.piece.right.some)) (rise r more))
@@ -198,7 +202,7 @@ module _ {file : List ℕ} {s : SurveyFields} (r : Recording file s) where
         ≡ filled
         (slice_range (all_stream file s) (number s from) (number s (last_place to tos)))
     all-full =
-        let more = run-leads inputs in
+        let more = splice-leads inputs in
         let all = all_stream file s in
         let a = number s from in
         let b = number s to in

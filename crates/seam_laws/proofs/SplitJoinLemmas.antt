@@ -14,20 +14,20 @@ use Rattle.laying.specs.{Laid.{LaidPart, stream_laid}, LaidFiles.head_at}
 use Rattle.laying.specs.{Relaid.{FilePart, part_stream, stream_with_lead_ins}, Written.front_blocks}
 use Rattle.seam_laws.proofs.FrameRangeLemmas.{all_stream, between-append, between-fits}
 use Rattle.seam_laws.proofs.FrameRangeLemmas.{between-known, between-needs, between-none}
-use Rattle.seam_laws.proofs.FrameRangeLemmas.{range-append, range-none, run_between}
+use Rattle.seam_laws.proofs.FrameRangeLemmas.{range-append, range-none, splice_between}
 use Rattle.seam_laws.proofs.PieceHeadLemmas.{zero-counts}
 use Rattle.seam_laws.proofs.PieceListLemmas.{AreAt, ArePieces, Cuts, first-at, IsLaidAs, IsPlainAt}
 use Rattle.seam_laws.proofs.PieceListLemmas.{later-at, map-pieces, no_pieces, piece_then, Recording}
 use Rattle.seam_laws.proofs.PiecePartLemmas.{frames-need, IsPiece, IsPlain, laid_piece, leads}
 use Rattle.seam_laws.proofs.PiecePartLemmas.{left-own, own_frames, read-extension, read-is, ways}
-use Rattle.seam_laws.proofs.PieceRunLemmas.{pieces-one-run}
-use Rattle.seam_laws.specs.RunLaws.{AreHeadersKnown, AreOneRun, ArePiecesOf, concat_frames}
-use Rattle.seam_laws.specs.{RunLaws.{IsPieceOf, piece_seam}, SeamlessLaws.last_place}
-use Rattle.seam_plan.specs.{Frames.{needs_of, RunFrame}, Joins.fits_behind}
+use Rattle.seam_laws.{proofs.PieceSpliceLemmas.pieces-one-splice, specs.SeamlessLaws.last_place}
+use Rattle.seam_laws.specs.SpliceLaws.{AreHeadersKnown, AreOneSplice, ArePiecesOf, concat_frames}
+use Rattle.seam_laws.specs.SpliceLaws.{IsPieceOf, piece_seam}
+use Rattle.seam_plan.specs.{Frames.{needs_of, SpliceFrame}, Joins.fits_behind}
 use Rattle.seam_plan.specs.Seams.{JointFrames, left_out_count, seamless_join}
 use Rattle.seam_plan.specs.declared.seam.Seam.TheVariants.{LeadIn, Whole}
 use Rattle.seamless_edits.specs.Seamless.{join_of_parts, later_parts, part_brought, part_from}
-use Rattle.seamless_edits.specs.Seamless.{run_parts, run_plan, seamless_stream}
+use Rattle.seamless_edits.specs.Seamless.{seamless_stream, splice_parts, splice_plan}
 use Rattle.split_edits.specs.Split.{cut_part}
 use Rattle.sync_survey.specs.Faults.{SurveyFields}
 
@@ -87,24 +87,24 @@ module _ {chosen : Chosen} {file : List ℕ} {s : SurveyFields} {p : FilePart}
     abbrev window : ℕ
     window = window_of s.class.version
 
-    abbrev run : List RunFrame
-    run = own_frames piece
+    abbrev splice : List SpliceFrame
+    splice = own_frames piece
 
-    fits-run : {b : Bool} → fits_behind window 0 (chosen_needs chosen s) ≡ b
-        → fits_behind window 0 (needs_of run) ≡ b
-    fits-run is = ap (fits_behind window 0) (frames-need piece) ∙ is
+    fits-splice : {b : Bool} → fits_behind window 0 (chosen_needs chosen s) ≡ b
+        → fits_behind window 0 (needs_of splice) ≡ b
+    fits-splice is = ap (fits_behind window 0) (frames-need piece) ∙ is
 
     lacked : (false ≡ true) ⊎ (fits_behind window 0 (chosen_needs chosen s) ≡ false)
-        → fits_behind window 0 (needs_of run) ≡ false
+        → fits_behind window 0 (needs_of splice) ≡ false
     lacked (inl never) = absurd cc
-    lacked (inr lacks) = fits-run lacks
+    lacked (inr lacks) = fits-splice lacks
 
     -- how many lead-ins it has follows from whether its frames fit with no free bytes before them
     pub by-fit : (f : Bool → ℕ) → f true ≡ 0 → f false ≡ 1
-        → f (fits_behind window 0 (needs_of run)) ≡ leads piece
+        → f (fits_behind window 0 (needs_of splice)) ≡ leads piece
     by-fit f without with =
         elim (ways piece) [
-          | inl own ↦ ap f (fits-run own.fits) ∙ without ∙ sym own.none
+          | inl own ↦ ap f (fits-splice own.fits) ∙ without ∙ sym own.none
           | inr led ↦ ap f (lacked led.lacks) ∙ with ∙ sym led.one
         ]
 
@@ -117,13 +117,13 @@ module _ {chosen : Chosen} {file : List ℕ} {s : SurveyFields} {p : FilePart}
         (length p.survey.frames) (read-extension piece ∙ zeros)
 
     -- the input is the piece, unless it has a lead-in at its front that it wasn't given
-    pub piece-of : IsPlain piece → IsPieceOf window run (part_brought p)
+    pub piece-of : IsPlain piece → IsPieceOf window splice (part_brought p)
     piece-of plain = record {
       led = λ lacks.
           elim (ways piece) [
             | inl own ↦
-                absurd (both_ways (fits_behind window 0 (needs_of run)) lacks
-                (fits-run own.fits))
+                absurd (both_ways (fits_behind window 0 (needs_of splice)) lacks
+                (fits-splice own.fits))
             | inr led ↦
                 record {
                   lead_in = led.brings.lead_in;
@@ -136,7 +136,7 @@ module _ {chosen : Chosen} {file : List ℕ} {s : SurveyFields} {p : FilePart}
           elim (ways piece) [
             | inl own ↦ record { frames_are = own.brings.frames_are; none = plain own.none }
             | inr led ↦
-                absurd (both_ways (fits_behind window 0 (needs_of run)) (lacked led.lacks) fits)
+                absurd (both_ways (fits_behind window 0 (needs_of splice)) (lacked led.lacks) fits)
           ];
       uncounted = uncounted;
     }
@@ -153,9 +153,10 @@ module _ (file : List ℕ) (s : SurveyFields) where
   ArePlain from tos parts =
       ArePieces (IsPlainAt (whole_cuts s) file s s.class (Unit {0})) from tos parts
 
-  abbrev pub runs_from : Place → List Place → List (List RunFrame)
-  runs_from from [] = []
-  runs_from from (to ∷ tos) = run_between file s (number s from) (number s to) ∷ runs_from to tos
+  abbrev pub splices_from : Place → List Place → List (List SpliceFrame)
+  splices_from from [] = []
+  splices_from from (to ∷ tos) =
+      splice_between file s (number s from) (number s to) ∷ splices_from to tos
 
 module _ {file : List ℕ} {s : SurveyFields} (r : Recording file s) where
   abbrev frames_window : ℕ
@@ -180,27 +181,27 @@ module _ {file : List ℕ} {s : SurveyFields} (r : Recording file s) where
       right-between (omega (arith, here.piece.right.some, rise more))
       (ends here.piece.right.within more)
 
-  runs-all : {from : Place} {tos : List Place} {parts : List FilePart}
+  splices-all : {from : Place} {tos : List Place} {parts : List FilePart}
       → AreWhole file s from tos parts
-      → concat_frames (runs_from file s from tos)
-      ≡ run_between file s (number s from) (number s (last_place from tos))
-  runs-all {from} no_pieces = sym (between-none r.has (number s from))
-  runs-all {from} (piece_then {to = to} {tos = tos} here more) =
-      ap (run_between file s (number s from) (number s to) ++◌)
-      (runs-all more)
+      → concat_frames (splices_from file s from tos)
+      ≡ splice_between file s (number s from) (number s (last_place from tos))
+  splices-all {from} no_pieces = sym (between-none r.has (number s from))
+  splices-all {from} (piece_then {to = to} {tos = tos} here more) =
+      ap (splice_between file s (number s from) (number s to) ++◌)
+      (splices-all more)
       ∙ between-append r.has
       (omega (arith, here.piece.right.some)) (rise more)
 
   pieces-of : {from : Place} {tos : List Place} {parts : List FilePart}
       → ArePlain file s from tos parts
-      → ArePiecesOf frames_window (runs_from file s from tos) (map part_brought parts)
+      → ArePiecesOf frames_window (splices_from file s from tos) (map part_brought parts)
   pieces-of no_pieces = tt
   pieces-of (piece_then here more) = (piece-of here.0.piece refl (here.1 tt), pieces-of more)
 
   pieces-left : {from : Place} {tos : List Place} {parts : List FilePart}
       → AreWhole file s from tos parts → (joints : List JointFrames)
       → map (λ (j : JointFrames). j.seam) joints
-      ≡ map (piece_seam frames_window) (runs_from file s from tos)
+      ≡ map (piece_seam frames_window) (splices_from file s from tos)
       → flat_map part_stream (later_parts joints parts)
       ≡ slice_range (all_stream file s) (number s from) (number s (last_place from tos))
   pieces-left {from} no_pieces [] seams = sym (range-none (all_stream file s) (number s from))
@@ -208,10 +209,10 @@ module _ {file : List ℕ} {s : SurveyFields} (r : Recording file s) where
   pieces-left (piece_then here more) [] seams = absurd cc
   pieces-left {from} (piece_then {to = to} {tos = tos} {p = p} {parts = parts} here more)
       (j ∷ joints) seams =
-      let run = run_between file s (number s from) (number s to) in
-      let seam : j.seam ≡ piece_seam frames_window run = cc in
+      let splice = splice_between file s (number s from) (number s to) in
+      let seam : j.seam ≡ piece_seam frames_window splice = cc in
       let later : map (λ (j : JointFrames). j.seam) joints
-      ≡ map (piece_seam frames_window) (runs_from file s to tos) =
+      ≡ map (piece_seam frames_window) (splices_from file s to tos) =
       cc in
       let out = ap left_out_count seam
       ∙ by-fit here.piece refl (λ b. left_out_count (if b then Whole else LeadIn)) refl refl in
@@ -232,22 +233,23 @@ module _ {file : List ℕ} {s : SurveyFields} (r : Recording file s) where
     abbrev pub begin : IsPlainAt (whole_cuts s) file s s.class (Unit {0}) from to first
     begin = first-at plain
 
-    abbrev run_here : List RunFrame
-    run_here = run_between file s (number s from) (number s to)
+    abbrev splice_here : List SpliceFrame
+    splice_here = splice_between file s (number s from) (number s to)
 
     -- what is cut from the first place to the last
     abbrev pub cut_whole : LaidPart
     cut_whole = laid_piece false (chosen_between (number s from) (number s (last_place to tos))) s
 
-    -- the inputs are joined to one run: the frames of the file
-    pub one-run : AreOneRun frames_window run_here (runs_from file s to tos) (part_brought first)
+    -- the inputs are joined to one splice: the frames of the file
+    pub one-splice : AreOneSplice frames_window splice_here (splices_from file s to tos)
+        (part_brought first)
         (join_of_parts first parts)
-    one-run =
-        let all = runs-all pieces-are in
-        subst (λ d. AreOneRun frames_window run_here (runs_from file s to tos)
+    one-splice =
+        let all = splices-all pieces-are in
+        subst (λ d. AreOneSplice frames_window splice_here (splices_from file s to tos)
         (part_brought first) (seamless_join d (part_brought first) (map part_brought parts)))
         (sym begin.0.piece.is.of_class)
-        (pieces-one-run s.class run_here (runs_from file s to tos) (part_brought first)
+        (pieces-one-splice s.class splice_here (splices_from file s to tos) (part_brought first)
         (map part_brought parts) (piece-of begin.0.piece refl (begin.1 tt))
         (pieces-of (later-at plain))
         (subst AreHeadersKnown (sym all)
@@ -255,27 +257,34 @@ module _ {file : List ℕ} {s : SurveyFields} (r : Recording file s) where
         (subst (λ l. fits_behind frames_window frames_window (needs_of l) ≡ true)
         (sym all) (between-fits r.has (number s from) (number s (last_place to tos)))))
 
-    -- exactly the lead-ins of the first piece leave the run at the end
+    -- exactly the lead-ins of the first piece leave the splice at the end
     pub front-is : (join_of_parts first parts).front ≡ leads begin.0.piece
-    front-is = one-run.front ∙ by-fit begin.0.piece refl (λ b. if b then 0 else 1) refl refl
+    front-is = one-splice.front ∙ by-fit begin.0.piece refl (λ b. if b then 0 else 1) refl refl
 
-    -- the plan of the run is the plan of the whole
-    pub plan-is : run_plan first parts ≡ cut_whole.placed
+    -- the plan of the splice is the plan of the whole
+    pub plan-is : splice_plan first parts ≡ cut_whole.placed
     plan-is =
-        grind
-        (arith, begin.0.piece.is.of_class, one-run.run, runs-all, pieces-are, between-needs, r.has)
+        grind (
+          arith,
+          begin.0.piece.is.of_class,
+          one-splice.splice,
+          splices-all,
+          pieces-are,
+          between-needs,
+          r.has,
+        )
 
-    -- the stream of the run is the stream of the file from the first number to the last
-    pub run-stream : flat_map part_stream (run_parts first parts)
+    -- the stream of the splice is the stream of the file from the first number to the last
+    pub splice-stream : flat_map part_stream (splice_parts first parts)
         ≡ slice_range (all_stream file s) (number s from) (number s (last_place to tos))
-    run-stream =
+    splice-stream =
         let later = later-at pieces-are in
         ap₂ ◌++◌
         (ap (λ n. part_stream (part_from n first)) front-is ∙ left-own begin.0.piece)
-        (pieces-left later (join_of_parts first parts).joints one-run.seams)
+        (pieces-left later (join_of_parts first parts).joints one-splice.seams)
         ∙ range-append (all_stream file s) (omega (arith, begin.0.piece.right.some)) (rise later)
 
     -- the stream of the join is the stream that the whole is laid with
     pub seamless-stream : seamless_stream (first ∷ parts) ≡ stream_laid cut_whole file s
     unfolding seamless_stream
-    seamless-stream = ap₂ stream_with_lead_ins plan-is run-stream
+    seamless-stream = ap₂ stream_with_lead_ins plan-is splice-stream

@@ -11,8 +11,8 @@ use Rattle.outside.specs.Files.{AreOctets, Contents}
 use Rattle.seam_laws.specs.{PlayedParts.input_played, SeamlessLaws.{is_empty_frame, IsSamePosition}}
 use Rattle.seam_plan.specs.{Seams.JointFrames, declared.seam.Seam.Seam}
 use Rattle.seam_plan.specs.declared.seam.Seam.TheVariants.{Follows, LeadIn, Whole}
-use Rattle.seamless_edits.specs.Seamless.{delay_of_run, join_of_parts, last_part, run_parts}
-use Rattle.seamless_edits.specs.Seamless.{seamless_file}
+use Rattle.seamless_edits.specs.Seamless.{delay_of_splice, join_of_parts, last_part, seamless_file}
+use Rattle.seamless_edits.specs.Seamless.{splice_parts}
 use Rattle.sync_survey.specs.Faults.{stream_of, stream_of_survey, SurveyFields}
 use Rattle.sync_survey.specs.{MainData.StreamFrame, Survey.survey_of}
 
@@ -49,7 +49,7 @@ pub record IsInputWritten (first : FilePart) (parts : List FilePart) (number : �
     : Type 0 where
   -- what is written of it
   pub part : FilePart
-  pub is : slice_get (run_parts first parts) number ≡ Some part
+  pub is : slice_get (splice_parts first parts) number ≡ Some part
   -- the frames before that
   pub left_out : List StreamFrame
   pub all : stream_of_survey input.file (survey_without_head input.survey)
@@ -57,12 +57,13 @@ pub record IsInputWritten (first : FilePart) (parts : List FilePart) (number : �
   pub may : MayBeLeftOut (seam_at (join_of_parts first parts).joints number) input.survey.class
       input.file left_out
 
--- Of each input what a join without seams leaves out is at most one frame, the first, and that
--- frame is empty, unless the input follows the one before it; and there is nothing else in the run.
+-- Of each input what a join without seams leaves out is at most one
+-- frame, the first, and that frame is empty, unless the input follows
+-- the one before it; and there is nothing else in the splice.
 pub record LeavesOutEmpty (first : FilePart) (parts : List FilePart) : Type 0 where
   pub inputs : (number : ℕ) (input : FilePart) → slice_get (first ∷ parts) number ≡ Some input
       → IsInputWritten first parts number input
-  pub many : length (run_parts first parts) ≡ length (first ∷ parts)
+  pub many : length (splice_parts first parts) ≡ length (first ∷ parts)
 
 -- this holds for each join that isn't refused
 abbrev pub LeftOutIsEmpty : Type 0
@@ -94,6 +95,6 @@ abbrev pub JoinsKeepTheirEnds : Type 0
 JoinsKeepTheirEnds =
     (files : Contents) (inputs : List (List ℕ)) (first : FilePart) (parts : List FilePart)
     (delay allowed : ℕ) (s : SurveyFields) → join_parts files inputs ≡ Ok (first ∷ parts)
-    → delay_of_run first parts ≡ Some delay → AreOctets (last_part first parts).file
+    → delay_of_splice first parts ≡ Some delay → AreOctets (last_part first parts).file
     → survey_of (seamless_file (first ∷ parts)) allowed ≡ Ok s
     → KeepsEnds first parts (last_part first parts) (input_played (seamless_file (first ∷ parts)) s)

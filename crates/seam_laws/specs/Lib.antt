@@ -1,6 +1,6 @@
 -- What the laws of this crate cite.
 pub mod PlayedParts
 pub mod LeadInLaws
-pub mod RunLaws
+pub mod SpliceLaws
 pub mod SeamlessLaws
 pub mod JoinLaws

@@ -11,11 +11,11 @@ use Rattle.joined_inputs.specs.Parts.{join_parts}
 use Rattle.laying.specs.Laid.{file_laid, frames_laid, info_laid, LaidPart, stream_laid}
 use Rattle.laying.specs.{LaidFiles.laid_file, Relaid.{FilePart, part_stream}, Written.front_blocks}
 use Rattle.outside.specs.Files.{Contents}
-use Rattle.seam_laws.specs.{PlayedParts.piece_lead_ins, RunLaws.run_after}
+use Rattle.seam_laws.specs.{PlayedParts.piece_lead_ins, SpliceLaws.splice_after}
 use Rattle.seam_plan.specs.{Joins.has_lead_in, Seams.JointFrames}
 use Rattle.seam_plan.specs.declared.seam.Seam.TheVariants.{Follows}
 use Rattle.seamless_edits.specs.Seamless.{join_of_parts, part_brought, part_without_head}
-use Rattle.seamless_edits.specs.Seamless.{run_lead_ins, seamless_file, seamless_stream, sound_of}
+use Rattle.seamless_edits.specs.Seamless.{seamless_file, seamless_stream, sound_of, splice_lead_ins}
 use Rattle.side_info.specs.Side.{side_bits}
 use Rattle.split_edits.specs.{Cutting.piece_parts, Split.{cut_part, cutting_of}}
 use Rattle.split_edits.specs.declared.points.Points.{Points}
@@ -24,11 +24,11 @@ use Rattle.sync_survey.specs.Survey.{survey_of}
 
 -- ---- positions
 
--- how many frames the run has up to where the frames of one
+-- how many frames the splice has up to where the frames of one
 -- input end in it: the input with this number, counted from 0
-abbrev pub run_end : FilePart → List FilePart → ℕ → ℕ
-run_end first parts number =
-    length (run_after (part_brought first) (join_of_parts first parts).joints number)
+abbrev pub splice_end : FilePart → List FilePart → ℕ → ℕ
+splice_end first parts number =
+    length (splice_after (part_brought first) (join_of_parts first parts).joints number)
 
 -- Position x of the input with this number is position y of the joined file: both are as far from
 -- the end of the input's last frame.
@@ -36,7 +36,7 @@ abbrev pub IsSamePosition : FilePart → List FilePart → ℕ → FilePart → 
 IsSamePosition first parts number input x y =
     let samples = samples_in first.survey.class in
     y + (length input.survey.frames + (join_of_parts first parts).front) * samples
-    ≡ x + (run_lead_ins first parts + run_end first parts number) * samples
+    ≡ x + (splice_lead_ins first parts + splice_end first parts number) * samples
 
 -- Frame j of a stream is like frame i of another: both are the same
 -- but for their gains. (Bit rate and padding are no part of a stream.)

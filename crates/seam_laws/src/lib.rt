@@ -5,9 +5,9 @@
 mod join_laws;
 mod laws;
 mod lead_in_laws;
-mod run_laws;
+mod splice_laws;
 
 pub use join_laws::{joins_keep_their_ends, left_out_is_empty};
 pub use laws::{following_samples, in_steps, split_then_seamless_join};
 pub use lead_in_laws::{lead_in_where_wanted, led_where_needed};
-pub use run_laws::{followers_go_on, pieces_are_one_run};
+pub use splice_laws::{followers_go_on, pieces_are_one_splice};

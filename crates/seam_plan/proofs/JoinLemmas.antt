@@ -1,4 +1,4 @@
--- How frames join a run, by what it leaves.
+-- How frames join a splice, by what it leaves.
 use Rattle.std.proofs.Common.{arith, Bool, Contains, length, List, None, Option, refl, Some, true}
 use Rattle.std.proofs.Common.{ℕ, [], ◌++◌, ◌<◌, ◌∷◌, ◌≡◌}
 use Rattle.std.{proofs.lemmas.Bool.{and_from, and_parts, le-leb, leb-true}, specs.Bool.Decides}
@@ -9,9 +9,9 @@ use Rattle.frame_header.specs.Tables.{class_of, window_of}
 use Rattle.seam_plan.proofs.{FitLemmas.fits-tested, PlaceLemmas.drop-front}
 use Rattle.seam_plan.proofs.SlotLemmas.{find-least, find-none}
 use Rattle.seam_plan.specs.Decisions.{AddedFramesFit, IsJointOfFrames}
-use Rattle.seam_plan.specs.Frames.{needs_of, RunFrame}
+use Rattle.seam_plan.specs.Frames.{needs_of, SpliceFrame}
 use Rattle.seam_plan.specs.Joins.{fits_behind, is_area_no_less, join_slot, joining_frames}
-use Rattle.seam_plan.specs.declared.{run.Joint.Joint, seam.Seam.Seam}
+use Rattle.seam_plan.specs.declared.{seam.Seam.Seam, splice.Joint.Joint}
 use Rattle.slot_plan.proofs.AreaLemmas.{class-ascend}
 use Rattle.slot_plan.proofs.FreeByteLemmas.{behind-left, fits-drop, fits-wanted, leaves-fit}
 use Rattle.slot_plan.proofs.FreeByteLemmas.{more-behind, one-left, own-wanted}
@@ -19,37 +19,37 @@ use Rattle.slot_plan.specs.FreeBytes.{FitsBehind, IsJoinSlot, IsMostLeft, JoinsI
 use Rattle.slot_plan.specs.{FreeBytes.needs_with_first_slot, Parts.AreNeedsOfClass}
 use Rattle.slot_plan.specs.declared.needs.Need.{Need}
 
-module _ (window left : ℕ) (run : List Need) (is : IsMostLeft window window run left) where
-  run-fits : FitsBehind window window run
-  run-fits = (leaves-fit run (omega arith) is.leaves).0
+module _ (window left : ℕ) (splice : List Need) (is : IsMostLeft window window splice left) where
+  splice-fits : FitsBehind window window splice
+  splice-fits = (leaves-fit splice (omega arith) is.leaves).0
 
-  behind-run : (needs : List Need) → FitsBehind window window (run ++ needs)
+  behind-splice : (needs : List Need) → FitsBehind window window (splice ++ needs)
       → FitsBehind window left needs
-  behind-run needs fits =
+  behind-splice needs fits =
       grind (
         arith,
-        drop-front run needs,
-        fits-drop window window (length run) (run ++ needs) fits,
+        drop-front splice needs,
+        fits-drop window window (length splice) (splice ++ needs) fits,
         own-wanted,
         behind-left,
         fits-wanted,
       )
 
-  run-behind : (needs : List Need) → FitsBehind window left needs
-      → FitsBehind window window (run ++ needs)
-  run-behind needs fits = grind (arith, behind-left, more-behind, run-fits, one-left)
+  splice-behind : (needs : List Need) → FitsBehind window left needs
+      → FitsBehind window window (splice ++ needs)
+  splice-behind needs fits = grind (arith, behind-left, more-behind, splice-fits, one-left)
 
-  -- the run and then frames fit after a whole window
-  -- exactly if the frames fit after what the run leaves
+  -- the splice and then frames fit after a whole window
+  -- exactly if the frames fit after what the splice leaves
   pub behind-tested : (needs : List Need)
-      → Decides (fits_behind window window (run ++ needs)) (FitsBehind window left needs)
-  behind-tested needs = grind (arith, behind-run, fits-tested, run-behind)
+      → Decides (fits_behind window window (splice ++ needs)) (FitsBehind window left needs)
+  behind-tested needs = grind (arith, behind-splice, fits-tested, splice-behind)
 
   module _ (first : Need) (needs : List Need) (known : IsClass (class_of first.header)) where
     abbrev joins_in : SlotFields → Bool
     joins_in slot =
         is_area_no_less first slot
-        && fits_behind window window (run ++ need_in_slot slot first ∷ needs)
+        && fits_behind window window (splice ++ need_in_slot slot first ∷ needs)
 
     joins-passes : {slot : SlotFields} → JoinsInSlot window left first needs slot
         → joins_in slot ≡ true
@@ -61,7 +61,7 @@ module _ (window left : ℕ) (run : List Need) (is : IsMostLeft window window ru
 
     -- if the frames join in a slot, the search finds it
     pub join-found : {slot : SlotFields} → IsJoinSlot window left (first ∷ needs) (Some slot)
-        → join_slot window run first needs ≡ Some slot
+        → join_slot window splice first needs ≡ Some slot
     unfolding IsJoinSlot
     join-found {slot} joins =
         let c : ClassFields = class_of first.header in
@@ -73,7 +73,7 @@ module _ (window left : ℕ) (run : List Need) (is : IsMostLeft window window ru
 
     -- if the frames join in no slot, the search finds none
     pub join-none : IsJoinSlot window left (first ∷ needs) None
-        → join_slot window run first needs ≡ None
+        → join_slot window splice first needs ≡ None
     unfolding IsJoinSlot
     join-none none = grind (arith, find-none, passes-joins)
 
@@ -82,41 +82,41 @@ abbrev pub joint_in : Seam → SlotFields → Joint
 joint_in seam slot = record { seam = seam; slot = Some slot }
 
 -- frames join as `joins` says: in a slot, or in none
-joining-as : {window left : ℕ} (seam : Seam) (run : List RunFrame) (first : RunFrame)
-    (frames : List RunFrame) (slot : Option SlotFields)
-    → IsMostLeft window window (needs_of run) left → IsClass (class_of first.need.header)
+joining-as : {window left : ℕ} (seam : Seam) (splice : List SpliceFrame) (first : SpliceFrame)
+    (frames : List SpliceFrame) (slot : Option SlotFields)
+    → IsMostLeft window window (needs_of splice) left → IsClass (class_of first.need.header)
     → IsJoinSlot window left (needs_of (first ∷ frames)) slot
-    → IsJointOfFrames seam (joining_frames window run (first ∷ frames))
+    → IsJointOfFrames seam (joining_frames window splice (first ∷ frames))
     (option_map (joint_in seam) slot)
 unfolding joining_frames
-joining-as seam run first frames (Some slot) is known joins = grind (arith, join-found)
-joining-as seam run first frames None is known none = grind (arith, join-none)
+joining-as seam splice first frames (Some slot) is known joins = grind (arith, join-found)
+joining-as seam splice first frames None is known none = grind (arith, join-none)
 
 -- ---- what `joins` returns
 
--- an empty list of frames joins any run, without a slot
-pub joining_frames-empty : (window : ℕ) (seam : Seam) (run rest : List RunFrame) {needs : List Need}
-    → needs ≡ needs_of rest → length needs ≡ 0 → IsJointOfFrames seam
-    (joining_frames window run rest) (Some (record { seam = seam; slot = None }))
+-- an empty list of frames joins any splice, without a slot
+pub joining_frames-empty : (window : ℕ) (seam : Seam) (splice rest : List SpliceFrame)
+    {needs : List Need} → needs ≡ needs_of rest → length needs ≡ 0 → IsJointOfFrames seam
+    (joining_frames window splice rest) (Some (record { seam = seam; slot = None }))
 unfolding joining_frames
-joining_frames-empty window seam run rest is none = grind arith
+joining_frames-empty window seam splice rest is none = grind arith
 
-first-known : (class : ClassFields) (first : RunFrame) (frames : List RunFrame) {needs : List Need}
-    → needs ≡ needs_of (first ∷ frames) → AreNeedsOfClass class needs → IsClass class
-    → IsClass (class_of first.need.header)
+first-known : (class : ClassFields) (first : SpliceFrame) (frames : List SpliceFrame)
+    {needs : List Need} → needs ≡ needs_of (first ∷ frames) → AreNeedsOfClass class needs
+    → IsClass class → IsClass (class_of first.need.header)
 unfolding AreNeedsOfClass
 first-known class first frames is same known = grind arith
 
--- if the frames join in a slot, they join the run in it; if they don't join, there is no seam
-pub joins-as : (class : ClassFields) (seam : Seam) (run rest : List RunFrame) {left : ℕ}
+-- if the frames join in a slot, they join the splice in it; if they don't join, there is no seam
+pub joins-as : (class : ClassFields) (seam : Seam) (splice rest : List SpliceFrame) {left : ℕ}
     {needs : List Need} (slot : Option SlotFields) → AreNeedsOfClass class needs → IsClass class
-    → IsMostLeft (window_of class.version) (window_of class.version) (needs_of run) left
+    → IsMostLeft (window_of class.version) (window_of class.version) (needs_of splice) left
     → needs ≡ needs_of rest → IsJoinSlot (window_of class.version) left needs slot
-    → IsJointOfFrames seam (joining_frames (window_of class.version) run rest)
+    → IsJointOfFrames seam (joining_frames (window_of class.version) splice rest)
     (option_map (joint_in seam) slot)
 unfolding IsJoinSlot
-joins-as class seam run [] slot same known before is joins = grind arith
-joins-as class seam run (f ∷ fs) slot same known before is joins =
+joins-as class seam splice [] slot same known before is joins = grind arith
+joins-as class seam splice (f ∷ fs) slot same known before is joins =
     grind (arith, joining-as, first-known)
 
 -- frames that join in a slot fit there
@@ -126,7 +126,7 @@ pub join-fit : (class : ClassFields) (left : ℕ) (needs : List Need) (slot : Sl
 unfolding IsJoinSlot needs_with_first_slot
 join-fit class left needs slot joins = grind arith
 
--- frames that fit after no bytes fit in their own slots after what a run leaves
+-- frames that fit after no bytes fit in their own slots after what a splice leaves
 pub whole-fit : (class : ClassFields) (left : ℕ) (needs : List Need) {first : Need}
     → 0 < length needs → first ≡ slice_index_or needs 0 first
     → FitsBehind (window_of class.version) 0 needs

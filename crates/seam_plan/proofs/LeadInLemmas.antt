@@ -9,7 +9,7 @@ use Rattle.frame_header.specs.Fields.{ClassFields, HeaderFields, IsClass, IsHead
 use Rattle.frame_header.specs.{HeaderBits.header_bits, Slots.all_slots}
 use Rattle.frame_header.specs.Tables.{area_of, class_of, window_of}
 use Rattle.seam_plan.proofs.{FitLemmas.fits-tested, SlotLemmas.find-least}
-use Rattle.seam_plan.specs.{Decisions.IsBroughtInput, Frames.{Brought, needs_of, RunFrame}}
+use Rattle.seam_plan.specs.{Decisions.IsBroughtInput, Frames.{Brought, needs_of, SpliceFrame}}
 use Rattle.seam_plan.specs.Joins.{fits_behind, has_lead_in, is_same_header, lead_in_header}
 use Rattle.seam_plan.specs.{Joins.leads_others, Seams.front_left_out_count}
 use Rattle.seam_plan.specs.declared.input.Input.{Input}
@@ -80,19 +80,21 @@ pub has-else : (window : ℕ) {input : Input} {brought : Brought} → IsBroughtI
 unfolding has_lead_in
 has-else window is blank = grind arith
 
--- ---- the lead-in that leaves the run
+-- ---- the lead-in that leaves the splice
 
 -- if the first input has no lead-in, none is left out
-pub front-none : (class : ClassFields) (brought : Brought) (frames : List RunFrame) {has : Bool}
+pub front-none : (class : ClassFields) (brought : Brought) (frames : List SpliceFrame) {has : Bool}
     → has ≡ false → has ≡ has_lead_in (window_of class.version) brought
     → 0 ≡ front_left_out_count class brought frames
 unfolding front_left_out_count
 front-none class brought frames none is = grind arith
 
 -- the first input's lead-in is left out if it has one that the others need
-pub front-is : (class : ClassFields) (brought : Brought) (frames : List RunFrame) {run : List Need}
-    {has alone : Bool} → run ≡ needs_of frames → has ≡ has_lead_in (window_of class.version) brought
-    → alone ≡ fits_behind (window_of class.version) 0 (drop 1 run)
+pub front-is : (class : ClassFields) (brought : Brought) (frames : List SpliceFrame)
+    {splice : List Need}
+    {has alone : Bool} → splice ≡ needs_of frames
+    → has ≡ has_lead_in (window_of class.version) brought
+    → alone ≡ fits_behind (window_of class.version) 0 (drop 1 splice)
     → cond (has && not alone) 1 0 ≡ front_left_out_count class brought frames
 unfolding front_left_out_count
 front-is class brought frames is leads fits = grind (arith, drop-map)

@@ -3,11 +3,11 @@ pub mod SlotLemmas
 pub mod LeadInLemmas
 pub mod JoinLemmas
 pub mod PlaceLemmas
-pub mod RunLemmas
+pub mod SpliceLemmas
 pub mod SeamLemmas
 pub mod FollowLemmas
-pub mod RunFitLemmas
-pub mod RunSoundLemmas
+pub mod SpliceFitLemmas
+pub mod SpliceSoundLemmas
 pub mod StayingLemmas
 pub mod PartJointLemmas
-pub mod PartRunLemmas
+pub mod PartSpliceLemmas

@@ -1,4 +1,4 @@
--- How a part joins a run, by what this leaves.
+-- How a part joins a splice, by what this leaves.
 use Rattle.std.proofs.Common.{ap, ap₂, arith, false, List, map, None, Option, option_to_list, refl}
 use Rattle.std.proofs.Common.{Some, subst, sym, ℕ, [], ◌++◌, ◌∙◌, ◌∷◌, ◌≡◌, ◌≤◌}
 use Rattle.std.specs.Prelude.{option_map}
@@ -6,9 +6,9 @@ use Rattle.frame_header.specs.Fields.{ClassFields, HeaderFields, IsClass, SlotFi
 use Rattle.frame_header.specs.Tables.{area_of, class_of, window_of}
 use Rattle.seam_plan.proofs.{JoinLemmas.{join-found, join-none}, LeadInLemmas.lead-in-is}
 use Rattle.seam_plan.specs.{Frames.needs_of, Joins.{frame_in_slot, join_slot, joining_frames}}
-use Rattle.seam_plan.specs.PartRuns.{bare_frames, frame_item, IsPartJoint, IsPartNeeds, item_needs}
-use Rattle.seam_plan.specs.PartRuns.{joined_items, joint_items, lead_in_run_item, led_run_items}
-use Rattle.seam_plan.specs.PartRuns.{run_part_items, RunItem}
+use Rattle.seam_plan.specs.PartSplices.{bare_frames, frame_item, IsPartJoint, IsPartNeeds}
+use Rattle.seam_plan.specs.PartSplices.{item_needs, joined_items, joint_items, lead_in_splice_item}
+use Rattle.seam_plan.specs.PartSplices.{led_splice_items, splice_part_items, SpliceItem}
 use Rattle.seam_plan.specs.declared.parts.PartJoint.TheVariants.{InSlot, Led}
 use Rattle.slot_plan.proofs.FreeByteLemmas.{cons-fits, more-behind}
 use Rattle.slot_plan.specs.FreeBytes.{FitsBehind, IsJoinSlot, IsLeadInHeader, IsMostLeft}
@@ -28,8 +28,8 @@ needs-items [] = refl
 needs-items (need ∷ needs) = ap (λ l. need ∷ l) (needs-items needs)
 
 -- the items of a part whose first frame joins in a slot, if there is one
-abbrev pub joined_in : ℕ → Need → List Need → Option SlotFields → List RunItem
-joined_in window first needs None = led_run_items window (first ∷ needs)
+abbrev pub joined_in : ℕ → Need → List Need → Option SlotFields → List SpliceItem
+joined_in window first needs None = led_splice_items window (first ∷ needs)
 joined_in window first needs (Some slot) = map frame_item (need_in_slot slot first ∷ needs)
 
 bare-joined : (window : ℕ) (first : Need) (needs : List Need) (o : Option SlotFields)
@@ -41,14 +41,14 @@ bare-joined window first needs (Some slot) =
     ap (λ l. map frame_item (need_in_slot slot first ∷ l)) (needs-bare needs)
 
 -- the items of a part are decided by the slot in which its first frame joins
-pub run_part_items-is : (window : ℕ) (run : List Need) (first : Need) (needs : List Need)
-    → run_part_items window run (first ∷ needs)
-    ≡ joined_in window first needs (join_slot window run first needs)
+pub splice_part_items-is : (window : ℕ) (splice : List Need) (first : Need) (needs : List Need)
+    → splice_part_items window splice (first ∷ needs)
+    ≡ joined_in window first needs (join_slot window splice first needs)
 unfolding joining_frames
-run_part_items-is window run first needs =
+splice_part_items-is window splice first needs =
     bare-joined window first needs
-    (join_slot window (needs_of (bare_frames run)) first (needs_of (bare_frames needs)))
-    ∙ ap₂ (λ r n. joined_in window first needs (join_slot window r first n)) (needs-bare run)
+    (join_slot window (needs_of (bare_frames splice)) first (needs_of (bare_frames needs)))
+    ∙ ap₂ (λ r n. joined_in window first needs (join_slot window r first n)) (needs-bare splice)
     (needs-bare needs)
 
 -- ---- how a part joins
@@ -59,38 +59,39 @@ pub first-known : (class : ClassFields) (first : Need) (needs : List Need)
 unfolding AreNeedsOfClass
 first-known class first needs same known = grind arith
 
-module _ (class : ClassFields) (left : ℕ) (run : List Need) (known : IsClass class)
-    (is : IsMostLeft (window_of class.version) (window_of class.version) run left) where
+module _ (class : ClassFields) (left : ℕ) (splice : List Need) (known : IsClass class)
+    (is : IsMostLeft (window_of class.version) (window_of class.version) splice left) where
   -- a part whose first frame joins in a slot is its frames with the first in this slot
   pub in-slot-items : (needs : List Need) (slot : SlotFields) → AreNeedsOfClass class needs
       → IsJoinSlot (window_of class.version) left needs (Some slot)
-      → run_part_items (window_of class.version) run needs ≡ joint_items (InSlot slot) needs
+      → splice_part_items (window_of class.version) splice needs ≡ joint_items (InSlot slot) needs
   unfolding IsJoinSlot needs_with_first_slot
   in-slot-items [] slot same joins = absurd joins
   in-slot-items (first ∷ needs) slot same joins =
       let window : ℕ = window_of class.version in
-      run_part_items-is window run first needs
+      splice_part_items-is window splice first needs
       ∙ ap (joined_in window first needs)
-      (join-found window left run is first needs
+      (join-found window left splice is first needs
       (first-known class first needs same known) joins)
 
   -- a part whose frames can't join comes behind its lead-in
   pub led-part-items : (needs : List Need) {header : HeaderFields} → AreNeedsOfClass class needs
       → IsJoinSlot (window_of class.version) left needs None
       → IsLeadInHeader (window_of class.version) needs header
-      → run_part_items (window_of class.version) run needs ≡ joint_items (Led header) needs
+      → splice_part_items (window_of class.version) splice needs ≡ joint_items (Led header) needs
   unfolding IsJoinSlot
   led-part-items [] same none leads = absurd none
   led-part-items (first ∷ needs) {header} same none leads =
       let window : ℕ = window_of class.version in
       let first_known = first-known class first needs same known in
-      run_part_items-is window run first needs
+      splice_part_items-is window splice first needs
       ∙ ap (joined_in window first needs)
-      (join-none window left run is first needs first_known none)
-      ∙ ap (λ o. option_to_list (option_map lead_in_run_item o) ++ map frame_item (first ∷ needs))
+      (join-none window left splice is first needs first_known none)
+      ∙ ap (λ o. option_to_list (option_map lead_in_splice_item o)
+      ++ map frame_item (first ∷ needs))
       (lead-in-is window first needs first_known leads)
 
--- ---- whatever the run is
+-- ---- whatever the splice is
 
 -- frames that fit after the area of a lead-in fit after bytes and the lead-in
 pub lead-fits : {window left : ℕ} (lead : Need) (needs : List Need) → left ≤ window
@@ -98,7 +99,7 @@ pub lead-fits : {window left : ℕ} (lead : Need) (needs : List Need) → left �
     → FitsBehind window window needs → FitsBehind window left (lead ∷ needs)
 lead-fits lead needs within none fits all = grind (arith, cons-fits, more-behind, within)
 
--- a part whose first frame joins in a slot fits after what the run leaves
+-- a part whose first frame joins in a slot fits after what the splice leaves
 pub in-slot-joint : {class : ClassFields} {left : ℕ} (needs : List Need) {slot : SlotFields}
     → IsJoinSlot (window_of class.version) left needs (Some slot)
     → IsPartJoint class left needs (InSlot slot)
@@ -110,7 +111,7 @@ in-slot-joint {class} {left} (first ∷ needs) {slot} joins = record {
       (sym (needs-items (need_in_slot slot first ∷ needs))) joins.joins.fits;
 }
 
--- a part behind its lead-in fits after what any run leaves
+-- a part behind its lead-in fits after what any splice leaves
 pub led-joint : {class : ClassFields} {left : ℕ} (needs : List Need) {header : HeaderFields}
     → left ≤ window_of class.version → IsPartNeeds class needs
     → IsLeadInHeader (window_of class.version) needs header

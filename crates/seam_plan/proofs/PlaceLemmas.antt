@@ -1,4 +1,4 @@
--- The places of the last frames of a run.
+-- The places of the last frames of a splice.
 use Rattle.std.proofs.Common.{ap, append_assoc, arith, drop, length, List, max, sym, ℕ, [], ◌++◌}
 use Rattle.std.proofs.{Common.{◌+◌, ◌-◌, ◌<◌, ◌∙◌, ◌∷◌, ◌≡◌, ◌≤◌, ◌⊎◌}, lemmas.Bool.cases_lt}
 use Rattle.std.proofs.lemmas.List.{drop-append-le, drop-drop, drop_all, length-append, length-drop}
@@ -7,7 +7,7 @@ use Rattle.std.proofs.lemmas.List.FromFn.{length-map-range_with_len, map-range_w
 use Rattle.std.specs.List.{range_with_len}
 use Rattle.exact_span.proofs.SplitLemmas.{ranges}
 use Rattle.seam_plan.specs.Decisions.{frame_place, frame_places, IsSlid, last_seven}
-use Rattle.seam_plan.specs.declared.run.FramePlace.{FramePlace}
+use Rattle.seam_plan.specs.declared.splice.FramePlace.{FramePlace}
 use Rattle.slot_plan.proofs.ReserveLemmas.{max-is}
 
 -- a list without its first part is its second part

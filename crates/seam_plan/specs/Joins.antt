@@ -3,7 +3,7 @@ use Rattle.std.specs.Prelude.{Bool, bytes_eq, drop, false, find, List, map, nat_
 use Rattle.std.specs.Prelude.{Option, option_map, Some, ℕ, [], ◌&&◌, ◌++◌, ◌∷◌}
 use Rattle.frame_header.specs.Fields.{ClassFields, HeaderFields, SlotFields}
 use Rattle.frame_header.specs.{HeaderBits.header_bits, Slots.all_slots, Tables.{area_of, class_of}}
-use Rattle.seam_plan.specs.Frames.{Brought, needs_of, RunFrame}
+use Rattle.seam_plan.specs.Frames.{Brought, needs_of, SpliceFrame}
 use Rattle.slot_plan.specs.{FreeBytes.need_in_slot, Layouts.has_layout}
 use Rattle.slot_plan.specs.{Parts.{own_frame, own_slot_area}, declared.needs.Need.Need}
 
@@ -49,28 +49,28 @@ has_lead_in window input = input.blank && leads_others window (needs_of input.fr
 abbrev pub is_lead_in_wanted : ℕ → Brought → Bool
 is_lead_in_wanted window input = not (fits_behind window 0 (needs_of (drop 1 input.frames)))
 
--- ---- frames that join a run
+-- ---- frames that join a splice
 
 -- the frame's area in this slot is at least its area in its own
 abbrev pub is_area_no_less : Need → SlotFields → Bool
 is_area_no_less need slot = nat_le (own_slot_area need) (own_slot_area (need_in_slot slot need))
 
--- The slot in which the first of some frames joins a run of frames, so that the run, this frame
--- and then the others fit after a whole window: the least slot that is no less than its own.
+-- The slot in which the first of some frames joins a splice of frames, so that the splice, this
+-- frame and then the others fit after a whole window: the least slot that is no less than its own.
 abbrev pub join_slot : ℕ → List Need → Need → List Need → Option SlotFields
-join_slot window run first needs =
+join_slot window splice first needs =
     find
     (λ slot. is_area_no_less first slot
-    && fits_behind window window (run ++ need_in_slot slot first ∷ needs))
+    && fits_behind window window (splice ++ need_in_slot slot first ∷ needs))
     all_slots
 
 -- a frame in another slot
-abbrev pub frame_in_slot : SlotFields → RunFrame → RunFrame
+abbrev pub frame_in_slot : SlotFields → SpliceFrame → SpliceFrame
 frame_in_slot slot f = record f { need = need_in_slot slot f.need }
 
--- The frames as they join a run, the first in its slot, if they can. An empty list always can.
-unfoldable pub joining_frames : ℕ → List RunFrame → List RunFrame → Option (List RunFrame)
-joining_frames window run [] = Some []
-joining_frames window run (first ∷ frames) =
+-- The frames as they join a splice, the first in its slot, if they can. An empty list always can.
+unfoldable pub joining_frames : ℕ → List SpliceFrame → List SpliceFrame → Option (List SpliceFrame)
+joining_frames window splice [] = Some []
+joining_frames window splice (first ∷ frames) =
     option_map (λ slot. frame_in_slot slot first ∷ frames)
-    (join_slot window (needs_of run) first.need (needs_of frames))
+    (join_slot window (needs_of splice) first.need (needs_of frames))

@@ -4,7 +4,7 @@ pub mod Joins
 pub mod Seams
 pub mod Decisions
 pub mod Stretches
-pub mod PartRuns
+pub mod PartSplices
 pub use Rattle.exact_span.specs.Overlaps
 pub use Rattle.exact_span.specs.PlayedPositions
 pub use Rattle.slot_plan.specs.FreeBytes

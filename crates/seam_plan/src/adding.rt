@@ -1,4 +1,4 @@
-//! What a run leaves when frames are added to it.
+//! What a splice leaves when frames are added to it.
 ghost use Rattle.std.specs.Prelude.{◌≡◌, ◌≤◌, ◌<◌, ◌∷◌, length};
 ghost use Rattle.frame_header.specs.Tables.{window_of};
 ghost use Rattle.slot_plan.specs.FreeBytes.{FitsBehind, IsMostLeft, need_in_slot, needs_with_first_slot};

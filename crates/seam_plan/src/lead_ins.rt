@@ -4,7 +4,7 @@ ghost use Rattle.frame_header.specs.Tables.{window_of};
 ghost use Rattle.frame_header.specs.Fields.{ClassFields};
 ghost use Rattle.slot_plan.specs.Parts.{AreNeedsOfClass};
 ghost use Rattle.slot_plan.specs.FreeBytes.{FitBehindWindow};
-ghost use Rattle.seam_plan.specs.Frames.{RunFrame, Brought, needs_of};
+ghost use Rattle.seam_plan.specs.Frames.{SpliceFrame, Brought, needs_of};
 ghost use Rattle.seam_plan.specs.Joins.{has_lead_in, leads_others, is_same_header, fits_behind};
 ghost use Rattle.seam_plan.specs.Seams.{front_left_out_count};
 ghost use Rattle.seam_plan.specs.Decisions.{IsBroughtInput};
@@ -53,20 +53,24 @@ pub(crate) fn has_lead_in(input: &Input<'_>) -> bool
     input.blank && leads_others(input.needs)
 }
 
-/// How many frames are left out at the front of the whole run, 1 or 0: the lead-in of the first
-/// input, if it has one and the other frames want one. The run has at least one frame, and the
+/// How many frames are left out at the front of the whole splice, 1 or 0: the lead-in of the first
+/// input, if it has one and the other frames want one. The splice has at least one frame, and the
 /// frames after its first fit after a whole window.
-pub fn front_left_out(first: &Input<'_>, run: &[Need]) -> u32
+pub fn front_left_out(first: &Input<'_>, splice: &[Need]) -> u32
     requires input { FitBehindWindow first.now.needs.now }
-    requires some { 0 < length run.now }
-    requires run { FitBehindWindow (drop 1 run.now) }
-    ensures { (class : ClassFields) (brought : Brought) (frames : List RunFrame)
-        → AreNeedsOfClass class first.now.needs.now → AreNeedsOfClass class run.now
-        → IsBroughtInput first.now brought → run.now ≡ needs_of frames
+    requires some { 0 < length splice.now }
+    requires splice { FitBehindWindow (drop 1 splice.now) }
+    ensures { (class : ClassFields) (brought : Brought) (frames : List SpliceFrame)
+        → AreNeedsOfClass class first.now.needs.now → AreNeedsOfClass class splice.now
+        → IsBroughtInput first.now brought → splice.now ≡ needs_of frames
         → result ≡ front_left_out_count class brought frames }
 {
     if !has_lead_in(first) {
         return 0;
     }
-    if fit_alone(needs_after(run, 1)) { 0 } else { 1 }
+    if fit_alone(needs_after(splice, 1)) {
+        0
+    } else {
+        1
+    }
 }

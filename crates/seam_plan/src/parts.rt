@@ -1,9 +1,9 @@
-//! The parts of one file as one run: how each joins those before it.
+//! The parts of one file as one splice: how each joins those before it.
 ghost use Rattle.std.specs.Prelude.{◌≡◌, ◌++◌, List};
 ghost use Rattle.frame_header.specs.Fields.{ClassFields};
 ghost use Rattle.frame_header.specs.Tables.{window_of};
 ghost use Rattle.slot_plan.specs.FreeBytes.{FitsBehind, IsMostLeft};
-ghost use Rattle.seam_plan.specs.PartRuns.{IsPartJoint, IsPartNeeds, IsPartRun, IsSoundPartRun, item_needs, joint_items, run_part_items};
+ghost use Rattle.seam_plan.specs.PartSplices.{IsPartJoint, IsPartNeeds, IsPartSplice, IsSoundPartSplice, item_needs, joint_items, splice_part_items};
 
 use crate::adding::{left_behind, left_in_slot};
 use frame_header::{Class, Header, Slot};
@@ -19,34 +19,35 @@ pub enum PartJoint {
     Led(Header),
 }
 
-/// A run of parts: how many bytes its frames leave after a whole window.
+/// A splice of parts: how many bytes its frames leave after a whole window.
 #[derive(Clone, Copy, Debug)]
-pub struct PartRun {
+pub struct PartSplice {
     class: Class,
     left: u32,
 }
 
-impl PartRun {
-    /// The run that begins with the frames of the first part, each in its own slot. There is at
+impl PartSplice {
+    /// The splice that begins with the frames of the first part, each in its own slot. There is at
     /// least one; they are of this class, and fit after a whole window. It takes no memory.
-    pub fn begin(class: Class, needs: &[Need]) -> PartRun
+    pub fn begin(class: Class, needs: &[Need]) -> PartSplice
         requires { IsPartNeeds class needs.now }
-        ensures run { IsPartRun class needs.now result }
-        ensures sound { IsSoundPartRun result }
+        ensures splice { IsPartSplice class needs.now result }
+        ensures sound { IsSoundPartSplice result }
         ensures class { result.class ≡ class }
     {
-        PartRun {
+        PartSplice {
             class,
             left: leaves(needs, class.window()),
         }
     }
 
-    /// How the frames of a part join the run.
+    /// How the frames of a part join the splice.
     fn decide(&self, needs: &[Need]) -> PartJoint
         requires part { IsPartNeeds self.now.class needs.now }
-        requires sound { IsSoundPartRun self.now }
-        ensures items { (class : ClassFields) (run : List Need) → IsPartRun class run self.now
-            → run_part_items (window_of class.version) run needs.now
+        requires sound { IsSoundPartSplice self.now }
+        ensures items { (class : ClassFields) (splice : List Need)
+            → IsPartSplice class splice self.now
+            → splice_part_items (window_of class.version) splice needs.now
             ≡ joint_items result needs.now }
         ensures joint { IsPartJoint self.now.class self.now.left needs.now result }
     {
@@ -56,10 +57,10 @@ impl PartRun {
         }
     }
 
-    /// How many bytes the run leaves with the frames of a part that join so.
+    /// How many bytes the splice leaves with the frames of a part that join so.
     fn left_with(&self, needs: &[Need], joint: &PartJoint) -> u32
         requires part { IsPartNeeds self.now.class needs.now }
-        requires sound { IsSoundPartRun self.now }
+        requires sound { IsSoundPartSplice self.now }
         requires joint { IsPartJoint self.now.class self.now.left needs.now joint.now }
         ensures { IsMostLeft (window_of self.now.class.version) self.now.left
             (item_needs (joint_items joint.now needs.now)) result }
@@ -76,22 +77,24 @@ impl PartRun {
         }
     }
 
-    /// Lays the frames of the next part behind the run, which then has them too, and says how they
+    /// Lays the frames of the next part behind the splice, which then has them too, and says how they
     /// join: the first in the least slot, not less than its own, in which they can, or otherwise
     /// behind the lead-in that they have alone. The other frames keep their own slots. There is at
-    /// least one frame; they are of the run's class, and fit after a whole window. It takes no
+    /// least one frame; they are of the splice's class, and fit after a whole window. It takes no
     /// memory.
     pub fn join(&mut self, needs: &[Need]) -> PartJoint
         requires part { IsPartNeeds self.old.class needs.now }
-        requires sound { IsSoundPartRun self.old }
-        ensures items { (class : ClassFields) (run : List Need) → IsPartRun class run self.old
-            → run_part_items (window_of class.version) run needs.now
+        requires sound { IsSoundPartSplice self.old }
+        ensures items { (class : ClassFields) (splice : List Need)
+            → IsPartSplice class splice self.old
+            → splice_part_items (window_of class.version) splice needs.now
             ≡ joint_items result needs.now }
-        ensures goes_on { (class : ClassFields) (run : List Need) → IsPartRun class run self.old
-            → IsPartRun class (run ++ item_needs (joint_items result needs.now)) self.new }
-        // Whatever the run is.
+        ensures goes_on { (class : ClassFields) (splice : List Need)
+            → IsPartSplice class splice self.old
+            → IsPartSplice class (splice ++ item_needs (joint_items result needs.now)) self.new }
+        // Whatever the splice is.
         ensures joint { IsPartJoint self.old.class self.old.left needs.now result }
-        ensures sound { IsSoundPartRun self.new }
+        ensures sound { IsSoundPartSplice self.new }
         ensures class { self.new.class ≡ self.old.class }
     {
         let joint = self.decide(needs);

@@ -6,9 +6,9 @@ ghost use Rattle.seam_plan.specs.Seams.{left_out_count};
 #[derive(Clone, Copy, Debug, PartialEq, Eq)]
 pub enum Seam {
     /// This many frames, because the input follows the one before it: they are the last frames of
-    /// the run, or before the first frame that is played.
+    /// the splice, or before the first frame that is played.
     Follows(u32),
-    /// One frame, a lead-in, because the frames after it have room after the run.
+    /// One frame, a lead-in, because the frames after it have room after the splice.
     LeadIn,
     /// No frames.
     Whole,

@@ -12,25 +12,25 @@ use Rattle.joined_inputs.specs.{Inputs.InputFields, Laying.{AreFromsWithin, rest
 use Rattle.laying.{proofs.NeedsFitLemmas.part-fits, specs.Needs.{need_of, needs_of_parts}}
 use Rattle.outside.specs.Files.{Contents, Files, IfTold, Told, Untold}
 use Rattle.seam_plan.specs.Decisions.{frame_places, IsJoinableInput, IsJoint}
-use Rattle.seam_plan.specs.Frames.{Brought, needs_of, RunFrame}
+use Rattle.seam_plan.specs.Frames.{Brought, needs_of, SpliceFrame}
 use Rattle.seam_plan.specs.Seams.{front_left_out_count, joints_from, seamless_join}
-use Rattle.seam_plan.specs.declared.{input.Input.Input, run.Joint.Joint}
+use Rattle.seam_plan.specs.declared.{input.Input.Input, splice.Joint.Joint}
 use Rattle.seamless_edits.proofs.DecideLemmas.{moved-drop, moved-same}
 use Rattle.seamless_edits.proofs.DecideStepLemmas.{brings-silent, brings-told, IsInputOf, places-at}
 use Rattle.seamless_edits.proofs.DecideStepLemmas.{places-sound, range-behind}
 use Rattle.seamless_edits.specs.Deciding.{AreMovedNeeds, BringsNeeds, brought_of, broughts_in}
-use Rattle.seamless_edits.specs.Deciding.{CanBeDecided, CanBeginRun, FitAlone, FitsAlone}
-use Rattle.seamless_edits.specs.Deciding.{from_places, HasBegunRun, input_needs, IsDecidedTo}
-use Rattle.seamless_edits.specs.Deciding.{IsDecidingTo, IsJoinedOf, IsNextInput, IsRunDecided}
-use Rattle.seamless_edits.specs.Deciding.{IsRunnable, left_out_counts}
-use Rattle.seamless_edits.specs.Sounds.{all_run_frames, AreOfOneClass}
+use Rattle.seamless_edits.specs.Deciding.{CanBeDecided, CanBeginSplice, FitAlone, FitsAlone}
+use Rattle.seamless_edits.specs.Deciding.{from_places, HasBegunSplice, input_needs, IsDecidedTo}
+use Rattle.seamless_edits.specs.Deciding.{IsDecidingTo, IsJoinedOf, IsNextInput, IsSpliceable}
+use Rattle.seamless_edits.specs.Deciding.{IsSpliceDecided, left_out_counts}
+use Rattle.seamless_edits.specs.Sounds.{all_splice_frames, AreOfOneClass}
 use Rattle.seamless_edits.specs.declared.{beginnings.Beginning.Beginning, decided.Decided.Decided}
 use Rattle.seamless_edits.specs.declared.decided.Deciding.{Deciding}
 use Rattle.slot_plan.proofs.{FreeByteLemmas.{fits-drop, leaves-fit}, PartLemmas.class-drop}
 use Rattle.slot_plan.specs.{FreeBytes.FitsBehind, Parts.AreNeedsOfClass, declared.needs.Need.Need}
 use Rattle.sync_survey.specs.{Faults.SurveyFields, Survey.IsSurveyLaidOut}
 
--- ---- an input from which a run can begin
+-- ---- an input from which a splice can begin
 
 -- the needs of an input's frames are of its class
 pub needs-class : {s : SurveyFields} → IsSurveyLaidOut s → AreNeedsOfClass s.class (input_needs s)
@@ -39,9 +39,9 @@ needs-class {s} laid =
     range-behind s 0 in
     subst (AreNeedsOfClass s.class) whole (part-fits s 0 (length s.frames) laid.placed).0
 
--- a run can begin from the first of inputs that can be decided
+-- a splice can begin from the first of inputs that can be decided
 pub can-begin : {files : Files} {i : InputFields} {inputs : List InputFields}
-    {bs : List Beginning} → CanBeDecided files (i ∷ inputs) bs → CanBeginRun i.survey
+    {bs : List Beginning} → CanBeDecided files (i ∷ inputs) bs → CanBeginSplice i.survey
 unfolding frames_together
 can-begin {i = i} can = record {
   some = can.joined.alike.0;
@@ -53,7 +53,7 @@ can-begin {i = i} can = record {
 -- the same, with the first input given by its place
 pub can-begin-at : {files : Files} (inputs : List InputFields) {bs : List Beginning}
     {i : InputFields} {rest : List InputFields} → CanBeDecided files inputs bs
-    → drop 0 inputs ≡ i ∷ rest → CanBeginRun i.survey
+    → drop 0 inputs ≡ i ∷ rest → CanBeginSplice i.survey
 can-begin-at [] can e = absurd cc
 can-begin-at {files} (j ∷ inputs) {bs} {i} {rest} can e = grind (arith, can-begin can)
 
@@ -61,11 +61,11 @@ can-begin-at {files} (j ∷ inputs) {bs} {i} {rest} can e = grind (arith, can-be
 
 module _ (files : Files) (i : InputFields) (inputs : List InputFields)
     (b : Beginning) (bs : List Beginning) (d : Deciding)
-    (can : CanBeDecided files (i ∷ inputs) (b ∷ bs)) (begun : HasBegunRun i.survey b d) where
+    (can : CanBeDecided files (i ∷ inputs) (b ∷ bs)) (begun : HasBegunSplice i.survey b d) where
   abbrev s : SurveyFields
   s = i.survey
 
-  abbrev can-be : CanBeginRun s
+  abbrev can-be : CanBeginSplice s
   can-be = can-begin can
 
   rows-one : (outs : List ℕ)
@@ -75,7 +75,7 @@ module _ (files : Files) (i : InputFields) (inputs : List InputFields)
 
   first-is : {first : Brought} → BringsNeeds s b first → IfTold files (λ f.
       IsDecidedTo s.class (take 1 (broughts_in f (i ∷ inputs) (b ∷ bs)))
-      (all_run_frames f (i ∷ inputs)) first.frames (frame_places 0 0 (length first.frames)) first
+      (all_splice_frames f (i ∷ inputs)) first.frames (frame_places 0 0 (length first.frames)) first
       d.joints.items) → IsDecidingTo files (i ∷ inputs) (b ∷ bs) 1 d
   first-is {first} brings told =
       let many : length first.frames ≡ length s.frames = grind (arith, length-map) in
@@ -86,7 +86,7 @@ module _ (files : Files) (i : InputFields) (inputs : List InputFields)
         frames = first.frames;
         places = frame_places 0 0 (length first.frames);
         before = first;
-        is_run = begun.run first brings;
+        is_splice = begun.splice first brings;
         sound = begun.sound;
         needs = begun.needs ∙ sym brings.needs;
         at = places-at 0 0 (length first.frames) refl (omega (arith, many));
@@ -100,7 +100,7 @@ module _ (files : Files) (i : InputFields) (inputs : List InputFields)
 
   first-told : (f : Contents) → (let first = brought_of f i b in
       IsDecidedTo s.class (take 1 (broughts_in f (i ∷ inputs) (b ∷ bs)))
-      (all_run_frames f (i ∷ inputs)) first.frames
+      (all_splice_frames f (i ∷ inputs)) first.frames
       (frame_places 0 0 (length first.frames)) first d.joints.items)
   unfolding joints_from
   first-told f =
@@ -110,16 +110,16 @@ module _ (files : Files) (i : InputFields) (inputs : List InputFields)
         others = [];
         are = refl;
         last = refl;
-        run = sym (append-nil first.frames);
+        splice = sym (append-nil first.frames);
         joints_are = subst (λ (l : List Joint). AllZip IsJoint [] l) (sym begun.joints) tt;
-        sounds = places-sound (all_run_frames f (i ∷ inputs)) 0 0
+        sounds = places-sound (all_splice_frames f (i ∷ inputs)) 0 0
             (length first.frames) refl (omega arith);
       }
 
--- the run has begun
+-- the splice has begun
 pub begun-decides : (files : Files) {i : InputFields} {inputs : List InputFields}
     {b : Beginning} {bs : List Beginning} {d : Deciding}
-    → CanBeDecided files (i ∷ inputs) (b ∷ bs) → HasBegunRun i.survey b d
+    → CanBeDecided files (i ∷ inputs) (b ∷ bs) → HasBegunSplice i.survey b d
     → IsDecidingTo files (i ∷ inputs) (b ∷ bs) 1 d
 begun-decides (Untold touched) {i} {inputs} {b} {bs} {d} can begun =
     first-is (Untold touched) i inputs
@@ -132,15 +132,15 @@ begun-decides (Told f) {i} {inputs} {b} {bs} {d} can begun =
 pub begun-at : {files : Files} (inputs : List InputFields)
     (bs : List Beginning) {i : InputFields} {b : Beginning} {d : Deciding}
     → CanBeDecided files inputs bs → slice_get inputs 0 ≡ Some i → slice_get bs 0 ≡ Some b
-    → HasBegunRun i.survey b d → IsDecidingTo files inputs bs 1 d
+    → HasBegunSplice i.survey b d → IsDecidingTo files inputs bs 1 d
 begun-at [] bs can found there begun = absurd cc
 begun-at (j ∷ inputs) [] can found there begun = absurd cc
 begun-at {files} (j ∷ inputs) (c ∷ bs) {i} {b} {d} can found there begun =
     let items : i ≡ j = cc in
     let beginnings : b ≡ c = cc in
     begun-decides files can
-    (subst (λ (u : InputFields). HasBegunRun u.survey c d) items
-    (subst (λ (e : Beginning). HasBegunRun i.survey e d) beginnings begun))
+    (subst (λ (u : InputFields). HasBegunSplice u.survey c d) items
+    (subst (λ (e : Beginning). HasBegunSplice i.survey e d) beginnings begun))
 
 -- ---- all inputs
 
@@ -186,9 +186,9 @@ broughts-few f [] bs = omega arith
 broughts-few f (i ∷ inputs) [] = omega arith
 broughts-few f (i ∷ inputs) (b ∷ bs) = omega (arith, broughts-few f inputs bs)
 
--- how many frames are left out at the front of the run, fewer than the first input has
+-- how many frames are left out at the front of the splice, fewer than the first input has
 pub record IsFront (s : SurveyFields) (b : Beginning) (needs : List Need) (front : ℕ) : Type 0 where
-  pub is : (first : Brought) (frames : List RunFrame) → BringsNeeds s b first
+  pub is : (first : Brought) (frames : List SpliceFrame) → BringsNeeds s b first
       → needs ≡ needs_of frames → front ≡ front_left_out_count s.class first frames
   pub behind : front < length s.frames
 
@@ -213,16 +213,16 @@ module _ (files : Files) (i : InputFields) (inputs : List InputFields)
   all-within : AreFromsWithin (from_places (i ∷ inputs) (0 ∷ left_out_counts d.joints.items))
   all-within = grind (arith, take_all)
 
-  -- the needs of the run are of the class
+  -- the needs of the splice are of the class
   pub front-same : AreNeedsOfClass own.class d.needs.items
   front-same = subst (λ (c : ClassFields). AreNeedsOfClass c d.needs.items) same-class is.same
 
-  -- the needs of the run fit after a whole window
+  -- the needs of the splice fit after a whole window
   pub front-fits : FitsBehind (window_of own.class.version)
       (window_of own.class.version) d.needs.items
   front-fits = grind (arith, same-class, all-fit)
 
-  -- the first needs of the run are the needs of the first input
+  -- the first needs of the splice are the needs of the first input
   pub front-first : take (length own.frames) d.needs.items ≡ input_needs own
   front-first = is.begins i refl
 
@@ -230,8 +230,8 @@ module _ (files : Files) (i : InputFields) (inputs : List InputFields)
     abbrev decided : Decided
     decided = record { front = front; joints = d.joints; needs = d.needs }
 
-    runnable : IsRunnable (i ∷ inputs) decided
-    runnable = record {
+    spliceable : IsSpliceable (i ∷ inputs) decided
+    spliceable = record {
       class = is.class;
       class_is = is.class_is;
       many = is.many;
@@ -261,7 +261,7 @@ module _ (files : Files) (i : InputFields) (inputs : List InputFields)
           (rest_rows (from_places (i ∷ inputs) (0 ∷ left_out_counts d.joints.items)))) all-moved);
     }
 
-    joined-of : (f : Contents) {all : List Brought} {lists : List (List RunFrame)}
+    joined-of : (f : Contents) {all : List Brought} {lists : List (List SpliceFrame)}
         → all ≡ brought_of f i b ∷ drop 1 all
         → IsDecidedTo is.class all lists is.frames is.places is.before d.joints.items
         → IsJoinedOf is.class all decided
@@ -279,7 +279,7 @@ all-told {f} {i} {inputs} {b} {bs} {d} can is {front} known =
     let all = broughts_in f (i ∷ inputs) (b ∷ bs) in
     joined-of (Told f) i inputs b bs d can is front known f refl
     (subst (λ (l : List Brought). IsDecidedTo is.class l
-    (all_run_frames f (i ∷ inputs)) is.frames is.places is.before d.joints.items)
+    (all_splice_frames f (i ∷ inputs)) is.frames is.places is.before d.joints.items)
     (take_all (length (i ∷ inputs)) all (broughts-few f (i ∷ inputs) (b ∷ bs))) is.told)
 
 -- all inputs are decided
@@ -287,24 +287,24 @@ pub all-decided : (files : Files) (i : InputFields) (inputs : List InputFields)
     (b : Beginning) (bs : List Beginning) (d : Deciding)
     → CanBeDecided files (i ∷ inputs) (b ∷ bs)
     → IsDecidingTo files (i ∷ inputs) (b ∷ bs) (length (i ∷ inputs)) d → (front : ℕ)
-    → IsFront i.survey b d.needs.items front → IsRunDecided files (i ∷ inputs) (b ∷ bs)
+    → IsFront i.survey b d.needs.items front → IsSpliceDecided files (i ∷ inputs) (b ∷ bs)
     (record { front = front; joints = d.joints; needs = d.needs })
-unfolding runnable
+unfolding spliceable
 all-decided (Untold touched) i inputs b bs d can is front known =
-    record { run = runnable (Untold touched) i inputs b bs d can is front known; told = tt }
+    record { splice = spliceable (Untold touched) i inputs b bs d can is front known; told = tt }
 all-decided (Told f) i inputs b bs d can is front known = record {
-  run = runnable (Told f) i inputs b bs d can is front known;
+  splice = spliceable (Told f) i inputs b bs d can is front known;
   told = all-told can is known;
 }
 
--- what is known when all inputs are decided: the needs of the run are of the first input's class
+-- what is known when all inputs are decided: the needs of the splice are of the first input's class
 -- and fit after a whole window, those of the first input come first, and the front decides the join
 pub record AreAllDecided (files : Files) (inputs : List InputFields)
     (bs : List Beginning) (s : SurveyFields) (b : Beginning) (d : Deciding) : Type 0 where
   pub same : AreNeedsOfClass s.class d.needs.items
   pub fits : FitsBehind (window_of s.class.version) (window_of s.class.version) d.needs.items
   pub first : take (length s.frames) d.needs.items ≡ input_needs s
-  pub joined : (front : ℕ) → IsFront s b d.needs.items front → IsRunDecided files inputs bs
+  pub joined : (front : ℕ) → IsFront s b d.needs.items front → IsSpliceDecided files inputs bs
       (record { front = front; joints = d.joints; needs = d.needs })
 
 -- all inputs are decided, the first of which is given by its place
@@ -375,8 +375,8 @@ module _ (files : Files) (inputs : List InputFields) (bs : List Beginning)
   class-here : next.class ≡ is.class
   class-here = grind (arith, can.joined.class, is.class, can.joined.first, is.class_is, known.2)
 
-  run-class : next.class ≡ d.run.class
-  run-class = class-here ∙ sym is.is_run.of_class
+  splice-class : next.class ≡ d.splice.class
+  splice-class = class-here ∙ sym is.is_splice.of_class
 
   long : length input.needs.now ≡ length next.frames
   long = ap length needs ∙ length-map next.frames need_of
@@ -390,12 +390,12 @@ module _ (files : Files) (inputs : List InputFields) (bs : List Beginning)
     counted = subst (λ n. IfSome input.played (AreCounted next.class n)) (sym long) counted;
   }
 
-  -- the input can join the run
-  pub can-join : IsJoinableInput d.run.class input
-  can-join = subst (λ (c : ClassFields). IsJoinableInput c input) run-class can-join-own
+  -- the input can join the splice
+  pub can-join : IsJoinableInput d.splice.class input
+  can-join = subst (λ (c : ClassFields). IsJoinableInput c input) splice-class can-join-own
 
-  -- the input is the next of the run
-  pub is-next : IsNextInput inputs number d.run input
+  -- the input is the next of the splice
+  pub is-next : IsNextInput inputs number d.splice input
   is-next = grind (arith, can-join)
 
   -- this is the input with this number, and it begins as that one does

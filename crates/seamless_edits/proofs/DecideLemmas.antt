@@ -8,10 +8,11 @@ use Rattle.std.specs.{List.AllZip, Prelude.{nat_le, option_and_then}}
 use Rattle.exact_span.specs.declared.overlap.Overlap.{Overlap}
 use Rattle.frame_header.specs.Fields.{ClassFields, SlotFields}
 use Rattle.seam_plan.specs.Decisions.{alike_overlap, frame_place, IsJoint, joined_needs}
-use Rattle.seam_plan.specs.{Decisions.{last_places, overlap_if_alike}, Frames.{Brought, RunFrame}}
+use Rattle.seam_plan.specs.Decisions.{last_places, overlap_if_alike}
+use Rattle.seam_plan.specs.Frames.{Brought, SpliceFrame}
 use Rattle.seam_plan.specs.Seams.{are_frames_alike, compared_frames, ends_alike, joint_of}
 use Rattle.seam_plan.specs.Seams.{JointFrames, joints_from, joints_of, left_out_count, overlap_of}
-use Rattle.seam_plan.specs.{Seams.run_with, declared.run.{FramePlace.FramePlace, Joint.Joint}}
+use Rattle.seam_plan.specs.{Seams.splice_with, declared.splice.{FramePlace.FramePlace, Joint.Joint}}
 use Rattle.seamless_edits.specs.Deciding.{AreMovedNeeds, last_brought, left_out_counts}
 use Rattle.seamless_edits.specs.Sounds.{same_sounds, sound_at}
 use Rattle.slot_plan.specs.{FreeBytes.needs_with_first_slot, Parts.AreNeedsOfClass}
@@ -20,27 +21,28 @@ use Rattle.slot_plan.specs.declared.needs.Need.{Need}
 -- ---- one more joint
 
 module _ (class : ClassFields) where
-  abbrev frames-in : List JointFrames → List RunFrame
+  abbrev frames-in : List JointFrames → List SpliceFrame
   frames-in joints = flat_map (λ (j : JointFrames). j.frames) joints
 
-  joints-more : (run : List RunFrame) (before : Brought) (others : List Brought) (next : Brought)
-      → joints_from class run before (others ++ next ∷ [])
-      ≡ joints_from class run before others ++ joint_of class (run
-      ++ frames-in (joints_from class run before others)) (last_brought before others) next ∷ []
+  joints-more : (splice : List SpliceFrame) (before : Brought) (others : List Brought)
+      (next : Brought) → joints_from class splice before (others ++ next ∷ [])
+      ≡ joints_from class splice before others ++ joint_of class (splice
+      ++ frames-in (joints_from class splice before others)) (last_brought before others) next ∷ []
   unfolding joints_from
-  joints-more run before [] next = grind (arith, append-nil)
-  joints-more run before (b ∷ others) next =
-      let joint = joint_of class run before b in
-      let later = joints_from class (run ++ joint.frames) b others in
-      ap (λ (l : List JointFrames). joint ∷ l) (joints-more (run ++ joint.frames) b others next)
-      ∙ ap (λ (r : List RunFrame). joint ∷ (later ++ joint_of class r (last_brought b others) next
-      ∷ [])) (append_assoc run joint.frames (frames-in later))
+  joints-more splice before [] next = grind (arith, append-nil)
+  joints-more splice before (b ∷ others) next =
+      let joint = joint_of class splice before b in
+      let later = joints_from class (splice ++ joint.frames) b others in
+      ap (λ (l : List JointFrames). joint ∷ l) (joints-more (splice ++ joint.frames) b others next)
+      ∙ ap (λ (r : List SpliceFrame). joint
+      ∷ (later ++ joint_of class r (last_brought b others) next
+      ∷ [])) (append_assoc splice joint.frames (frames-in later))
 
   -- one more input has one more joint
   pub joints-next : (first : Brought) (others : List Brought) (next : Brought)
       → joints_of class first (others ++ next ∷ [])
       ≡ joints_of class first others ++ joint_of class
-      (run_with first (joints_of class first others)) (last_brought first others) next ∷ []
+      (splice_with first (joints_of class first others)) (last_brought first others) next ∷ []
   joints-next first others next = joints-more first.frames first others next
 
   frames-more : (joints : List JointFrames) (joint : JointFrames)
@@ -48,13 +50,13 @@ module _ (class : ClassFields) where
   frames-more [] joint = append-nil joint.frames
   frames-more (j ∷ joints) joint = grind (arith, append_assoc, frames-more joints joint)
 
-  -- one more input adds its frames to the run
-  pub run-next : (first : Brought) (others : List Brought) (next : Brought)
-      → run_with first (joints_of class first (others ++ next ∷ []))
-      ≡ run_with first (joints_of class first others)
-      ++ (joint_of class (run_with first (joints_of class first others))
+  -- one more input adds its frames to the splice
+  pub splice-next : (first : Brought) (others : List Brought) (next : Brought)
+      → splice_with first (joints_of class first (others ++ next ∷ []))
+      ≡ splice_with first (joints_of class first others)
+      ++ (joint_of class (splice_with first (joints_of class first others))
       (last_brought first others) next).frames
-  run-next first others next = grind (arith, joints-next, frames-more, append_assoc)
+  splice-next first others next = grind (arith, joints-next, frames-more, append_assoc)
 
 -- with one more input, that input is the last
 pub last-next : (first : Brought) (others : List Brought) (next : Brought)
@@ -114,7 +116,7 @@ class-moved class slot needs same = grind arith
 -- ---- frames that are alike
 
 -- whether the frames at these places sound like the frames of an input from one on
-abbrev pub sounds_from : List (List RunFrame) → ℕ → ℕ → List FramePlace → Bool
+abbrev pub sounds_from : List (List SpliceFrame) → ℕ → ℕ → List FramePlace → Bool
 sounds_from lists number frame [] = true
 sounds_from lists number frame (p ∷ ps) =
     same_sounds lists p (frame_place number frame) && sounds_from lists number (frame + 1) ps
@@ -127,15 +129,16 @@ drop-cons zero (x ∷ xs) within = (x, refl, refl)
 drop-cons (suc n) (x ∷ xs) within = grind (arith, drop-cons n xs (omega (arith, within)))
 
 -- the sound at a place is the sound of the frame there
-pub sound-here : (lists : List (List RunFrame)) (number frame : ℕ) {all : List RunFrame}
-    {x : RunFrame} → slice_get lists number ≡ Some all → slice_get all frame ≡ Some x
+pub sound-here : (lists : List (List SpliceFrame)) (number frame : ℕ) {all : List SpliceFrame}
+    {x : SpliceFrame} → slice_get lists number ≡ Some all → slice_get all frame ≡ Some x
     → sound_at lists (frame_place number frame) ≡ x.sound
 sound-here lists number frame has is = grind arith
 
 -- the frames at these places sound like the input's frames exactly if they are alike
-sounds-alike : (lists : List (List RunFrame)) (number from : ℕ) {all : List RunFrame}
-    (ps : List FramePlace) (xs : List RunFrame) → slice_get lists number ≡ Some all
-    → from + length ps ≤ length all → map (sound_at lists) ps ≡ map (λ (x : RunFrame). x.sound) xs
+sounds-alike : (lists : List (List SpliceFrame)) (number from : ℕ) {all : List SpliceFrame}
+    (ps : List FramePlace) (xs : List SpliceFrame) → slice_get lists number ≡ Some all
+    → from + length ps ≤ length all
+    → map (sound_at lists) ps ≡ map (λ (x : SpliceFrame). x.sound) xs
     → sounds_from lists number from ps ≡ are_frames_alike xs (take (length ps) (drop from all))
 unfolding are_frames_alike
 sounds-alike lists number from [] [] has within same = refl
@@ -144,20 +147,22 @@ sounds-alike lists number from (p ∷ ps) [] has within same = absurd cc
 sounds-alike lists number from {all} (p ∷ ps) (x ∷ xs) has within same =
     let next = drop-cons from all (omega (arith, within)) in
     let head : sound_at lists p ≡ x.sound = cc in
-    let tail : map (sound_at lists) ps ≡ map (λ (y : RunFrame). y.sound) xs = cc in
+    let tail : map (sound_at lists) ps ≡ map (λ (y : SpliceFrame). y.sound) xs = cc in
     ap₂ (λ (a b : List ℕ). bytes_eq a b && sounds_from lists number (from + 1) ps) head
     (sound-here lists number from has next.1)
     ∙ ap (λ (b : Bool). bytes_eq x.sound next.0.sound && b)
     (sounds-alike lists number (from + 1) ps xs has (omega (arith, within)) tail)
-    ∙ sym (ap (λ (l : List RunFrame). are_frames_alike (x ∷ xs) (take (suc (length ps)) l)) next.2)
+    ∙ sym
+    (ap (λ (l : List SpliceFrame). are_frames_alike (x ∷ xs) (take (suc (length ps)) l)) next.2)
 
 -- ---- the overlap
 
-module _ (class : ClassFields) (lists : List (List RunFrame)) (number : ℕ) (frames : List RunFrame)
+module _ (class : ClassFields) (lists : List (List SpliceFrame)) (number : ℕ)
+    (frames : List SpliceFrame)
     (places : List FramePlace) (before brought : Brought) (overlap : Overlap)
     (same : length places ≡ length frames) (within : overlap.frames ≤ length brought.frames)
     (some : overlap.first_alike < overlap.frames)
-    (sounds : map (sound_at lists) places ≡ map (λ (x : RunFrame). x.sound) frames)
+    (sounds : map (sound_at lists) places ≡ map (λ (x : SpliceFrame). x.sound) frames)
     (has : slice_get lists number ≡ Some brought.frames)
     (found : Some overlap ≡ overlap_of class before brought) where
   abbrev count : ℕ
@@ -169,7 +174,7 @@ module _ (class : ClassFields) (lists : List (List RunFrame)) (number : ℕ) (fr
   decided : alike_overlap class frames before brought ≡ overlap_if_alike frames brought overlap
   decided = ap (option_and_then (overlap_if_alike frames brought)) (sym found)
 
-  -- if the run has fewer frames, the overlap isn't alike
+  -- if the splice has fewer frames, the overlap isn't alike
   pub alike-few : None ≡ last_places places count → None ≡ alike_overlap class frames before brought
   alike-few few =
       sym (decided ∙ at (nat_le (length (compared_frames overlap brought)) (length frames)) refl)
@@ -195,10 +200,10 @@ module _ (class : ClassFields) (lists : List (List RunFrame)) (number : ℕ) (fr
           && are_frames_alike (drop (length frames - length (compared_frames overlap brought))
           frames) (compared_frames overlap brought)) (Some overlap) None) fewer
 
-  -- the last frames of the run are compared
+  -- the last frames of the splice are compared
   module _ (last : List FramePlace) (is : Some last ≡ last_places places count) where
     last-sounds : map (sound_at lists) last
-        ≡ map (λ (x : RunFrame). x.sound) (drop (length frames - count) frames)
+        ≡ map (λ (x : SpliceFrame). x.sound) (drop (length frames - count) frames)
     last-sounds = grind (arith, drop-map (sound_at lists) (length places - count) places, drop-map)
 
     last-length : length last ≡ count

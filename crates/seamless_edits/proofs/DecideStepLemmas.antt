@@ -13,21 +13,22 @@ use Rattle.joined_inputs.specs.{Inputs.InputFields, Laying.{AreFromsWithin, rest
 use Rattle.joined_inputs.specs.Parts.{whole_part}
 use Rattle.laying.specs.Needs.{need_of, needs_of_parts}
 use Rattle.outside.specs.Files.{Contents, Files, IfTold, Told, Untold}
-use Rattle.seam_plan.proofs.{FollowLemmas.joining_frames-sounds, RunSoundLemmas.class-append}
+use Rattle.seam_plan.proofs.FollowLemmas.{joining_frames-sounds}
 use Rattle.seam_plan.proofs.SeamLemmas.{joint-adds, joint-by, length-moved}
-use Rattle.seam_plan.specs.Decisions.{alike_overlap, frame_places, IsBroughtInput, IsJoint, IsRun}
-use Rattle.seam_plan.specs.Decisions.{IsSoundRun, joined_needs, JoinsRun}
-use Rattle.seam_plan.specs.Frames.{Brought, needs_of, RunFrame}
+use Rattle.seam_plan.proofs.SpliceSoundLemmas.{class-append}
+use Rattle.seam_plan.specs.Decisions.{alike_overlap, frame_places, IsBroughtInput, IsJoint}
+use Rattle.seam_plan.specs.Decisions.{IsSoundSplice, IsSplice, joined_needs, JoinsSplice}
+use Rattle.seam_plan.specs.Frames.{Brought, needs_of, SpliceFrame}
 use Rattle.seam_plan.specs.Seams.{joint_of, JointFrames, left_out_count}
-use Rattle.seam_plan.specs.declared.{input.Input.Input, run.{FramePlace.FramePlace, Joint.Joint}}
+use Rattle.seam_plan.specs.declared.{input.Input.Input, splice.{FramePlace.FramePlace, Joint.Joint}}
 use Rattle.seamless_edits.proofs.DecideLemmas.{class-moved, drop-cons, joints-next, last-next}
-use Rattle.seamless_edits.proofs.DecideLemmas.{moved-append, moved-joined, outs-more, run-next}
-use Rattle.seamless_edits.proofs.DecideLemmas.{sound-here, zip-more}
+use Rattle.seamless_edits.proofs.DecideLemmas.{moved-append, moved-joined, outs-more, sound-here}
+use Rattle.seamless_edits.proofs.DecideLemmas.{splice-next, zip-more}
 use Rattle.seamless_edits.proofs.FramePlaceLemmas.{get-within, map-get, zip-get}
 use Rattle.seamless_edits.specs.Deciding.{BringsNeeds, brought_of, broughts_in, from_places}
 use Rattle.seamless_edits.specs.Deciding.{input_needs, IsDecidedTo, IsDecidingTo, IsSharedOverlap}
-use Rattle.seamless_edits.specs.{Deciding.left_out_counts, Seamless.{run_frame, run_frames}}
-use Rattle.seamless_edits.specs.Sounds.{all_run_frames, AreFramePlaces, IsFramePlace, sound_at}
+use Rattle.seamless_edits.specs.{Deciding.left_out_counts, Seamless.{splice_frame, splice_frames}}
+use Rattle.seamless_edits.specs.Sounds.{all_splice_frames, AreFramePlaces, IsFramePlace, sound_at}
 use Rattle.seamless_edits.specs.{Sounds.whole_in, declared.beginnings.Beginning.Beginning}
 use Rattle.seamless_edits.specs.declared.decided.Deciding.{Deciding}
 use Rattle.slot_plan.{proofs.PartLemmas.class-drop, specs.Parts.AreNeedsOfClass}
@@ -38,7 +39,7 @@ use Rattle.sync_survey.specs.{MainData.{stream_frames, StreamFrame}, Row.Row}
 -- ---- what an input brings
 
 zip-needs : (class : ClassFields) (rows : List Row) (stream : List StreamFrame) → length rows
-    ≡ length stream → needs_of (map (run_frame class) (zip rows stream)) ≡ map need_of rows
+    ≡ length stream → needs_of (map (splice_frame class) (zip rows stream)) ≡ map need_of rows
 zip-needs class [] [] long = refl
 zip-needs class [] (f ∷ stream) long = absurd (omega (arith, long))
 zip-needs class (r ∷ rows) [] long = absurd (omega (arith, long))
@@ -55,7 +56,7 @@ stream-length file s = length-map (enumerate_from 0 s.frames) _ ∙ length-enume
 
 -- all frames of the input, each with what it needs
 pub brought-needs : (file : List ℕ) (s : SurveyFields)
-    → needs_of (run_frames (whole_part file s)) ≡ input_needs s
+    → needs_of (splice_frames (whole_part file s)) ≡ input_needs s
 brought-needs file s = grind (arith, range-all, stream-length, zip-needs)
 
 -- what an input brings, given its file, has the needs that its survey has
@@ -68,7 +69,7 @@ brings-told f i b = record {
 }
 
 -- frames without a sound, for folders whose contents aren't known
-abbrev pub silent_frame : Need → RunFrame
+abbrev pub silent_frame : Need → SpliceFrame
 silent_frame n = record { need = n; sound = [] }
 
 -- frames without a sound have the needs that they were made from
@@ -89,20 +90,20 @@ brings-silent s b = record { needs = silent-needs (input_needs s); blank = refl;
 
 -- ---- the sounds of frames that join
 
-abbrev map-sounds : List RunFrame → List (List ℕ)
-map-sounds frames = map (λ (f : RunFrame). f.sound) frames
+abbrev map-sounds : List SpliceFrame → List (List ℕ)
+map-sounds frames = map (λ (f : SpliceFrame). f.sound) frames
 
 abbrev Keeps : Brought → JointFrames → Type 0
 Keeps brought joint =
     map-sounds joint.frames ≡ map-sounds (drop (left_out_count joint.seam) brought.frames)
 
 -- the frames that join have the sounds of the frames that are kept
-joint-keeps : (class : ClassFields) (run : List RunFrame) (before brought : Brought)
-    → Keeps brought (joint_of class run before brought)
-joint-keeps class run before brought =
-    joint-by class run before brought (Keeps brought)
+joint-keeps : (class : ClassFields) (splice : List SpliceFrame) (before brought : Brought)
+    → Keeps brought (joint_of class splice before brought)
+joint-keeps class splice before brought =
+    joint-by class splice before brought (Keeps brought)
     (λ seam frames is.
-    joining_frames-sounds (window_of class.version) run
+    joining_frames-sounds (window_of class.version) splice
     (drop (left_out_count seam) brought.frames) is)
     refl
 
@@ -153,12 +154,12 @@ places-at {inputs} number {i} from (suc count) is within =
     grind (arith, All-cons, places-at number (from + 1) count is (omega (arith, within)))
 
 -- the sounds of the frames of an input from one on
-pub places-sound : (lists : List (List RunFrame)) (number from count : ℕ) {all : List RunFrame}
-    → slice_get lists number ≡ Some all → from + count ≡ length all
+pub places-sound : (lists : List (List SpliceFrame)) (number from count : ℕ)
+    {all : List SpliceFrame} → slice_get lists number ≡ Some all → from + count ≡ length all
     → map (sound_at lists) (frame_places number from count) ≡ map-sounds (drop from all)
 places-sound lists number from count {all} has is = at count from all has is
   where
-    at : (count from : ℕ) (all : List RunFrame) → slice_get lists number ≡ Some all
+    at : (count from : ℕ) (all : List SpliceFrame) → slice_get lists number ≡ Some all
         → from + count ≡ length all
         → map (sound_at lists) (frame_places number from count) ≡ map-sounds (drop from all)
     at zero from all has is = sym (ap map-sounds (drop_all from all (omega (arith, is))))
@@ -179,9 +180,9 @@ broughts-get f inputs bs n {i} {b} found begun =
 -- the frames of the input with this number
 pub frames-get : (f : Contents) (inputs : List InputFields) (n : ℕ) {i : InputFields}
     → slice_get inputs n ≡ Some i
-    → slice_get (all_run_frames f inputs) n ≡ Some (run_frames (whole_in f i))
+    → slice_get (all_splice_frames f inputs) n ≡ Some (splice_frames (whole_in f i))
 frames-get f inputs n {i} found =
-    map-get (λ (j : InputFields). run_frames (whole_in f j)) inputs n found
+    map-get (λ (j : InputFields). splice_frames (whole_in f j)) inputs n found
 
 -- ---- the step
 
@@ -193,17 +194,17 @@ pub record IsAdded (number : ℕ) (input : Input) (alike : Option Overlap) (join
       ≡ old.needs.items
       ++ joined_needs joint.slot (drop (left_out_count joint.seam) input.needs.now)
   pub out : left_out_count joint.seam ≤ length input.needs.now
-  pub sound : IsSoundRun new.run
-  pub goes : (class : ClassFields) (frames more : List RunFrame) (places : List FramePlace)
-      (before brought : Brought) → IsRun class frames places before old.run
+  pub sound : IsSoundSplice new.splice
+  pub goes : (class : ClassFields) (frames more : List SpliceFrame) (places : List FramePlace)
+      (before brought : Brought) → IsSplice class frames places before old.splice
       → IsBroughtInput input brought
       → needs_of more ≡ joined_needs joint.slot (drop (left_out_count joint.seam) input.needs.now)
-      → IsRun class (frames ++ more)
-      (places ++ frame_places number (left_out_count joint.seam) (length more)) brought new.run
-  pub joins : (class : ClassFields) (frames : List RunFrame) (places : List FramePlace)
-      (before brought : Brought) → IsRun class frames places before old.run
+      → IsSplice class (frames ++ more)
+      (places ++ frame_places number (left_out_count joint.seam) (length more)) brought new.splice
+  pub joins : (class : ClassFields) (frames : List SpliceFrame) (places : List FramePlace)
+      (before brought : Brought) → IsSplice class frames places before old.splice
       → IsBroughtInput input brought → alike ≡ alike_overlap class frames before brought
-      → JoinsRun class number frames places before brought joint new.run
+      → JoinsSplice class number frames places before brought joint new.splice
 
 -- the input with this number is the input with this survey
 pub record IsInputOf (inputs : List InputFields) (bs : List Beginning) (number : ℕ)
@@ -238,7 +239,7 @@ module _ (files : Files) (inputs : List InputFields) (bs : List Beginning)
   abbrev left : List Need
   left = joined_needs joint.slot (drop out input.needs.now)
 
-  many-more : (more : List RunFrame) → needs_of more ≡ left
+  many-more : (more : List SpliceFrame) → needs_of more ≡ left
       → out + length more ≡ length of.item.survey.frames
   many-more more adds = grind (arith, length-map, adds, length-moved, out, length-drop)
 
@@ -268,10 +269,10 @@ module _ (files : Files) (inputs : List InputFields) (bs : List Beginning)
       omega (arith, added.out, ap length of.needs, length-map of.item.survey.frames need_of)
 
   -- the state with these frames added
-  build : {brought : Brought} (more : List RunFrame)
+  build : {brought : Brought} (more : List SpliceFrame)
       → BringsNeeds of.item.survey of.beginning brought → needs_of more ≡ left
       → IfTold files (λ f. IsDecidedTo so_far.class (take (number + 1)
-      (broughts_in f inputs bs)) (all_run_frames f inputs) (so_far.frames ++ more)
+      (broughts_in f inputs bs)) (all_splice_frames f inputs) (so_far.frames ++ more)
       (so_far.places ++ frame_places number out (length more)) brought new.joints.items)
       → IsDecidingTo files inputs bs (number + 1) new
   build {brought} more brings adds told = record {
@@ -280,8 +281,8 @@ module _ (files : Files) (inputs : List InputFields) (bs : List Beginning)
     frames = so_far.frames ++ more;
     places = so_far.places ++ frame_places number out (length more);
     before = brought;
-    is_run = added.goes so_far.class so_far.frames more so_far.places so_far.before brought
-        so_far.is_run (is-brought of brings) adds;
+    is_splice = added.goes so_far.class so_far.frames more so_far.places so_far.before brought
+        so_far.is_splice (is-brought of brings) adds;
     sound = added.sound;
     needs = grind (arith, adds, map-append);
     at =
@@ -312,12 +313,12 @@ module _ (f : Contents) (inputs : List InputFields) (bs : List Beginning)
     (number : ℕ) (input : Input) (alike : Option Overlap) (joint : Joint)
     (old new : Deciding) (so_far : IsDecidingTo (Told f) inputs bs number old) (of : IsInputOf
     inputs bs number so_far.class input) (added : IsAdded number input alike joint old new)
-    (is : IsSharedOverlap (Told f) inputs number old.run input alike) where
+    (is : IsSharedOverlap (Told f) inputs number old.splice input alike) where
   abbrev next : Brought
   next = brought_of f of.item of.beginning
 
-  abbrev lists : List (List RunFrame)
-  lists = all_run_frames f inputs
+  abbrev lists : List (List SpliceFrame)
+  lists = all_splice_frames f inputs
 
   abbrev decided : JointFrames
   decided = joint_of so_far.class so_far.frames so_far.before next
@@ -333,7 +334,7 @@ module _ (f : Contents) (inputs : List InputFields) (bs : List Beginning)
 
   joined : IsJoint decided joint
   joined = (added.joins so_far.class so_far.frames so_far.places so_far.before next
-      so_far.is_run brings same).joint
+      so_far.is_splice brings same).joint
 
   adds : needs_of decided.frames
       ≡ joined_needs joint.slot (drop (left_out_count joint.seam) input.needs.now)
@@ -355,10 +356,10 @@ module _ (f : Contents) (inputs : List InputFields) (bs : List Beginning)
       decided.frames adds ∙ sym next-length)
       ∙ ap (λ n. map-sounds (drop n next.frames)) (ap left_out_count joined.seam)
       ∙ sym (joint-keeps so_far.class so_far.frames so_far.before next))
-      ∙ sym (map-append (λ (x : RunFrame). x.sound) so_far.frames decided.frames)
+      ∙ sym (map-append (λ (x : SpliceFrame). x.sound) so_far.frames decided.frames)
     where
       next-length : length next.frames ≡ length of.item.survey.frames
-      next-length = sym (length-map next.frames (λ (x : RunFrame). x.need))
+      next-length = sym (length-map next.frames (λ (x : SpliceFrame). x.need))
           ∙ ap length (brought-needs (unwrap_or (f of.item.name) []) of.item.survey)
           ∙ length-map of.item.survey.frames need_of
 
@@ -374,7 +375,7 @@ module _ (f : Contents) (inputs : List InputFields) (bs : List Beginning)
             (broughts-get f inputs bs number of.found of.begun),
         broughts-get f inputs bs number of.found of.begun,
         last-next,
-        run-next,
+        splice-next,
         joints-next,
         zip-more,
         joined,
@@ -392,7 +393,7 @@ pub decided-step : (files : Files) {inputs : List InputFields} {bs : List Beginn
     {old new : Deciding} (so_far : IsDecidingTo files inputs bs number old)
     (of : IsInputOf inputs bs number so_far.class input)
     → IsAdded number input alike joint old new
-    → IsSharedOverlap files inputs number old.run input alike
+    → IsSharedOverlap files inputs number old.splice input alike
     → IsDecidingTo files inputs bs (number + 1) new
 decided-step (Told f)
     {inputs} {bs} {number} {input} {alike} {joint} {old} {new} so_far of added is =

@@ -12,10 +12,10 @@ use Rattle.laying.specs.{Areas.IsHeld, LaidFiles.{IsStreamEntry, stream_entry}, 
 use Rattle.laying.specs.Surveys.{AreWholeRows, CanBeRelaid, IsWholeRow}
 use Rattle.outside.proofs.FilesLemmas.{there_holds}
 use Rattle.outside.specs.Files.{Contents, Files, IfTold, Told, Untold}
-use Rattle.seam_plan.specs.{Frames.RunFrame, declared.run.FramePlace.FramePlace}
+use Rattle.seam_plan.specs.{Frames.SpliceFrame, declared.splice.FramePlace.FramePlace}
 use Rattle.seamless_edits.{proofs.SoundLemmas.sounds-tested, specs.Reading.{AreHeld, IsMainDataOf}}
-use Rattle.seamless_edits.specs.Seamless.{run_frame, run_frames, sound_of}
-use Rattle.seamless_edits.specs.Sounds.{all_run_frames, AreOfClass, compared_side, frame_row}
+use Rattle.seamless_edits.specs.Seamless.{sound_of, splice_frame, splice_frames}
+use Rattle.seamless_edits.specs.Sounds.{all_splice_frames, AreOfClass, compared_side, frame_row}
 use Rattle.seamless_edits.specs.Sounds.{input_payload, IsFramePlace, payload_at_place, row_at}
 use Rattle.seamless_edits.specs.Sounds.{row_payload, same_front, same_sounds, sound_at, whole_in}
 use Rattle.seamless_edits.specs.Sounds.{without_slot}
@@ -111,13 +111,14 @@ module _ (file : List ℕ) (s : SurveyFields) (i : ℕ) (r : Row)
       let frame = stream_frame (main_bytes file s.head s.frames) s.head s.frames in
       enumerated-get frame 0 s.frames i found ∙ ap (λ n. Some (frame n r)) at
 
-  run-get : slice_get (run_frames (whole_part file s)) i ≡ Some (run_frame s.class (r, in_stream))
-  run-get =
+  splice-get : slice_get (splice_frames (whole_part file s)) i
+      ≡ Some (splice_frame s.class (r, in_stream))
+  splice-get =
       let within = get-within s.frames i found in
       let rows = front-get s.frames within found in
       let stream = front-get (stream_of_survey file s) within
       stream-get in
-      map-get (run_frame s.class) (zip (slice_range s.frames 0 (length s.frames))
+      map-get (splice_frame s.class) (zip (slice_range s.frames 0 (length s.frames))
       (slice_range (stream_of_survey file s) 0 (length s.frames))) i
       (zip-get (slice_range s.frames 0 (length s.frames))
       (slice_range (stream_of_survey file s) 0 (length s.frames)) i rows stream)
@@ -131,10 +132,11 @@ module _ (file : List ℕ) (s : SurveyFields) (i : ℕ) (r : Row)
     entry-in = own-stream file s.head s.class s.frames has.head has.rows has.placed i r found
         (whole-at s.frames i has.rows found)
 
-    sound-in : (option_and_then (λ (frames : List RunFrame). slice_get frames i)
-        (Some (run_frames (whole_part file s))))
-        ≡ Some (run_frame s.class (r, stream_entry (survey_frame file s i r)))
-    sound-in = run-get ∙ ap (λ (f : StreamFrame). Some (run_frame s.class (r, f))) (sym entry-in)
+    sound-in : (option_and_then (λ (frames : List SpliceFrame). slice_get frames i)
+        (Some (splice_frames (whole_part file s))))
+        ≡ Some (splice_frame s.class (r, stream_entry (survey_frame file s i r)))
+    sound-in =
+        splice-get ∙ ap (λ (f : StreamFrame). Some (splice_frame s.class (r, f))) (sym entry-in)
 
 -- ---- a frame of inputs
 
@@ -184,7 +186,7 @@ pub record IsFrameAt (f : Contents) (inputs : List InputFields) (place : FramePl
   pub header : frame.kept.header ≡ row.header
   pub side : frame.kept.side ≡ row_side row
   pub entry : IsStreamEntry class frame
-  pub sound : sound_at (all_run_frames f inputs) place ≡ sound_of class (stream_entry frame)
+  pub sound : sound_at (all_splice_frames f inputs) place ≡ sound_of class (stream_entry frame)
   pub payload : payload_at_place f inputs place ≡ frame.payload
 
 -- there is such a frame at each place of inputs of one class that can be read
@@ -204,7 +206,7 @@ frame-at {f} {inputs} {place} {class} known one at =
     let has = held.exact file told.1 in
     let same : s.class ≡ class = all-get (λ (t : InputFields). t.survey.class ≡ class) inputs
     place.input one at.input in
-    let lists = map-get (λ (t : InputFields). run_frames (whole_in f t)) inputs place.input
+    let lists = map-get (λ (t : InputFields). splice_frames (whole_in f t)) inputs place.input
     at.input in
     record {
       frame = survey_frame file s i r;
@@ -230,18 +232,18 @@ module _ (f : Contents) (inputs : List InputFields) (p q : FramePlace)
   fronts-are = grind (arith, bytes_eq)
 
   places-tested : same_front class one.row other.row && bytes_eq one.frame.payload
-      other.frame.payload ≡ same_sounds (all_run_frames f inputs) p q
+      other.frame.payload ≡ same_sounds (all_splice_frames f inputs) p q
   places-tested = grind (arith, bytes_eq, fronts-are, sounds-tested)
 
   -- if header or side information differ, the frames don't sound the same
   pub fronts-differ : same_front class one.row other.row ≡ false
-      → false ≡ same_sounds (all_run_frames f inputs) p q
+      → false ≡ same_sounds (all_splice_frames f inputs) p q
   fronts-differ differ = grind (arith, bytes_eq, places-tested)
 
   -- if both are the same, the frames sound the same exactly if their main data do
   pub payloads-tested : same_front class one.row other.row ≡ true
       → bytes_eq (payload_at_place f inputs p)
-      (payload_at_place f inputs q) ≡ same_sounds (all_run_frames f inputs) p q
+      (payload_at_place f inputs q) ≡ same_sounds (all_splice_frames f inputs) p q
   payloads-tested same = grind (arith, bytes_eq, places-tested)
 
 -- ---- what depends on the folder's contents
@@ -257,7 +259,7 @@ module _ (inputs : List InputFields) (p q : FramePlace) (class : ClassFields)
 
   -- if header or side information differ, the frames don't sound alike
   pub places-differ : (files : Files) → AreHeld files inputs → same_front class r t ≡ false
-      → IfTold files (λ f. false ≡ same_sounds (all_run_frames f inputs) p q)
+      → IfTold files (λ f. false ≡ same_sounds (all_splice_frames f inputs) p q)
   places-differ (Untold touched) known differ = tt
   places-differ (Told f) known differ =
       let a = frame-at known one first in
@@ -269,7 +271,7 @@ module _ (inputs : List InputFields) (p q : FramePlace) (class : ClassFields)
       → (xs ys : List ℕ)
       → IfTold files (λ f. xs ≡ payload_at_place f inputs p)
       → IfTold files (λ f. ys ≡ payload_at_place f inputs q)
-      → IfTold files (λ f. bytes_eq xs ys ≡ same_sounds (all_run_frames f inputs) p q)
+      → IfTold files (λ f. bytes_eq xs ys ≡ same_sounds (all_splice_frames f inputs) p q)
   places-compared (Untold touched) known same xs ys left right = tt
   places-compared (Told f) known same xs ys left right =
       let a = frame-at known one first in

@@ -10,8 +10,8 @@ pub mod KnownLemmas
 pub mod FrontLemmas
 pub mod NumberLemmas
 pub mod AlikeLemmas
-pub mod RunPartLemmas
-pub mod RunFileLemmas
+pub mod SplicePartLemmas
+pub mod SpliceFileLemmas
 pub mod SeamlessCommandLemmas
 pub mod LineLemmas
 pub mod LostLemmas

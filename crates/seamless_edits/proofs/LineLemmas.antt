@@ -5,8 +5,8 @@ use Rattle.std.specs.Prelude.{codes, decimal}
 use Rattle.joined_inputs.specs.Inputs.{input_names, InputFields}
 use Rattle.outside.proofs.SentLemmas.{sent_more_on, sent_more_prefix}
 use Rattle.outside.specs.{BufferOutput.{SendsWaiting, SentPrefix}, Files.Sent}
-use Rattle.seam_plan.specs.{Seams.left_out_count, declared.run.Joint.Joint}
-use Rattle.seam_plan.specs.declared.seam.Seam.TheVariants.{Follows}
+use Rattle.seam_plan.specs.{Seams.left_out_count, declared.seam.Seam.TheVariants.Follows}
+use Rattle.seam_plan.specs.declared.splice.Joint.{Joint}
 use Rattle.seamless_edits.specs.{Lines.told_by, LostFrames.lost_from, Seamless.seam_text}
 
 -- ---- what is told

@@ -28,20 +28,19 @@ use Rattle.laying.specs.{Relaid.{FilePart, part_frames, relaid_frames}, Surveys.
 use Rattle.laying.specs.Written.{front_blocks}
 use Rattle.outside.{proofs.FilesLemmas.there_holds, specs.Counts.NoneFell}
 use Rattle.outside.specs.{Files.{Contents, Files, Holds, IfTold, Told, Untold}, Seen.Seen}
-use Rattle.seam_plan.specs.{Seams.left_out_count, declared.run.Joint.Joint}
+use Rattle.seam_plan.specs.{Seams.left_out_count, declared.splice.Joint.Joint}
 use Rattle.seamless_edits.proofs.ReadFaultLemmas.{fault-later, read-early}
-use Rattle.seamless_edits.proofs.RunFileLemmas.{files-hold}
 use Rattle.seamless_edits.proofs.SeamlessLemmas.{AllOf, AreHeads, seamless-written, text-same}
-use Rattle.seamless_edits.proofs.SeamlessLemmas.{whole_parts}
+use Rattle.seamless_edits.proofs.{SeamlessLemmas.whole_parts, SpliceFileLemmas.files-hold}
 use Rattle.seamless_edits.specs.Beginnings.{AreBeginnings, input_without_head, IsBeginning}
 use Rattle.seamless_edits.specs.Deciding.{broughts_in, CanBeDecided, FitAlone, FitsAlone}
 use Rattle.seamless_edits.specs.{Deciding.{from_places, IsJoinedOf, left_out_of}, Lines.told_lines}
 use Rattle.seamless_edits.specs.{LostFrames.lost_in_input, Reading.{AreHeld, IsInputReadFault}}
 use Rattle.seamless_edits.specs.Seamless.{seamless_command, seamless_file, seamless_stream}
 use Rattle.seamless_edits.specs.Seamless.{seamless_task, seamless_text, seamless_text_or_none}
-use Rattle.seamless_edits.specs.SeamlessReady.{IsRunMade, IsSeamlessReady}
+use Rattle.seamless_edits.specs.SeamlessReady.{IsSeamlessReady, IsSpliceMade}
 use Rattle.seamless_edits.specs.declared.beginnings.Beginning.{Beginning}
-use Rattle.seamless_edits.specs.declared.seamless_file.{MadeRun.MadeRun, Ready.Ready}
+use Rattle.seamless_edits.specs.declared.seamless_file.{MadeSplice.MadeSplice, Ready.Ready}
 use Rattle.slot_plan.specs.Plans.{entries}
 use Rattle.sync_survey.proofs.{ApartLemmas.placed-apart, EmptiedLemmas.{apart-laid, placed-emptied}}
 use Rattle.sync_survey.specs.Faults.{HoldsStream, longest_file, SurveyFields}
@@ -173,12 +172,12 @@ heads-told first allowed f (i ∷ inputs) [] are begun = absurd begun
 
 -- ---- what is made of the inputs
 
--- the frames of the decided run can be written
+-- the frames of the decided splice can be written
 pub made-written : {output : List ℕ} {files : Files} (inputs : List InputFields)
-    {bs : List Beginning} {made : MadeRun}
+    {bs : List Beginning} {made : MadeSplice}
     → clash_from (output ∷ []) 0 (input_names inputs) ≡ None
     → AreJoinInputs None most_frames files inputs
-    → CanInputsBeJoined inputs → IsRunMade files (map input_without_head inputs) bs made
+    → CanInputsBeJoined inputs → IsSpliceMade files (map input_without_head inputs) bs made
     → CanJoinBeWritten output files
     (from_places (map input_without_head inputs) (left_out_of made.decided)) made.work
 made-written [] free are can is = let first = can.first in absurd cc
@@ -213,11 +212,11 @@ parts-whole-in first allowed f (i ∷ inputs) are =
     )
 
 module _ (f : Contents) (i : InputFields) (inputs : List InputFields) (b : Beginning)
-    (bs : List Beginning) (made : MadeRun)
+    (bs : List Beginning) (made : MadeSplice)
     (are : AreJoinInputs None most_frames (Told f) (i ∷ inputs))
     (can : CanInputsBeJoined (i ∷ inputs))
     (begun : AreBeginnings (Told f) (i ∷ inputs) (b ∷ bs))
-    (is : IsRunMade (Told f) (map input_without_head (i ∷ inputs)) (b ∷ bs) made) where
+    (is : IsSpliceMade (Told f) (map input_without_head (i ∷ inputs)) (b ∷ bs) made) where
   abbrev s : SurveyFields
   s = i.survey
 
@@ -227,8 +226,8 @@ module _ (f : Contents) (i : InputFields) (inputs : List InputFields) (b : Begin
   of : AllOf s.class (i ∷ inputs)
   of = all-of s.class (i ∷ inputs) (alike-first can)
 
-  class-same : is.decided.run.class ≡ s.class
-  class-same = let first = is.decided.run.class_is in cc
+  class-same : is.decided.splice.class ≡ s.class
+  class-same = let first = is.decided.splice.class_is in cc
 
   decided : IsJoinedOf
       s.class (broughts_in f (map input_without_head (i ∷ inputs)) (b ∷ bs)) made.decided
@@ -242,14 +241,14 @@ module _ (f : Contents) (i : InputFields) (inputs : List InputFields) (b : Begin
       let file : unwrap_or (f i.name) [] ≡ bytes = grind (arith, unwrap_or) in
       let within : made.decided.front < length s.frames =
       omega
-      (arith, is.decided.run.behind (input_without_head i) refl, survey_without_head-length s) in
+      (arith, is.decided.splice.behind (input_without_head i) refl, survey_without_head-length s) in
       let left =
       from_places (map input_without_head (i ∷ inputs)) (left_out_of made.decided) in
       ap (λ (l : List ℕ). (concat (front_blocks l s) ++ made.work.info.items)
       ++ bytes_of_frames (relaid_frames (flat_map part_frames (map (part_in f) left))
       (entries made.work.plan))) (sym file)
       ∙ seamless-written f i inputs b bs made.decided (entries made.work.plan) heads of
-      decided is.run.plan is.run.fits.fits is.run.info within
+      decided is.splice.plan is.splice.fits.fits is.splice.info within
 
   -- the lines that are sent are the text
   pub made-text : (names : List (List ℕ)) → told_lines (drop 1 names) made.decided.joints.items
@@ -290,7 +289,7 @@ module _ (names : List (List ℕ)) (files : Files) (ready : Ready)
   -- there is one joint fewer than inputs
   pub joints-many : length ready.made.decided.joints.items + 1 ≡ length names
   joints-many =
-      omega (arith, is.made.decided.run.many, length-map is.found input_without_head, many)
+      omega (arith, is.made.decided.splice.many, length-map is.found input_without_head, many)
 
   -- the inputs have the same names
   pub left-names : input_names left_inputs ≡ names
@@ -328,8 +327,9 @@ module _ (names : List (List ℕ)) (some : 1 ≤ length names) where
     where
       at : (fs : Files) (inputs : List InputFields) (bs : List Beginning)
           → AreJoinInputs None most_frames fs inputs → CanInputsBeJoined inputs
-          → AreBeginnings fs inputs bs → IsRunMade fs (map input_without_head inputs) bs ready.made
-          → (bytes : List ℕ) → Holds fs (first_input (input_names inputs)) bytes → join_bytes fs
+          → AreBeginnings fs inputs bs
+          → IsSpliceMade fs (map input_without_head inputs) bs ready.made → (bytes : List ℕ)
+          → Holds fs (first_input (input_names inputs)) bytes → join_bytes fs
           (from_places (map input_without_head inputs) (left_out_of ready.made.decided))
           ready.made.work bytes ≡ seamless_file (parts_of fs inputs)
       at fs [] bs are can begun made bytes held = let first = can.first in absurd cc
@@ -339,7 +339,7 @@ module _ (names : List (List ℕ)) (some : 1 ≤ length names) where
           made-file f i inputs b bs ready.made are can begun made held
           ∙ ap seamless_file (sym (parts-whole-in None most_frames f (i ∷ inputs) are))
 
-  -- the file of the parts holds the stream of the run
+  -- the file of the parts holds the stream of the splice
   pub ready-holds : {files : Files} {ready : Ready} (is : IsSeamlessReady names files ready)
       → IfTold files (λ f. (bytes : List ℕ) → f (first_input names) ≡ Some bytes
       → AreSoundFiles f names × HoldsStream (seamless_file (parts_of files is.found))
@@ -382,7 +382,7 @@ module _ (names : List (List ℕ)) (some : 1 ≤ length names) where
           (bs : List Beginning) → 1 ≤ length inputs → input_names inputs ≡ names
           → AreJoinInputs None most_frames fs inputs
           → CanInputsBeJoined inputs → AreBeginnings fs inputs bs
-          → IsRunMade fs (map input_without_head inputs) bs ready.made
+          → IsSpliceMade fs (map input_without_head inputs) bs ready.made
           → told_lines (drop 1 names) ready.made.decided.joints.items
           (drop 1 (map lost_in_input inputs))
           ≡ seamless_text_or_none names (join_parts f names)
@@ -438,7 +438,7 @@ text_of names f = seamless_text_or_none names (join_parts f names)
 
 module _ (output : List ℕ) (names : List (List ℕ)) (free : clash_in (seamless_task names) output
     ≡ None) (some : 1 ≤ length names) {old new : Seen} {r : Result (Unit {0}) EditFault} where
-  -- a call that wrote the run, or a part of it, is a run of the command without a text
+  -- a call that wrote the splice, or a part of it, is a run of the command without a text
   pub written-run : {ready : Ready} (is : IsSeamlessReady names old.files ready)
       → IfErr r (HasJoinNumbers (length names))
       → WritesOutput (made_of names old.files ready is) names output old new r

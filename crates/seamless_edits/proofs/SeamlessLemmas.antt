@@ -14,7 +14,7 @@ use Rattle.frame_header.specs.{Fields.{ClassFields, HeaderFields}, Tables.window
 use Rattle.frame_writer.specs.Frames.{bytes_of_frames, Frame}
 use Rattle.info_header.specs.{InfoFrame.info_frame, declared.fields.Info.Info}
 use Rattle.joined_inputs.specs.{Inputs.{InputFields, part_in}, Laying.rest_rows, Parts.whole_part}
-use Rattle.joined_inputs.specs.Planned.{info_kept, plan_of_run_needs}
+use Rattle.joined_inputs.specs.Planned.{info_kept, plan_of_splice_needs}
 use Rattle.laying.proofs.{HoldLemmas.all-length, LaidLemmas.first-there}
 use Rattle.laying.specs.{Fits.{FitsFromReach, reach_behind}, KeptFields.fields_of_head}
 use Rattle.laying.specs.{LaidFiles.laid_file, Needs.{need_of, needs_of_parts}}
@@ -23,21 +23,22 @@ use Rattle.laying.specs.Relaid.{part_frames, relaid_frames, rest_behind}
 use Rattle.laying.specs.Written.{front_blocks, slot_in}
 use Rattle.outside.specs.Files.{Contents}
 use Rattle.seam_plan.specs.{Decisions.IsJoint, Frames.needs_of}
-use Rattle.seam_plan.specs.Seams.{JointFrames, left_out_count, run_of, SeamlessJoin}
-use Rattle.seam_plan.specs.declared.{run.Joint.Joint, seam.Seam.Seam}
+use Rattle.seam_plan.specs.Seams.{JointFrames, left_out_count, SeamlessJoin, splice_of}
+use Rattle.seam_plan.specs.declared.{seam.Seam.Seam, splice.Joint.Joint}
 use Rattle.seamless_edits.{proofs.LostLemmas.lost-same, specs.Beginnings.input_without_head}
 use Rattle.seamless_edits.specs.Deciding.{brought_of, broughts_in, from_places, IsJoined}
-use Rattle.seamless_edits.specs.Deciding.{IsJoinedOf, left_out_counts, left_out_of, run_needs}
+use Rattle.seamless_edits.specs.Deciding.{IsJoinedOf, left_out_counts, left_out_of, splice_needs}
 use Rattle.seamless_edits.specs.{Lines.{told_by, told_lines}, LostFrames.{lost_from, lost_in_input}}
 use Rattle.seamless_edits.specs.Numbers.{all_say, counted_delay, delay_after, ends_padding}
-use Rattle.seamless_edits.specs.Numbers.{first_head, kept_with_delay, last_head, run_kept}
-use Rattle.seamless_edits.specs.{Numbers.short_delay, RunReady.{IsRunInfo, last_length, moved_of}}
-use Rattle.seamless_edits.specs.Seamless.{begins_blank, delay_of_run, join_of_parts, later_parts}
+use Rattle.seamless_edits.specs.Numbers.{first_head, kept_with_delay, last_head, short_delay}
+use Rattle.seamless_edits.specs.Numbers.{splice_kept}
+use Rattle.seamless_edits.specs.Seamless.{begins_blank, delay_of_splice, join_of_parts, later_parts}
 use Rattle.seamless_edits.specs.Seamless.{part_brought, part_from, part_says_gain}
-use Rattle.seamless_edits.specs.Seamless.{part_without_head, run_lead_ins, run_parts, run_plan}
-use Rattle.seamless_edits.specs.Seamless.{seamless_file, seamless_frames, seamless_info}
-use Rattle.seamless_edits.specs.Seamless.{seamless_padding, seamless_row_file, seamless_text}
+use Rattle.seamless_edits.specs.Seamless.{part_without_head, seamless_file, seamless_frames}
+use Rattle.seamless_edits.specs.Seamless.{seamless_info, seamless_padding, seamless_row_file}
+use Rattle.seamless_edits.specs.Seamless.{seamless_text, splice_lead_ins, splice_parts, splice_plan}
 use Rattle.seamless_edits.specs.{Seamless.{told_line, told_of, ToldInput}, Sounds.whole_in}
+use Rattle.seamless_edits.specs.SpliceReady.{IsSpliceInfo, last_length, moved_of}
 use Rattle.seamless_edits.specs.declared.{beginnings.Beginning.Beginning, decided.Decided.Decided}
 use Rattle.seamless_edits.specs.declared.numbers.{Ends.Ends, Moved.Moved}
 use Rattle.side_info.specs.Side.{no_side}
@@ -226,7 +227,7 @@ module _ (f : Contents) (i : InputFields) (inputs : List InputFields) (b : Begin
     (heads : AreHeads f (i ∷ inputs) (b ∷ bs)) (of : AllOf i.survey.class (i ∷ inputs))
     (decided : IsJoinedOf
     i.survey.class (broughts_in f (map input_without_head (i ∷ inputs)) (b ∷ bs)) d)
-    (plan : placed ≡ plan_of_run_needs (window_of i.survey.class.version) (run_needs d)) where
+    (plan : placed ≡ plan_of_splice_needs (window_of i.survey.class.version) (splice_needs d)) where
   abbrev s : SurveyFields
   s = i.survey
 
@@ -249,13 +250,13 @@ module _ (f : Contents) (i : InputFields) (inputs : List InputFields) (b : Begin
   is : IsJoined (part_brought first) joined d
   is = grind (arith, broughts-same f (i ∷ inputs) (b ∷ bs) heads)
 
-  needs-same : run_needs d ≡ needs_of (run_of (part_brought first) joined)
+  needs-same : splice_needs d ≡ needs_of (splice_of (part_brought first) joined)
   needs-same = grind (arith, drop-map, is.front, is.needs, joined.front, joined.joints)
 
-  plan-same : placed ≡ run_plan first parts
+  plan-same : placed ≡ splice_plan first parts
   plan-same = grind (arith, needs-same)
 
-  parts-are : run_parts first parts ≡ map (part_in f) left
+  parts-are : splice_parts first parts ≡ map (part_in f) left
   parts-are =
       ap₂ (λ (p : FilePart) (l : List FilePart). p ∷ l)
       (part-same joined.front f i
@@ -279,11 +280,11 @@ module _ (f : Contents) (i : InputFields) (inputs : List InputFields) (b : Begin
     last = last_length (input_without_head i) (map input_without_head inputs);
   }
 
-  leads-same : moved.lead_ins ≡ run_lead_ins first parts
+  leads-same : moved.lead_ins ≡ splice_lead_ins first parts
   leads-same = grind (arith, plan-same, needs-same, length-map)
 
   delay-same : counted_delay ends.class (first_head (b ∷ bs)) ends.first moved
-      ≡ delay_of_run first parts
+      ≡ delay_of_splice first parts
   delay-same =
       ap₂ (λ (h : Option Info) n. option_and_then (λ (p : Played).
       short_delay (delay_after s.class moved p))
@@ -297,8 +298,8 @@ module _ (f : Contents) (i : InputFields) (inputs : List InputFields) (b : Begin
 
   -- the fields of the Info frame are the fields that the join says
   pub info-same : (row : Row)
-      → info_kept (run_kept (b ∷ bs) ends moved) row.header s.class (seamless_frames first parts)
-      ≡ seamless_info (delay_of_run first parts) row first parts
+      → info_kept (splice_kept (b ∷ bs) ends moved) row.header s.class (seamless_frames first parts)
+      ≡ seamless_info (delay_of_splice first parts) row first parts
   info-same row = grind (arith, option_map, delay-same, kept-same)
 
   -- ---- the file
@@ -306,7 +307,7 @@ module _ (f : Contents) (i : InputFields) (inputs : List InputFields) (b : Begin
   -- the bytes that are written are the file of the join
   pub seamless-written : {info : List ℕ}
       → FitsFromReach (window_of s.class.version) 0 (needs_of_parts (rest_rows left)) placed
-      → IsRunInfo (map input_without_head (i ∷ inputs)) (b ∷ bs) d placed info
+      → IsSpliceInfo (map input_without_head (i ∷ inputs)) (b ∷ bs) d placed info
       → d.front < length s.frames → (concat (front_blocks file s) ++ info)
       ++ bytes_of_frames (relaid_frames (flat_map part_frames (map (part_in f) left)) placed)
       ≡ seamless_file (whole_parts f (i ∷ inputs))
@@ -322,10 +323,10 @@ module _ (f : Contents) (i : InputFields) (inputs : List InputFields) (b : Begin
       (needs_of_parts (rest_rows left)) (flat_map part_frames laid) placed
       (behind-long f left) fits in
       let head : info
-      ≡ info_frame row.0.header (seamless_info (delay_of_run first parts) row.0 first parts) =
+      ≡ info_frame row.0.header (seamless_info (delay_of_splice first parts) row.0 first parts) =
       is_info frames slots (input_without_head i) refl other.0 other.1 ends refl
       ∙ ap (λ (h : HeaderFields). info_frame h
-      (info_kept (run_kept (b ∷ bs) ends moved) h s.class frames)) other.2
+      (info_kept (splice_kept (b ∷ bs) ends moved) h s.class frames)) other.2
       ∙ ap (info_frame row.0.header) (info-same row.0) in
       let front = concat (front_blocks file s) in
       append_assoc front info (bytes_of_frames (relaid_frames (flat_map part_frames laid) placed))

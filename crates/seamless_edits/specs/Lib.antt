@@ -5,7 +5,7 @@ pub mod Beginnings
 pub mod Sounds
 pub mod Deciding
 pub mod Numbers
-pub mod RunReady
+pub mod SpliceReady
 pub mod SeamlessReady
 pub mod Lines
 pub mod LostFrames

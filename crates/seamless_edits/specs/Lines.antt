@@ -1,6 +1,6 @@
 -- The lines that say what becomes of each input after the first.
 use Rattle.std.specs.Prelude.{flat_map, List, ℕ, [], ◌∷◌}
-use Rattle.seam_plan.specs.{Seams.left_out_count, declared.run.Joint.Joint}
+use Rattle.seam_plan.specs.{Seams.left_out_count, declared.splice.Joint.Joint}
 use Rattle.seamless_edits.specs.{LostFrames.lost_from, Seamless.{told_line, ToldInput}}
 
 -- what is told of inputs with these names, given what became of each, and the numbers of its lost

@@ -74,6 +74,6 @@ kept_with_delay bs ends delay = record {
 }
 
 -- the quality of the first head, and its extension with delay and padding, if they are written
-abbrev pub run_kept : List Beginning → Ends → Moved → Option Kept
-run_kept bs ends moved =
+abbrev pub splice_kept : List Beginning → Ends → Moved → Option Kept
+splice_kept bs ends moved =
     option_map (kept_with_delay bs ends) (counted_delay ends.class (first_head bs) ends.first moved)

@@ -1,6 +1,6 @@
 -- One file of the frames of several files, without seams, which `join --seamless` writes: frames
--- that only a piece needs are left out, and the run before an input serves as its bit reservoir. In
--- every input the head is set apart, so none of its frames has main data that begin in it.
+-- that only a piece needs are left out, and the splice before an input serves as its bit reservoir.
+-- In every input the head is set apart, so none of its frames has main data that begin in it.
 use Rattle.std.specs.List.{concat, list_all}
 use Rattle.std.specs.Prelude.{Bool, bytes_eq, codes, decimal, drop, Err, false, flat_map}
 use Rattle.std.specs.Prelude.{if◌then◌else◌, is_some, length, List, map, nat_le, None, Ok, Option}
@@ -23,9 +23,10 @@ use Rattle.laying.specs.NeedsFit.{own_choice}
 use Rattle.laying.specs.Relaid.{FilePart, part_frames, part_rows, part_stream, relaid_frames}
 use Rattle.laying.specs.{Relaid.stream_with_lead_ins, Written.{front_blocks, info_for}}
 use Rattle.list_edits.specs.Totals.{lost_count}
-use Rattle.seam_plan.specs.Frames.{Brought, needs_of, RunFrame}
-use Rattle.seam_plan.specs.Seams.{JointFrames, left_out_count, run_of, seamless_join, SeamlessJoin}
-use Rattle.seam_plan.specs.declared.seam.Seam.{Seam, TheVariants.{Follows, LeadIn, Whole}}
+use Rattle.seam_plan.specs.Frames.{Brought, needs_of, SpliceFrame}
+use Rattle.seam_plan.specs.Seams.{JointFrames, left_out_count, seamless_join, SeamlessJoin}
+use Rattle.seam_plan.specs.{Seams.splice_of, declared.seam.Seam.Seam}
+use Rattle.seam_plan.specs.declared.seam.Seam.TheVariants.{Follows, LeadIn, Whole}
 use Rattle.side_info.specs.{Side.side_bits, declared.{granule.Granule.Granule, side.Side.Side}}
 use Rattle.slot_plan.specs.{LeastPlan.least_plan, declared.needs.Placed.Placed}
 use Rattle.sync_survey.specs.{HeadApart.head_apart, MainData.StreamFrame, Row.Row}
@@ -48,12 +49,12 @@ sound_of class f =
     header_bits f.header ++ (side_bits class (without_gains f.side) ++ concat f.payload)
 
 -- a frame as it takes part in the decision
-abbrev pub run_frame : ClassFields → Row × StreamFrame → RunFrame
-run_frame class f = record { need = need_of f.0; sound = sound_of class f.1 }
+abbrev pub splice_frame : ClassFields → Row × StreamFrame → SpliceFrame
+splice_frame class f = record { need = need_of f.0; sound = sound_of class f.1 }
 
 -- the frames of an input as they take part in the decision
-abbrev pub run_frames : FilePart → List RunFrame
-run_frames p = map (run_frame p.survey.class) (zip (part_rows p) (part_stream p))
+abbrev pub splice_frames : FilePart → List SpliceFrame
+splice_frames p = map (splice_frame p.survey.class) (zip (part_rows p) (part_stream p))
 
 -- all bits of the frame's side information are 0
 abbrev pub is_side_blank : Row → Bool
@@ -71,12 +72,12 @@ part_head p = fields_of_head p.file p.survey.head
 -- what this input, all frames of a file, brings
 abbrev pub part_brought : FilePart → Brought
 part_brought p = record {
-  frames = run_frames (part_without_head p);
+  frames = splice_frames (part_without_head p);
   blank = begins_blank p.survey.frames;
   played = counted_positions (part_head p) p.survey.class (length p.survey.frames);
 }
 
--- ---- the run
+-- ---- the splice
 
 -- what becomes of the inputs
 abbrev pub join_of_parts : FilePart → List FilePart → SeamlessJoin
@@ -92,28 +93,29 @@ abbrev pub later_parts : List JointFrames → List FilePart → List FilePart
 later_parts joints parts =
     map (λ (j : JointFrames × FilePart). part_from (left_out_count j.0.seam) j.1) (zip joints parts)
 
--- the parts of all inputs, whose frames are the run
-abbrev pub run_parts : FilePart → List FilePart → List FilePart
-run_parts first parts =
+-- the parts of all inputs, whose frames are the splice
+abbrev pub splice_parts : FilePart → List FilePart → List FilePart
+splice_parts first parts =
     let joined = join_of_parts first parts in
     part_from joined.front first ∷ later_parts joined.joints parts
 
--- The slots of the plan of the run, which is one part: each frame keeps its own, except that the
+-- The slots of the plan of the splice, which is one part: each frame keeps its own, except that the
 -- first of an input has the one in which it joined.
-abbrev pub run_plan : FilePart → List FilePart → List Placed
-run_plan first parts =
+abbrev pub splice_plan : FilePart → List FilePart → List Placed
+splice_plan first parts =
     least_plan (window_of first.survey.class.version) own_choice
-    (needs_of (run_of (part_brought first) (join_of_parts first parts)) ∷ [])
+    (needs_of (splice_of (part_brought first) (join_of_parts first parts)) ∷ [])
 
 -- the frames with all main data, in these slots
 abbrev pub seamless_frames : FilePart → List FilePart → List Frame
 seamless_frames first parts =
-    relaid_frames (flat_map part_frames (run_parts first parts)) (run_plan first parts)
+    relaid_frames (flat_map part_frames (splice_parts first parts)) (splice_plan first parts)
 
--- how many lead-ins the run has
-abbrev pub run_lead_ins : FilePart → List FilePart → ℕ
-run_lead_ins first parts =
-    length (run_plan first parts) - length (run_of (part_brought first) (join_of_parts first parts))
+-- how many lead-ins the splice has
+abbrev pub splice_lead_ins : FilePart → List FilePart → ℕ
+splice_lead_ins first parts =
+    length (splice_plan first parts)
+    - length (splice_of (part_brought first) (join_of_parts first parts))
 
 -- ---- the numbers
 
@@ -128,12 +130,13 @@ part_rest p =
     let frames = length p.survey.frames in
     rest_of p.survey.class frames (played_of (part_head p) p.survey.class frames)
 
--- The delay: the delay of the first input, plus a frame for each lead-in of the run, and less a
+-- The delay: the delay of the first input, plus a frame for each lead-in of the splice, and less a
 -- frame if the first input's lead-in was left out.
 abbrev pub seamless_delay : Played → FilePart → List FilePart → ℕ
 seamless_delay played first parts =
     let samples = samples_in first.survey.class in
-    played.start + run_lead_ins first parts * samples - (join_of_parts first parts).front * samples
+    played.start + splice_lead_ins first parts * samples
+    - (join_of_parts first parts).front * samples
     - decoder_delay
 
 -- the padding: the padding of the last input
@@ -141,8 +144,8 @@ abbrev pub seamless_padding : FilePart → List FilePart → ℕ
 seamless_padding first parts = part_rest (last_part first parts) + decoder_delay
 
 -- delay and padding are written if the first head counts and the delay has 12 bits
-abbrev pub delay_of_run : FilePart → List FilePart → Option ℕ
-delay_of_run first parts =
+abbrev pub delay_of_splice : FilePart → List FilePart → Option ℕ
+delay_of_splice first parts =
     option_and_then
     (λ (played : Played). let delay = seamless_delay played first parts in
     if nat_le delay 4095 then Some delay else None)
@@ -166,8 +169,8 @@ part_says_gain gain p = is_some (part_brought p).played && bytes_eq (gain_of (pa
 
 -- the extension with this delay: the first head's extension, whose peak and gains stay only if the
 -- heads of all inputs have the same values
-abbrev pub run_extension : ℕ → FilePart → List FilePart → List ℕ
-run_extension delay first parts =
+abbrev pub splice_extension : ℕ → FilePart → List FilePart → List ℕ
+splice_extension delay first parts =
     let extension = extension_of (part_head first) delay (seamless_padding first parts) in
     if list_all (part_says_gain (replay_gain extension)) parts then extension
     else take 11 extension ++ (replicate 8 0 ++ drop 19 extension)
@@ -180,17 +183,17 @@ seamless_info None row first parts =
 seamless_info (Some delay) row first parts =
     sealed_info row.header
     (info_for first.survey.class (seamless_frames first parts) (quality_of (part_head first))
-    (run_extension delay first parts))
+    (splice_extension delay first parts))
 
 -- ---- the file
 
 -- The ID3v2 blocks before the first frame of the first input, the Info
--- frame with the header of the first frame of the run, and the frames.
+-- frame with the header of the first frame of the splice, and the frames.
 abbrev pub seamless_row_file : Option Row → FilePart → List FilePart → List ℕ
 seamless_row_file None first parts = []
 seamless_row_file (Some row) first parts =
     laid_file (front_blocks first.file first.survey)
-    row.header (seamless_info (delay_of_run first parts) row first parts)
+    row.header (seamless_info (delay_of_splice first parts) row first parts)
     (seamless_frames first parts) []
 
 -- the file of these inputs without seams
@@ -199,12 +202,12 @@ seamless_file [] = []
 seamless_file (first ∷ parts) =
     seamless_row_file (slice_get first.survey.frames (join_of_parts first parts).front) first parts
 
--- its stream: at most one lead-in, and the frames of the run as they are in the streams whose heads
--- are set apart
+-- its stream: at most one lead-in, and the frames of the
+-- splice as they are in the streams whose heads are set apart
 unfoldable pub seamless_stream : List FilePart → List StreamFrame
 seamless_stream [] = []
 seamless_stream (first ∷ parts) =
-    stream_with_lead_ins (run_plan first parts) (flat_map part_stream (run_parts first parts))
+    stream_with_lead_ins (splice_plan first parts) (flat_map part_stream (splice_parts first parts))
 
 -- ---- the text
 

@@ -5,8 +5,8 @@ use Rattle.frame_header.specs.{Fields.{ClassFields, HeaderFields}, HeaderBits.he
 use Rattle.joined_inputs.specs.{Inputs.InputFields, Parts.whole_part}
 use Rattle.laying.specs.Relaid.{FilePart, payload_of}
 use Rattle.outside.specs.Files.{Contents}
-use Rattle.seam_plan.specs.{Frames.RunFrame, declared.run.FramePlace.FramePlace}
-use Rattle.seamless_edits.specs.Seamless.{run_frames, without_gains}
+use Rattle.seam_plan.specs.{Frames.SpliceFrame, declared.splice.FramePlace.FramePlace}
+use Rattle.seamless_edits.specs.Seamless.{splice_frames, without_gains}
 use Rattle.seamless_edits.specs.declared.main_data.Source.{Source}
 use Rattle.side_info.specs.{Side.side_bits, declared.{granule.Granule.Granule, side.Side.Side}}
 use Rattle.sync_survey.specs.{Faults.{survey_view, SurveyFields}, MainData.{no_slot, row_side}}
@@ -76,22 +76,22 @@ abbrev pub whole_in : Contents → InputFields → FilePart
 whole_in f i = whole_part (unwrap_or (f i.name) []) i.survey
 
 -- the frames of all inputs as they take part in the decision
-abbrev pub all_run_frames : Contents → List InputFields → List (List RunFrame)
-all_run_frames f inputs = map (λ (i : InputFields). run_frames (whole_in f i)) inputs
+abbrev pub all_splice_frames : Contents → List InputFields → List (List SpliceFrame)
+all_splice_frames f inputs = map (λ (i : InputFields). splice_frames (whole_in f i)) inputs
 
 -- the sound of a frame; nothing if there is no frame
-abbrev pub sound_of_frame : Option RunFrame → List ℕ
+abbrev pub sound_of_frame : Option SpliceFrame → List ℕ
 sound_of_frame None = []
 sound_of_frame (Some frame) = frame.sound
 
 -- the sound of the frame at this place
-abbrev pub sound_at : List (List RunFrame) → FramePlace → List ℕ
+abbrev pub sound_at : List (List SpliceFrame) → FramePlace → List ℕ
 sound_at lists place =
-    sound_of_frame (option_and_then (λ (frames : List RunFrame). slice_get frames place.frame)
+    sound_of_frame (option_and_then (λ (frames : List SpliceFrame). slice_get frames place.frame)
     (slice_get lists place.input))
 
 -- the frames at these two places sound the same
-abbrev pub same_sounds : List (List RunFrame) → FramePlace → FramePlace → Bool
+abbrev pub same_sounds : List (List SpliceFrame) → FramePlace → FramePlace → Bool
 same_sounds lists p q = bytes_eq (sound_at lists p) (sound_at lists q)
 
 -- the main data of frame `k`, given its row; nothing if there is no such row

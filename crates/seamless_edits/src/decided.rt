@@ -6,7 +6,7 @@ ghost use Rattle.frame_header.specs.Tables.{window_of};
 ghost use Rattle.exact_span.specs.PlayedPositions.{counted_positions, AreCounted};
 ghost use Rattle.slot_plan.specs.Parts.{AreNeedsOfClass};
 ghost use Rattle.slot_plan.specs.FreeBytes.{FitsBehind, needs_with_first_slot};
-ghost use Rattle.seam_plan.specs.Frames.{RunFrame, Brought, needs_of};
+ghost use Rattle.seam_plan.specs.Frames.{SpliceFrame, Brought, needs_of};
 ghost use Rattle.seam_plan.specs.Seams.{left_out_count, front_left_out_count};
 ghost use Rattle.seam_plan.specs.Decisions.{joined_needs};
 ghost use Rattle.sync_survey.specs.Faults.{survey_view};
@@ -14,7 +14,7 @@ ghost use Rattle.joined_inputs.specs.Inputs.{input_view, input_names, HasJoinNum
 ghost use Rattle.commands.specs.SingleOutput.{most_frames};
 ghost use Rattle.seamless_edits.specs.Reading.{AreHeld, IsInputReadFault, StopsAmongInputs};
 ghost use Rattle.seamless_edits.specs.Sounds.{AreOfOneClass};
-ghost use Rattle.seamless_edits.specs.Deciding.{input_needs, CanBeginRun, HasBegunRun, BringsNeeds, CanBeDecided, IsNextInput, IsSharedOverlap, IsDecidingTo, IsRunDecided, run_needs, left_out_of, from_places};
+ghost use Rattle.seamless_edits.specs.Deciding.{input_needs, CanBeginSplice, HasBegunSplice, BringsNeeds, CanBeDecided, IsNextInput, IsSharedOverlap, IsDecidingTo, IsSpliceDecided, splice_needs, left_out_of, from_places};
 
 use crate::beginnings::Beginning;
 use crate::sounds::sound_alike;
@@ -64,7 +64,7 @@ fn remove_needs(from: usize, count: usize, needs: &mut Vec<Need>)
 }
 
 /// Removes the needs of the frames that are left out at the front of an input, whose needs begin
-/// at index `from`, and puts the first of its other frames into the slot in which it joins the run.
+/// at index `from`, and puts the first of its other frames into the slot in which it joins the splice.
 fn join_needs(joint: &Joint, from: usize, needs: &mut Vec<Need>)
     requires out { from + left_out_count joint.now.seam ≤ length needs.old.items }
     ensures { needs.new.items ≡ take from needs.old.items
@@ -78,34 +78,34 @@ fn join_needs(joint: &Joint, from: usize, needs: &mut Vec<Need>)
 }
 
 /// The frames that the input with the number `number` shares with the one before it, if those
-/// of them that have to be alike match the last frames of the run.
+/// of them that have to be alike match the last frames of the splice.
 ///
 /// # Errors
 /// `Read` or `Shrunk` if an input can't be read.
 fn alike<D: Folder>(
     folder: &mut D,
     inputs: &[JoinInput<'_>],
-    run: &Run,
+    splice: &Run,
     number: u32,
     input: &Input<'_>,
     window: &mut Window,
 ) -> Result<Option<Overlap>, Stopped>
     requires held { AreHeld (D.seen folder.old).files (map input_view inputs.now) }
     requires one { AreOfOneClass (map input_view inputs.now) }
-    requires next { IsNextInput (map input_view inputs.now) number run.now input.now }
+    requires next { IsNextInput (map input_view inputs.now) number splice.now input.now }
     ensures within { IfOk result (λ alike. IfSome alike
         (λ o. o.frames ≤ length input.now.needs.now)) }
     ensures alike { IfOk result (IsSharedOverlap (D.seen folder.old).files
-        (map input_view inputs.now) number run.now input.now) }
+        (map input_view inputs.now) number splice.now input.now) }
     ensures stopped { IfErr result (StopsAmongInputs (input_names (map input_view inputs.now))
         (D.seen folder.old).files (D.seen folder.old).counts (D.seen folder.new).counts) }
     ensures reads { OnlyRead result (D.seen folder.old) (D.seen folder.new) }
 {
-    let Some(overlap) = run.overlap(input) else {
+    let Some(overlap) = splice.overlap(input) else {
         return Ok(None);
     };
     let count = overlap.frames - overlap.first_alike;
-    let Some(places) = run.last(count as usize) else {
+    let Some(places) = splice.last(count as usize) else {
         return Ok(None);
     };
     let mut frame = overlap.first_alike;
@@ -122,31 +122,31 @@ fn alike<D: Folder>(
     Ok(Some(overlap))
 }
 
-/// The decision so far: what becomes of each later input, the run, and the needs of its frames, in
+/// The decision so far: what becomes of each later input, the splice, and the needs of its frames, in
 /// the slots in which they joined; and the memory in which frames are compared.
 #[derive(Drop)]
 struct Deciding {
     joints: Vec<Joint>,
-    run: Run,
+    splice: Run,
     needs: Vec<Need>,
     window: Window,
 }
 
 impl Deciding {
-    /// Begins the run with all frames of the first input.
+    /// Begins the splice with all frames of the first input.
     ///
     /// # Errors
     /// If memory runs out.
     fn begin(alloc: Global, survey: &Survey, beginning: &Beginning) -> Result<Deciding, AllocError>
-        requires { CanBeginRun (survey_view survey.now) }
-        ensures { IfOk result (HasBegunRun (survey_view survey.now) beginning.now) }
+        requires { CanBeginSplice (survey_view survey.now) }
+        ensures { IfOk result (HasBegunSplice (survey_view survey.now) beginning.now) }
     {
         let mut needs = Vec::new(alloc);
         append_needs(survey.frames(), &mut needs)?;
         let class = survey.class();
         Ok(Deciding {
             joints: Vec::new(alloc),
-            run: Run::begin(class, &brought(class, needs.as_slice(), beginning)),
+            splice: Run::begin(class, &brought(class, needs.as_slice(), beginning)),
             needs,
             window: Window::new(alloc)?,
         })
@@ -182,8 +182,15 @@ impl Deciding {
         append_needs(survey.frames(), &mut self.needs)?;
         let beginning = &beginnings[number as usize];
         let input = brought(survey.class(), &self.needs[from..], beginning);
-        let alike = alike(folder, inputs, &self.run, number, &input, &mut self.window)?;
-        let joint = self.run.join(number, &input, alike);
+        let alike = alike(
+            folder,
+            inputs,
+            &self.splice,
+            number,
+            &input,
+            &mut self.window,
+        )?;
+        let joint = self.splice.join(number, &input, alike);
         join_needs(&joint, from, &mut self.needs);
         self.joints.push(joint)?;
         Ok(())
@@ -191,7 +198,7 @@ impl Deciding {
 }
 
 /// The decision about all inputs: how many frames are left out at the front of the first, 0 or 1,
-/// what becomes of each later one, and the needs of all frames of the run, in the slots in which
+/// what becomes of each later one, and the needs of all frames of the splice, in the slots in which
 /// they joined, including those left out at its front.
 #[derive(Drop)]
 pub(crate) struct Decided {
@@ -202,9 +209,9 @@ pub(crate) struct Decided {
 
 impl Decided {
     /// The needs of the frames that are written.
-    pub fn run(&self) -> &[Need]
+    pub fn splice(&self) -> &[Need]
         requires { self.now.front ≤ length self.now.needs.items }
-        ensures { result.now ≡ run_needs self.now }
+        ensures { result.now ≡ splice_needs self.now }
     {
         &self.needs[self.front as usize..]
     }
@@ -236,24 +243,24 @@ impl Decided {
     }
 }
 
-/// How many frames are left out at the front of the whole run, 0 or 1: the lead-in of the first
-/// input, if it has one and the frames after it need one. `run` has the needs of the run's frames.
-fn front_of(survey: &Survey, beginning: &Beginning, run: &[Need]) -> u32
-    requires begin { CanBeginRun (survey_view survey.now) }
-    requires same { AreNeedsOfClass (survey_view survey.now).class run.now }
+/// How many frames are left out at the front of the whole splice, 0 or 1: the lead-in of the first
+/// input, if it has one and the frames after it need one. `splice` has the needs of the splice's frames.
+fn front_of(survey: &Survey, beginning: &Beginning, splice: &[Need]) -> u32
+    requires begin { CanBeginSplice (survey_view survey.now) }
+    requires same { AreNeedsOfClass (survey_view survey.now).class splice.now }
     requires fits { FitsBehind (window_of (survey_view survey.now).class.version)
-        (window_of (survey_view survey.now).class.version) run.now }
-    requires first { take (length (survey_view survey.now).frames) run.now
+        (window_of (survey_view survey.now).class.version) splice.now }
+    requires first { take (length (survey_view survey.now).frames) splice.now
         ≡ input_needs (survey_view survey.now) }
-    ensures front { (first : Brought) (frames : List RunFrame)
-        → BringsNeeds (survey_view survey.now) beginning.now first → run.now ≡ needs_of frames
+    ensures front { (first : Brought) (frames : List SpliceFrame)
+        → BringsNeeds (survey_view survey.now) beginning.now first → splice.now ≡ needs_of frames
         → result ≡ front_left_out_count (survey_view survey.now).class first frames }
     ensures most { result ≤ 1 }
     ensures behind { result < length (survey_view survey.now).frames }
 {
     let count = survey.frames().len();
-    let first = brought(survey.class(), &run[..count], beginning);
-    front_left_out(&first, run)
+    let first = brought(survey.class(), &splice[..count], beginning);
+    front_left_out(&first, splice)
 }
 
 /// Decides what becomes of all inputs, whose heads are set apart. The files stay.
@@ -270,7 +277,7 @@ pub(crate) fn decide_all<D: Folder>(
     requires can { CanBeDecided (D.seen folder.old).files (map input_view inputs.now)
         beginnings.now }
     ensures decided { IfOk result
-        (IsRunDecided (D.seen folder.old).files (map input_view inputs.now) beginnings.now) }
+        (IsSpliceDecided (D.seen folder.old).files (map input_view inputs.now) beginnings.now) }
     ensures refused { IfErr result (IsInputReadFault (input_names (map input_view inputs.now))
         (D.seen folder.old)
         (D.seen folder.new)) }

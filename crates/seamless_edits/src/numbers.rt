@@ -1,6 +1,6 @@
 //! Delay and padding of a join without seams, and what its Info frame keeps of the heads.
 ghost use Rattle.std.specs.Prelude.{◌≡◌, ◌<◌, length, option_copied, IfSome};
-ghost use Rattle.seamless_edits.specs.Numbers.{counted_delay, ends_padding, head_says_gain, all_say, gains_kept, run_kept};
+ghost use Rattle.seamless_edits.specs.Numbers.{counted_delay, ends_padding, head_says_gain, all_say, gains_kept, splice_kept};
 
 use crate::beginnings::Beginning;
 use cut_edits::quality_of;
@@ -23,7 +23,7 @@ pub(crate) struct Moved {
     pub lead_ins: u32,
 }
 
-/// The delay in samples of a run that begins with an input of `frames` frames and with this head:
+/// The delay in samples of a splice that begins with an input of `frames` frames and with this head:
 /// the head's own, plus a frame for each lead-in and less a frame for each frame left out. `None`
 /// if the head doesn't count, or if the delay has more than 12 bits.
 fn delay_of(class: Class, head: Option<&Info>, frames: u32, moved: Moved) -> Option<u16>
@@ -43,7 +43,7 @@ fn delay_of(class: Class, head: Option<&Info>, frames: u32, moved: Moved) -> Opt
     }
 }
 
-/// The padding in samples of a run that ends with an input of `frames` frames and with this head.
+/// The padding in samples of a splice that ends with an input of `frames` frames and with this head.
 fn padding_of(class: Class, head: Option<&Info>, frames: u32) -> u16
     ensures padding { result ≡ ends_padding class (option_copied head.entry) frames }
     ensures most { result < 4096 }
@@ -96,10 +96,10 @@ pub(crate) struct Ends {
 }
 
 /// What the Info frame keeps of the heads: the quality of the first, and its extension with the
-/// delay and the padding of the run. `None` if no numbers are written. There is at least one input.
+/// delay and the padding of the splice. `None` if no numbers are written. There is at least one input.
 pub(crate) fn kept_of(beginnings: &[Beginning], ends: Ends, moved: Moved) -> Option<Kept>
     requires { 0 < length beginnings.now }
-    ensures { result ≡ run_kept beginnings.now ends moved }
+    ensures { result ≡ splice_kept beginnings.now ends moved }
 {
     let first = beginnings[0].head.as_ref();
     let last = beginnings[beginnings.len() - 1].head.as_ref();

@@ -1,14 +1,14 @@
-//! What a join without seams prepares before its output is created: the plan of the run, the Info frame, and
+//! What a join without seams prepares before its output is created: the plan of the splice, the Info frame, and
 //! all memory.
 ghost use Rattle.std.specs.Prelude.{◌<◌, length, map, IfOk};
 ghost use Rattle.joined_inputs.specs.Inputs.{input_view, CanInputsBeJoined};
-ghost use Rattle.seamless_edits.specs.Deciding.{IsRunnable};
-ghost use Rattle.seamless_edits.specs.RunReady.{AreEnds, IsRunReady};
+ghost use Rattle.seamless_edits.specs.Deciding.{IsSpliceable};
+ghost use Rattle.seamless_edits.specs.SpliceReady.{AreEnds, IsSpliceReady};
 
 use crate::beginnings::Beginning;
 use crate::decided::Decided;
 use crate::numbers::{Ends, Moved, kept_of};
-use joined_inputs::{JoinInput, JoinWork, input_at, plan_run, run_info_bytes};
+use joined_inputs::{JoinInput, JoinWork, input_at, plan_splice, splice_info_bytes};
 use laying::RelayBuffers;
 use std::alloc::{AllocError, Global};
 
@@ -26,8 +26,8 @@ fn ends_of_all(inputs: &[JoinInput<'_>]) -> Ends
     }
 }
 
-/// Prepares all that is needed for a run before the output is created.
-pub(crate) fn prepare_run(
+/// Prepares all that is needed for a splice before the output is created.
+pub(crate) fn prepare_splice(
     alloc: Global,
     inputs: &[JoinInput<'_>],
     beginnings: &[Beginning],
@@ -35,11 +35,11 @@ pub(crate) fn prepare_run(
 ) -> Result<JoinWork, AllocError>
     requires joined { CanInputsBeJoined (map input_view inputs.now) }
     requires begun { 0 < length beginnings.now }
-    requires run { IsRunnable (map input_view inputs.now) decided.now }
-    ensures { IfOk result (IsRunReady (map input_view inputs.now) beginnings.now decided.now) }
+    requires splice { IsSpliceable (map input_view inputs.now) decided.now }
+    ensures { IfOk result (IsSpliceReady (map input_view inputs.now) beginnings.now decided.now) }
 {
-    let needs = decided.run();
-    let plan = plan_run(alloc, needs)?;
+    let needs = decided.splice();
+    let plan = plan_splice(alloc, needs)?;
     let first = &input_at(inputs, 0).survey;
     let placed = plan.placed();
     let moved = Moved {
@@ -47,7 +47,7 @@ pub(crate) fn prepare_run(
         lead_ins: placed.len().saturating_sub(needs.len()) as u32,
     };
     let kept = kept_of(beginnings, ends_of_all(inputs), moved);
-    let info = run_info_bytes(first, decided.front as usize, kept, placed);
+    let info = splice_info_bytes(first, decided.front as usize, kept, placed);
     let buffers = RelayBuffers::new(alloc, first.class())?;
     Ok(JoinWork {
         plan,

@@ -10,13 +10,13 @@ ghost use Rattle.joined_inputs.specs.Inputs.{input_view, input_names, HasJoinNum
 ghost use Rattle.seamless_edits.specs.Reading.{IsInputReadFault};
 ghost use Rattle.seamless_edits.specs.Deciding.{CanBeDecided};
 ghost use Rattle.seamless_edits.specs.Seamless.{seamless_task, seamless_command};
-ghost use Rattle.seamless_edits.specs.SeamlessReady.{IsRunMade, IsSeamlessReady};
+ghost use Rattle.seamless_edits.specs.SeamlessReady.{IsSpliceMade, IsSeamlessReady};
 
 use crate::apart::set_all_apart;
 use crate::beginnings::{Beginning, beginnings_of};
 use crate::decided::{Decided, decide_all};
 use crate::lines::send_lines;
-use crate::planned::prepare_run;
+use crate::planned::prepare_splice;
 use commands::{EditFault, ask_all, clash};
 use joined_inputs::{JoinInput, JoinWork, survey_all, write_joined};
 use outside::{Failed, Folder, SendBuffer, Sink};
@@ -24,7 +24,7 @@ use std::alloc::Global;
 
 /// The decision, what the second pass needs, and the memory of the text.
 #[derive(Drop)]
-struct MadeRun {
+struct MadeSplice {
     decided: Decided,
     work: JoinWork,
     sending: SendBuffer,
@@ -36,7 +36,7 @@ struct MadeRun {
 struct Ready<'a> {
     inputs: Vec<JoinInput<'a>>,
     lost: Vec<Vec<usize>>,
-    made: MadeRun,
+    made: MadeSplice,
 }
 
 /// Decides which frames are left out, and prepares the second pass.
@@ -48,10 +48,10 @@ fn make_ready<D: Folder>(
     folder: &mut D,
     inputs: &[JoinInput<'_>],
     beginnings: &[Beginning],
-) -> Result<MadeRun, EditFault>
+) -> Result<MadeSplice, EditFault>
     requires can { CanBeDecided (D.seen folder.old).files (map input_view inputs.now)
         beginnings.now }
-    ensures made { IfOk result (IsRunMade (D.seen folder.old).files (map input_view inputs.now)
+    ensures made { IfOk result (IsSpliceMade (D.seen folder.old).files (map input_view inputs.now)
         beginnings.now) }
     ensures refused { IfErr result (IsInputReadFault (input_names (map input_view inputs.now))
         (D.seen folder.old)
@@ -60,9 +60,9 @@ fn make_ready<D: Folder>(
     ensures reads { OnlyRead result (D.seen folder.old) (D.seen folder.new) }
 {
     let decided = decide_all(alloc, folder, inputs, beginnings)?;
-    let work = prepare_run(alloc, inputs, beginnings, &decided)?;
+    let work = prepare_splice(alloc, inputs, beginnings, &decided)?;
     let sending = SendBuffer::new(alloc)?;
-    Ok(MadeRun {
+    Ok(MadeSplice {
         decided,
         work,
         sending,
@@ -122,7 +122,7 @@ fn write_and_tell<D: Folder, T: Sink>(
         (answer_fault result) }
 {
     let Ready { inputs, lost, made } = ready;
-    let MadeRun {
+    let MadeSplice {
         decided,
         work,
         sending,
@@ -139,7 +139,7 @@ fn write_and_tell<D: Folder, T: Sink>(
 /// main data, but without those that only a piece needs. It consists of the ID3v2 blocks of the
 /// first input before its first frame or head, an Info frame, and the frames in the slots of their
 /// plan, which are one part (ISO/IEC 11172-3, 2.4.2.7). Then it sends to `out` a line for each
-/// input after the first. The run before an input serves as its bit reservoir. What becomes of an
+/// input after the first. The splice before an input serves as its bit reservoir. What becomes of an
 /// input is the first of these that is possible:
 ///
 /// | line | what is left out at its front |
@@ -179,7 +179,7 @@ pub fn join_seamless<D: Folder, T: Sink>(
 ) -> Result<(), EditFault>
     requires some { 1 ≤ length inputs.now }
     requires few { length inputs.now ≤ 64 }
-    // The inputs are well-formed, and the output holds the frames of the run after at most one lead-in.
+    // The inputs are well-formed, and the output holds the frames of the splice after at most one lead-in.
     ensures run { IsRunOf
         (asked_of D.keeping (seamless_command output.now (map string_bytes inputs.now)))
         (D.seen folder.old)

@@ -10,7 +10,7 @@ ghost use Rattle.outside.specs.Seen.{OnlyRead};
 ghost use Rattle.sync_survey.specs.MainData.{row_side};
 ghost use Rattle.joined_inputs.specs.Inputs.{input_view, input_names};
 ghost use Rattle.seamless_edits.specs.Reading.{AreHeld, StopsAmongInputs};
-ghost use Rattle.seamless_edits.specs.Sounds.{without_slot, without_gain, compared_side, same_front, IsFramePlace, IsSourceAt, row_at, AreOfOneClass, all_run_frames, payload_at_place, same_sounds};
+ghost use Rattle.seamless_edits.specs.Sounds.{without_slot, without_gain, compared_side, same_front, IsFramePlace, IsSourceAt, row_at, AreOfOneClass, all_splice_frames, payload_at_place, same_sounds};
 
 use crate::main_data::Source;
 use arrayvec::ArrayVec;
@@ -182,7 +182,7 @@ pub(crate) fn sound_alike<D: Folder>(
     requires first { IsFramePlace (map input_view inputs.now) first }
     requires second { IsFramePlace (map input_view inputs.now) second }
     ensures same { IfOk result (λ same. IfTold (D.seen folder.old).files (λ f. same
-        ≡ same_sounds (all_run_frames f (map input_view inputs.now)) first second)) }
+        ≡ same_sounds (all_splice_frames f (map input_view inputs.now)) first second)) }
     ensures stopped { IfErr result (StopsAmongInputs (input_names (map input_view inputs.now))
         (D.seen folder.old).files (D.seen folder.old).counts (D.seen folder.new).counts) }
     ensures reads { OnlyRead result (D.seen folder.old) (D.seen folder.new) }

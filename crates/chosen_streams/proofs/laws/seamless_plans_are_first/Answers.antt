@@ -1,4 +1,4 @@
--- The run has one plan.
+-- The splice has one plan.
 use Rattle.chosen_streams.proofs.SeamlessCaseLemmas.{seamless-first}
 use Rattle.chosen_streams.proofs.laws.seamless_plans_are_first.Goals as goal
 

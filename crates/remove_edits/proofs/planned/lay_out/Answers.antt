@@ -7,7 +7,8 @@ use Rattle.joined_inputs.specs.Planned.{info_kept}
 use Rattle.laying.specs.{Passing.IsRelayFresh, declared.info.Kept.Kept}
 use Rattle.remove_edits.proofs.PlannedLemmas.{first-is}
 use Rattle.remove_edits.proofs.RemovalLemmas.{first-there-is, removal-slots}
-use Rattle.remove_edits.{proofs.planned.lay_out.Goals.After-placed-placed, specs.Ready.IsRunPlanned}
+use Rattle.remove_edits.proofs.planned.lay_out.Goals.{After-placed-placed}
+use Rattle.remove_edits.specs.Ready.{IsSplicePlanned}
 use Rattle.remove_edits.specs.Removed.{all_parts_written, first_left, kept_of_written}
 use Rattle.remove_edits.specs.Removed.{removal_frames, removal_kept, removal_plan}
 use Rattle.seam_plan.specs.declared.stretches.Part.{Part}
@@ -19,7 +20,7 @@ abbrev none : Part
 none = record { from = 0; to = 0 }
 
 module _ (c : After-placed-placed) where
-  planned : IsRunPlanned (survey_view c.args.survey.now) c.args.parts.now c.in_ok-plan.field-0
+  planned : IsSplicePlanned (survey_view c.args.survey.now) c.args.parts.now c.in_ok-plan.field-0
   planned = c.in_ok-plan.ensures
 
   placed-is : c.placed-placed.result.now
@@ -30,22 +31,23 @@ module _ (c : After-placed-placed) where
   few = omega (arith, ap (λ (l : List Placed). length l) c.placed-placed.ensures, planned.few)
 
   from-is : (slice_index_or c.args.parts.now 0 none).from ≡ first_left c.args.parts.now
-  from-is = first-is c.args.parts.now none c.requires.run.are.some
+  from-is = first-is c.args.parts.now none c.requires.splice.are.some
 
 pub overflow_cast-placed : goal.overflow_cast-placed
 overflow_cast-placed c =
     let here = (goal.at.overflow_cast-placed c).After-placed-placed in
     omega (arith, few here)
 
-pub run_info_bytes-info-requires-clause-within : goal.run_info_bytes-info-requires-clause-within
-run_info_bytes-info-requires-clause-within c =
-    let here = (goal.at.run_info_bytes-info-requires-clause-within c).After-placed-placed in
+pub splice_info_bytes-info-requires-clause-within :
+    goal.splice_info_bytes-info-requires-clause-within
+splice_info_bytes-info-requires-clause-within c =
+    let here = (goal.at.splice_info_bytes-info-requires-clause-within c).After-placed-placed in
     rw (from-is here) (first-there-is (survey_view c.args.survey.now) c.args.parts.now
-    c.requires.run.are)
+    c.requires.splice.are)
 
-pub run_info_bytes-info-requires-clause-few : goal.run_info_bytes-info-requires-clause-few
-run_info_bytes-info-requires-clause-few c =
-    few (goal.at.run_info_bytes-info-requires-clause-few c).After-placed-placed
+pub splice_info_bytes-info-requires-clause-few : goal.splice_info_bytes-info-requires-clause-few
+splice_info_bytes-info-requires-clause-few c =
+    few (goal.at.splice_info_bytes-info-requires-clause-few c).After-placed-placed
 
 pub returns : goal.returns
 returns c =
@@ -66,9 +68,9 @@ returns c =
     record {
       plan = is.plan;
       info = λ file can first there.
-          c.run_info_bytes-info.ensures first (removal_frames parts file s)
+          c.splice_info_bytes-info.ensures first (removal_frames parts file s)
           (ap (λ n. slice_get s.frames n) (from-is here) ∙ there)
-          (removal-slots s parts c.requires.run.are file can
+          (removal-slots s parts c.requires.splice.are file can
           ∙ sym (ap (map (λ (p : Placed). p.slot)) (placed-is here)))
           ∙ ap (λ (k : Option Kept). info_frame first.header
           (info_kept k first.header s.class (removal_frames parts file s))) kept;

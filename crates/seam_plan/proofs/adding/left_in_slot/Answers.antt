@@ -1,7 +1,7 @@
 -- The first frame in its slot, and then the others.
 use Rattle.std.proofs.Common.{ap₂, subst, sym, ◌∙◌, ◌∷◌, ◌≡◌}
 use Rattle.frame_header.specs.Tables.{window_of}
-use Rattle.seam_plan.proofs.{RunLemmas.first-moved, adding.left_in_slot.Goals.After-needs_after}
+use Rattle.seam_plan.proofs.{SpliceLemmas.first-moved, adding.left_in_slot.Goals.After-needs_after}
 use Rattle.slot_plan.proofs.PartLemmas.{class-drop}
 use Rattle.slot_plan.specs.FreeBytes.{FitsBehind, IsMostLeft, needs_with_first_slot}
 use Rattle.slot_plan.specs.Parts.{AreNeedsOfClass}

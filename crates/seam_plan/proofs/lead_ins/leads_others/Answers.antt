@@ -1,7 +1,7 @@
 -- The header of the first frame, and of the lead-in of the others.
 use Rattle.std.proofs.Common.{ap, arith, rules, subst, sym, ◌∙◌}
 use Rattle.frame_header.specs.{Fields.IsHeader, Tables.window_of}
-use Rattle.seam_plan.proofs.{LeadInLemmas.{leads-is, leads-none}, RunLemmas.drop-fits}
+use Rattle.seam_plan.proofs.{LeadInLemmas.{leads-is, leads-none}, SpliceLemmas.drop-fits}
 use Rattle.seam_plan.specs.Joins.{is_same_header}
 use Rattle.slot_plan.proofs.PartLemmas.{class-drop}
 use Rattle.slot_plan.specs.{FreeBytes.{FitBehindWindow, IsLeadInHeader}, Parts.AreNeedsOfClass}

@@ -8,10 +8,11 @@ use Rattle.joined_inputs.specs.Inputs.{input_view, InputFields}
 use Rattle.laying.specs.Needs.{need_of}
 use Rattle.outside.specs.Files.{Contents, Files, IfTold}
 use Rattle.seam_plan.specs.Decisions.{frame_place, last_places}
-use Rattle.seam_plan.specs.declared.run.FramePlace.{FramePlace}
+use Rattle.seam_plan.specs.declared.splice.FramePlace.{FramePlace}
 use Rattle.seamless_edits.proofs.AlikeLemmas.{ends-here, none-alike, tested-alike}
 use Rattle.seamless_edits.proofs.{DecideLemmas.sounds_from, decided.alike.Goals.In-loop-place}
-use Rattle.seamless_edits.specs.Sounds.{all_run_frames, AreFramePlaces, IsFramePlace, same_sounds}
+use Rattle.seamless_edits.specs.Sounds.{all_splice_frames, AreFramePlaces, IsFramePlace}
+use Rattle.seamless_edits.specs.Sounds.{same_sounds}
 use Rattle.seamless_edits.proofs.decided.alike.Given as given
 use Rattle.seamless_edits.proofs.decided.alike.Goals as goal
 
@@ -34,13 +35,13 @@ drop-here (suc n) (p ∷ places) d within =
 
 all-compared : (files : Files) (inputs : List InputFields) (number frame n : ℕ)
     (places : List FramePlace) (all : Contents → Bool) → length places ≤ n → IfTold files
-    (λ f. sounds_from (all_run_frames f inputs) number frame (drop n places) ≡ all f)
+    (λ f. sounds_from (all_splice_frames f inputs) number frame (drop n places) ≡ all f)
     → IfTold files (λ f. all f ≡ true)
 all-compared files inputs number frame n places all past is = search (rules, drop_all)
 
 pub returns-in_default-last-clause-alike : goal.returns-in_default-last-clause-alike
 returns-in_default-last-clause-alike g c =
-    none-alike (map input_view c.args.inputs.now) c.args.number c.args.run.now c.args.input.now
+    none-alike (map input_view c.args.inputs.now) c.args.number c.args.splice.now c.args.input.now
     c.in-Some.overlap c.in-Some.ensures.overlap c.in-Some.ensures.can
     (g.D.Folder.seen c.args.folder.now).files c.in_default-last.ensures refl
 
@@ -54,7 +55,7 @@ module _ (g : given.Over) (c : In-loop-place g) where
   last =
       let next = c.requires.next in
       last-places next.places c.in-Some-last.places.now shared
-      (c.in-Some-last.ensures next.class next.frames next.places next.before next.is_run
+      (c.in-Some-last.ensures next.class next.frames next.places next.before next.is_splice
       (omega (arith, c.in-Some.ensures.can.few)))
 
   many : length c.in-Some-last.places.now ≡ shared
@@ -99,14 +100,14 @@ returns-then-not-branch-clause-alike g c =
     let p = get_or places n (record { input = 0; frame = 0 }) in
     let no : c.in_ok-sound_alike.field-0 ≡ false = search rules in
     let same =
-    subst (λ fs. IfTold fs (λ f. c.in_ok-sound_alike.field-0 ≡ same_sounds (all_run_frames f
+    subst (λ fs. IfTold fs (λ f. c.in_ok-sound_alike.field-0 ≡ same_sounds (all_splice_frames f
     inputs) p (frame_place c.args.number c.loop-place.frame))) c.loop-place.invariant.files
     c.in_ok-sound_alike.ensures.same in
-    tested-alike inputs c.args.number c.args.run.now c.args.input.now o
+    tested-alike inputs c.args.number c.args.splice.now c.args.input.now o
     c.in-Some.ensures.overlap c.in-Some.ensures.can files false c.in-Some-last.ensures
     (ends-here inputs c.args.number c.loop-place.frame p (drop n places) (drop (n + 1) places)
     (drop-here n places (record { input = 0; frame = 0 }) (omega (arith, c.loop-place-test.true)))
-    files (λ f. sounds_from (all_run_frames f inputs) c.args.number o.first_alike places) no same
+    files (λ f. sounds_from (all_splice_frames f inputs) c.args.number o.first_alike places) no same
     c.loop-place.invariant.alike)
 
 pub overflow_add-frame : goal.overflow_add-frame
@@ -126,8 +127,8 @@ returns-clause-alike g c =
     let o = c.in-Some.overlap in
     let places = c.in-Some-last.places.now in
     let files = (g.D.Folder.seen c.args.folder.now).files in
-    tested-alike inputs c.args.number c.args.run.now c.args.input.now o
+    tested-alike inputs c.args.number c.args.splice.now c.args.input.now o
     c.in-Some.ensures.overlap c.in-Some.ensures.can files true c.in-Some-last.ensures
     (all-compared files inputs c.args.number c.loop-place.frame c.loop-place.place-index places
-    (λ f. sounds_from (all_run_frames f inputs) c.args.number o.first_alike places)
+    (λ f. sounds_from (all_splice_frames f inputs) c.args.number o.first_alike places)
     (omega (arith, c.loop-place-test.false)) c.loop-place.invariant.alike)

@@ -4,7 +4,7 @@ use Rattle.std.proofs.lemmas.List.{length-map}
 use Rattle.exact_span.specs.PlayedPositions.{counted_positions}
 use Rattle.frame_header.specs.Fields.{ClassFields}
 use Rattle.laying.specs.Needs.{need_of}
-use Rattle.seam_plan.{proofs.RunLemmas.drop-fits, specs.Decisions.IsBroughtInput}
+use Rattle.seam_plan.{proofs.SpliceLemmas.drop-fits, specs.Decisions.IsBroughtInput}
 use Rattle.seam_plan.specs.Seams.{front_left_out_count}
 use Rattle.seamless_edits.proofs.DecideStepLemmas.{silent-needs, silent_brought, silent_frame}
 use Rattle.seamless_edits.proofs.FrontLemmas.{begin-window, front-behind, front-most}
@@ -17,12 +17,13 @@ use Rattle.seamless_edits.proofs.decided.front_of.Goals as goal
 pub front_left_out-requires-clause-input : goal.front_left_out-requires-clause-input
 front_left_out-requires-clause-input c =
     let needs = c.brought-first.ensures.needs ∙ ap
-    (λ (l : List Row). take (length l) c.args.run.now) c.frames-count.ensures ∙ c.requires.first in
+    (λ (l : List Row). take (length l) c.args.splice.now) c.frames-count.ensures
+    ∙ c.requires.first in
     subst FitBehindWindow (sym needs)
     (begin-window c.requires.begin)
 
-pub front_left_out-requires-clause-run : goal.front_left_out-requires-clause-run
-front_left_out-requires-clause-run c =
+pub front_left_out-requires-clause-splice : goal.front_left_out-requires-clause-splice
+front_left_out-requires-clause-splice c =
     drop-fits 1 (record {
       class = (survey_view c.args.survey.now).class;
       same = c.requires.same;
@@ -33,12 +34,13 @@ front_left_out-requires-clause-run c =
 front : (c : After-front_left_out)
     → c.front_left_out.result ≡ front_left_out_count (survey_view c.args.survey.now).class
     (silent_brought (survey_view c.args.survey.now) c.args.beginning.now)
-    (map silent_frame c.args.run.now)
+    (map silent_frame c.args.splice.now)
 front c =
     let s = survey_view c.args.survey.now in
     let b = c.args.beginning.now in
     let needs = c.brought-first.ensures.needs ∙ ap
-    (λ (l : List Row). take (length l) c.args.run.now) c.frames-count.ensures ∙ c.requires.first in
+    (λ (l : List Row). take (length l) c.args.splice.now) c.frames-count.ensures
+    ∙ c.requires.first in
     let long : length c.brought-first.result.needs.now ≡ length s.frames =
     ap length needs ∙ length-map s.frames need_of in
     let played = c.brought-first.ensures.played
@@ -49,21 +51,22 @@ front c =
       blank = c.brought-first.ensures.blank;
       played = played;
     } in
-    c.front_left_out.ensures s.class (silent_brought s b) (map silent_frame c.args.run.now)
+    c.front_left_out.ensures s.class (silent_brought s b) (map silent_frame c.args.splice.now)
     (subst (AreNeedsOfClass s.class) (sym needs) c.requires.begin.same) c.requires.same brings
-    (sym (silent-needs c.args.run.now))
+    (sym (silent-needs c.args.splice.now))
 
 pub returns-clause-most : goal.returns-clause-most
 returns-clause-most c =
     let s = survey_view c.args.survey.now in
     subst (λ n. n ≤ 1) (sym (front (goal.at.returns-clause-most c).After-front_left_out))
-    (front-most s.class (silent_brought s c.args.beginning.now) (map silent_frame c.args.run.now))
+    (front-most s.class (silent_brought s c.args.beginning.now)
+    (map silent_frame c.args.splice.now))
 
 pub returns-clause-behind : goal.returns-clause-behind
 returns-clause-behind c =
     let s = survey_view c.args.survey.now in
     let first = silent_brought s c.args.beginning.now in
-    let frames = map silent_frame c.args.run.now in
+    let frames = map silent_frame c.args.splice.now in
     let many : length first.frames ≡ length s.frames =
     length-map (input_needs s) silent_frame ∙ length-map s.frames need_of in
     subst (λ n. n < length s.frames)

@@ -6,7 +6,7 @@ use Rattle.laying.proofs.RelayLemmas.{item-next}
 use Rattle.list_edits.proofs.ListingLemmas.{all_lines, line_failed, prefix_behind, said_more}
 use Rattle.list_edits.proofs.ListingLemmas.{said_none, sent_behind}
 use Rattle.outside.{proofs.BufferOutputLemmas.on_err, specs.BufferOutput.{SendsWaiting, SentPrefix}}
-use Rattle.seam_plan.specs.{Seams.left_out_count, declared.run.Joint.Joint}
+use Rattle.seam_plan.specs.{Seams.left_out_count, declared.splice.Joint.Joint}
 use Rattle.seamless_edits.proofs.LineLemmas.{name-next, told-cons, told-past}
 use Rattle.seamless_edits.proofs.lines.send_lines.Goals.{After-finish, After-push_line}
 use Rattle.seamless_edits.specs.{Lines.{told_by, told_lines}, LostFrames.lost_from}

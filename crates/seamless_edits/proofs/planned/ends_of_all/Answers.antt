@@ -3,7 +3,7 @@ use Rattle.std.proofs.Common.{ap, arith, drop, length, List, map, suc, zero, ℕ
 use Rattle.std.proofs.{Common.{◌≡◌, ◌≤◌}, lemmas.List.length-map}
 use Rattle.joined_inputs.proofs.InputLemmas.{can-some}
 use Rattle.joined_inputs.specs.Inputs.{frames_together, input_view, InputFields}
-use Rattle.seamless_edits.specs.{RunReady.{AreEnds, last_length}, declared.numbers.Ends.Ends}
+use Rattle.seamless_edits.specs.{SpliceReady.{AreEnds, last_length}, declared.numbers.Ends.Ends}
 use Rattle.sync_survey.specs.Row.{Row}
 use Rattle.seamless_edits.proofs.planned.ends_of_all.Goals as goal
 

@@ -6,7 +6,7 @@ use Rattle.commands.proofs.TellingLemmas.{says-all, says-prefix, telling_run, un
 use Rattle.commands.specs.{Command.Command, SentText.IsCommandText, SingleOutput.one_command}
 use Rattle.joined_inputs.proofs.InputLemmas.{named-long}
 use Rattle.joined_inputs.specs.Inputs.{input_names, input_view, InputFields}
-use Rattle.seam_plan.specs.declared.run.Joint.{Joint}
+use Rattle.seam_plan.specs.declared.splice.Joint.{Joint}
 use Rattle.seamless_edits.proofs.SeamlessCommandLemmas.{joints-many, left-names, left_inputs}
 use Rattle.seamless_edits.proofs.SeamlessCommandLemmas.{ready-text, ready-writable, text_of}
 use Rattle.seamless_edits.proofs.SeamlessCommandLemmas.{written-run}

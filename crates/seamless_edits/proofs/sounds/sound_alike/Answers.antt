@@ -5,7 +5,8 @@ use Rattle.outside.specs.Files.{IfTold}
 use Rattle.seamless_edits.proofs.FramePlaceLemmas.{class-first, class-here, places-compared}
 use Rattle.seamless_edits.proofs.FramePlaceLemmas.{places-differ}
 use Rattle.seamless_edits.proofs.sounds.sound_alike.Goals.{After-class-class}
-use Rattle.seamless_edits.specs.Sounds.{all_run_frames, payload_at_place, same_front, same_sounds}
+use Rattle.seamless_edits.specs.Sounds.{all_splice_frames, payload_at_place, same_front}
+use Rattle.seamless_edits.specs.Sounds.{same_sounds}
 use Rattle.seamless_edits.proofs.sounds.sound_alike.Given as given
 use Rattle.seamless_edits.proofs.sounds.sound_alike.Goals as goal
 
@@ -68,7 +69,7 @@ returns-clause-same g c =
     c.main_data.ensures.reads.files c.in_ok-main_data-2.ensures.payload in
     subst
     (λ b. IfTold files
-    (λ f. b ≡ same_sounds (all_run_frames f inputs) c.args.first c.args.second))
+    (λ f. b ≡ same_sounds (all_splice_frames f inputs) c.args.first c.args.second))
     (sym tested)
     (places-compared inputs
     c.args.first c.args.second one.0 c.row_at.result.now c.row_at-2.result.now

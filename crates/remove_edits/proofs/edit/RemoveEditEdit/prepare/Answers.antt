@@ -12,7 +12,7 @@ use Rattle.info_header.specs.declared.fields.Info.{Info}
 use Rattle.laying.specs.{KeptFields.fields_of_head, Surveys.CanBeRelaid}
 use Rattle.outside.specs.{Files.Holds, Seen.seen_folder}
 use Rattle.remove_edits.proofs.CommandLemmas.{remove-makes, remove-refused}
-use Rattle.remove_edits.proofs.EditLemmas.{left-few, parts-run, planned-file, planned-ready}
+use Rattle.remove_edits.proofs.EditLemmas.{left-few, parts-splice, planned-file, planned-ready}
 use Rattle.remove_edits.proofs.edit.RemoveEditEdit.prepare.Goals.{After-as_ref}
 use Rattle.remove_edits.specs.Ready.{ArePartsLeft, IsRemovalPlanned}
 use Rattle.remove_edits.specs.Removed.{remove_making, remove_stream, remove_task}
@@ -53,11 +53,11 @@ apart : (g : given.Over) (c : After-as_ref g)
 apart g c = subst IsSurveyLaidOut (sym c.set_apart.ensures)
     (apart-laid (survey_view c.in_ok-survey.survey) c.in_ok-survey.ensures.laid)
 
--- the parts that stay can be laid as one run
-run : (g : given.Over) (c : After-as_ref g)
+-- the parts that stay can be laid as one splice
+splice : (g : given.Over) (c : After-as_ref g)
     → ArePartsLeft (survey_view c.set_apart.new.survey) c.in_ok-parts.parts.items
-run g c =
-    parts-run (survey_view c.in_ok-survey.survey) c.set_apart.ensures (apart g c)
+splice g c =
+    parts-splice (survey_view c.in_ok-survey.survey) c.set_apart.ensures (apart g c)
     c.in_ok-parts.ensures.there
 
 -- they are at most 51
@@ -66,11 +66,11 @@ few g c =
     left-few c.args.self.now.stretches.now (survey_view c.in_ok-survey.survey)
     c.in_ok-parts.ensures.parts c.requires.0
 
-pub prepare-requires-clause-run : goal.prepare-requires-clause-run
-prepare-requires-clause-run g c =
+pub prepare-requires-clause-splice : goal.prepare-requires-clause-splice
+prepare-requires-clause-splice g c =
     let s = survey_view c.in_ok-survey.survey in
     record {
-      are = run g c;
+      are = splice g c;
       many = few g c;
       few = omega (
         arith,
@@ -100,7 +100,7 @@ returns-clause-ready g c =
     let before = (goal.at.returns-clause-ready g c).After-as_ref in
     let s = survey_view c.in_ok-survey.survey in
     planned-ready (survey_view c.set_apart.new.survey) c.in_ok-parts.parts.items
-    (option_copied c.as_ref.result) c.in_ok-work.work c.in_ok-work.ensures (run g before)
+    (option_copied c.as_ref.result) c.in_ok-work.work c.in_ok-work.ensures (splice g before)
     c.in_ok-survey.ensures.there (apart g before)
     (λ bytes holds. subst (CanBeRelaid bytes) (sym c.set_apart.ensures)
     (survey_without_head-relaid (c.in_ok-survey.ensures.surveyed bytes holds)))
@@ -129,6 +129,6 @@ returns-clause-making g c =
     c.in_ok-parts.ensures.parts
     (λ bytes holds. planned-file (survey_without_head s) parts (fields_of_head bytes s.head) work
     (planned bytes holds)
-    (subst (λ (t : SurveyFields). ArePartsLeft t parts) c.set_apart.ensures (run g before))
+    (subst (λ (t : SurveyFields). ArePartsLeft t parts) c.set_apart.ensures (splice g before))
     (survey_without_head-relaid (c.in_ok-survey.ensures.surveyed bytes holds))
     (head_long bytes s.head))

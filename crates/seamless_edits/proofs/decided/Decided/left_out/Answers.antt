@@ -2,7 +2,7 @@
 use Rattle.std.proofs.Common.{ap, arith, drop, length, List, refl, suc, sym, zero, ℕ, ◌+◌, ◌-◌, ◌<◌}
 use Rattle.std.proofs.Common.{◌∙◌, ◌∷◌, ◌≡◌, ◌≤◌}
 use Rattle.joined_inputs.proofs.StepLemmas.{map-next}
-use Rattle.seam_plan.specs.{Seams.left_out_count, declared.run.Joint.Joint}
+use Rattle.seam_plan.specs.{Seams.left_out_count, declared.splice.Joint.Joint}
 use Rattle.seamless_edits.specs.Deciding.{left_out_counts}
 use Rattle.seamless_edits.proofs.decided.Decided.left_out.Goals as goal
 

@@ -102,7 +102,7 @@ module _ (g : given.Over) (c : After-brought-input g) where
   played = grind (arith, long)
 
   next-of : IsNextInput (map input_view c.args.inputs.now)
-      c.args.number c.args.self.now.run c.brought-input.result
+      c.args.number c.args.self.now.splice c.brought-input.result
   next-of =
       is-next _ (map input_view c.args.inputs.now)
       c.args.beginnings.now c.args.number c.args.self.now c.requires.can c.requires.before i found _

@@ -1,0 +1,16 @@
+-- All frames are of the class of the first.
+use Rattle.std.proofs.Common.{arith, rules, subst, sym, ◌∙◌}
+use Rattle.slot_plan.{proofs.PartLemmas.one-class, specs.FreeBytes.FitsBehind}
+use Rattle.plan_tests.proofs.tests.splices.can_be_joined.Goals as goal
+
+pub returns : goal.returns
+returns c = λ is. record {
+  some = search rules;
+  few = omega (arith, c.if-needs-gt9.false);
+  same = one-class c.args.input.now.needs.now c.index-needs-0.result
+      (c.are_of_one_class.ensures c.if-not-are_of_one_class.false)
+      (sym (c.is_same.ensures.equal.0 c.if-not-is_same.false) ∙ c.class.ensures);
+  fits = subst (λ n. FitsBehind n 0 c.args.input.now.needs.now) c.window.ensures.window
+      (c.fit.ensures is);
+  counted = c.are_counted.ensures c.if-not-are_counted.false;
+}
