@@ -23,15 +23,15 @@ use Rattle.sync_survey.specs.declared.survey_fault.SurveyFault.{SurveyFault}
 -- ---- the survey of the input
 
 -- a fault of the survey is one of the input
-pub file_fault : (place allowed : ℕ) (name : List ℕ) (old new : Seen) (fault : SurveyFault)
+pub file_fault : (number allowed : ℕ) (name : List ℕ) (old new : Seen) (fault : SurveyFault)
     → new.files ≡ old.files → IsSurveyFault name old.files allowed old.counts new.counts fault
-    → IsFileFault place allowed name old new (survey_edit_fault place fault)
-file_fault place allowed name old new fault same h = grind arith
+    → IsFileFault number allowed name old new (survey_edit_fault number fault)
+file_fault number allowed name old new fault same h = grind arith
 
 -- a fault of the survey has the number of the input, and right numbers
-pub survey_numbers : (place : ℕ) (fault : SurveyFault) → HasRightNumbers fault
-    → HasSurveyNumbers place (survey_edit_fault place fault)
-survey_numbers place fault right = grind arith
+pub survey_numbers : (number : ℕ) (fault : SurveyFault) → HasRightNumbers fault
+    → HasSurveyNumbers number (survey_edit_fault number fault)
+survey_numbers number fault right = grind arith
 
 made-fault : (make : Making) (bytes : List ℕ) {fault : SurveyFault}
     → survey_of bytes most_frames ≡ Err fault → made_file make bytes ≡ Err (Input 0 fault)

@@ -36,7 +36,7 @@ unless-err f is = ap (unless_there f) is
 
 free-exists : (o : Option ℕ) (made : Made) → o ≡ None → AreLike (Ok made) (exists_or o made)
 free-exists None made free = refl
-free-exists (Some place) made free = absurd cc
+free-exists (Some number) made free = absurd cc
 
 free-alike : (f : Contents) (r : Result Made EditFault)
     → IfOk r (λ made. first_there f 0 (made_names made) ≡ None) → AreLike r (unless_there f r)
@@ -45,7 +45,7 @@ free-alike f (Err fault) free = refl
 
 exists-ok : (o : Option ℕ) {m made : Made} → exists_or o m ≡ Ok made → ok_made m ≡ ok_made made
 exists-ok None is = is
-exists-ok (Some place) is = absurd cc
+exists-ok (Some number) is = absurd cc
 
 -- what is made by a command that keeps what is there is made without that, too
 pub unless-ok : (f : Contents) (r : Result Made EditFault) {made : Made}
@@ -54,22 +54,22 @@ unless-ok f (Ok m) {made} is = exists-ok (first_there f 0 (made_names m)) is
 unless-ok f (Err fault) is = is
 
 -- the refusal of an output comes after every fault of an input
-exists-after : (fault : EditFault) (place : ℕ) → IsNotBefore fault (Refused (Exists place))
-exists-after (Input at fault) place = tt
-exists-after (EqualNames at) place = tt
-exists-after (Refused refusal) place = tt
-exists-after (Write at) place = tt
-exists-after Sent place = tt
-exists-after Memory place = tt
+exists-after : (fault : EditFault) (number : ℕ) → IsNotBefore fault (Refused (Exists number))
+exists-after (Input at fault) number = tt
+exists-after (EqualNames at) number = tt
+exists-after (Refused refusal) number = tt
+exists-after (Write at) number = tt
+exists-after Sent number = tt
+exists-after Memory number = tt
 
-unless-all : (P : EditFault → Type 0) → ((place : ℕ) → P (Refused (Exists place)))
+unless-all : (P : EditFault → Type 0) → ((number : ℕ) → P (Refused (Exists number)))
     → (f : Contents) (r : Result Made EditFault) → IfErr r P → IfErr (unless_there f r) P
 unless-all P exists f (Err fault) is = is
 unless-all P exists f (Ok made) is = at (first_there f 0 (made_names made))
   where
     at : (o : Option ℕ) → IfErr (exists_or o made) P
     at None = tt
-    at (Some place) = exists place
+    at (Some number) = exists number
 
 unless-takes : (f : Contents) (r : Result Made EditFault) → TakesMemory r
     → TakesMemory (unless_there f r)
@@ -78,33 +78,33 @@ unless-takes f (Ok made) takes = at (first_there f 0 (made_names made))
   where
     at : (o : Option ℕ) → TakesMemory (exists_or o made)
     at None = tt
-    at (Some place) = refl
+    at (Some number) = refl
 
 -- ---- the names that are asked for
 
 module _ (f : Contents) where
-  from-next : (place : ℕ) (o : Option ℕ) → IfSome o (λ at. place + 1 ≤ at)
-      → IfSome o (λ at. place ≤ at)
-  from-next place None from = tt
-  from-next place (Some at) from = omega (arith, from)
+  from-next : (number : ℕ) (o : Option ℕ) → IfSome o (λ at. number + 1 ≤ at)
+      → IfSome o (λ at. number ≤ at)
+  from-next number None from = tt
+  from-next number (Some at) from = omega (arith, from)
 
-  from-here : (place : ℕ) (here : Bool) (later : Option ℕ) → IfSome later (λ at. place + 1 ≤ at)
-      → IfSome (cond here (Some place) later) (λ at. place ≤ at)
-  from-here place true later from = omega arith
-  from-here place false later from = from-next place later from
+  from-here : (number : ℕ) (here : Bool) (later : Option ℕ) → IfSome later (λ at. number + 1 ≤ at)
+      → IfSome (cond here (Some number) later) (λ at. number ≤ at)
+  from-here number true later from = omega arith
+  from-here number false later from = from-next number later from
 
   -- the first name that is there isn't before the first name
-  pub first-from : (place : ℕ) (names : List (List ℕ))
-      → IfSome (first_there f place names) (λ at. place ≤ at)
-  first-from place [] = tt
-  first-from place (name ∷ names) = from-here place (is_some (f name))
-      (first_there f (place + 1) names) (first-from (place + 1) names)
+  pub first-from : (number : ℕ) (names : List (List ℕ))
+      → IfSome (first_there f number names) (λ at. number ≤ at)
+  first-from number [] = tt
+  first-from number (name ∷ names) = from-here number (is_some (f name))
+      (first_there f (number + 1) names) (first-from (number + 1) names)
 
 -- ---- before the outputs are asked for
 
 -- the fault doesn't come once the outputs are asked for
 abbrev pub IsBeforeOutputs : EditFault → Type 0
-IsBeforeOutputs (Write place) = ⊥
+IsBeforeOutputs (Write number) = ⊥
 IsBeforeOutputs Sent = ⊥
 IsBeforeOutputs _ = Unit {0}
 
@@ -112,7 +112,7 @@ abbrev before_outputs : ByWhy (Type 0)
 before_outputs = record (always (Unit {0})) { unwritten = λ k. ⊥; unsent = ⊥ }
 
 before-why : (fault : EditFault) → IsBeforeOutputs fault → by_why before_outputs (why_of fault)
-before-why (Input place fault) is = at (kind_of fault)
+before-why (Input number fault) is = at (kind_of fault)
   where
     at : (kind : InputKind) → by_why before_outputs (by_kind (record {
       absent = Missing;
@@ -126,21 +126,21 @@ before-why (Input place fault) is = at (kind_of fault)
     at IsShorter = tt
     at IsTooMuch = tt
     at IsRefused = tt
-before-why (EqualNames place) is = tt
+before-why (EqualNames number) is = tt
 before-why (Refused refusal) is = tt
 before-why Memory is = tt
-before-why (Write place) is = absurd is
+before-why (Write number) is = absurd is
 before-why Sent is = absurd is
 
 -- a fault that is met before an output is created comes before the outputs are asked for
 pub early_before : (task : Task) (old new : Seen) (fault : EditFault)
     → IsEarlyFault task old new fault → IsBeforeOutputs fault
-early_before task old new (Write place) h = absurd h
+early_before task old new (Write number) h = absurd h
 early_before task old new Sent h = absurd h
-early_before task old new (Input place fault) h = tt
+early_before task old new (Input number fault) h = tt
 early_before task old new (Refused refusal) h = tt
 early_before task old new Memory h = tt
-early_before task old new (EqualNames place) h = tt
+early_before task old new (EqualNames number) h = tt
 
 module _ (c : Command) where
   abbrev pub as_kept : Variant
@@ -230,11 +230,11 @@ module _ {c : Command} {names : List (List ℕ)} {files : Files} (h : IsToWrite 
   few : length names ≤ length c.outputs
   few = omega (arith, ap length h.front, length-take (length names) c.outputs)
 
-  name-at : {place : ℕ} → place < length names
-      → slice_index_or names place [] ≡ slice_index_or c.outputs place []
-  name-at {place} within =
-      ap (λ (l : List (List ℕ)). slice_index_or l place []) (sym h.front)
-      ∙ get_or-take (length names) c.outputs place [] within
+  name-at : {number : ℕ} → number < length names
+      → slice_index_or names number [] ≡ slice_index_or c.outputs number []
+  name-at {number} within =
+      ap (λ (l : List (List ℕ)). slice_index_or l number []) (sym h.front)
+      ∙ get_or-take (length names) c.outputs number [] within
 
 -- what a command that keeps what is there makes where one is there
 kept-made : (c : Command) (names : List (List ℕ)) (P : Result Made EditFault → Type 0)
@@ -251,14 +251,14 @@ module _ {c : Command} {names : List (List ℕ)} (old new : Seen)
   found-left : {fault : EditFault} → FindsOutput names old new fault
       → IsCommandFault (kept c) old new fault
   found-left l = rw l.is (record {
-    defined = kept-made c names (λ r. r ≡ Err (Refused (Exists l.place))) old.files h.made
+    defined = kept-made c names (λ r. r ≡ Err (Refused (Exists l.number))) old.files h.made
         (at old.files l.first);
     stays = l.stays;
   })
     where
-      at : (fs : Files) → IfTold fs (λ f. first_there f 0 names ≡ Some l.place)
+      at : (fs : Files) → IfTold fs (λ f. first_there f 0 names ≡ Some l.number)
           → IfTold fs (λ f. (made : Made)
-          → exists_or (first_there f 0 names) made ≡ Err (Refused (Exists l.place)))
+          → exists_or (first_there f 0 names) made ≡ Err (Refused (Exists l.number)))
       at (Untold t) first = tt
       at (Told f) first = λ made. ap (λ o. exists_or o made) first
 
@@ -268,21 +268,21 @@ module _ {c : Command} {names : List (List ℕ)} (old new : Seen)
     rose = rw (← (name-at h l.within)) l.rose;
     files = inr (record {
       keeps = refl;
-      before = kept-made c names (λ r. IfErr r (IsThereFrom l.place)) old.files h.made
+      before = kept-made c names (λ r. IfErr r (IsThereFrom l.number)) old.files h.made
           (at old.files l.before);
       stays = l.files;
     });
   })
     where
-      by : (o : Option ℕ) (made : Made) → IfSome o (λ place. l.place ≤ place)
-          → IfErr (exists_or o made) (IsThereFrom l.place)
+      by : (o : Option ℕ) (made : Made) → IfSome o (λ number. l.number ≤ number)
+          → IfErr (exists_or o made) (IsThereFrom l.number)
       by None made from = tt
-      by (Some place) made from = from
+      by (Some number) made from = from
 
       at : (fs : Files)
-          → IfTold fs (λ f. IfSome (first_there f 0 names) (λ place. l.place ≤ place))
+          → IfTold fs (λ f. IfSome (first_there f 0 names) (λ number. l.number ≤ number))
           → IfTold fs (λ f. (made : Made)
-          → IfErr (exists_or (first_there f 0 names) made) (IsThereFrom l.place))
+          → IfErr (exists_or (first_there f 0 names) made) (IsThereFrom l.number))
       at (Untold t) before = tt
       at (Told f) before = λ made. by (first_there f 0 names) made before
 
@@ -295,8 +295,8 @@ module _ {c : Command} {names : List (List ℕ)} (old new : Seen)
   stopped-numbers : {fault : EditFault}
       → FindsOutput names old new fault ⊎ FailsToAsk names old new fault
       → HasNumbers (kept c) fault
-  stopped-numbers (inl l) = rw l.is (ap (λ b. b || c.refuses (Exists l.place))
-      (lt-ltb l.place (length c.outputs) (omega (arith, l.within, few h))))
+  stopped-numbers (inl l) = rw l.is (ap (λ b. b || c.refuses (Exists l.number))
+      (lt-ltb l.number (length c.outputs) (omega (arith, l.within, few h))))
   stopped-numbers (inr l) = rw l.is (omega (arith, l.within, few h))
 
 module _ {c : Command} {names : List (List ℕ)} {old : Seen}
@@ -352,7 +352,7 @@ module _ (c : Command) where
           → first_there f 0 (made_names made) ≡ None
       at None none e =
           subst (λ (x : Made). first_there f 0 (made_names x) ≡ None) (made-same e) none
-      at (Some place) some e = absurd cc
+      at (Some number) some e = absurd cc
 
   -- and none of the names of its outputs was there
   pub kept_done-free : (f : Contents) {made : Made} → (kept c).makes f ≡ Ok made
@@ -434,8 +434,8 @@ asked_says true c files old new fault says = at fault says
         → SaysText (kept c) files old new fault
     at None says = record { text = λ all is. says.text all (text all is); faults = says.faults }
     at (Some Sent) says = record { text = λ all is. says.text all (text all is); rose = says.rose }
-    at (Some (EqualNames place)) says = says
-    at (Some (Input place fault)) says = says
+    at (Some (EqualNames number)) says = says
+    at (Some (Input number fault)) says = says
     at (Some (Refused refusal)) says = says
-    at (Some (Write place)) says = says
+    at (Some (Write number)) says = says
     at (Some Memory) says = says

@@ -189,10 +189,10 @@ module _ (c : Command) (v : Variant) where
       (send : c.always ≢ Some [] → v.always ≢ Some []) where
     -- the numbers of a fault are right for the other, too
     pub numbers-like : (fault : EditFault) → HasNumbers c fault → HasNumbers d fault
-    numbers-like (EqualNames place) h = h
-    numbers-like (Input place fault) h = h
+    numbers-like (EqualNames number) h = h
+    numbers-like (Input number fault) h = h
     numbers-like (Refused refusal) h = refuse refusal h
-    numbers-like (Write place) h = h
+    numbers-like (Write number) h = h
     numbers-like Sent h = send h
     numbers-like Memory h = tt
 

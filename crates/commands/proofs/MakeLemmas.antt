@@ -34,9 +34,9 @@ made-same e = cc
 -- ---- names
 
 -- without a clash the first name is no output's, nor is any other
-pub no_clash : {b : Bool} (place : ℕ) {o : Option ℕ} → cond b (Some place) o ≡ None
+pub no_clash : {b : Bool} (number : ℕ) {o : Option ℕ} → cond b (Some number) o ≡ None
     → (b ≡ false) × (o ≡ None)
-no_clash place none = grind arith
+no_clash number none = grind arith
 
 or_none : {a : Bool} (b : Bool) → (a || b) ≡ false → a ≡ false
 or_none b none = grind arith
@@ -60,12 +60,13 @@ module _ (inputs : Inputs) (task : Task) (named : names_of inputs ≡ task.input
   source_is first = ap first_input named ∙ first
 
   -- a clash of the inputs with the output is one of the task
-  pub clash_is : (output : List ℕ) {found place : Option ℕ} → found
-      ≡ clash_from (output ∷ []) 0 (names_of inputs) → found ≡ place → clash_in task output ≡ place
+  pub clash_is : (output : List ℕ) {found number : Option ℕ} → found
+      ≡ clash_from (output ∷ []) 0 (names_of inputs) → found ≡ number
+      → clash_in task output ≡ number
   clash_is output of is = ap (clash_from (output ∷ []) 0) (sym named) ∙ sym of ∙ is
 
-task_result-clash : (task : Task) (output : List ℕ) {place : ℕ} (f : Contents)
-    → clash_in task output ≡ Some place → task_result task output f ≡ Err (EqualNames place)
+task_result-clash : (task : Task) (output : List ℕ) {number : ℕ} (f : Contents)
+    → clash_in task output ≡ Some number → task_result task output f ≡ Err (EqualNames number)
 unfolding task_result
 task_result-clash task output f clash = rw clash refl
 
@@ -74,13 +75,13 @@ task_result-free : (task : Task) (output : List ℕ) (f : Contents) → clash_in
 unfolding task_result
 task_result-free task output f free = rw free refl
 
-gives_clash : (task : Task) (output : List ℕ) {place : ℕ} (files : Files) → clash_in task output
-    ≡ Some place → HasAnswer (one_command task output) files (Err (EqualNames place))
+gives_clash : (task : Task) (output : List ℕ) {number : ℕ} (files : Files) → clash_in task output
+    ≡ Some number → HasAnswer (one_command task output) files (Err (EqualNames number))
 gives_clash task output files clash = grind (arith, task_result-clash)
 
 -- a clash is a fault of the command, with its number, that changes nothing
-pub clash_left : (task : Task) {output : List ℕ} {place : ℕ} (now : Seen) → clash_in task output
-    ≡ Some place → IsCommandFault (one_command task output) now now (EqualNames place)
+pub clash_left : (task : Task) {output : List ℕ} {number : ℕ} (now : Seen) → clash_in task output
+    ≡ Some number → IsCommandFault (one_command task output) now now (EqualNames number)
 clash_left task now clash = grind (arith, gives_clash)
 
 -- ---- before the output is created
@@ -281,9 +282,9 @@ numbers_early task output fault h = grind arith
 
 -- if no names clash, no fault is that of equal names
 pub names_free : (command : Command) {r : Result (Unit {0}) EditFault} → clash_of command ≡ None
-    → IfErr r (HasNumbers command) → (place : ℕ)
-    → IsErrOf r (EqualNames place) ↔ (clash_of command ≡ Some place)
-names_free command none numbers place = grind arith
+    → IfErr r (HasNumbers command) → (number : ℕ)
+    → IsErrOf r (EqualNames number) ↔ (clash_of command ≡ Some number)
+names_free command none numbers number = grind arith
 
 -- a call that ended with a fault is a run of the command
 pub refused_run : {command : Command} {old new : Seen} {r : Result (Unit {0}) EditFault}
@@ -302,9 +303,9 @@ returned_run is ran = grind arith
 
 module _ (task : Task) (output : List ℕ) where
   -- a call that found a clash
-  pub clash_run : {place : ℕ} (now : Seen) → clash_in task output ≡ Some place
-      → IsRunOf (one_command task output) now now (Err (EqualNames place))
-  clash_run {place} now clash = record {
+  pub clash_run : {number : ℕ} (now : Seen) → clash_in task output ≡ Some number
+      → IsRunOf (one_command task output) now now (Err (EqualNames number))
+  clash_run {number} now clash = record {
     done = tt;
     left = clash_left task now clash;
     numbers = clash;

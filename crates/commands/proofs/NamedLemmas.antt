@@ -1,4 +1,4 @@
--- The file that a fault is about, by its place among the inputs.
+-- The file that a fault is about, by its number among the inputs.
 use Rattle.std.proofs.Common.{List, refl, slice_index_or, sym, ℕ, [], ◌∙◌, ◌∷◌, ◌≡◌}
 use Rattle.commands.proofs.WhyLemmas.{each_why}
 use Rattle.commands.specs.AfterCall.{HasPassNumbers, input_of, InputEndsEarly, why_of}
@@ -7,20 +7,20 @@ use Rattle.commands.specs.{SingleOutput.ReadsNothing, declared.fault.EditFault.E
 use Rattle.commands.specs.declared.fault.EditFault.TheVariants.{Input}
 use Rattle.outside.specs.{Counts.HappenedTo, Seen.Seen}
 
-module _ (inputs : List (List ℕ)) (place : ℕ) {name : List ℕ}
-    (named : name ≡ slice_index_or inputs place []) {old new : Seen} {fault : EditFault} where
+module _ (inputs : List (List ℕ)) (number : ℕ) {name : List ℕ}
+    (named : name ≡ slice_index_or inputs number []) {old new : Seen} {fault : EditFault} where
   -- a call that missed a file counts a miss of the input that the fault names
-  pub missed_name : MissesAt place name old new fault
+  pub missed_name : MissesAt number name old new fault
       → HappenedTo (input_of inputs fault) old.counts.misses new.counts.misses
   missed_name h = rw (h.is, ← named) h.rose
 
   -- a call that couldn't read a file counts a failed read of the input that the fault names
-  pub unread_name : ReadsNothing place name old new fault
+  pub unread_name : ReadsNothing number name old new fault
       → HappenedTo (input_of inputs fault) old.counts.read_faults new.counts.read_faults
   unread_name h = rw (h.is, ← named) h.rose
 
   -- a call that found a file shorter names the input that became shorter
-  pub lost_name : LosesInput place name old new fault → InputEndsEarly inputs old new fault
+  pub lost_name : LosesInput number name old new fault → InputEndsEarly inputs old new fault
   lost_name h =
       rw h.is (record { rose = rw (← named) h.rose; counts = h.counts; untold = h.untold })
 
@@ -35,7 +35,7 @@ first_at (name ∷ inputs) = refl
 source_name : (inputs : List (List ℕ)) {source : List ℕ} → first_input inputs ≡ source
     → (fault : EditFault) → HasPassNumbers fault
     → input_of (source ∷ []) fault ≡ input_of inputs fault
-source_name inputs first (Input place f) is = rw is.0 (sym first ∙ first_at inputs)
+source_name inputs first (Input number f) is = rw is.0 (sym first ∙ first_at inputs)
 source_name inputs first _ is = refl
 
 -- a fault of the pass over this input is one of all inputs

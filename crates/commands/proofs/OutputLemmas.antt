@@ -71,21 +71,21 @@ module _ (made : List ℕ → List ℕ) (input output : List ℕ) (apart : input
 
   -- an input could not be read again, or the output could not be written
   pub pass_fault : (inputs : List (List ℕ)) → first_input inputs ≡ input
-      → (place : ℕ) (fault : PassFault) (size : ℕ) {before between : Counts} (after : Counts)
+      → (number : ℕ) (fault : PassFault) (size : ℕ) {before between : Counts} (after : Counts)
       → between ≡ before → AppendsPrefix input output made mid new fault
-      → HasPassCause (route (slice_index_or inputs place []) output size) mid between after fault
+      → HasPassCause (route (slice_index_or inputs number []) output size) mid between after fault
       → IsPassFault made inputs output (seen_folder old before) (seen_folder new after)
-      (pass_edit_fault place 0 fault)
-  pass_fault inputs first place Read size after same part h = record {
+      (pass_edit_fault number 0 fault)
+  pass_fault inputs first number Read size after same part h = record {
     rose = rw (← same) h.0;
     files = rw first (output_prefix part);
   }
-  pass_fault inputs first place (Shrunk from to) size after same part h = record {
+  pass_fault inputs first number (Shrunk from to) size after same part h = record {
     rose = rw (← same) h.3;
     counts = rw (← same) h.4;
     untold = sym (ap is_told created ∙ emptied_told old output) ∙ h.0;
   }
-  pass_fault inputs first place Write size after same part h = (
+  pass_fault inputs first number Write size after same part h = (
     refl,
     record {
       rose = rw (← same) h.0;

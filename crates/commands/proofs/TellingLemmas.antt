@@ -59,7 +59,7 @@ module _ (text : Contents → List ℕ) (command : Command) where
       done = tt;
       left = done-like command as_told (λ is. is) old new (makes_text old.files) ran.done;
       numbers = λ e. absurd cc;
-      names = λ place. (λ e. absurd cc, λ clash. let e = (ran.names place).1 clash in absurd cc);
+      names = λ number. (λ e. absurd cc, λ clash. let e = (ran.names number).1 clash in absurd cc);
       streams = tt;
       counts = ran.counts;
     }

@@ -69,7 +69,7 @@ no_cause = record {
 
 -- the cause of a fault
 abbrev pub why_of : EditFault → Why
-why_of (Input place fault) =
+why_of (Input number fault) =
     by_kind (record {
       absent = Missing;
       unread = Unread;
@@ -77,22 +77,22 @@ why_of (Input place fault) =
       too_much = NoMemory;
       refused = Rejected;
     }) (kind_of fault)
-why_of (Write place) = Unwritten place
+why_of (Write number) = Unwritten number
 why_of Sent = Unsent
 why_of Memory = NoMemory
-why_of (EqualNames place) = Rejected
+why_of (EqualNames number) = Rejected
 why_of (Refused refusal) = Rejected
 
 -- ---- which file it was
 
 -- the name of the input that a fault is about
 abbrev pub input_of : List (List ℕ) → EditFault → List ℕ
-input_of inputs (Input place fault) = slice_index_or inputs place []
+input_of inputs (Input number fault) = slice_index_or inputs number []
 input_of inputs _ = []
 
 -- the offset at which the input ended, if it became shorter
 abbrev pub end_offset : EditFault → ℕ
-end_offset (Input place fault) = shrunk_end fault
+end_offset (Input number fault) = shrunk_end fault
 end_offset _ = 0
 
 -- the contents of the files aren't known; a read of the input that the fault
@@ -145,8 +145,8 @@ pub record IsInputMissing (command : Command) (old new : Seen) (fault : EditFaul
 -- checked in order, so if one could not be read, those before it are there and without fault,
 -- and none differs from the first. Every refusal that names no input comes after these.
 abbrev pub IsNotBefore : EditFault → EditFault → Type 0
-IsNotBefore (Input place fault) (Input at first) = place ≤ at
-IsNotBefore (Input place fault) (Refused (Differ at)) = place ≤ at
+IsNotBefore (Input number fault) (Input at first) = number ≤ at
+IsNotBefore (Input number fault) (Refused (Differ at)) = number ≤ at
 IsNotBefore fault answer = Unit {0}
 
 -- A call failed that looks up or reads the input that the fault is about. No
@@ -165,7 +165,7 @@ pub record IsInputShorter (command : Command) (old new : Seen) (fault : EditFaul
 
 -- the refusal is that of an output that is there, and isn't before this one
 abbrev pub IsThereFrom : ℕ → EditFault → Type 0
-IsThereFrom k (Refused (Exists place)) = k ≤ place
+IsThereFrom k (Refused (Exists number)) = k ≤ number
 IsThereFrom k _ = ⊥
 
 -- A command that keeps what is there could not ask for this output. It isn't refused, unless since
@@ -184,9 +184,9 @@ pub record IsOutputUnwritten (command : Command) (k : ℕ) (old new : Seen) : Ty
 
 -- equal names, an absent first input and one that is too long are found before any memory is taken
 abbrev pub is_before_memory : EditFault → Bool
-is_before_memory (EqualNames place) = true
-is_before_memory (Input place Absent) = place == 0
-is_before_memory (Input place (TooLong size)) = place == 0
+is_before_memory (EqualNames number) = true
+is_before_memory (Input number Absent) = number == 0
+is_before_memory (Input number (TooLong size)) = number == 0
 is_before_memory _ = false
 
 -- the fault is found after memory was taken
@@ -225,39 +225,40 @@ IsCommandFault command old new fault = by_why (left_cases command old new fault)
 
 -- the input is the first or one of `sources` sources, whose frames are read;
 -- any other, such as a sheet, can only be missing, unreadable or shorter
-abbrev pub CanBeAtPlace : ℕ → ℕ → SurveyFault → Type 0
-CanBeAtPlace sources place fault = (place ≡ 0) ⊎ (place < sources) ⊎ IsFromOutside fault
+abbrev pub CanBeAtNumber : ℕ → ℕ → SurveyFault → Type 0
+CanBeAtNumber sources number fault = (number ≡ 0) ⊎ (number < sources) ⊎ IsFromOutside fault
 
 -- The numbers of a fault, in every folder: the number of an input or an output is one that the
 -- command has, a refusal is one that it can give, a file that is too long is longer than one may
 -- be, one that became shorter ended before its first length, and a sheet has no fault of a stream.
 abbrev pub HasNumbers : Command → EditFault → Type 0
-HasNumbers command (EqualNames place) = clash_of command ≡ Some place
-HasNumbers command (Input place fault) =
-    (place < length command.inputs) × (fault ≢ NoRoom) × HasRightNumbers fault
-    × CanBeAtPlace (length command.sources) place fault
+HasNumbers command (EqualNames number) = clash_of command ≡ Some number
+HasNumbers command (Input number fault) =
+    (number < length command.inputs) × (fault ≢ NoRoom) × HasRightNumbers fault
+    × CanBeAtNumber (length command.sources) number fault
 HasNumbers command (Refused refusal) = command.refuses refusal ≡ true
-HasNumbers command (Write place) = place < length command.outputs
+HasNumbers command (Write number) = number < length command.outputs
 HasNumbers command Sent = command.always ≢ Some []
 HasNumbers command Memory = Unit {0}
 
 -- the fault is one of this input, or that memory ran out
 abbrev pub HasSurveyNumbers : ℕ → EditFault → Type 0
-HasSurveyNumbers at (Input place fault) = (place ≡ at) × (fault ≢ NoRoom) × HasRightNumbers fault
+HasSurveyNumbers at (Input number fault) = (number ≡ at) × (fault ≢ NoRoom) × HasRightNumbers fault
 HasSurveyNumbers at Memory = Unit {0}
 HasSurveyNumbers at _ = ⊥
 
 -- the fault is one of the only input, a refusal that passes the test, or that memory ran out
 abbrev pub HasInputNumbers : (Refusal → Bool) → EditFault → Type 0
-HasInputNumbers refuses (Input place fault) = (place ≡ 0) × (fault ≢ NoRoom) × HasRightNumbers fault
+HasInputNumbers refuses (Input number fault) =
+    (number ≡ 0) × (fault ≢ NoRoom) × HasRightNumbers fault
 HasInputNumbers refuses (Refused refusal) = refuses refusal ≡ true
 HasInputNumbers refuses Memory = Unit {0}
 HasInputNumbers refuses _ = ⊥
 
 -- the fault is one of the second pass over the only input, for which all memory was taken before
 abbrev pub HasPassNumbers : EditFault → Type 0
-HasPassNumbers (Input place fault) = (place ≡ 0) × (fault ≢ NoRoom) × HasRightNumbers fault
-HasPassNumbers (Write place) = place ≡ 0
+HasPassNumbers (Input number fault) = (number ≡ 0) × (fault ≢ NoRoom) × HasRightNumbers fault
+HasPassNumbers (Write number) = number ≡ 0
 HasPassNumbers _ = ⊥
 
 -- the fault is a refusal that passes the test

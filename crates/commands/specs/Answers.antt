@@ -8,7 +8,7 @@ use Rattle.sync_survey.specs.{Faults.survey_view, Survey.{IsSurveyLaidOut, surve
 use Rattle.sync_survey.specs.declared.surveys.Survey.{Survey}
 
 -- An input, counted from 0, was surveyed, with at most `allowed` frames, or it is at fault.
-pub record InputSurvey (place allowed : ℕ) (name : List ℕ) (old new : Seen)
+pub record InputSurvey (number allowed : ℕ) (name : List ℕ) (old new : Seen)
     (result : Result Survey EditFault) : Type 0 where
   pub there : OnOk result (IsFileThere old.files name)
   pub surveyed : IfOk result
@@ -17,8 +17,8 @@ pub record InputSurvey (place allowed : ℕ) (name : List ℕ) (old new : Seen)
   pub few : IfOk result (λ s. length (survey_view s).frames ≤ allowed)
   -- if its content is known, it consists of bytes
   pub octets : OnOk result (OnFile old name AreBytes)
-  pub refused : IfErr result (IsFileFault place allowed name old new)
-  pub numbers : IfErr result (HasSurveyNumbers place)
+  pub refused : IfErr result (IsFileFault number allowed name old new)
+  pub numbers : IfErr result (HasSurveyNumbers number)
   pub reads : OnlyRead result old new
 
 -- A sheet was looked up or read: it is there, or it is at fault.

@@ -38,13 +38,13 @@ pub record Command : Type 0 where
 
 -- ---- names
 
--- the place of the first of these names that is an output's, if the first name has this place
+-- the number of the first of these names that is an output's, if the first name has this number
 abbrev pub clash_from : List (List ℕ) → ℕ → List (List ℕ) → Option ℕ
-clash_from outputs place [] = None
-clash_from outputs place (name ∷ names) =
-    if list_any (bytes_eq name) outputs then Some place else clash_from outputs (place + 1) names
+clash_from outputs number [] = None
+clash_from outputs number (name ∷ names) =
+    if list_any (bytes_eq name) outputs then Some number else clash_from outputs (number + 1) names
 
--- the place of the first input whose name is an output's, byte for byte
+-- the number of the first input whose name is an output's, byte for byte
 abbrev pub clash_of : Command → Option ℕ
 clash_of command = clash_from command.outputs 0 command.inputs
 
@@ -78,7 +78,7 @@ HasAnswer command files answer = IfTold files (λ f. command.makes f ≡ answer)
 
 -- ---- streams
 
--- each of these files is well-formed and holds the stream at its place
+-- each of these files is well-formed and holds the stream with its number
 abbrev pub AreStreams : List Output → List (List StreamFrame) → Type 0
 AreStreams [] [] = Unit {0}
 AreStreams (output ∷ outputs) (stream ∷ streams) =

@@ -9,13 +9,13 @@ use Rattle.sync_survey.specs.declared.survey_fault.SurveyFault.{SurveyFault}
 
 -- the fault of an input of a command, counted from 0; running out of memory is a fault of its own
 abbrev pub survey_edit_fault : ℕ → SurveyFault → EditFault
-survey_edit_fault place fault =
+survey_edit_fault number fault =
     by_kind (record {
-      absent = Input place fault;
-      unread = Input place fault;
-      shorter = Input place fault;
+      absent = Input number fault;
+      unread = Input number fault;
+      shorter = Input number fault;
       too_much = NoMemory;
-      refused = Input place fault;
+      refused = Input number fault;
     }) (kind_of fault)
 
 -- the fault of a command's one input

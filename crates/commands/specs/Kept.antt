@@ -7,11 +7,11 @@ use Rattle.commands.specs.declared.fault.{EditFault.TheVariants.{Refused, Write}
 use Rattle.commands.specs.declared.fault.Refusal.TheVariants.{Exists}
 use Rattle.outside.specs.{Counts.{HappenedTo, OnlyWrites}, Files.{Contents, IfTold}, Seen.Seen}
 
--- the place of the first of these names that is there, if the first name has this place
+-- the number of the first of these names that is there, if the first name has this number
 abbrev pub first_there : Contents → ℕ → List (List ℕ) → Option ℕ
-first_there files place [] = None
-first_there files place (name ∷ names) =
-    if is_some (files name) then Some place else first_there files (place + 1) names
+first_there files number [] = None
+first_there files number (name ∷ names) =
+    if is_some (files name) then Some number else first_there files (number + 1) names
 
 -- the names of the files that are made, in the order of writing
 abbrev pub made_names : Made → List (List ℕ)
@@ -20,7 +20,7 @@ made_names made = map (λ (o : Output). o.name) made.outputs
 -- what is made, or the refusal since the name of this output is there
 abbrev pub exists_or : Option ℕ → Made → Result Made EditFault
 exists_or None made = Ok made
-exists_or (Some place) made = Err (Refused (Exists place))
+exists_or (Some number) made = Err (Refused (Exists number))
 
 -- what is made of these files, unless the name of an output is there
 abbrev pub unless_there : Contents → Result Made EditFault → Result Made EditFault
@@ -29,7 +29,7 @@ unless_there files (Err fault) = Err fault
 
 -- the refusal is that of an output that is there, which is one of so many
 abbrev pub is_exists : ℕ → Refusal → Bool
-is_exists count (Exists place) = nat_lt place count
+is_exists count (Exists number) = nat_lt number count
 is_exists count _ = false
 
 -- the same command, which comes to the refusal of an output that is there after all other refusals
@@ -49,20 +49,20 @@ asked_of true command = kept command
 
 -- one of these outputs is there, and none before it; nothing changed
 pub record FindsOutput (names : List (List ℕ)) (old new : Seen) (fault : EditFault) : Type 0 where
-  pub place : ℕ
-  pub is : fault ≡ Refused (Exists place)
-  pub within : place < length names
-  pub first : IfTold old.files (λ f. first_there f 0 names ≡ Some place)
+  pub number : ℕ
+  pub is : fault ≡ Refused (Exists number)
+  pub within : number < length names
+  pub first : IfTold old.files (λ f. first_there f 0 names ≡ Some number)
   pub stays : new ≡ old
 
 -- the call that asks for one of these outputs failed, and none before it is there
 pub record FailsToAsk (names : List (List ℕ)) (old new : Seen) (fault : EditFault) : Type 0 where
-  pub place : ℕ
-  pub is : fault ≡ Write place
-  pub within : place < length names
-  pub before : IfTold old.files (λ f. IfSome (first_there f 0 names) (λ at. place ≤ at))
+  pub number : ℕ
+  pub is : fault ≡ Write number
+  pub within : number < length names
+  pub before : IfTold old.files (λ f. IfSome (first_there f 0 names) (λ at. number ≤ at))
   pub rose : HappenedTo
-      (slice_index_or names place []) old.counts.write_faults new.counts.write_faults
+      (slice_index_or names number []) old.counts.write_faults new.counts.write_faults
   pub files : new.files ≡ old.files
 
 -- In a folder that keeps what is there, it was asked whether these outputs are there: none is, and

@@ -14,7 +14,7 @@ pub record IsRunOf (command : Command) (old new : Seen)
   -- the numbers of the fault are right too in a folder whose contents aren't known
   pub numbers : IfErr answer (HasNumbers command)
   -- the fault is that of equal names exactly if an input has the name of an output
-  pub names : (place : ℕ) → IsErrOf answer (EqualNames place) ↔ (clash_of command ≡ Some place)
+  pub names : (number : ℕ) → IsErrOf answer (EqualNames number) ↔ (clash_of command ≡ Some number)
   -- the sources are well-formed, and the outputs hold the streams that they have to hold
   pub streams : OnOk answer (HoldsStreams command old.files)
   pub counts : NoneFell old.counts new.counts

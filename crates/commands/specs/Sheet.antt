@@ -57,8 +57,8 @@ sheet_refuses _ = false
 
 -- the fault is one of the sheet, which is read as bytes and not as frames, or that memory ran out
 abbrev pub HasSheetNumbers : EditFault → Type 0
-HasSheetNumbers (Input place fault) =
-    (place ≡ 1) × (fault ≢ NoRoom) × HasRightNumbers fault × IsFromOutside fault
+HasSheetNumbers (Input number fault) =
+    (number ≡ 1) × (fault ≢ NoRoom) × HasRightNumbers fault × IsFromOutside fault
 HasSheetNumbers (Refused refusal) = sheet_refuses refusal ≡ true
 HasSheetNumbers Memory = Unit {0}
 HasSheetNumbers _ = ⊥

@@ -4,7 +4,7 @@ use Rattle.std.specs.Prelude.{Bool, Err, false, IfErr, length, List, None, Ok, O
 use Rattle.std.specs.Prelude.{slice_get, Some, take, true, unwrap_or, ℕ, [], ◌<◌, ◌∷◌, ◌≡◌, ◌≢◌}
 use Rattle.std.specs.Prelude.{◌≤◌, ◌⊎◌}
 use Rattle.bit_fields.specs.Bits.{AreBytes}
-use Rattle.commands.specs.AfterCall.{by_why, CanBeAtPlace, input_of, InputEndsEarly, IsLateFault}
+use Rattle.commands.specs.AfterCall.{by_why, CanBeAtNumber, input_of, InputEndsEarly, IsLateFault}
 use Rattle.commands.specs.AfterCall.{IsNotBefore, no_cause, why_of}
 use Rattle.commands.specs.Command.{AreSoundFiles, clash_from, Command, Made}
 use Rattle.commands.specs.{FaultKinds.HasRightNumbers, declared.fault.EditFault.EditFault}
@@ -64,7 +64,7 @@ file_task make stream refuses input = record {
   refuses = refuses;
 }
 
--- the place of the first input that has the output's name
+-- the number of the first input that has the output's name
 abbrev pub clash_in : Task → List ℕ → Option ℕ
 clash_in task output = clash_from (output ∷ []) 0 task.inputs
 
@@ -85,7 +85,7 @@ pub record IsProperTask (task : Task) : Type 0 where
 
 -- the result, unless an input has the output's name
 abbrev pub clash_or : Option ℕ → Result (List ℕ) EditFault → Result (List ℕ) EditFault
-clash_or (Some place) answer = Err (EqualNames place)
+clash_or (Some number) answer = Err (EqualNames number)
 clash_or None answer = answer
 
 -- what is written, or why nothing is: an input has the output's name, or the files are refused
@@ -128,8 +128,8 @@ pub record RefusesInput (make : Making) (name : List ℕ) (old new : Seen)
   pub stays : new ≡ old
 
 -- an input isn't there; the inputs are counted from 0
-pub record MissesAt (place : ℕ) (name : List ℕ) (old new : Seen) (fault : EditFault) : Type 0 where
-  pub is : fault ≡ Input place Absent
+pub record MissesAt (number : ℕ) (name : List ℕ) (old new : Seen) (fault : EditFault) : Type 0 where
+  pub is : fault ≡ Input number Absent
   pub missing : IsFileMissing old.files name
   pub rose : HappenedTo name old.counts.misses new.counts.misses
   pub files : new.files ≡ old.files
@@ -139,18 +139,18 @@ abbrev pub MissesInput : List ℕ → Seen → Seen → EditFault → Type 0
 MissesInput name old new fault = MissesAt 0 name old new fault
 
 -- an input could not be read
-pub record ReadsNothing (place : ℕ) (name : List ℕ) (old new : Seen)
+pub record ReadsNothing (number : ℕ) (name : List ℕ) (old new : Seen)
     (fault : EditFault) : Type 0 where
-  pub is : fault ≡ Input place Read
+  pub is : fault ≡ Input number Read
   pub rose : HappenedTo name old.counts.read_faults new.counts.read_faults
   pub files : new.files ≡ old.files
 
 -- an input became shorter, which is possible only in a folder whose contents aren't known
-pub record LosesInput (place : ℕ) (name : List ℕ) (old new : Seen)
+pub record LosesInput (number : ℕ) (name : List ℕ) (old new : Seen)
     (fault : EditFault) : Type 0 where
   pub first : ℕ
   pub second : ℕ
-  pub is : fault ≡ Input place (Shrunk first second)
+  pub is : fault ≡ Input number (Shrunk first second)
   pub rose : EndedAt name second old.counts.ends new.counts.ends
   pub counts : NothingFailed old.counts new.counts
   pub untold : is_told old.files ≡ false
@@ -165,12 +165,12 @@ pub record NeedsMemory (name : List ℕ) (old new : Seen) : Type 0 where
 -- what a fault of the survey of an input says about the input,
 -- which is counted from 0 and may have `allowed` frames
 abbrev pub IsFileFault : ℕ → ℕ → List ℕ → Seen → Seen → EditFault → Type 0
-IsFileFault place allowed name old new fault = by_why
+IsFileFault number allowed name old new fault = by_why
     (record no_cause {
-      rejected = (f : SurveyFault) × (fault ≡ Input place f) × RefusesFile allowed name old new f;
-      missing = MissesAt place name old new fault;
-      unread = ReadsNothing place name old new fault;
-      shorter = LosesInput place name old new fault;
+      rejected = (f : SurveyFault) × (fault ≡ Input number f) × RefusesFile allowed name old new f;
+      missing = MissesAt number name old new fault;
+      unread = ReadsNothing number name old new fault;
+      shorter = LosesInput number name old new fault;
       no_memory = NeedsMemory name old new;
     })
     (why_of fault)
@@ -229,9 +229,9 @@ IsEarlyFault task old new fault = by_why
 
 -- the fault is one of the inputs, a refusal that the command can give, or that memory ran out
 abbrev pub HasTaskNumbers : Task → EditFault → Type 0
-HasTaskNumbers task (Input place fault) =
-    (place < length task.inputs) × (fault ≢ NoRoom) × HasRightNumbers fault
-    × CanBeAtPlace (length task.sources) place fault
+HasTaskNumbers task (Input number fault) =
+    (number < length task.inputs) × (fault ≢ NoRoom) × HasRightNumbers fault
+    × CanBeAtNumber (length task.sources) number fault
 HasTaskNumbers task (Refused refusal) = task.refuses refusal ≡ true
 HasTaskNumbers task Memory = Unit {0}
 HasTaskNumbers task _ = ⊥

@@ -20,11 +20,11 @@ pub fn ask_all<D: Folder, N: AsStr>(folder: &mut D, outputs: &[N]) -> Result<(),
     if !folder.keeps() {
         return Ok(());
     }
-    for place in 0..outputs.len() {
-        match folder.there(outputs[place].as_str()) {
+    for number in 0..outputs.len() {
+        match folder.there(outputs[number].as_str()) {
             Ok(false) => {}
-            Ok(true) => return Err(Refusal::Exists(place as u32).into()),
-            Err(Failed) => return Err(EditFault::Write(place as u32)),
+            Ok(true) => return Err(Refusal::Exists(number as u32).into()),
+            Err(Failed) => return Err(EditFault::Write(number as u32)),
         }
     }
     Ok(())

@@ -76,8 +76,8 @@ pub fn make_one<E: Edit, D: Folder>(
         (D.seen folder.new) result }
 {
     let inputs = edit.inputs();
-    if let Some(place) = inputs.clash(output) {
-        return Err(EditFault::EqualNames(place));
+    if let Some(number) = inputs.clash(output) {
+        return Err(EditFault::EqualNames(number));
     }
     let mut work = edit.prepare(alloc, folder)?;
     ask_all(folder, &[output])?;

@@ -30,9 +30,9 @@ pub fn clash<O: OutputNames + Copy, N: AsStr>(outputs: O, inputs: &[N]) -> Optio
     requires { length inputs.now ≤ 64 }
     ensures { result ≡ clash_from (O.names outputs) 0 (map N.text inputs.now) }
 {
-    for place in 0..inputs.len() {
-        if outputs.contain(inputs[place].as_str()) {
-            return Some(place as u32);
+    for number in 0..inputs.len() {
+        if outputs.contain(inputs[number].as_str()) {
+            return Some(number as u32);
         }
     }
     None

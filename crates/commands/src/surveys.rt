@@ -6,7 +6,7 @@ use outside::Folder;
 use std::alloc::Global;
 use sync_survey::{Survey, survey};
 
-/// The survey of an input of a command, which may have `allowed` frames. `place` is its number
+/// The survey of an input of a command, which may have `allowed` frames. `number` is its number
 /// among the inputs, counted from 0. The files stay as they are.
 ///
 /// This is `survey` with that number in the fault, and no more: its callers would otherwise repeat
@@ -19,13 +19,13 @@ pub fn survey_at<D: Folder>(
     alloc: Global,
     folder: &mut D,
     name: &str,
-    place: u32,
+    number: u32,
     allowed: u32,
 ) -> Result<Survey, EditFault>
-    ensures { InputSurvey place allowed name.now (D.seen folder.old) (D.seen folder.new) result }
+    ensures { InputSurvey number allowed name.now (D.seen folder.old) (D.seen folder.new) result }
 {
     match survey(alloc, folder, name, allowed) {
         Ok(survey) => Ok(survey),
-        Err(fault) => Err(EditFault::of_survey(place, fault)),
+        Err(fault) => Err(EditFault::of_survey(number, fault)),
     }
 }

@@ -21,7 +21,7 @@ use Rattle.cut_edits.specs.Chosen.{own_slots_part, placed_part, planned_part, Pl
 use Rattle.cut_edits.specs.Chosen.{slot_choices, surveyed_laid_stream}
 use Rattle.cut_edits.specs.declared.choice.FrameChoice.{FrameChoice}
 use Rattle.frame_header.specs.{Fields.{ClassFields, HeaderFields, SlotFields}, Tables.window_of}
-use Rattle.info_header.specs.Info.{field_place, flags_in, info_in}
+use Rattle.info_header.specs.Info.{field_offset, flags_in, info_in}
 use Rattle.laying.proofs.{FitLemmas.{AreHeaders, asked-plans, parts-fitting}, LaidLemmas.laid-holds}
 use Rattle.laying.proofs.NeedsFitLemmas.{AreKnown, part-known}
 use Rattle.laying.proofs.{PartsLemmas.{one-part-fits, parts-plan}, PlacesLemmas.plan-length}
@@ -310,7 +310,7 @@ cut_choosing from to = record {
 info-extension : (bytes : List ℕ) → length (info_in bytes).extension ≡ 36
 unfolding info_in
 info-extension bytes =
-    let rest = drop (field_place (flags_in bytes) 4) bytes in
+    let rest = drop (field_offset (flags_in bytes) 4) bytes in
     omega (arith, length-take 36 (rest ++ replicate 36 0), length-append rest (replicate 36 0))
 
 -- the extension of a head has 36 bytes

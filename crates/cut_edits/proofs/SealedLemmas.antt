@@ -5,7 +5,7 @@ use Rattle.std.proofs.{Common.{[], ◌+◌, ◌∙◌, ◌∷◌, ◌≡◌, ◌
 use Rattle.std.{proofs.lemmas.List.FromFn.length-range_with_len, specs.List.range_with_len}
 use Rattle.std.specs.Prelude.{slice_get, ◌<◌}
 use Rattle.exact_span.proofs.SealLemmas.{extension-there, frames-sealed, sealed-whole}
-use Rattle.exact_span.specs.{Laws.AreInfoFields, TagWord.{sealed_frame, sealed_info, text_place}}
+use Rattle.exact_span.specs.{Laws.AreInfoFields, TagWord.{sealed_frame, sealed_info, text_offset}}
 use Rattle.frame_header.specs.{Fields.{ClassFields, HeaderFields, SlotFields}, Tables.class_of}
 use Rattle.frame_writer.specs.Frames.{Frame}
 use Rattle.info_header.specs.{InfoFrame.info_frame, declared.fields.Info.Info}
@@ -48,13 +48,13 @@ module _ (s : SurveyFields) (well : IsPlacedSurvey s) (from : ℕ) (inside : fro
       → ((first : Row) (frames : List Frame) → slice_get s.frames from ≡ Some first
       → map slot_in frames ≡ map (λ (p : Placed). p.slot) placed
       → bytes ≡ info_frame first.header (fields first.header frames))
-      → text_place s.class + 156 ≤ length bytes
+      → text_offset s.class + 156 ≤ length bytes
   room-with fields bytes whole are =
       let found = first-there s.frames from inside in
       let h = found.0.header in
       let frames = map (λ (p : Placed). lead_in_before p h) placed in
-      subst (λ (c : ClassFields). text_place c + 156 ≤ length bytes) (class_is found.1)
-      (subst (λ (l : List ℕ). text_place (class_of h) + 156 ≤ length l)
+      subst (λ (c : ClassFields). text_offset c + 156 ≤ length bytes) (class_is found.1)
+      (subst (λ (l : List ℕ). text_offset (class_of h) + 156 ≤ length l)
       (sym (are found.0 frames found.1 (slots_of h placed)))
       (frames-sealed h (whole h frames)).room)
 
@@ -62,7 +62,7 @@ module _ (s : SurveyFields) (well : IsPlacedSurvey s) (from : ℕ) (inside : fro
   whole-for frames = for-whole s.class frames quality long
 
   -- the Info frame of the piece has room for the fields
-  pub info-room : text_place s.class + 156 ≤ length old
+  pub info-room : text_offset s.class + 156 ≤ length old
   info-room =
       room-with (λ h frames. info_for s.class frames quality extension) old (λ h. whole-for) is
 
@@ -79,7 +79,7 @@ module _ (s : SurveyFields) (well : IsPlacedSurvey s) (from : ℕ) (inside : fro
         (whole-for frames)).is
 
     -- the sealed frame has room for the fields
-    pub sealed-room : text_place s.class + 156 ≤ length new
+    pub sealed-room : text_offset s.class + 156 ≤ length new
     sealed-room =
         room-with (λ h frames. sealed_info h (info_for s.class frames quality extension)) new
         (λ h frames. sealed-whole h
@@ -89,8 +89,8 @@ module _ (s : SurveyFields) (well : IsPlacedSurvey s) (from : ℕ) (inside : fro
 -- the extension that is read from a sealed Info frame is the extension of the sealed fields
 pub sealed-read : {c : ClassFields} (first : HeaderFields) {info : Info} {bytes : List ℕ}
     → AreInfoFields info → class_of first ≡ c → bytes ≡ info_frame first (sealed_info first info)
-    → take 36 (drop (text_place c + 120) bytes) ≡ (sealed_info first info).extension
+    → take 36 (drop (text_offset c + 120) bytes) ≡ (sealed_info first info).extension
 sealed-read first {info} {bytes} whole same is =
-    ap (λ (k : ClassFields). take 36 (drop (text_place k + 120) bytes)) (sym same)
-    ∙ ap (λ (l : List ℕ). take 36 (drop (text_place (class_of first) + 120) l)) is
+    ap (λ (k : ClassFields). take 36 (drop (text_offset k + 120) bytes)) (sym same)
+    ∙ ap (λ (l : List ℕ). take 36 (drop (text_offset (class_of first) + 120) l)) is
     ∙ extension-there first (sealed-whole first whole)

@@ -9,7 +9,7 @@ ghost use Rattle.sync_survey.specs.Faults.{survey_view};
 ghost use Rattle.sync_survey.specs.Survey.{IsSurveyLaidOut};
 ghost use Rattle.info_header.specs.InfoFrame.{info_frame};
 ghost use Rattle.exact_span.specs.Spans.{IsSpan, AreLeads};
-ghost use Rattle.exact_span.specs.TagWord.{text_place, sealed_info};
+ghost use Rattle.exact_span.specs.TagWord.{text_offset, sealed_info};
 ghost use Rattle.frame_header.specs.Tables.{window_of};
 ghost use Rattle.laying.specs.NeedsFit.{IsPlacedSurvey};
 ghost use Rattle.laying.specs.Fits.{IsFittingPlan};
@@ -83,8 +83,8 @@ fn kept_of(class: Class, head: Option<&Info>, span: &Span, placed: &[Placed]) ->
 
 /// The extension in a whole Info frame before frames of this class.
 fn extension_in(class: Class, frame: &[u8]) -> [u8; 36]
-    requires { text_place class + 156 ≤ length frame.now }
-    ensures { result ≡ take 36 (drop (text_place class + 120) frame.now) }
+    requires { text_offset class + 156 ≤ length frame.now }
+    ensures { result ≡ take 36 (drop (text_offset class + 120) frame.now) }
 {
     let at = 4 + class.side_size() as usize + EXTENSION_AT;
     let mut extension = [0; 36];
@@ -103,7 +103,7 @@ pub fn sealed_info_bytes(
     requires well { IsPlacedSurvey (survey_view survey.now) }
     requires within { from < length (survey_view survey.now).frames }
     requires few { length placed.now ≤ most_output_frames }
-    ensures room { text_place (survey_view survey.now).class + 156 ≤ length result.items }
+    ensures room { text_offset (survey_view survey.now).class + 156 ≤ length result.items }
     ensures bytes { (first : Row) (frames : List Frame)
         → slice_get (survey_view survey.now).frames from ≡ Some first
         → map slot_in frames ≡ map (λ (p : PlacedFields). p.slot) placed.now

@@ -32,7 +32,7 @@ use Rattle.frame_writer.specs.Frames.{all_frame_data, areas_length, bytes_of_fra
 use Rattle.frame_writer.specs.Frames.{fields_of_frames, Frame, frame_area, frame_data, framed_bytes}
 use Rattle.frame_writer.specs.Laid.{CanDataBeLaidFrom, frame_data_end, frame_data_start, laid_data}
 use Rattle.frame_writer.specs.Laid.{laid_data_from, zeros}
-use Rattle.info_header.specs.HeadText.{has_text, head_text_of, low_place}
+use Rattle.info_header.specs.HeadText.{has_text, head_text_of, low_offset}
 use Rattle.laying.proofs.{EntryByteLemmas.{length-front, shaped}, LaidDataLemmas.length-laid}
 use Rattle.laying.proofs.LaidFrameLemmas.{areas-all}
 use Rattle.laying.specs.LaidFiles.{AreStreamEntries, IsStreamEntry, rows_from, stream_entry}
@@ -262,7 +262,7 @@ no-text (b ∷ text) low =
 
 no-head : {header : HeaderFields} (own : List ℕ) → header ≡ drill_header → All IsLow (drop 36 own)
     → head_text_of drill_header own ≡ None
-unfolding head_text_of has_text low_place side_size_of
+unfolding head_text_of has_text low_offset side_size_of
 no-head own is low = rw (no-text (take 4 (drop 36 own)) (All-take IsLow 4 (drop 36 own) low)) refl
 
 front-size : (seed i : ℕ)

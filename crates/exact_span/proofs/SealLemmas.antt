@@ -8,8 +8,8 @@ use Rattle.std.{proofs.lemmas.List.take_at, specs.Prelude.IfSome}
 use Rattle.bit_fields.{proofs.BitsLemmas.length-bytes, specs.Bits.bytes}
 use Rattle.byteorder.specs.Endian.{big_bytes}
 use Rattle.exact_span.{proofs.ExtensionLemmas.says-front, specs.Laws.{AreInfoFields, IsInfoSealed}}
-use Rattle.exact_span.specs.TagWord.{arc_of, bytes_place, crc_place, music_place, sealed_info}
-use Rattle.exact_span.specs.TagWord.{tag_crc_of, text_place, with_crc_field, with_length_field}
+use Rattle.exact_span.specs.TagWord.{arc_of, bytes_offset, crc_offset, music_offset, sealed_info}
+use Rattle.exact_span.specs.TagWord.{tag_crc_of, text_offset, with_crc_field, with_length_field}
 use Rattle.exact_span.specs.TagWord.{with_music_length, with_tag_crc}
 use Rattle.frame_header.proofs.HeaderLemmas.{length-header_bits}
 use Rattle.frame_header.specs.{Fields.{ClassFields, HeaderFields}, HeaderBits.header_bits}
@@ -60,7 +60,7 @@ frame-parts : (first : HeaderFields) (info : Info) (extension : List ℕ)
 unfolding info_frame info_bytes framed front_of head_of number_of tail_of rest_of
 frame-parts first info extension = simp append_assoc
 
-front-length : (first : HeaderFields) → length (front_of first) ≡ text_place (class_of first)
+front-length : (first : HeaderFields) → length (front_of first) ≡ text_offset (class_of first)
 unfolding front_of
 front-length first =
     let header = bytes (header_bits (info_header_of first)) in
@@ -107,23 +107,23 @@ tail-length {info} whole =
 -- ---- the music length and the tag CRC
 
 module _ (c : ClassFields) (front number tail extension rest : List ℕ)
-    (at : length front ≡ bytes_place c) (four : length number ≡ 4) (middle : length tail ≡ 104)
+    (at : length front ≡ bytes_offset c) (four : length number ≡ 4) (middle : length tail ≡ 104)
     (long : length extension ≡ 36) where
   put-length : with_music_length c (front ++ (number ++ (tail ++ (extension ++ rest)))) ≡ front
       ++ (number ++ (tail ++ ((take 28 extension ++ (number ++ drop 32 extension)) ++ rest)))
   unfolding with_music_length
   put-length =
       let whole = front ++ (number ++ (tail ++ (extension ++ rest))) in
-      let before : take (music_place c) whole ≡ front ++ (number ++ (tail ++ take 28 extension)) =
-      take-behind front _ 136 {n = music_place c} (omega (arith, at))
+      let before : take (music_offset c) whole ≡ front ++ (number ++ (tail ++ take 28 extension)) =
+      take-behind front _ 136 {n = music_offset c} (omega (arith, at))
       ∙ ap (λ (xs : List ℕ). front ++ xs) (take-behind number _ 132 {n = 136} (omega (arith, four))
       ∙ ap (λ (xs : List ℕ). number ++ xs) (take-behind tail _ 28 {n = 132} (omega (arith, middle))
       ∙ ap (λ (xs : List ℕ). tail ++ xs) (take-append-le 28 extension rest (omega (arith, long)))))
       in
-      let own : take 4 (drop (bytes_place c) whole) ≡ number =
-      ap (take 4) (drop_at front _ (bytes_place c) at) ∙ take_at number _ 4 four in
-      let behind : drop (music_place c + 4) whole ≡ drop 32 extension ++ rest =
-      drop-behind front _ 140 {n = music_place c + 4} (omega (arith, at))
+      let own : take 4 (drop (bytes_offset c) whole) ≡ number =
+      ap (take 4) (drop_at front _ (bytes_offset c) at) ∙ take_at number _ 4 four in
+      let behind : drop (music_offset c + 4) whole ≡ drop 32 extension ++ rest =
+      drop-behind front _ 140 {n = music_offset c + 4} (omega (arith, at))
       ∙ drop-behind number _ 136 {n = 140} (omega (arith, four))
       ∙ drop-behind tail _ 32 {n = 136} (omega (arith, middle))
       ∙ drop-append-le 32 extension rest (omega (arith, long)) in
@@ -132,19 +132,19 @@ module _ (c : ClassFields) (front number tail extension rest : List ℕ)
 
   put-crc : let whole = front ++ (number ++ (tail ++ (extension ++ rest))) in
       with_tag_crc c whole ≡ front ++ (number ++ (tail
-      ++ ((take 34 extension ++ big_bytes 2 (arc_of 0 (take (crc_place c) whole))) ++ rest)))
+      ++ ((take 34 extension ++ big_bytes 2 (arc_of 0 (take (crc_offset c) whole))) ++ rest)))
   unfolding with_tag_crc
   put-crc =
       let whole = front ++ (number ++ (tail ++ (extension ++ rest))) in
-      let word = big_bytes 2 (arc_of 0 (take (crc_place c) whole)) in
-      let before : take (crc_place c) whole ≡ front ++ (number ++ (tail ++ take 34 extension)) =
-      take-behind front _ 142 {n = crc_place c} (omega (arith, at))
+      let word = big_bytes 2 (arc_of 0 (take (crc_offset c) whole)) in
+      let before : take (crc_offset c) whole ≡ front ++ (number ++ (tail ++ take 34 extension)) =
+      take-behind front _ 142 {n = crc_offset c} (omega (arith, at))
       ∙ ap (λ (xs : List ℕ). front ++ xs) (take-behind number _ 138 {n = 142} (omega (arith, four))
       ∙ ap (λ (xs : List ℕ). number ++ xs) (take-behind tail _ 34 {n = 138} (omega (arith, middle))
       ∙ ap (λ (xs : List ℕ). tail ++ xs) (take-append-le 34 extension rest (omega (arith, long)))))
       in
-      let behind : drop (crc_place c + 2) whole ≡ rest =
-      drop-behind front _ 144 {n = crc_place c + 2} (omega (arith, at))
+      let behind : drop (crc_offset c + 2) whole ≡ rest =
+      drop-behind front _ 144 {n = crc_offset c + 2} (omega (arith, at))
       ∙ drop-behind number _ 140 {n = 144} (omega (arith, four))
       ∙ drop-behind tail _ 36 {n = 140} (omega (arith, middle))
       ∙ drop_at extension rest 36 long in
@@ -153,7 +153,7 @@ module _ (c : ClassFields) (front number tail extension rest : List ℕ)
 -- ---- both
 
 front-place : (first : HeaderFields) (info : Info)
-    → length (front_of first ++ head_of info) ≡ bytes_place (class_of first)
+    → length (front_of first ++ head_of info) ≡ bytes_offset (class_of first)
 front-place first info = omega
     (arith, length-append (front_of first) (head_of info), front-length first, head-length info)
 
@@ -187,7 +187,7 @@ unfolding framed
 crc-put first {info} whole =
     let is = frame-parts first info info.extension in
     let word =
-    λ (frame : List ℕ). big_bytes 2 (arc_of 0 (take (crc_place (class_of first)) frame)) in
+    λ (frame : List ℕ). big_bytes 2 (arc_of 0 (take (crc_offset (class_of first)) frame)) in
     ap (with_tag_crc (class_of first)) is
     ∙ put-crc (class_of first) (front_of first ++ head_of info) (number_of info)
     (tail_of info) info.extension (rest_of first)
@@ -196,7 +196,7 @@ crc-put first {info} whole =
     ∙ sym (frame-parts first info (with_crc_field first info).extension)
 
 frame-room : (first : HeaderFields) {info : Info} → AreInfoFields info
-    → text_place (class_of first) + 156 ≤ length (info_frame first info)
+    → text_offset (class_of first) + 156 ≤ length (info_frame first info)
 unfolding framed
 frame-room first {info} whole =
     let front = front_of first ++ head_of info in
@@ -259,14 +259,14 @@ sealed-whole first {info} whole =
 
 -- where the extension is in an Info frame
 pub extension-there : (first : HeaderFields) {info : Info} → AreInfoFields info
-    → take 36 (drop (text_place (class_of first) + 120) (info_frame first info)) ≡ info.extension
+    → take 36 (drop (text_offset (class_of first) + 120) (info_frame first info)) ≡ info.extension
 unfolding framed
 extension-there first {info} whole =
     let front = front_of first ++ head_of info in
-    ap (λ (l : List ℕ). take 36 (drop (text_place (class_of first) + 120) l))
+    ap (λ (l : List ℕ). take 36 (drop (text_offset (class_of first) + 120) l))
     (frame-parts first info info.extension)
     ∙ ap (λ (l : List ℕ). take 36 l)
-    (drop-behind front _ 108 {n = text_place (class_of first) + 120}
+    (drop-behind front _ 108 {n = text_offset (class_of first) + 120}
     (omega (arith, front-place first info))
     ∙ drop-behind (number_of info) _ 104 {n = 108} (omega (arith, number-length info))
     ∙ drop_at (tail_of info) _ 104 (tail-length {info = info} whole))

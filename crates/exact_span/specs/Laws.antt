@@ -5,7 +5,7 @@ use Rattle.std.specs.Prelude.{◌+◌, ◌-◌, ◌/◌, ◌<◌, ◌∷◌, ◌
 use Rattle.exact_span.specs.Extensions.{delay_in, extension_of, has_encoder, padding_in}
 use Rattle.exact_span.specs.PlayedPositions.{decoder_delay, length_of_played, played_of, samples_in}
 use Rattle.exact_span.specs.Spans.{AreLeads, delay_of, padding_of, span_of, warm_up}
-use Rattle.exact_span.specs.TagWord.{arc_of, sealed_frame, sealed_info, text_place}
+use Rattle.exact_span.specs.TagWord.{arc_of, sealed_frame, sealed_info, text_offset}
 use Rattle.exact_span.specs.declared.{played.Played.Played, span.Span.Span}
 use Rattle.frame_header.specs.{Fields.{ClassFields, HeaderFields}, Tables.{class_of, granules_of}}
 use Rattle.info_header.specs.{InfoFrame.info_frame, declared.fields.Info.Info}
@@ -38,7 +38,7 @@ ExtensionsSay =
 -- an Info frame can be sealed, and is then the Info frame of other fields, which differ in music
 -- length and tag CRC alone
 pub record IsInfoSealed (first : HeaderFields) (info : Info) : Type 0 where
-  pub room : text_place (class_of first) + 156 ≤ length (info_frame first info)
+  pub room : text_offset (class_of first) + 156 ≤ length (info_frame first info)
   pub is : sealed_frame (class_of first) (info_frame first info)
       ≡ info_frame first (sealed_info first info)
   -- its extension has the same numbers

@@ -27,32 +27,32 @@ arc_of word bytes = fold arc_byte word bytes
 -- ---- in an Info frame
 
 -- where the text is
-abbrev pub text_place : ClassFields → ℕ
-text_place class = 4 + side_size_of class
+abbrev pub text_offset : ClassFields → ℕ
+text_offset class = 4 + side_size_of class
 
 -- where the number of bytes is: after the text, the flags and the number of frames
-abbrev pub bytes_place : ClassFields → ℕ
-bytes_place class = text_place class + 12
+abbrev pub bytes_offset : ClassFields → ℕ
+bytes_offset class = text_offset class + 12
 
 -- where the music length is: in the bytes 28 to 31 of the extension
-abbrev pub music_place : ClassFields → ℕ
-music_place class = text_place class + 148
+abbrev pub music_offset : ClassFields → ℕ
+music_offset class = text_offset class + 148
 
 -- where the tag CRC is: in the bytes 34 and 35 of the extension
-abbrev pub crc_place : ClassFields → ℕ
-crc_place class = text_place class + 154
+abbrev pub crc_offset : ClassFields → ℕ
+crc_offset class = text_offset class + 154
 
 -- the frame with the number of bytes as its music length
 unfoldable pub with_music_length : ClassFields → List ℕ → List ℕ
 with_music_length class frame =
-    take (music_place class) frame
-    ++ (take 4 (drop (bytes_place class) frame) ++ drop (music_place class + 4) frame)
+    take (music_offset class) frame
+    ++ (take 4 (drop (bytes_offset class) frame) ++ drop (music_offset class + 4) frame)
 
 -- the frame with the CRC of all bytes before the tag CRC as its tag CRC
 unfoldable pub with_tag_crc : ClassFields → List ℕ → List ℕ
 with_tag_crc class frame =
-    take (crc_place class) frame
-    ++ (big_bytes 2 (arc_of 0 (take (crc_place class) frame)) ++ drop (crc_place class + 2) frame)
+    take (crc_offset class) frame
+    ++ (big_bytes 2 (arc_of 0 (take (crc_offset class) frame)) ++ drop (crc_offset class + 2) frame)
 
 -- an Info frame with its music length and its tag CRC
 abbrev pub sealed_frame : ClassFields → List ℕ → List ℕ
@@ -69,7 +69,7 @@ with_length_field info = record info {
 
 -- the tag CRC of the Info frame with these fields before a first frame with this header
 abbrev pub tag_crc_of : HeaderFields → Info → ℕ
-tag_crc_of first info = arc_of 0 (take (crc_place (class_of first)) (info_frame first info))
+tag_crc_of first info = arc_of 0 (take (crc_offset (class_of first)) (info_frame first info))
 
 -- the fields with the tag CRC
 abbrev pub with_crc_field : HeaderFields → Info → Info

@@ -1,7 +1,7 @@
 //! Music length and tag CRC of an Info frame.
 ghost use Rattle.std.specs.Prelude.{◌≡◌, ◌+◌, ◌≤◌, ◌++◌, length, take, drop};
 ghost use Rattle.byteorder.specs.Endian.{big_bytes};
-ghost use Rattle.exact_span.specs.TagWord.{text_place, arc_of, with_music_length, with_tag_crc, sealed_frame};
+ghost use Rattle.exact_span.specs.TagWord.{text_offset, arc_of, with_music_length, with_tag_crc, sealed_frame};
 
 use crate::crc::arc;
 use arrayvec::ArrayVec;
@@ -17,7 +17,7 @@ const MUSIC_AT: usize = 148;
 /// Where the tag CRC is: in the bytes 34 and 35.
 const CRC_AT: usize = 154;
 
-/// Writes the music length, given the place of the text.
+/// Writes the music length, given the offset of the text.
 fn put_length(frame: &mut [u8], text: usize)
     requires text { text ≤ 100 }
     requires room { text + 156 ≤ length frame.old }
@@ -28,7 +28,7 @@ fn put_length(frame: &mut [u8], text: usize)
     frame.copy_within(bytes..bytes + 4, text + MUSIC_AT);
 }
 
-/// Writes the tag CRC at this place.
+/// Writes the tag CRC at this offset.
 fn put_crc(frame: &mut [u8], at: usize)
     requires at { at ≤ 1000 }
     requires room { at + 2 ≤ length frame.old }
@@ -42,7 +42,7 @@ fn put_crc(frame: &mut [u8], at: usize)
 /// Writes both into the bytes of the frame.
 #[tactic(auto, unfolding(crate::specs::TagWord::with_music_length, crate::specs::TagWord::with_tag_crc))]
 fn seal_bytes(class: Class, frame: &mut [u8])
-    requires { text_place class + 156 ≤ length frame.old }
+    requires { text_offset class + 156 ≤ length frame.old }
     ensures { frame.new ≡ sealed_frame class frame.old }
 {
     let text = 4 + class.side_size() as usize;
@@ -55,7 +55,7 @@ fn seal_bytes(class: Class, frame: &mut [u8])
 /// into the bytes 34 and 35 the CRC of all bytes of the frame before them, both with the most
 /// significant byte first. Everything else stays.
 pub fn seal(class: Class, frame: &mut ArrayVec<u8, 1441>)
-    requires { text_place class + 156 ≤ length frame.old.items }
+    requires { text_offset class + 156 ≤ length frame.old.items }
     ensures { frame.new.items ≡ sealed_frame class frame.old.items }
 {
     seal_bytes(class, frame.as_mut_slice());

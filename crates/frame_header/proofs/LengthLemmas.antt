@@ -6,7 +6,7 @@ use Rattle.std.proofs.lemmas.{List.{get_or-map, Folds.list_all_at}, Nat.le-div}
 use Rattle.std.specs.List.{list_all}
 use Rattle.frame_header.specs.Fields.{ClassFields, IsClass, IsSlot, SlotFields}
 use Rattle.frame_header.specs.Tables.{frequencies, frequency_of, length_factor, length_of, rate_of}
-use Rattle.frame_header.specs.Tables.{rates, side_bytes_of, side_size_of, version_place}
+use Rattle.frame_header.specs.Tables.{rates, side_bytes_of, side_size_of, version_index}
 use Rattle.frame_header.specs.declared.{class.TheConstants.LENGTHS, version.Version.Version}
 use Rattle.frame_header.specs.declared.version.Version.TheVariants.{One, Two, TwoFive}
 use mir.Val.{bool_byte}
@@ -77,7 +77,7 @@ area_some c s class slot = omega (arith, length-least c s class slot, room c.ver
 
 -- ---- the table of lengths
 row_is : (version : Version) (frequency : ℕ) → frequency < 3
-    → get_or LENGTHS (3 * version_place version + frequency) []
+    → get_or LENGTHS (3 * version_index version + frequency) []
     ≡ map (λ rate. (length_factor version * (1000 * rate))
     / get_or (frequencies version) frequency 0) (rates version)
 row_is One (suc (suc (suc frequency))) h = absurd (omega arith)
@@ -93,7 +93,7 @@ flag_byte flag = grind arith
 
 -- an entry of the table, plus the padding
 abbrev pub length_in_table : ClassFields → SlotFields → ℕ
-length_in_table c s = get_or (get_or LENGTHS (3 * version_place c.version + c.frequency_index) [])
+length_in_table c s = get_or (get_or LENGTHS (3 * version_index c.version + c.frequency_index) [])
     (s.rate_index - 1) 0 + bool_byte s.padding
 
 -- the length in the table is the length by the rule
@@ -118,7 +118,7 @@ entries_most lt within =
     search (arith, eqb-true, true_from_ne_false, true≢false, list_all_at, leb-true, all_pass)
 
 row_below : (version : Version) {frequency : ℕ} → frequency < 3
-    → 3 * version_place version + frequency < 9
+    → 3 * version_index version + frequency < 9
 row_below version h = grind arith
 
 bool_byte-most : (flag : Bool) → bool_byte flag ≤ 1

@@ -58,10 +58,10 @@ unfoldable pub side_size_of : ClassFields → ℕ
 side_size_of c = side_bytes_of c.version c.channels
 
 -- the number of a version, for a table that has rows for each version
-abbrev pub version_place : Version → ℕ
-version_place One = 0
-version_place Two = 1
-version_place TwoFive = 2
+abbrev pub version_index : Version → ℕ
+version_index One = 0
+version_index Two = 1
+version_index TwoFive = 2
 
 -- the length of a frame in bytes: the factor times the bit rate in bit/s, divided by the frequency
 -- and rounded down, plus the padding

@@ -2,7 +2,7 @@
 ghost use Rattle.std.specs.Prelude.{◌≡◌, ◌+◌, ◌<◌, ◌≤◌, ◌↔◌, Bool, false, IsTrue, Contains, AllPairs};
 ghost use Rattle.frame_header.specs.declared.version.Version.TheVariants.{One};
 ghost use Rattle.frame_header.specs.Fields.{SlotFields, IsSlot, same_class};
-ghost use Rattle.frame_header.specs.Tables.{rate_of, frequency_of, samples_of, side_size_of, window_of, version_place, length_of, overhead_of, area_of};
+ghost use Rattle.frame_header.specs.Tables.{rate_of, frequency_of, samples_of, side_size_of, window_of, version_index, length_of, overhead_of, area_of};
 ghost use Rattle.frame_header.specs.Slots.{all_slots, areas_of, largest_slot};
 ghost use Rattle.frame_header.specs.Limits.{most_frame_length, most_front};
 
@@ -139,7 +139,7 @@ impl Class {
         // Header, check word and side information leave room for main data.
         ensures room { 6 + side_size_of self.now < result }
     {
-        let row = 3 * version_place(self.version) + self.frequency_index as usize;
+        let row = 3 * version_index(self.version) + self.frequency_index as usize;
         let length = LENGTHS[row][slot.rate_index as usize - 1];
         u32::from(length) + u32::from(slot.padding)
     }
@@ -204,8 +204,8 @@ impl Class {
 }
 
 /// The number of a version, for the rows of `LENGTHS`.
-fn version_place(version: Version) -> usize
-    ensures { result ≡ version_place version }
+fn version_index(version: Version) -> usize
+    ensures { result ≡ version_index version }
 {
     match version {
         Version::One => 0,

@@ -18,7 +18,7 @@ use Rattle.gain_edits.specs.Fade.{input_sheet_change, moved_frames, points_resul
 use Rattle.gain_edits.specs.{Fade.sheet_curve, GainRange.range_fault}
 use Rattle.moved_gains.{proofs.CourseLemmas.survey_numbered, specs.Change.FileChange}
 use Rattle.moved_gains.specs.Course.{AreRowsNumbered, course_steps, steps_at_offset}
-use Rattle.moved_gains.specs.{Streams.{moved_stream_frame, moved_stream_of}, TagPlace.IsTagBytes}
+use Rattle.moved_gains.specs.{Streams.{moved_stream_frame, moved_stream_of}, TagExtent.IsTagBytes}
 use Rattle.moved_gains.specs.declared.course.Course.{Course, TheVariants.Along}
 use Rattle.requests.specs.declared.shift.Steps.{Steps}
 use Rattle.sync_survey.proofs.SurveyPartsLemmas.{survey_fields-allowed}

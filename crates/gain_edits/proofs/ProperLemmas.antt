@@ -28,7 +28,7 @@ use Rattle.moved_gains.specs.Change.{file_with_change, FileChange, retagged_file
 use Rattle.moved_gains.specs.{Course.constant_steps, Edited.edited_file}
 use Rattle.moved_gains.specs.Streams.{edited_survey, IsStreamMoved, moved_stream_frame}
 use Rattle.moved_gains.specs.Streams.{moved_stream_of}
-use Rattle.moved_gains.specs.TagPlace.{IsTagBytes, retagged_fields, tag_block, tag_offset}
+use Rattle.moved_gains.specs.TagExtent.{IsTagBytes, retagged_fields, tag_block, tag_offset}
 use Rattle.moved_gains.specs.TagReading.{empty_tag, file_tag}
 use Rattle.moved_gains.specs.declared.tag_fault.FileTagFault.{FileTagFault}
 use Rattle.outside.specs.Files.{Files, Holds, IsFileThere}

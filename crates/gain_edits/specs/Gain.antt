@@ -10,7 +10,7 @@ use Rattle.gain_edits.specs.{Change.{change_task, Changing}, Channels.channel_fa
 use Rattle.gain_edits.specs.GainRange.{range_fault}
 use Rattle.gain_edits.specs.UndoItem.{next_undo, noted_undo, output_fault, size_fault, tag_result}
 use Rattle.gain_edits.specs.UndoItem.{tag_with_undo, undo_fault}
-use Rattle.moved_gains.specs.{Change.FileChange, Course.constant_steps, TagPlace.tag_offset}
+use Rattle.moved_gains.specs.{Change.FileChange, Course.constant_steps, TagExtent.tag_offset}
 use Rattle.moved_gains.specs.TagReading.{file_tag}
 use Rattle.requests.specs.{Shifts.steps_of, declared.shift.Shift.Shift}
 use Rattle.sync_survey.specs.Faults.{SurveyFields}

@@ -9,7 +9,7 @@ use Rattle.commands.specs.declared.fault.Refusal.TheVariants.{TagTooLarge}
 use Rattle.gain_edits.specs.{Change.{change_task, Changing}, GainRange.range_fault}
 use Rattle.gain_edits.specs.UndoItem.{bytes_unless_empty, found_undo, no_undo, tag_result}
 use Rattle.gain_edits.specs.UndoItem.{tag_without_undo, undo_steps}
-use Rattle.moved_gains.specs.{Change.FileChange, Course.constant_steps, TagPlace.tag_offset}
+use Rattle.moved_gains.specs.{Change.FileChange, Course.constant_steps, TagExtent.tag_offset}
 use Rattle.moved_gains.specs.TagReading.{file_tag}
 use Rattle.requests.specs.declared.shift.Steps.{Steps}
 use Rattle.sync_survey.specs.{Faults.SurveyFields, Survey.survey_of}

@@ -7,7 +7,7 @@ use Rattle.commands.specs.declared.fault.EditFault.TheVariants.{Input, Memory, R
 use Rattle.commands.specs.declared.fault.Refusal.{Refusal}
 use Rattle.commands.specs.declared.fault.Refusal.TheVariants.{BadTag, BadUndo, NoUndo}
 use Rattle.commands.specs.declared.fault.Refusal.TheVariants.{OutputTooLong, TagTooLarge, UndoRange}
-use Rattle.moved_gains.specs.{Streams.junk_length, TagPlace.tag_length, TagReading.longest_tag}
+use Rattle.moved_gains.specs.{Streams.junk_length, TagExtent.tag_length, TagReading.longest_tag}
 use Rattle.moved_gains.specs.declared.tag_fault.FileTagFault.{FileTagFault}
 use Rattle.moved_gains.specs.declared.tag_fault.FileTagFault.TheVariants.{Bad as BadBlock}
 use Rattle.moved_gains.specs.declared.tag_fault.FileTagFault.TheVariants.{Memory as NoRoom, Read}

@@ -2,7 +2,7 @@
 ghost use Rattle.std.specs.Prelude.{◌≡◌, ◌≤◌, ◌+◌, ◌-◌};
 ghost use Rattle.sync_survey.specs.Faults.{survey_view};
 ghost use Rattle.sync_survey.specs.Survey.{IsSurveyLaidOut};
-ghost use Rattle.moved_gains.specs.TagPlace.{tag_length};
+ghost use Rattle.moved_gains.specs.TagExtent.{tag_length};
 ghost use Rattle.gain_edits.specs.Change.{IsChangeDecided};
 ghost use Rattle.gain_edits.specs.Gain.{plain_change, noted_change, noted_tag_change};
 
@@ -10,7 +10,7 @@ use crate::channels::channel_fault;
 use crate::gain_range::constant_steps_fault;
 use crate::undo_item::{next_undo, noted_undo};
 use commands::{EditFault, LONGEST_FILE, LONGEST_TAG, Refusal};
-use moved_gains::{Change, Course, tag_place};
+use moved_gains::{Change, Course, tag_extent};
 use requests::Shift;
 use std::alloc::Global;
 use sync_survey::Survey;
@@ -42,7 +42,7 @@ fn output_length(survey: &Survey, tag: u64) -> u64
         (survey_view survey.now) + tag }
 {
     let (_, junk) = survey.junk();
-    (survey.length() - junk).saturating_sub(tag_place(survey).length) + tag
+    (survey.length() - junk).saturating_sub(tag_extent(survey).length) + tag
 }
 
 /// The change, noted in this tag, whose undo item has the steps `undo`. Refused by the first of

@@ -2,13 +2,13 @@
 ghost use Rattle.std.specs.Prelude.{◌≡◌, ◌≤◌, ◌-ℤ◌, None, Some, unsigned_abs, MatchResult, IfOk, IfErr};
 ghost use Rattle.tag_blocks.specs.UndoText.{UndoFitsText};
 ghost use Rattle.tag_blocks.specs.UndoItems.{undo_from};
-ghost use Rattle.moved_gains.specs.TagPlace.{tag_offset};
+ghost use Rattle.moved_gains.specs.TagExtent.{tag_offset};
 ghost use Rattle.sync_survey.specs.Faults.{survey_view};
 ghost use Rattle.sync_survey.specs.Survey.{IsSurveyLaidOut};
 ghost use Rattle.gain_edits.specs.UndoItem.{tag_edit_fault, undo_or, noted_undo, found_undo, undo_steps, next_undo, number_fault, undo_fault};
 
 use commands::{EditFault, Refusal};
-use moved_gains::{FileTagFault, tag_place};
+use moved_gains::{FileTagFault, tag_extent};
 use requests::{Shift, Steps};
 use sync_survey::Survey;
 use tag_blocks::{Tag, Undo, UndoItem};
@@ -35,7 +35,7 @@ fn undo_or(survey: &Survey, tag: &Tag, missing: Result<Undo, EditFault>) -> Resu
     ensures { result ≡ undo_or missing (tag_offset (survey_view survey.now))
         (undo_from 32 tag.now.items) }
 {
-    let at = tag_place(survey).offset;
+    let at = tag_extent(survey).offset;
     // Called for its contract: the item is within the tag, so the sum below can't overflow.
     let _ = tag.length();
     match tag.undo() {

@@ -32,7 +32,7 @@ use Rattle.moved_gains.{proofs.ExtremesLemmas.joined_extremes-append, specs.Chan
 use Rattle.moved_gains.specs.Course.{constant_steps, equal_steps, number_at, steps_at_offset}
 use Rattle.moved_gains.specs.Edited.{row_out_of_range}
 use Rattle.moved_gains.specs.GainExtremes.{extremes_of, extremes_of_both, moving_gains, takes_steps}
-use Rattle.moved_gains.specs.{TagPlace.tag_offset, TagReading.file_tag}
+use Rattle.moved_gains.specs.{TagExtent.tag_offset, TagReading.file_tag}
 use Rattle.moved_gains.specs.declared.{course.Course.TheVariants.Along, gain_extremes.Gains.Gains}
 use Rattle.moved_gains.specs.declared.gains.OutOfRange.{OutOfRange}
 use Rattle.moved_gains.specs.declared.tag_fault.FileTagFault.{FileTagFault}

@@ -13,12 +13,12 @@ use Rattle.moved_gains.proofs.LostOffsetLemmas.{EndBy}
 use Rattle.moved_gains.proofs.MovingLemmas.{moved_from, moved_from-nil, moved_to}
 use Rattle.moved_gains.proofs.MovingLemmas.{written-edited_file}
 use Rattle.moved_gains.proofs.RowLemmas.{Each, each_before, each_behind}
-use Rattle.moved_gains.proofs.TagPlaceLemmas.{IsApart, IsInFront, stands_apart, stands_somewhere}
-use Rattle.moved_gains.proofs.{TagPlaceLemmas.StandsSomewhere, WrittenLemmas.append_three}
+use Rattle.moved_gains.proofs.TagExtentLemmas.{IsApart, IsInFront, stands_apart, stands_somewhere}
+use Rattle.moved_gains.proofs.{TagExtentLemmas.StandsSomewhere, WrittenLemmas.append_three}
 use Rattle.moved_gains.proofs.WrittenTagLemmas.{parted_among, parted_front}
 use Rattle.moved_gains.specs.{Change.{file_with_change, retagged_file}, Edited.edited_file}
 use Rattle.moved_gains.specs.{Moving.{moved_row_bytes, row_end}, Streams.edited_survey}
-use Rattle.moved_gains.specs.TagPlace.{file_with_tag, tag_length, tag_offset}
+use Rattle.moved_gains.specs.TagExtent.{file_with_tag, tag_length, tag_offset}
 use Rattle.outside.specs.Pass.{bytes_between}
 use Rattle.requests.specs.declared.shift.Steps.{Steps}
 use Rattle.sync_survey.specs.{Faults.{survey_fields, SurveyFields}, Row.Row}

@@ -25,7 +25,7 @@ use Rattle.side_info.proofs.FrameLemmas.{overhead-is, room-least, room-protected
 use Rattle.side_info.proofs.{FrameLemmas.side_there, GranuleLemmas.bits-parts}
 use Rattle.side_info.proofs.SideLemmas.{AreBits-side_bits, each_class, each_shaped, IsShaped}
 use Rattle.side_info.{proofs.SideLemmas.length-side_bits, specs.CheckWord.check_word_of}
-use Rattle.side_info.specs.Frame.{crc_part, frame_with_side, side_in, side_part, side_place}
+use Rattle.side_info.specs.Frame.{crc_part, frame_with_side, side_in, side_offset, side_part}
 use Rattle.side_info.specs.{Granule.{compress_width, granule_bits, preflag_width}, Parts.class_with}
 use Rattle.side_info.specs.Side.{front_widths, granules_in, side_bits}
 use Rattle.side_info.specs.declared.{granule.Granule.Granule, side.Side.Side}
@@ -191,7 +191,7 @@ abbrev own_word : Bool → List ℕ → List ℕ
 own_word protected frame = cond protected (take 2 (drop 4 frame)) []
 
 behind_word : (protected : Bool) (frame : List ℕ)
-    → drop 4 frame ≡ own_word protected frame ++ drop (side_place protected) frame
+    → drop 4 frame ≡ own_word protected frame ++ drop (side_offset protected) frame
 behind_word protected frame = grind arith
 
 -- a frame, part by part
@@ -201,7 +201,7 @@ parts : (h : HeaderFields) {frame : List ℕ} → IsClass (class_of h) → AreBy
 unfolding side_part
 parts h {frame} class all room =
     let c = class_of h in
-    let place = side_place h.protected in
+    let place = side_offset h.protected in
     let size = side_size_of c in
     let behind = drop place frame in
     let rest : drop size behind ≡ drop (overhead_of c h.protected) frame =

@@ -9,7 +9,7 @@ use Rattle.gain_edits.specs.{Change.Changing, Gain.{gain_change, tagged_change},
 use Rattle.gain_laws.proofs.KeptFileLemmas.{changes_kept, keeps_weaker}
 use Rattle.gain_laws.proofs.OppositeStepLemmas.{plain-parts}
 use Rattle.gain_laws.specs.{GainKept.{GainKeepsAll, UndoKeepsAll}, Kept.KeepsAll}
-use Rattle.moved_gains.specs.{Change.FileChange, TagPlace.IsTagBytes}
+use Rattle.moved_gains.specs.{Change.FileChange, TagExtent.IsTagBytes}
 use Rattle.requests.specs.declared.shift.Shift.{Shift}
 use Rattle.sync_survey.{proofs.SurveyedFileLemmas.survey_of-parts, specs.Faults.SurveyFields}
 use Rattle.sync_survey.specs.Survey.{survey_of}

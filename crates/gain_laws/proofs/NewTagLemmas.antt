@@ -8,8 +8,8 @@ use Rattle.moved_gains.proofs.RetaggedFileLemmas.{before_is, no_junk-start, room
 use Rattle.moved_gains.proofs.TagReadingLemmas.{file_tag-some, place-some}
 use Rattle.moved_gains.proofs.TaggedByteLemmas.{new-bytes, new-front, new-later, new-length}
 use Rattle.moved_gains.proofs.TaggedByteLemmas.{new-own}
-use Rattle.moved_gains.specs.TagPlace.{file_with_tag, is_tag, new_blocks, retagged_fields}
-use Rattle.moved_gains.specs.TagPlace.{stands_before, tag_block, tag_length, tag_offset}
+use Rattle.moved_gains.specs.TagExtent.{file_with_tag, is_tag, new_blocks, retagged_fields}
+use Rattle.moved_gains.specs.TagExtent.{stands_before, tag_block, tag_length, tag_offset}
 use Rattle.moved_gains.specs.TagReading.{tag_of_block}
 use Rattle.sync_survey.proofs.SurveyPartsLemmas.{IsRead, survey_fields-parts, told_from}
 use Rattle.sync_survey.specs.{Faults.{survey_fields, SurveyFields}, declared.places.Piece.Piece}

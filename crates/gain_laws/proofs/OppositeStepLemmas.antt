@@ -25,13 +25,14 @@ use Rattle.gain_laws.specs.GivenBack.{opposite_shift, OppositeGivesBack}
 use Rattle.moved_gains.proofs.EditedSurveyLemmas.{survey_fields-edited_file}
 use Rattle.moved_gains.proofs.{LostOffsetLemmas.{end_rises, EndBy}, MovedStreamLemmas.counts_shaped}
 use Rattle.moved_gains.proofs.MovingLemmas.{moved_from, moved_to, written-edited_file}
-use Rattle.moved_gains.proofs.TagPlaceLemmas.{IsAmong, IsInFront, stands_somewhere, StandsSomewhere}
+use Rattle.moved_gains.proofs.TagExtentLemmas.{IsAmong, IsInFront, stands_somewhere}
+use Rattle.moved_gains.proofs.TagExtentLemmas.{StandsSomewhere}
 use Rattle.moved_gains.proofs.WrittenTagLemmas.{parted_among, parted_front}
 use Rattle.moved_gains.specs.{Change.{file_with_change, FileChange}, Course.constant_steps}
 use Rattle.moved_gains.specs.{Edited.edited_file, Moving.{moved_row_bytes, row_end, row_length}}
 use Rattle.moved_gains.specs.Streams.{edited_row, edited_survey, file_without_junk, junk_length}
-use Rattle.moved_gains.specs.{Streams.moved_stream_frame, TagLaws.own_tag_bytes}
-use Rattle.moved_gains.specs.TagPlace.{file_with_tag, IsTagBytes}
+use Rattle.moved_gains.specs.{Streams.moved_stream_frame, TagExtent.{file_with_tag, IsTagBytes}}
+use Rattle.moved_gains.specs.TagLaws.{own_tag_bytes}
 use Rattle.outside.{proofs.PassLemmas.between_split, specs.Pass.bytes_between}
 use Rattle.requests.specs.Shifts.{left_steps_of, right_steps_of, steps_of}
 use Rattle.requests.specs.declared.shift.{Channels.Channels, Shift.Shift, Steps.Steps}

@@ -13,13 +13,13 @@ use Rattle.moved_gains.proofs.{EditedSurveyLemmas.survey_fields-edited_file, Los
 use Rattle.moved_gains.proofs.MovingLemmas.{moved_to}
 use Rattle.moved_gains.proofs.RetaggedFileLemmas.{survey_fields-retagged_fields}
 use Rattle.moved_gains.proofs.RowLemmas.{each_before, each_behind}
-use Rattle.moved_gains.proofs.TagPlaceLemmas.{IsAmong, IsInFront, stands_somewhere, StandsSomewhere}
-use Rattle.moved_gains.proofs.TaggedByteLemmas.{follows, stays}
+use Rattle.moved_gains.proofs.TagExtentLemmas.{IsAmong, IsInFront, stands_somewhere}
+use Rattle.moved_gains.proofs.{TagExtentLemmas.StandsSomewhere, TaggedByteLemmas.{follows, stays}}
 use Rattle.moved_gains.proofs.WrittenTagLemmas.{at_behind, at_front, IsParted, length_moved}
 use Rattle.moved_gains.proofs.WrittenTagLemmas.{parted_among, parted_front}
 use Rattle.moved_gains.specs.{Edited.edited_file, Streams.{edited_row, edited_survey, junk_length}}
-use Rattle.moved_gains.specs.TagPlace.{file_with_tag, retagged_fields, retagged_offset}
-use Rattle.moved_gains.specs.TagPlace.{retagged_row, tag_length, tag_offset}
+use Rattle.moved_gains.specs.TagExtent.{file_with_tag, retagged_fields, retagged_offset}
+use Rattle.moved_gains.specs.TagExtent.{retagged_row, tag_length, tag_offset}
 use Rattle.outside.specs.Pass.{bytes_between}
 use Rattle.requests.specs.declared.shift.Steps.{Steps}
 use Rattle.sync_survey.specs.{Faults.{survey_fields, SurveyFields}, Row.Row}

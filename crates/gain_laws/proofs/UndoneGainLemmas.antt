@@ -27,13 +27,13 @@ use Rattle.gain_laws.proofs.WholeFrameLemmas.{AreFramesOf, frames_there}
 use Rattle.gain_laws.specs.GivenBack.{gains_result, HasNoEmptyTag, IsGivenBack, tidied_file}
 use Rattle.gain_laws.specs.GivenBack.{UndoGivesBack}
 use Rattle.moved_gains.proofs.{FoundTagLemmas.survey_fields-length, OwnTagLemmas.own-tag}
-use Rattle.moved_gains.proofs.{TagPlaceLemmas.tag_none, TagReadingLemmas.file_tag-none}
+use Rattle.moved_gains.proofs.{TagExtentLemmas.tag_none, TagReadingLemmas.file_tag-none}
 use Rattle.moved_gains.proofs.WrittenTagLemmas.{length_moved}
 use Rattle.moved_gains.specs.{Change.{file_with_change, FileChange}, Course.constant_steps}
 use Rattle.moved_gains.specs.Edited.{edited_file}
 use Rattle.moved_gains.specs.Streams.{edited_survey, file_without_junk, junk_length}
+use Rattle.moved_gains.specs.TagExtent.{file_with_tag, tag_block, tag_length, tag_offset}
 use Rattle.moved_gains.specs.TagLaws.{own_tag_bytes}
-use Rattle.moved_gains.specs.TagPlace.{file_with_tag, tag_block, tag_length, tag_offset}
 use Rattle.moved_gains.specs.TagReading.{file_tag, longest_tag, tag_of_block}
 use Rattle.requests.specs.{Shifts.steps_of, declared.shift.{Shift.Shift, Steps.Steps}}
 use Rattle.sync_survey.proofs.{FoldersLemmas.survey_of-short, SurveyedFileLemmas.survey_of-parts}

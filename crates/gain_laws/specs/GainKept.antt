@@ -4,7 +4,7 @@ use Rattle.bit_fields.specs.Bits.{AreBytes}
 use Rattle.commands.specs.SingleOutput.{most_frames}
 use Rattle.gain_edits.specs.{Change.change_result, Gain.gain_change, Undo.undo_change}
 use Rattle.gain_laws.specs.Kept.{KeepsAll}
-use Rattle.moved_gains.specs.TagPlace.{IsTagBytes}
+use Rattle.moved_gains.specs.TagExtent.{IsTagBytes}
 use Rattle.requests.specs.declared.shift.Shift.{Shift}
 use Rattle.sync_survey.specs.{Faults.SurveyFields, Survey.survey_of}
 

@@ -7,7 +7,7 @@ use Rattle.commands.specs.declared.fault.EditFault.{EditFault}
 use Rattle.gain_edits.specs.{Change.change_result, Gain.gain_change, Undo.undo_change}
 use Rattle.gain_edits.specs.UndoItem.{bytes_unless_empty, no_undo, undo_steps}
 use Rattle.moved_gains.specs.{Course.constant_steps, Streams.{edited_survey, file_without_junk}}
-use Rattle.moved_gains.specs.{TagPlace.{file_with_tag, tag_block}, TagReading.file_tag}
+use Rattle.moved_gains.specs.{TagExtent.{file_with_tag, tag_block}, TagReading.file_tag}
 use Rattle.requests.specs.declared.shift.Shift.{Shift}
 use Rattle.sync_survey.specs.{Faults.{HoldsStream, stream_of, SurveyFields}, Survey.survey_of}
 use Rattle.tag_blocks.specs.{Tags.TagFields, UndoItems.undo_from}

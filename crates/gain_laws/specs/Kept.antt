@@ -8,7 +8,7 @@ use Rattle.bit_fields.specs.Bits.{AreBytes, bits}
 use Rattle.frame_header.specs.{Fields.HeaderFields, HeaderBits.header_widths, Tables.class_of}
 use Rattle.frame_header.specs.declared.version.Version.{Version}
 use Rattle.moved_gains.specs.{Change.{file_with_change, FileChange}, Gains.is_silent_granule}
-use Rattle.moved_gains.specs.{Moving.row_end, TagPlace.{tag_length, tag_offset}}
+use Rattle.moved_gains.specs.{Moving.row_end, TagExtent.{tag_length, tag_offset}}
 use Rattle.outside.specs.Pass.{bytes_between}
 use Rattle.side_info.specs.{Frame.side_in, Granule.granule_widths, Side.{front_widths, granules_in}}
 use Rattle.side_info.specs.declared.{granule.Granule.Granule, side.Side.Side}

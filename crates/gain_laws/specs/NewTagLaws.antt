@@ -1,7 +1,7 @@
 -- Laws of a file that got another tag.
 use Rattle.std.specs.Prelude.{length, List, Ok, Some, ℕ, ◌+◌, ◌-◌, ◌≡◌}
 use Rattle.bit_fields.specs.Bits.{AreBytes}
-use Rattle.moved_gains.specs.TagPlace.{file_with_tag, retagged_fields, tag_length, tag_offset}
+use Rattle.moved_gains.specs.TagExtent.{file_with_tag, retagged_fields, tag_length, tag_offset}
 use Rattle.moved_gains.specs.TagReading.{file_tag, tag_of_block}
 use Rattle.sync_survey.specs.Faults.{survey_fields, SurveyFields}
 use Rattle.tag_blocks.specs.{Blocks.block_front, declared.block.Kind.TheVariants.Ape}

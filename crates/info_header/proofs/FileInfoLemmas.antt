@@ -28,8 +28,8 @@ pub place-within : (i n : ℕ) → i ≤ 100 → i * n / 100 ≤ n
 place-within i n few = omega (arith, mul-le i n 100 n few (omega arith))
 
 -- the frame of the next entry isn't earlier
-pub place-rises : (i n : ℕ) → i * n / 100 ≤ (i + 1) * n / 100
-place-rises i n = omega (arith, add-mul i 1 n)
+pub offset-rises : (i n : ℕ) → i * n / 100 ≤ (i + 1) * n / 100
+offset-rises i n = omega (arith, add-mul i 1 n)
 
 -- ---- entries
 

@@ -1,10 +1,10 @@
--- Where a head's text is: within the frame, and at one of two places.
+-- Where a head's text is: within the frame, and at one of two offsets.
 use Rattle.std.proofs.Common.{ap, arith, Bool, codes, drop, false, inl, inr, length, List, None}
 use Rattle.std.proofs.Common.{refl, take, true, ℕ, ◌&&◌, ◌+◌, ◌<◌, ◌∙◌, ◌≡◌, ◌≤◌, ◌⊎◌}
 use Rattle.std.proofs.lemmas.{Bool.or_cases, List.{length-drop, length-take}}
 use Rattle.std.{proofs.lemmas.Slice.Eq.bytes_eq-Decides, specs.Str.bytes_eq}
 use Rattle.frame_header.specs.Fields.{HeaderFields}
-use Rattle.info_header.specs.HeadText.{has_text, head_text_of, high_place, low_place}
+use Rattle.info_header.specs.HeadText.{has_text, head_text_of, high_offset, low_offset}
 
 -- ---- the whole text is in the frame
 
@@ -35,14 +35,14 @@ short_cases at frame short false is = refl
 pub has_text-short : (at : ℕ) (frame : List ℕ) → length frame < at + 4 → has_text at frame ≡ false
 has_text-short at frame short = short_cases at frame short (has_text at frame) refl
 
--- ---- a text is at one of two places that are two bytes apart
+-- ---- a text is at one of two offsets that are two bytes apart
 
 -- ---- only the bytes up to the end of the text decide
 
--- ---- the place
+-- ---- the offset
 
--- a frame without a text at either place is no head
-pub head_text_of-none : (h : HeaderFields) (frame : List ℕ) → has_text (low_place h) frame ≡ false
-    → (h.protected && has_text (high_place h) frame) ≡ false → head_text_of h frame ≡ None
+-- a frame without a text at either offset is no head
+pub head_text_of-none : (h : HeaderFields) (frame : List ℕ) → has_text (low_offset h) frame ≡ false
+    → (h.protected && has_text (high_offset h) frame) ≡ false → head_text_of h frame ≡ None
 unfolding head_text_of
 head_text_of-none h frame low high = rw (low, high) refl

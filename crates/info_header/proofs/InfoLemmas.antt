@@ -4,21 +4,21 @@ use Rattle.std.proofs.Common.{List, min, replicate, suc, sym, take, true, ℕ, [
 use Rattle.std.proofs.{Common.{◌<◌, ◌∙◌, ◌≡◌, ◌≤◌, ◌⊎◌}, Math.Nat.{min-eq_left, min-eq_right}}
 use Rattle.std.proofs.{Math.Seq.{take-append-add, take-length}, lemmas.Bool.cases_lt}
 use Rattle.std.proofs.lemmas.List.{drop-replicate, take-append-le, take-replicate}
-use Rattle.info_header.specs.Info.{field_place, field_size, is_flagged, padded_bytes}
+use Rattle.info_header.specs.Info.{field_offset, field_size, is_flagged, padded_bytes}
 
--- ---- places
+-- ---- offsets
 
-field_next : (flags : ℕ) {field next : ℕ} → next ≡ suc field → field_place flags next
-    ≡ field_place flags field + cond (is_flagged flags field) (field_size field) 0
-unfolding field_place
-field_next flags is = ap (field_place flags) is
+field_next : (flags : ℕ) {field next : ℕ} → next ≡ suc field → field_offset flags next
+    ≡ field_offset flags field + cond (is_flagged flags field) (field_size field) 0
+unfolding field_offset
+field_next flags is = ap (field_offset flags) is
 
--- the place after a field that is present
-pub place-set : (flags field : ℕ) {at : ℕ} → at ≡ field_place flags field
-    → is_flagged flags field ≡ true → at + field_size field ≡ field_place flags (field + 1)
-place-set flags field is set =
+-- the offset after a field that is present
+pub offset-set : (flags field : ℕ) {at : ℕ} → at ≡ field_offset flags field
+    → is_flagged flags field ≡ true → at + field_size field ≡ field_offset flags (field + 1)
+offset-set flags field is set =
     ap (λ k. k + field_size field) is ∙ sym (field_next flags (omega arith)
-    ∙ ap (λ b. field_place flags field + cond b (field_size field) 0) set)
+    ∙ ap (λ b. field_offset flags field + cond b (field_size field) 0) set)
 
 -- ---- the extension
 

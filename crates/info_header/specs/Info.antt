@@ -25,18 +25,18 @@ abbrev pub field_size : ℕ → ℕ
 field_size field = slice_index (4 ∷ 4 ∷ 100 ∷ 4 ∷ []) field
 
 -- Where a field begins: after the text, the flags, and the fields before it whose flags are set.
--- Field 4 is the place after the last field.
-unfoldable pub field_place : ℕ → ℕ → ℕ
-field_place flags zero = 8
-field_place flags (suc field) =
-    field_place flags field + (if is_flagged flags field then field_size field else 0)
+-- Field 4 is the offset after the last field.
+unfoldable pub field_offset : ℕ → ℕ → ℕ
+field_offset flags zero = 8
+field_offset flags (suc field) =
+    field_offset flags field + (if is_flagged flags field then field_size field else 0)
 
 -- The bytes of a field; none where its flag isn't set, or where it goes past the end. If a field
 -- goes past the end, all flagged fields after it do too.
 unfoldable pub field_in : ℕ → ℕ → List ℕ → Option (List ℕ)
 field_in flags field bytes =
-    if is_flagged flags field && nat_le (field_place flags field + field_size field) (length bytes)
-    then Some (take (field_size field) (drop (field_place flags field) bytes))
+    if is_flagged flags field && nat_le (field_offset flags field + field_size field) (length bytes)
+    then Some (take (field_size field) (drop (field_offset flags field) bytes))
     else None
 
 -- a field that is a number
@@ -57,7 +57,7 @@ info_in bytes = let flags = flags_in bytes in record {
   bytes = number_of (field_in flags 1 bytes);
   table = field_in flags 2 bytes;
   quality = number_of (field_in flags 3 bytes);
-  extension = padded_bytes 36 (drop (field_place flags 4) bytes);
+  extension = padded_bytes 36 (drop (field_offset flags 4) bytes);
 }
 
 -- ---- what is written

@@ -1,7 +1,7 @@
 //! The fields of a head.
 ghost use Rattle.std.specs.Prelude.{◌≡◌, ◌+◌, ◌<◌, ◌≤◌, ◌==◌, drop};
 ghost use Rattle.std.specs.Int.{bit_at};
-ghost use Rattle.info_header.specs.Info.{flags_in, field_size, field_place, field_in, number_of, padded_bytes, info_in, seek_table_entry};
+ghost use Rattle.info_header.specs.Info.{flags_in, field_size, field_offset, field_in, number_of, padded_bytes, info_in, seek_table_entry};
 
 use byteorder::{BigEndian, ByteOrder};
 
@@ -60,13 +60,13 @@ fn flags_of(bytes: &[u8]) -> u32
     }
 }
 
-/// Where the next field begins: at the same place as this one if this one's flag isn't set.
-#[tactic(auto, unfolding(crate::specs::Info::field_place))]
-fn place_behind(flags: u32, field: u32, at: usize) -> usize
+/// Where the next field begins: at the same offset as this one if this one's flag isn't set.
+#[tactic(auto, unfolding(crate::specs::Info::field_offset))]
+fn offset_behind(flags: u32, field: u32, at: usize) -> usize
     requires known { field < 4 }
-    requires place { at ≡ field_place flags field }
+    requires offset { at ≡ field_offset flags field }
     requires near { at ≤ 1000 }
-    ensures place { result ≡ field_place flags (field + 1) }
+    ensures offset { result ≡ field_offset flags (field + 1) }
     ensures near { result ≤ at + 100 }
 {
     if is_set(flags, field) {
@@ -81,7 +81,7 @@ fn place_behind(flags: u32, field: u32, at: usize) -> usize
 fn number_in(bytes: &[u8], flags: u32, field: u32, at: usize) -> Option<u32>
     requires known { field < 4 }
     requires number { field_size field ≡ 4 }
-    requires place { at ≡ field_place flags field }
+    requires offset { at ≡ field_offset flags field }
     requires near { at ≤ 1000 }
     ensures { result ≡ number_of (field_in flags field bytes.now) }
 {
@@ -95,7 +95,7 @@ fn number_in(bytes: &[u8], flags: u32, field: u32, at: usize) -> Option<u32>
 /// The table. `None` where its flag isn't set, or where it goes past the end.
 #[tactic(auto, unfolding(crate::specs::Info::field_in))]
 fn table_in(bytes: &[u8], flags: u32, at: usize) -> Option<[u8; 100]>
-    requires place { at ≡ field_place flags 2 }
+    requires offset { at ≡ field_offset flags 2 }
     requires near { at ≤ 1000 }
     ensures { result ≡ field_in flags 2 bytes.now }
 {
@@ -131,15 +131,15 @@ impl Info {
     /// isn't set is `None`, and so are a field that goes past the end of the bytes and all after it; then
     /// the extension is all 0. Flags that are cut short count as 0. The extension is 36 bytes after the
     /// last field, with zeros for bytes that aren't there.
-    #[tactic(auto, unfolding(crate::specs::Info::info_in, crate::specs::Info::field_place))]
+    #[tactic(auto, unfolding(crate::specs::Info::info_in, crate::specs::Info::field_offset))]
     pub fn read(bytes: &[u8]) -> Info
         ensures { result ≡ info_in bytes.now }
     {
         let flags = flags_of(bytes);
-        let bytes_at = place_behind(flags, FRAMES, FIELDS_AT);
-        let table_at = place_behind(flags, BYTES, bytes_at);
-        let quality_at = place_behind(flags, TABLE, table_at);
-        let extension = place_behind(flags, QUALITY, quality_at);
+        let bytes_at = offset_behind(flags, FRAMES, FIELDS_AT);
+        let table_at = offset_behind(flags, BYTES, bytes_at);
+        let quality_at = offset_behind(flags, TABLE, table_at);
+        let extension = offset_behind(flags, QUALITY, quality_at);
         Info {
             vbr: bytes.starts_with(b"Xing"),
             frames: number_in(bytes, flags, FRAMES, FIELDS_AT),

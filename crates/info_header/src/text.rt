@@ -23,13 +23,13 @@ fn has_text(at: u32, frame: &[u8]) -> bool
     }
 }
 
-/// The place of `Xing` or `Info` in a frame, in bytes from its first. `frame` is all bytes of the frame.
+/// The offset of `Xing` or `Info` in a frame, in bytes from its first. `frame` is all bytes of the frame.
 /// The text is looked for right after where the side information ends without a check word
 /// (`4 + side_size`), and then, in a protected frame, also two bytes later, after the check word. `None`
-/// exactly where it is at neither place.
-#[tactic(auto, unfolding(crate::specs::HeadText::head_text_of, crate::specs::HeadText::low_place, crate::specs::HeadText::high_place))]
+/// exactly where it is at neither offset.
+#[tactic(auto, unfolding(crate::specs::HeadText::head_text_of, crate::specs::HeadText::low_offset, crate::specs::HeadText::high_offset))]
 pub fn head_text(header: &Header, frame: &[u8]) -> Option<u32>
-    ensures place { result ≡ head_text_of header.now frame.now }
+    ensures offset { result ≡ head_text_of header.now frame.now }
     // The whole text is in the frame.
     ensures within { IfSome result (λ at. at + 4 ≤ length frame.now) }
 {

@@ -13,7 +13,7 @@ use Rattle.frame_header.specs.{Fields.SlotFields, HeaderBits.header_bits}
 use Rattle.frame_header.specs.Slots.{all_slots, slot_of}
 use Rattle.frame_header.specs.Tables.{area_of, class_of, length_of, overhead_of, side_size_of}
 use Rattle.info_header.proofs.FrameLemmas.{info_slot-room}
-use Rattle.info_header.specs.HeadText.{has_text, head_text_of, low_place}
+use Rattle.info_header.specs.HeadText.{has_text, head_text_of, low_offset}
 use Rattle.info_header.specs.Info.{info_bytes, table_or_zeros, vbr_text}
 use Rattle.info_header.specs.InfoFrame.{first_with_room, info_frame, info_header_of, info_slot_of}
 use Rattle.info_header.specs.declared.fields.Info.{Info}
@@ -66,8 +66,8 @@ text_found : (at : ℕ) (vbr : Bool) (frame behind : List ℕ) → drop at frame
 unfolding has_text
 text_found at vbr frame behind is = grind arith
 
-head_text-low : (h : HeaderFields) (frame : List ℕ) → has_text (low_place h) frame ≡ true
-    → head_text_of h frame ≡ Some (low_place h)
+head_text-low : (h : HeaderFields) (frame : List ℕ) → has_text (low_offset h) frame ≡ true
+    → head_text_of h frame ≡ Some (low_offset h)
 unfolding head_text_of
 head_text-low h frame is = rw is refl
 
@@ -142,15 +142,15 @@ module _ (first : HeaderFields) (info : Info) (header : IsHeader first)
   text_behind =
       (_, append_assoc (vbr_text info.vbr) _ (replicate (area_of c (info_slot_of c) false - 156) 0))
 
-  low-is : low_place h ≡ 4 + side_size_of c
-  unfolding low_place
+  low-is : low_offset h ≡ 4 + side_size_of c
+  unfolding low_offset
   low-is = refl
 
   -- its text is right after the side information
-  pub info_text : head_text_of h (info_frame first info) ≡ Some (low_place h)
+  pub info_text : head_text_of h (info_frame first info) ≡ Some (low_offset h)
   info_text =
       head_text-low h (info_frame first info)
-      (text_found (low_place h) info.vbr (info_frame first info)
+      (text_found (low_offset h) info.vbr (info_frame first info)
       text_behind.0 (ap (λ n. drop n (info_frame first info)) low-is ∙ behind_side ∙ text_behind.1))
 
   -- its area is as long as its slot says

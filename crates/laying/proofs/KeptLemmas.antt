@@ -2,7 +2,7 @@
 use Rattle.std.proofs.Common.{ap, drop, List, None, Option, refl, replicate, Some, sym, take, ℕ, []}
 use Rattle.std.proofs.Common.{◌∙◌, ◌≡◌}
 use Rattle.frame_header.specs.Tables.{class_of, length_of}
-use Rattle.info_header.specs.{Info.{field_in, field_place, info_in}, declared.fields.Info.Info}
+use Rattle.info_header.specs.{Info.{field_in, field_offset, info_in}, declared.fields.Info.Info}
 use Rattle.laying.specs.{KeptFields.fields_of_head, Written.head_info}
 use Rattle.sync_survey.specs.declared.places.Head.{Head}
 
@@ -12,7 +12,7 @@ unfolding info_in field_in
 none-quality = refl
 
 none-extension : (info_in []).extension ≡ replicate 36 0
-unfolding info_in field_place
+unfolding info_in field_offset
 none-extension = refl
 
 -- a file without a head has no quality

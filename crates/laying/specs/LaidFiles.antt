@@ -8,7 +8,7 @@ use Rattle.frame_header.specs.Fields.{ClassFields, HeaderFields, IsHeader}
 use Rattle.frame_header.specs.Tables.{class_of, length_of}
 use Rattle.frame_writer.specs.Frames.{all_frame_data, bytes_of_frames, Frame}
 use Rattle.frame_writer.specs.Laid.{CanDataBeLaid, zeros}
-use Rattle.info_header.specs.{HeadText.low_place, InfoFrame.{info_frame, info_header_of}}
+use Rattle.info_header.specs.{HeadText.low_offset, InfoFrame.{info_frame, info_header_of}}
 use Rattle.info_header.specs.declared.fields.Info.{Info}
 use Rattle.side_info.specs.{Side.{payload_bits, payload_bytes, SideFits}, declared.side.Side.Side}
 use Rattle.sync_survey.specs.Faults.{SurveyFields}
@@ -116,7 +116,7 @@ abbrev pub head_at : ℕ → HeaderFields → Head
 head_at at first = record {
   offset = at;
   header = info_header_of first;
-  text_at = low_place (info_header_of first);
+  text_at = low_offset (info_header_of first);
 }
 
 -- the offset of the first frame after the Info frame

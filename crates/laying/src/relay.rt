@@ -77,14 +77,14 @@ struct HeldAreas<'w> {
 
 /// Where the area of a frame is in the input: its offset, and its length in bytes.
 #[derive(Clone, Copy)]
-struct AreaPlace {
+struct AreaExtent {
     at: u64,
     size: usize,
 }
 
 /// Where the area of a frame of this class is.
 #[inline(always)]
-fn area_place(class: Class, row: &Row) -> AreaPlace
+fn area_extent(class: Class, row: &Row) -> AreaExtent
     requires { class ≡ class_of row.now.header }
     ensures at { result.at
         ≡ row.now.offset + overhead_of (class_of row.now.header) row.now.header.protected }
@@ -95,7 +95,7 @@ fn area_place(class: Class, row: &Row) -> AreaPlace
 {
     let front = row.front();
     let protected = front.protected();
-    AreaPlace {
+    AreaExtent {
         at: u64::from(row.offset()) + u64::from(class.overhead(protected)),
         size: class.area_of(front.slot(), protected) as usize,
     }
@@ -231,7 +231,7 @@ impl<'a> Relay<'a> {
         &self,
         folder: &mut D,
         reading: &Reading,
-        own: AreaPlace,
+        own: AreaExtent,
         feed: &mut Feed,
         window: &mut Window,
     ) -> Result<(u64, usize), PassFault>
@@ -277,7 +277,7 @@ impl<'a> Relay<'a> {
         ensures reads { RelayReadAnswer self.now feed.new (D.seen folder.old)
             (D.seen folder.new) result }
     {
-        let own = area_place(known.class, known.row);
+        let own = area_extent(known.class, known.row);
         let (first, before) = self.first_byte(folder, reading, own, feed, window)?;
         let skip = (own.at - first) as usize;
         self.fill(folder, first, skip + own.size, feed)?;

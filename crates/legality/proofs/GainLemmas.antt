@@ -25,7 +25,7 @@ use Rattle.legality.proofs.InputLemmas.{each-cons}
 use Rattle.moved_gains.{proofs.MovedGainLemmas.within, specs.Change.FileChange}
 use Rattle.moved_gains.specs.{Course.constant_steps, Edited.row_out_of_range}
 use Rattle.moved_gains.specs.Gains.{gain_out_of_range, is_out_of_range, side_out_of_range}
-use Rattle.moved_gains.specs.{TagPlace.tag_offset, TagReading.{file_tag, longest_tag}}
+use Rattle.moved_gains.specs.{TagExtent.tag_offset, TagReading.{file_tag, longest_tag}}
 use Rattle.moved_gains.specs.declared.gains.OutOfRange.{OutOfRange}
 use Rattle.moved_gains.specs.declared.tag_fault.FileTagFault.{FileTagFault}
 use Rattle.requests.specs.{Shifts.steps_of, declared.shift.{Channels.Channels, Shift.Shift}}

@@ -15,10 +15,10 @@ pub held_later : (room : List ℕ) (done : ℕ) {end : ℕ} (n : ℕ) → done +
 held_later room done n few = grind (arith, part_later, drop-drop)
 
 -- the next bytes that are held are the file's
-pub held_piece : {fed : Fed} {files : Files} {name : List ℕ} {at n : ℕ} → fed.place ≡ at
+pub held_piece : {fed : Fed} {files : Files} {name : List ℕ} {at n : ℕ} → fed.file_offset ≡ at
     → n ≤ length fed.held → IsFedFrom fed files name → (file : List ℕ) → Holds files name file
     → take n fed.held ≡ take n (drop at file)
-held_piece place enough fed_from file holds = grind (arith, take-take)
+held_piece file_offset enough fed_from file holds = grind (arith, take-take)
 
 -- a pass stays ready if other bytes of the input are held
 pub ready_with : {pass : Pass} {files : Files} {fed later : Fed}
@@ -28,9 +28,10 @@ ready_with fed_from ready = grind arith
 
 -- after the next bytes, the bytes that are held are still the input's
 pub ready_after : {pass : Pass} {files : Files} {fed later : Fed} {n : ℕ} → n ≤ length fed.held
-    → later.place ≡ fed.place + n → later.held ≡ drop n fed.held → IsPassReady pass files fed
-    → IsPassReady pass files later
-ready_after enough place held ready = grind (arith, ready_with, length-drop, drop-drop, part_later)
+    → later.file_offset ≡ fed.file_offset + n → later.held ≡ drop n fed.held
+    → IsPassReady pass files fed → IsPassReady pass files later
+ready_after enough file_offset held ready =
+    grind (arith, ready_with, length-drop, drop-drop, part_later)
 
 -- a feed that holds nothing is ready for the pass
 pub ready_empty : {pass : Pass} {files : Files} {fed none : Fed} → none.held ≡ []

@@ -6,7 +6,7 @@ use Rattle.moved_gains.proofs.MovedItemLemmas.{ends-append}
 use Rattle.moved_gains.proofs.ReadFileLemmas.{has_stream, HasStream, later_chain}
 use Rattle.moved_gains.proofs.SplitItemLemmas.{final, IsSplit, last-told, split-last, split-tag}
 use Rattle.moved_gains.proofs.{SplitItemLemmas.stop_of, TagReadingLemmas.place-some}
-use Rattle.moved_gains.specs.TagPlace.{is_tag, tag_block, tag_length, tag_offset}
+use Rattle.moved_gains.specs.TagExtent.{is_tag, tag_block, tag_length, tag_offset}
 use Rattle.sync_survey.proofs.ChainLemmas.{frames-append, front-frames, item_chain-ends}
 use Rattle.sync_survey.proofs.ItemListLemmas.{ends-stream}
 use Rattle.sync_survey.proofs.SurveyPartsLemmas.{frames_from, IsRead, told_from}

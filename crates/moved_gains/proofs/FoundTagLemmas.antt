@@ -4,7 +4,7 @@ use Rattle.std.proofs.Common.{None, Ok, Option, refl, Some, subst, sym, take, tr
 use Rattle.std.proofs.{Common.{◌∷◌, ◌≡◌, ◌≤◌}, lemmas.List.{append-nil, length-take-le}}
 use Rattle.std.{proofs.lemmas.List.Folds.find-append, specs.List.{cons_option, find}}
 use Rattle.std.specs.Option.{option_or}
-use Rattle.moved_gains.specs.TagPlace.{is_tag, last_end, row_end, tag_block}
+use Rattle.moved_gains.specs.TagExtent.{is_tag, last_end, row_end, tag_block}
 use Rattle.sync_survey.proofs.ChainLemmas.{item_chain-ends, whole_item_at-is}
 use Rattle.sync_survey.proofs.{ItemBytesLemmas.kept_item, ItemsLemmas.stands}
 use Rattle.sync_survey.proofs.SurveyPartsLemmas.{survey_fields-parts}

@@ -12,7 +12,7 @@ pub mod EditedChainLemmas
 pub mod LostOffsetLemmas
 pub mod EditedSurveyLemmas
 pub mod MovedStreamLemmas
-pub mod TagPlaceLemmas
+pub mod TagExtentLemmas
 pub mod WrittenTagLemmas
 pub mod RowLemmas
 pub mod TagEndLemmas

@@ -6,8 +6,8 @@ use Rattle.bit_fields.proofs.BitsLemmas.{AreBelow-drop, AreBelow-take, places_be
 use Rattle.bit_fields.specs.Bits.{AreBytes}
 use Rattle.moved_gains.proofs.FoundTagLemmas.{tag-there}
 use Rattle.moved_gains.proofs.TagReadingLemmas.{file_tag-some, place-some}
-use Rattle.moved_gains.specs.TagLaws.{HasOwnTag, own_tag_bytes}
-use Rattle.moved_gains.specs.TagPlace.{file_with_tag, IsTagBytes, tag_block, tag_length, tag_offset}
+use Rattle.moved_gains.specs.TagExtent.{file_with_tag, IsTagBytes, tag_block, tag_length}
+use Rattle.moved_gains.specs.{TagExtent.tag_offset, TagLaws.{HasOwnTag, own_tag_bytes}}
 use Rattle.moved_gains.specs.TagReading.{file_tag, tag_of_block, tag_result_in_file}
 use Rattle.moved_gains.specs.declared.tag_fault.FileTagFault.TheVariants.{TooLarge}
 use Rattle.sync_survey.specs.{Faults.{survey_fields, SurveyFields}, declared.places.Piece.Piece}

@@ -18,9 +18,9 @@ use Rattle.moved_gains.proofs.{SplitItemLemmas.IsSplit, TagReadingLemmas.place-s
 use Rattle.moved_gains.proofs.TaggedByteLemmas.{front-moved, later-moved, new-length, new-own}
 use Rattle.moved_gains.proofs.TaggedByteLemmas.{stays}
 use Rattle.moved_gains.proofs.WholeFileLemmas.{clean, clean-start, IsClean, start_with}
-use Rattle.moved_gains.specs.TagPlace.{file_with_tag, IsTagBytes, new_blocks, retagged_fields}
-use Rattle.moved_gains.specs.TagPlace.{retagged_offset, stands_before, stands_behind, tag_block}
-use Rattle.moved_gains.specs.TagPlace.{tag_length, tag_offset}
+use Rattle.moved_gains.specs.TagExtent.{file_with_tag, IsTagBytes, new_blocks, retagged_fields}
+use Rattle.moved_gains.specs.TagExtent.{retagged_offset, stands_before, stands_behind, tag_block}
+use Rattle.moved_gains.specs.TagExtent.{tag_length, tag_offset}
 use Rattle.side_info.specs.declared.side.Side.{Side}
 use Rattle.sync_survey.proofs.ChainLemmas.{frames-append, whole_item_at-whole}
 use Rattle.sync_survey.proofs.ItemListLemmas.{blocks-by, ends-rise, frame_by, frames-by, piece_by}

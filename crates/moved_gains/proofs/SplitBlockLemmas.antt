@@ -3,7 +3,7 @@ use Rattle.std.proofs.Common.{ap, append-nil, arith, Bool, false, filter, List, 
 use Rattle.std.proofs.Common.{option_to_list, refl, Some, true, ℕ, [], ◌++◌, ◌+◌, ◌<◌, ◌∷◌, ◌≡◌}
 use Rattle.std.proofs.{Common.◌≤◌, lemmas.Bool.{le-leb, le-ltb, lt-leb, lt-ltb}}
 use Rattle.std.{proofs.lemmas.List.Elements.filter-append, specs.List.cons_option}
-use Rattle.moved_gains.specs.TagPlace.{stands_before, stands_behind, tag_length, tag_offset}
+use Rattle.moved_gains.specs.TagExtent.{stands_before, stands_behind, tag_length, tag_offset}
 use Rattle.sync_survey.proofs.{ChainLemmas.whole_item_at-is, ItemListLemmas.{ends-rise, piece_by}}
 use Rattle.sync_survey.specs.Chains.{AreEndToEnd, block_of_item, blocks_of, PlacedItem}
 use Rattle.sync_survey.specs.{Faults.SurveyFields, Items.size_of}

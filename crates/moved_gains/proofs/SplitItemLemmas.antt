@@ -3,7 +3,7 @@ use Rattle.std.proofs.Common.{arith, false, List, map, None, Option, refl, Some,
 use Rattle.std.{proofs.Common.{◌+◌, ◌∷◌, ◌≡◌}, specs.List.{cons_option, enumerate_from, find}}
 use Rattle.frame_header.specs.Tables.{class_of, length_of}
 use Rattle.moved_gains.proofs.FoundTagLemmas.{found_case, last_more}
-use Rattle.moved_gains.specs.TagPlace.{is_tag, last_end}
+use Rattle.moved_gains.specs.TagExtent.{is_tag, last_end}
 use Rattle.sync_survey.specs.Chains.{AreEndToEnd, block_of_item, blocks_of, frame_of_item}
 use Rattle.sync_survey.specs.{Chains.{frames_of, PlacedItem, whole_item_at}, Items.size_of}
 use Rattle.sync_survey.specs.{MainData.{marked_row, marked_rows, rows_of}, Row.Row}

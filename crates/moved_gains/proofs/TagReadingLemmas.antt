@@ -3,7 +3,7 @@ use Rattle.std.proofs.Common.{arith, drop, length, List, None, Ok, refl, Result,
 use Rattle.std.proofs.{Common.◌≡◌, lemmas.Bool.lt-ltb}
 use Rattle.moved_gains.proofs.FoundTagLemmas.{IsTagThere, survey_fields-length}
 use Rattle.moved_gains.proofs.FoundTagLemmas.{survey_of-survey_fields, tag-there}
-use Rattle.moved_gains.specs.TagPlace.{tag_block, tag_length, tag_offset}
+use Rattle.moved_gains.specs.TagExtent.{tag_block, tag_length, tag_offset}
 use Rattle.moved_gains.specs.TagReading.{empty_tag, file_tag, IsBlockCause, IsFileSurvey}
 use Rattle.moved_gains.specs.TagReading.{IsTagCause, longest_tag, RefusesTag, tag_of_block}
 use Rattle.moved_gains.specs.declared.tag_fault.FileTagFault.{FileTagFault, TheVariants.TooLarge}

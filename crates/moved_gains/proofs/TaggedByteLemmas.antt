@@ -7,7 +7,7 @@ use Rattle.std.proofs.lemmas.List.{take-take, take_at}
 use Rattle.bit_fields.proofs.BitsLemmas.{AreBelow-append, AreBelow-drop, AreBelow-take}
 use Rattle.bit_fields.specs.Bits.{AreBytes}
 use Rattle.moved_gains.proofs.MovedItemLemmas.{IsMovedTo}
-use Rattle.moved_gains.specs.TagPlace.{file_with_tag, retagged_offset, tag_length, tag_offset}
+use Rattle.moved_gains.specs.TagExtent.{file_with_tag, retagged_offset, tag_length, tag_offset}
 use Rattle.sync_survey.specs.Faults.{SurveyFields}
 
 -- the file with another tag is what is before its tag, the new bytes, and what is after the old tag

@@ -104,7 +104,7 @@ module _ (steps : ℕ → Steps) (file : List ℕ) (tag : NewTag) where
   abbrev new : List ℕ
   new = tag.bytes.now
 
-  -- after the place of the tag the bytes are copied
+  -- after the offset of the tag the bytes are copied
   pub behind_tag : {from : ℕ} (to : ℕ) → tag.at < from
       → copied_bytes (Some tag) file from to ≡ bytes_between file from to
   behind_tag to past = grind (arith, lt-leb)
@@ -114,7 +114,7 @@ module _ (steps : ℕ → Steps) (file : List ℕ) (tag : NewTag) where
       → copied_bytes (Some tag) file from to ≡ bytes_between file from to
   before_tag from past = grind (arith, not_all, lt-leb)
 
-  -- around the place of the tag the bytes are copied up to
+  -- around the tag the bytes are copied up to
   -- it and from its end on, with the new tag in between
   pub around_tag : {from to : ℕ} → from ≤ tag.at → tag.at ≤ tag.end → tag.end ≤ to
       → copied_bytes (Some tag) file from to

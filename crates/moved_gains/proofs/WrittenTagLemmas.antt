@@ -9,9 +9,9 @@ use Rattle.moved_gains.proofs.{FoundTagLemmas.last_more, LostOffsetLemmas.EndBy}
 use Rattle.moved_gains.proofs.MovingLemmas.{behind_earlier, is_behind, IsBehind, moved_from}
 use Rattle.moved_gains.proofs.MovingLemmas.{moved_from-later, moved_to, written-edited_file}
 use Rattle.moved_gains.proofs.RowLemmas.{each_before}
-use Rattle.moved_gains.proofs.TagPlaceLemmas.{IsAmong, IsInFront, stands_somewhere, StandsSomewhere}
-use Rattle.moved_gains.proofs.{TagPlaceLemmas.tag_none, TagReadingLemmas.place-some}
-use Rattle.moved_gains.proofs.TaggedByteLemmas.{file_with_tag-is}
+use Rattle.moved_gains.proofs.TagExtentLemmas.{IsAmong, IsInFront, stands_somewhere}
+use Rattle.moved_gains.proofs.TagExtentLemmas.{StandsSomewhere, tag_none}
+use Rattle.moved_gains.proofs.{TagReadingLemmas.place-some, TaggedByteLemmas.file_with_tag-is}
 use Rattle.moved_gains.proofs.WrittenLemmas.{append_three, AreSized, around_tag, before_tag}
 use Rattle.moved_gains.proofs.WrittenLemmas.{IsSized, moved_split, moved_to-long, written-behind}
 use Rattle.moved_gains.proofs.WrittenLemmas.{written-none, written-split}
@@ -19,9 +19,9 @@ use Rattle.moved_gains.specs.Change.{file_with_change, FileChange, retagged_file
 use Rattle.moved_gains.specs.Edited.{edited_file}
 use Rattle.moved_gains.specs.Moving.{bytes_written_from, copied_bytes, IsNewTag, IsTagOf, row_end}
 use Rattle.moved_gains.specs.Streams.{edited_block, edited_row, edited_survey, junk_length}
-use Rattle.moved_gains.specs.TagLaws.{own_tag_bytes}
-use Rattle.moved_gains.specs.TagPlace.{file_with_tag, is_tag, last_end, tag_block, tag_length}
-use Rattle.moved_gains.specs.{TagPlace.tag_offset, declared.moving.NewTag.NewTag}
+use Rattle.moved_gains.specs.TagExtent.{file_with_tag, is_tag, last_end, tag_block, tag_length}
+use Rattle.moved_gains.specs.{TagExtent.tag_offset, TagLaws.own_tag_bytes}
+use Rattle.moved_gains.specs.declared.moving.NewTag.{NewTag}
 use Rattle.outside.specs.Pass.{bytes_between}
 use Rattle.requests.specs.declared.shift.Steps.{Steps}
 use Rattle.sync_survey.specs.{Faults.{survey_fields, SurveyFields}, Row.Row}

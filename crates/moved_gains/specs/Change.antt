@@ -1,7 +1,7 @@
 -- What changes in a file, and the file that is written.
 use Rattle.std.specs.Prelude.{List, None, Option, option_map, Some, ℕ}
 use Rattle.moved_gains.specs.{Course.steps_at_offset, Edited.edited_file, Streams.edited_survey}
-use Rattle.moved_gains.specs.{TagPlace.file_with_tag, declared.change.Change.Change}
+use Rattle.moved_gains.specs.{TagExtent.file_with_tag, declared.change.Change.Change}
 use Rattle.requests.specs.declared.shift.Steps.{Steps}
 use Rattle.sync_survey.specs.Faults.{SurveyFields}
 

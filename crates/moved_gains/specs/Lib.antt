@@ -8,6 +8,6 @@ pub mod Change
 pub mod Moving
 pub mod Buffers
 pub mod Passing
-pub mod TagPlace
+pub mod TagExtent
 pub mod TagReading
 pub mod TagLaws

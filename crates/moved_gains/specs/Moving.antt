@@ -1,10 +1,10 @@
 -- A file read once from beginning to end and written with moved gains and with another tag.
-pub use Rattle.moved_gains.specs.TagPlace.{row_end, row_length}
+pub use Rattle.moved_gains.specs.TagExtent.{row_end, row_length}
 use Rattle.std.specs.Prelude.{drop, if◌then◌else◌, length, List, nat_le, None, Option, slice_get}
 use Rattle.std.specs.Prelude.{Some, take, ℕ, [], ◌&&◌, ◌++◌, ◌+◌, ◌∷◌, ◌≡◌}
 use Rattle.frame_header.specs.{Fields.ClassFields, Tables.{class_of, overhead_of}}
 use Rattle.moved_gains.specs.{Change.FileChange, Gains.moved_side}
-use Rattle.moved_gains.specs.{TagPlace.{tag_length, tag_offset}, declared.moving.NewTag.NewTag}
+use Rattle.moved_gains.specs.{TagExtent.{tag_length, tag_offset}, declared.moving.NewTag.NewTag}
 use Rattle.outside.specs.Pass.{bytes_between}
 use Rattle.requests.specs.declared.shift.Steps.{Steps}
 use Rattle.side_info.specs.Frame.{frame_with_side, side_in}

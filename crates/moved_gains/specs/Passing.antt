@@ -12,18 +12,18 @@ pub record Passing : Type 0 where
   pub waiting : List ℕ
 
 -- the bounds of what waits and of what is held after it
-pub record AreBufferBounds (room : List ℕ) (place done end : ℕ) : Type 0 where
+pub record AreBufferBounds (room : List ℕ) (file_offset done end : ℕ) : Type 0 where
   pub size : length room ≡ buffer_size
   pub ordered : done ≤ end
   pub few : end ≤ buffer_size
-  pub early : place ≤ 2 ^ 32
+  pub early : file_offset ≤ 2 ^ 32
 
 -- At least `n` bytes of the input from offset `at` on are held, after what waits, or a call failed.
 pub record BuffersFill (pass : Pass) (at n : ℕ) (was now : Passing) (old new : Seen)
     (result : Result (Unit {0}) PassFault) : Type 0 where
   pub passed : OnOk result
       (AppendsWaiting pass.output.now was.waiting now.waiting old.files new.files)
-  pub place : OnOk result (now.feed.place ≡ at)
+  pub file_offset : OnOk result (now.feed.file_offset ≡ at)
   pub enough : OnOk result (n ≤ length now.feed.held)
   pub prefix : IfErr result (WritesPrefix pass (λ file. []) was.waiting old.files new.files)
   pub done : OnOk result (new.counts ≡ old.counts)

@@ -1,8 +1,8 @@
 -- Laws of the tag of a file.
 use Rattle.std.specs.Prelude.{drop, length, List, Ok, Some, take, ℕ, ◌≡◌}
 use Rattle.bit_fields.specs.Bits.{AreBytes}
-use Rattle.moved_gains.specs.TagPlace.{file_with_tag, IsTagBytes, retagged_fields, tag_block}
-use Rattle.moved_gains.specs.{TagPlace.{tag_length, tag_offset}, TagReading.file_tag}
+use Rattle.moved_gains.specs.TagExtent.{file_with_tag, IsTagBytes, retagged_fields, tag_block}
+use Rattle.moved_gains.specs.{TagExtent.{tag_length, tag_offset}, TagReading.file_tag}
 use Rattle.sync_survey.specs.Faults.{stream_of_survey, survey_fields, SurveyFields}
 use Rattle.sync_survey.specs.declared.places.Piece.{Piece}
 use Rattle.tag_blocks.specs.Tags.{IsTag, tag_bytes, TagFields}

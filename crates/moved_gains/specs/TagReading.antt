@@ -1,7 +1,7 @@
 -- The tag of a file, and why it isn't read.
 use Rattle.std.specs.Prelude.{drop, Err, if◌then◌else◌, length, List, nat_lt, None, Ok, Option}
 use Rattle.std.specs.Prelude.{Result, Some, take, ℕ, [], ◌+◌, ◌<◌, ◌≡◌, ◌≤◌}
-use Rattle.moved_gains.specs.TagPlace.{tag_block, tag_length, tag_offset}
+use Rattle.moved_gains.specs.TagExtent.{tag_block, tag_length, tag_offset}
 use Rattle.moved_gains.specs.declared.tag_fault.FileTagFault.{FileTagFault}
 use Rattle.moved_gains.specs.declared.tag_fault.FileTagFault.TheVariants.{Bad, Memory, Read}
 use Rattle.moved_gains.specs.declared.tag_fault.FileTagFault.TheVariants.{TooLarge}

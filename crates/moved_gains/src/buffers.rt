@@ -24,7 +24,7 @@ use std::marker::Model;
 pub struct GainBuffers {
     room: Vec<u8>,
     // The offset in the input of the first byte that is held.
-    place: u64,
+    file_offset: u64,
     // How many bytes wait. The bytes that are held follow them.
     done: usize,
     end: usize,
@@ -38,14 +38,14 @@ impl Model for GainBuffers {
 
     ghost view = { λ b. record {
       feed = record {
-        place = b.place;
+        file_offset = b.file_offset;
         held = take (b.end - b.done) (drop b.done b.room.items);
         given = [];
       };
       waiting = take b.done b.room.items;
     } };
 
-    ghost invariant = { λ b. AreBufferBounds b.room.items b.place b.done b.end };
+    ghost invariant = { λ b. AreBufferBounds b.room.items b.file_offset b.done b.end };
 }
 
 /// Appends bytes to the output.
@@ -112,7 +112,7 @@ impl GainBuffers {
     {
         Ok(GainBuffers {
             room: vec![in alloc; 0; BUFFER_SIZE]?,
-            place: 0,
+            file_offset: 0,
             done: 0,
             end: 0,
         })
@@ -137,7 +137,7 @@ impl GainBuffers {
         ensures { BuffersFill pass.now at n self.old self.new (D.seen folder.old)
             (D.seen folder.new) result }
     {
-        if at == self.place && n <= self.end - self.done {
+        if at == self.file_offset && n <= self.end - self.done {
             return Ok(());
         }
         self.refill(folder, pass, at, n)
@@ -161,8 +161,8 @@ impl GainBuffers {
     {
         hand_on(folder, pass, &self.room[..self.done])?;
         let room = self.room.as_mut_slice();
-        let kept = keep_from(room, self.done, self.end, self.place, at);
-        self.place = at;
+        let kept = keep_from(room, self.done, self.end, self.file_offset, at);
+        self.file_offset = at;
         self.done = 0;
         self.end = 0;
         self.end = read_behind(folder, pass, at, room, kept, n)?;
@@ -173,13 +173,13 @@ impl GainBuffers {
     #[inline(always)]
     fn pass_on(&mut self, n: usize)
         requires enough { n ≤ length self.old.feed.held }
-        requires early { self.old.feed.place + n ≤ 2 ^ 32 }
+        requires early { self.old.feed.file_offset + n ≤ 2 ^ 32 }
         ensures waiting { self.new.waiting ≡ self.old.waiting ++ take n self.old.feed.held }
-        ensures place { self.new.feed.place ≡ self.old.feed.place + n }
+        ensures file_offset { self.new.feed.file_offset ≡ self.old.feed.file_offset + n }
         ensures held { self.new.feed.held ≡ drop n self.old.feed.held }
     {
         self.done += n;
-        self.place += n as u64;
+        self.file_offset += n as u64;
     }
 
     /// Lets the next `n` bytes that are held, which are a frame of this class, wait for the output,
@@ -189,12 +189,12 @@ impl GainBuffers {
         requires class { class_of moved.now.row.now.header ≡ class }
         requires reached { row_overhead moved.now.row.now ≤ n }
         requires enough { n ≤ length self.old.feed.held }
-        requires early { self.old.feed.place + n ≤ 2 ^ 32 }
+        requires early { self.old.feed.file_offset + n ≤ 2 ^ 32 }
         ensures waiting { (piece : List ℕ) × (self.new.waiting ≡ self.old.waiting ++ piece)
             × (side_in moved.now.row.now.header (take n self.old.feed.held)
             ≡ moved.now.row.now.side → piece ≡ moved_bytes moved.now.steps moved.now.row.now
             (take n self.old.feed.held)) }
-        ensures place { self.new.feed.place ≡ self.old.feed.place + n }
+        ensures file_offset { self.new.feed.file_offset ≡ self.old.feed.file_offset + n }
         ensures held { self.new.feed.held ≡ drop n self.old.feed.held }
     {
         let end = self.done + n;
@@ -205,7 +205,7 @@ impl GainBuffers {
             &mut self.room[self.done..end],
         );
         self.done = end;
-        self.place += n as u64;
+        self.file_offset += n as u64;
     }
 
     /// Appends to the output what waits, and then a piece.

@@ -19,7 +19,7 @@ use crate::buffers::GainBuffers;
 use crate::change::Change;
 use crate::course::Course;
 use crate::front::{MovedRow, frame_length};
-use crate::tag_place;
+use crate::tag_extent;
 use frame_header::Class;
 use outside::{Folder, Pass, PassFault};
 use sync_survey::{Row, Survey};
@@ -168,10 +168,10 @@ fn new_tag<'a>(survey: &Survey, change: &'a Change) -> Option<NewTag<'a>>
         (change_in change.now (survey_view survey.now)) result }
 {
     let bytes = change.tag.as_ref()?;
-    let place = tag_place(survey);
+    let extent = tag_extent(survey);
     Some(NewTag {
-        at: place.offset,
-        end: place.offset + place.length,
+        at: extent.offset,
+        end: extent.offset + extent.length,
         bytes,
     })
 }

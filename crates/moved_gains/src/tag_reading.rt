@@ -5,11 +5,11 @@ ghost use Rattle.outside.specs.Seen.{OnFile};
 ghost use Rattle.sync_survey.specs.Faults.{survey_view};
 ghost use Rattle.tag_blocks.specs.declared.block.Kind.TheVariants.{Ape};
 ghost use Rattle.tag_blocks.specs.Blocks.{block_front};
-ghost use Rattle.moved_gains.specs.TagPlace.{tag_block, tag_length};
+ghost use Rattle.moved_gains.specs.TagExtent.{tag_block, tag_length};
 ghost use Rattle.moved_gains.specs.TagReading.{empty_tag, longest_tag, tag_of_block, file_tag, IsSurveyedFile, HasTagBlock, IsTagCause, IsBlockCause};
 
+use crate::tag_extents::first_tag;
 use crate::tag_fault::FileTagFault;
-use crate::tag_places::first_tag;
 use outside::{Folder, read_exact};
 use std::alloc::Global;
 use sync_survey::{Piece, Survey};

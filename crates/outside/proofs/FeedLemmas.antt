@@ -56,8 +56,10 @@ pub fills : {n : ℕ} {xs : List ℕ} (rest : List ℕ) → length xs ≡ n → 
 fills {xs = xs} rest size = ap (λ k. take k (xs ++ rest)) (sym size) ∙ take-append_seam xs rest
 
 -- a buffer that was filled has the bounds of a feed
-pub within_filled : {n place held to : ℕ} (xs rest : List ℕ) → length xs ≡ n → n ≡ 65536 → held
-    ≤ 65536 → to ≤ held → place ≤ 2 ^ 32 → AreFeedBounds (take n (xs ++ rest)) place held 0 to
+pub within_filled : {n file_offset held to : ℕ} (xs rest : List ℕ) → length xs ≡ n → n ≡ 65536
+    → held
+    ≤ 65536 → to ≤ held → file_offset ≤ 2 ^ 32
+    → AreFeedBounds (take n (xs ++ rest)) file_offset held 0 to
 within_filled xs rest size whole few among early = grind (arith, fills)
 
 -- what was read is held

@@ -21,11 +21,12 @@ pub record Happened : Type 0 where
 pub record Ended : Type 0 where
   pub times : ℕ
   pub name : List ℕ
-  pub place : ℕ
+  pub file_offset : ℕ
 
 -- reads at an end, the last one at this offset
 abbrev pub ended_reads : Happened → ℕ → Ended
-ended_reads last place = record { times = last.times; name = last.name; place = place }
+ended_reads last file_offset =
+    record { times = last.times; name = last.name; file_offset = file_offset }
 
 -- what a folder counts: missing files, reads at an end, and faults of reading and of writing, each
 -- with the name of the file that it last happened to, and an end with its offset
@@ -47,8 +48,8 @@ HappenedTo name before now = Rose before.times now.times × (now.name ≡ noted_
 
 -- a read of this file at this offset returned no byte, and was the last that did so
 abbrev pub EndedAt : List ℕ → ℕ → Ended → Ended → Type 0
-EndedAt name place before now =
-    Rose before.times now.times × (now.name ≡ noted_name name) × (now.place ≡ place)
+EndedAt name file_offset before now =
+    Rose before.times now.times × (now.name ≡ noted_name name) × (now.file_offset ≡ file_offset)
 
 -- no count has fallen
 pub record NoneFell (old new : Counts) : Type 0 where
@@ -117,8 +118,9 @@ with_miss name counts = record counts { misses = one_occurrence_more name counts
 
 -- one more read that returned no byte, of this file at this offset
 abbrev pub with_end : List ℕ → ℕ → Counts → Counts
-with_end name place counts = record counts {
-  ends = ended_reads (record { times = one_more counts.ends.times; name = noted_name name }) place;
+with_end name file_offset counts = record counts {
+  ends = ended_reads (record { times = one_more counts.ends.times; name = noted_name name })
+      file_offset;
 }
 
 -- one more fault of reading, of this file

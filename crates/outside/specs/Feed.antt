@@ -17,21 +17,21 @@ most_given = 4096
 -- what a feed holds of a file, from which offset, and what it gave last
 pub record Fed : Type 0 where
   -- the offset in the file of the first byte that is held
-  pub place : ℕ
+  pub file_offset : ℕ
   pub held : List ℕ
   -- the bytes that the last `fill` gave
   pub given : List ℕ
 
 -- where the content of the files is known, the bytes held are the bytes of the name's file from
--- `place` on
+-- `file_offset` on
 pub record IsFedFrom (fed : Fed) (files : Files) (name : List ℕ) : Type 0 where
   pub same : (bytes : List ℕ) → Holds files name bytes
-      → take (length fed.held) (drop fed.place bytes) ≡ fed.held
+      → take (length fed.held) (drop fed.file_offset bytes) ≡ fed.held
 
 -- the buffer of a feed, and the bounds of what is held and given
-pub record AreFeedBounds (room : List ℕ) (place held from to : ℕ) : Type 0 where
+pub record AreFeedBounds (room : List ℕ) (file_offset held from to : ℕ) : Type 0 where
   pub size : length room ≡ buffer_size
   pub few : held ≤ buffer_size
   pub among : to ≤ held
   pub ordered : from ≤ to
-  pub early : place ≤ 2 ^ 32
+  pub early : file_offset ≤ 2 ^ 32

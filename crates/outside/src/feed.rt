@@ -15,7 +15,7 @@ use std::marker::Model;
 #[derive(Drop)]
 pub struct Feed {
     room: Vec<u8>,
-    place: u64,
+    file_offset: u64,
     held: usize,
     from: usize,
     to: usize,
@@ -28,12 +28,12 @@ impl Model for Feed {
     ghost Value = { Fed };
 
     ghost view = { λ f. record {
-      place = f.place;
+      file_offset = f.file_offset;
       held = take f.held f.room.items;
       given = take (f.to - f.from) (drop f.from f.room.items);
     } };
 
-    ghost invariant = { λ f. AreFeedBounds f.room.items f.place f.held f.from f.to };
+    ghost invariant = { λ f. AreFeedBounds f.room.items f.file_offset f.held f.from f.to };
 }
 
 impl Feed {
@@ -49,7 +49,7 @@ impl Feed {
     {
         Ok(Feed {
             room: vec![in alloc; 0; BUFFER_SIZE]?,
-            place: 0,
+            file_offset: 0,
             held: 0,
             from: 0,
             to: 0,
@@ -101,9 +101,9 @@ impl Feed {
         requires fed { IsFedFrom self.old (D.seen folder.old).files name.now }
         ensures { FillAnswer name.now at n self.new (D.seen folder.old) (D.seen folder.new) result }
     {
-        let held_to = self.place + self.held as u64;
-        if self.place <= at && at + n as u64 <= held_to {
-            self.from = (at - self.place) as usize;
+        let held_to = self.file_offset + self.held as u64;
+        if self.file_offset <= at && at + n as u64 <= held_to {
+            self.from = (at - self.file_offset) as usize;
             self.to = self.from + n;
             return Ok(n);
         }
@@ -126,8 +126,8 @@ impl Feed {
         ensures { FillAnswer name.now at n self.new (D.seen folder.old) (D.seen folder.new) result }
     {
         let room = self.room.as_mut_slice();
-        let kept = keep_from(room, 0, self.held, self.place, at);
-        self.place = at;
+        let kept = keep_from(room, 0, self.held, self.file_offset, at);
+        self.file_offset = at;
         self.held = 0;
         self.from = 0;
         self.to = 0;
@@ -139,22 +139,22 @@ impl Feed {
 
 /// Moves all that is held of a file from the offset `at` on to the beginning of a buffer, and
 /// returns how many bytes that is: none where `at` isn't among them. The bytes of the buffer from
-/// `begin` up to `end` are held, and the first of them is at the offset `place` of the file.
-pub fn keep_from(room: &mut [u8], begin: usize, end: usize, place: u64, at: u64) -> usize
+/// `begin` up to `end` are held, and the first of them is at the offset `file_offset` of the file.
+pub fn keep_from(room: &mut [u8], begin: usize, end: usize, file_offset: u64, at: u64) -> usize
     requires ordered { begin ≤ end }
     requires within { end ≤ length room.old }
     ensures fewer { result ≤ end - begin }
-    ensures kept { (bytes : List ℕ) → take (end - begin) (drop place bytes)
+    ensures kept { (bytes : List ℕ) → take (end - begin) (drop file_offset bytes)
         ≡ take (end - begin) (drop begin room.old)
         → take result room.new ≡ take result (drop at bytes) }
-    ensures early { at < place → result ≡ 0 }
-    ensures whole { place ≤ at → take result room.new
-        ≡ drop (at - place) (take (end - begin) (drop begin room.old)) }
+    ensures early { at < file_offset → result ≡ 0 }
+    ensures whole { file_offset ≤ at → take result room.new
+        ≡ drop (at - file_offset) (take (end - begin) (drop begin room.old)) }
 {
-    if at < place || (end - begin) as u64 <= at - place {
+    if at < file_offset || (end - begin) as u64 <= at - file_offset {
         return 0;
     }
-    let from = begin + (at - place) as usize;
+    let from = begin + (at - file_offset) as usize;
     room.copy_within(from..end, 0);
     end - from
 }

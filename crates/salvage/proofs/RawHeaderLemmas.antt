@@ -18,7 +18,7 @@ use Rattle.frame_header.specs.Tables.{side_size_of}
 use Rattle.frame_header.specs.declared.header.NotHeader.TheVariants.{Free as FreeHeader, No}
 use Rattle.frame_header.specs.declared.version.Version.{Version, TheVariants.{One, Two, TwoFive}}
 use Rattle.info_header.proofs.HeadTextLemmas.{has_text-within, head_text_of-none}
-use Rattle.info_header.specs.HeadText.{has_text, high_place, low_place}
+use Rattle.info_header.specs.HeadText.{has_text, high_offset, low_offset}
 use Rattle.salvage.proofs.UsableLemmas.{header_four, side_protected}
 use Rattle.salvage.specs.RawHeader.{may_begin_block, may_begin_text, may_follow_header}
 use Rattle.salvage.specs.RawHeader.{raw_frame_length, raw_side_size, raw_version}
@@ -334,12 +334,13 @@ no_text : (at size : ℕ) (own : List ℕ) → may_begin_text (get_or own at 0) 
     → has_text at (take size own) ≡ false
 no_text at size own none = text_cases at size own none refl
 
-low_is : {side : ℕ} (h : HeaderFields) → side_size_of (class_of h) ≡ side → low_place h ≡ 4 + side
-unfolding low_place
+low_is : {side : ℕ} (h : HeaderFields) → side_size_of (class_of h) ≡ side → low_offset h ≡ 4 + side
+unfolding low_offset
 low_is h same = ap (λ n. 4 + n) same
 
-high_is : {side : ℕ} (h : HeaderFields) → side_size_of (class_of h) ≡ side → high_place h ≡ 6 + side
-unfolding high_place
+high_is : {side : ℕ} (h : HeaderFields) → side_size_of (class_of h) ≡ side
+    → high_offset h ≡ 6 + side
+unfolding high_offset
 high_is h same = ap (λ n. 6 + n) same
 
 module _ (own : List ℕ) (few : AreFew own) (side right : ℕ) (side_said_is : side

@@ -20,7 +20,7 @@ use Rattle.exact_span.specs.PlayedPositions.{played_of, played_or_all, rest_of, 
 use Rattle.exact_span.specs.declared.{extensions.HeadCounts.HeadCounts, played.Played.Played}
 use Rattle.frame_header.specs.{Fields.ClassFields, Limits.most_frames, Tables.samples_of}
 use Rattle.frame_header.specs.declared.version.Version.{Version, TheVariants.{One, Two, TwoFive}}
-use Rattle.info_header.specs.{Info.{field_place, flags_in, info_in}, declared.fields.Info.Info}
+use Rattle.info_header.specs.{Info.{field_offset, flags_in, info_in}, declared.fields.Info.Info}
 use Rattle.joined_inputs.{proofs.PartLemmas.part-is, specs.Parts.join_parts_from}
 use Rattle.laying.specs.{KeptFields.fields_of_head, Relaid.{FilePart, part_stream}}
 use Rattle.laying.specs.Written.{head_info}
@@ -94,10 +94,10 @@ zeros-small (suc n) = (omega arith, zeros-small n)
 extension-bytes : (bytes : List ℕ) → AreBytes bytes → AreBytes (info_in bytes).extension
 unfolding info_in
 extension-bytes bytes each =
-    let rest = drop (field_place (flags_in bytes) 4) bytes in
+    let rest = drop (field_offset (flags_in bytes) 4) bytes in
     AreBelow-take 256 36 (rest ++ replicate 36 0)
     (AreBelow-append 256 rest (replicate 36 0)
-    (AreBelow-drop 256 (field_place (flags_in bytes) 4) bytes each) (zeros-small 36))
+    (AreBelow-drop 256 (field_offset (flags_in bytes) 4) bytes each) (zeros-small 36))
 
 head-bytes : (file : List ℕ) (head : Head) → AreBytes file
     → AreBytes (head_info file (Some head)).extension

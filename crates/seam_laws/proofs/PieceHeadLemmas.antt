@@ -13,8 +13,8 @@ use Rattle.exact_span.specs.PlayedPositions.{counted_positions}
 use Rattle.frame_header.specs.{Fields.{ClassFields, HeaderFields, IsHeader}, HeaderBits.header_bits}
 use Rattle.frame_header.specs.Tables.{area_of, class_of, length_of, side_size_of}
 use Rattle.frame_writer.specs.Frames.{Frame}
-use Rattle.info_header.specs.HeadText.{low_place}
-use Rattle.info_header.specs.Info.{field_in, field_place, flags_in, info_bytes, info_in}
+use Rattle.info_header.specs.HeadText.{low_offset}
+use Rattle.info_header.specs.Info.{field_in, field_offset, flags_in, info_bytes, info_in}
 use Rattle.info_header.specs.Info.{number_or_zero, padded_bytes, table_or_zeros, vbr_text}
 use Rattle.info_header.specs.InfoFrame.{info_frame, info_header_of, info_slot_of}
 use Rattle.info_header.specs.declared.fields.Info.{Info}
@@ -44,8 +44,8 @@ module _ (first : HeaderFields) (info : Info) (known : IsHeader first)
   sizes : HasInfoSizes info
   sizes = record { table = whole.table; extension = whole.extension }
 
-  fields-there : drop (low_place (info_header_of first)) (info_frame first info) ≡ fields
-  unfolding info_frame low_place
+  fields-there : drop (low_offset (info_header_of first)) (info_frame first info) ≡ fields
+  unfolding info_frame low_offset
   fields-there =
       let four = bytes (header_bits (info_header_of first)) in
       let side = replicate (side_size_of c) 0 in
@@ -61,15 +61,15 @@ module _ (first : HeaderFields) (info : Info) (known : IsHeader first)
   unfolding info_bytes
   flags-is = grind (arith, le-leb, fields-long, append_assoc, flags-by)
 
-  place-is : field_place 15 4 ≡ 120
-  unfolding field_place
+  place-is : field_offset 15 4 ≡ 120
+  unfolding field_offset
   place-is = refl
 
   extension-at : take 36 (drop 120 fields) ≡ info.extension
-  unfolding low_place
+  unfolding low_offset
   extension-at =
       ap (λ l. take 36 (drop 120 l)) (sym fields-there)
-      ∙ ap (take 36) (drop-drop 120 (low_place (info_header_of first)) (info_frame first info))
+      ∙ ap (take 36) (drop-drop 120 (low_offset (info_header_of first)) (info_frame first info))
       ∙ extension-there first whole
 
   extension-in : (info_in fields).extension ≡ info.extension
@@ -84,7 +84,7 @@ module _ (first : HeaderFields) (info : Info) (known : IsHeader first)
         whole.extension,
       ) in
       ap (λ n. padded_bytes 36 (drop n fields))
-      (ap (λ flags. field_place flags 4) flags-is ∙ place-is)
+      (ap (λ flags. field_offset flags 4) flags-is ∙ place-is)
       ∙ take-append-le 36 rest (replicate 36 0) long ∙ extension-at
 
   -- the number of frames, which has four bytes
@@ -102,7 +102,7 @@ module _ (first : HeaderFields) (info : Info) (known : IsHeader first)
 
   -- the number of frames of an Info frame is read back
   frames-in : {n : ℕ} → info.frames ≡ Some n → n < 256 ^ 4 → (info_in fields).frames ≡ Some n
-  unfolding info_in field_in field_place
+  unfolding info_in field_in field_offset
   frames-in is small = grind (arith, flags-is, le-leb, frames-long, frames-at)
 
   -- the number of bytes, which has four bytes
@@ -121,7 +121,7 @@ module _ (first : HeaderFields) (info : Info) (known : IsHeader first)
 
   -- the number of bytes of an Info frame is read back
   bytes-in : {n : ℕ} → info.bytes ≡ Some n → n < 256 ^ 4 → (info_in fields).bytes ≡ Some n
-  unfolding info_in field_in field_place
+  unfolding info_in field_in field_offset
   bytes-in is small = grind (arith, flags-is, le-leb, bytes-long, bytes-at)
 
   -- the quality, after the table
@@ -159,7 +159,7 @@ module _ (first : HeaderFields) (info : Info) (known : IsHeader first)
 
   -- the quality of an Info frame is read back, as a number of four bytes
   quality-in : (info_in fields).quality ≡ Some (number_or_zero info.quality % 256 ^ 4)
-  unfolding info_in field_in field_place
+  unfolding info_in field_in field_offset
   quality-in =
       grind (arith, flags-is, le-leb, quality-long, quality-at, big_from-bytes, info.quality)
 
@@ -198,7 +198,7 @@ module _ (first : HeaderFields) (info : Info) (known : IsHeader first)
         ≡ Some (number_or_zero info.quality % 256 ^ 4)
     unfolding head_info
     laid-quality =
-        ap (λ (l : List ℕ). (info_in (drop (low_place (info_header_of first)) l)).quality)
+        ap (λ (l : List ℕ). (info_in (drop (low_offset (info_header_of first)) l)).quality)
         head-there
         ∙ ap (λ (l : List ℕ). (info_in l).quality) fields-there ∙ quality-in
 

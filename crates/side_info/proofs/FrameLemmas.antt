@@ -18,7 +18,7 @@ use Rattle.side_info.proofs.SideLemmas.{AreBits-side_bits, IsShaped, IsShaped-si
 use Rattle.side_info.proofs.SideLemmas.{length-side_bits, side_at-side_bits, side_bits-side_at}
 use Rattle.side_info.proofs.SideLemmas.{SideFits-side_at}
 use Rattle.side_info.specs.CheckWord.{check_word_of, crc_bit, crc_start, polynomial, remainder}
-use Rattle.side_info.specs.Frame.{crc_part, frame_with_side, side_in, side_part, side_place}
+use Rattle.side_info.specs.Frame.{crc_part, frame_with_side, side_in, side_offset, side_part}
 use Rattle.side_info.specs.{Frame.stored_crc, Side.{side_at, side_bits, SideFits}}
 use Rattle.side_info.specs.declared.side.Side.{Side}
 
@@ -62,7 +62,7 @@ HasRoom h frame = overhead_of (class_of h) h.protected ≤ length frame
 
 -- the bytes before the area are the bytes before the side information plus the side information
 pub overhead-is : (c : ClassFields) (protected : Bool)
-    → overhead_of c protected ≡ side_place protected + side_size_of c
+    → overhead_of c protected ≡ side_offset protected + side_size_of c
 unfolding overhead_of
 overhead-is c protected = refl
 
@@ -76,20 +76,20 @@ pub overhead-unprotected : (h : HeaderFields) → h.protected ≡ false
     → overhead_of (class_of h) h.protected ≡ 4 + side_size_of (class_of h)
 overhead-unprotected h is = grind (arith, overhead-is)
 
-place-least : (protected : Bool) → 4 ≤ side_place protected
-place-least protected = grind arith
+offset-least : (protected : Bool) → 4 ≤ side_offset protected
+offset-least protected = grind arith
 
-place-most : (protected : Bool) → side_place protected ≤ 6
-place-most protected = grind arith
+offset-most : (protected : Bool) → side_offset protected ≤ 6
+offset-most protected = grind arith
 
 -- the area never begins before the fifth byte
 pub overhead-least : (c : ClassFields) (protected : Bool) → 4 ≤ overhead_of c protected
-overhead-least c protected = omega (arith, overhead-is c protected, place-least protected)
+overhead-least c protected = omega (arith, overhead-is c protected, offset-least protected)
 
 -- there are at most six bytes and the side information before the area
 pub overhead-most : (c : ClassFields) (protected : Bool)
     → overhead_of c protected ≤ 6 + side_size_of c
-overhead-most c protected = omega (arith, overhead-is c protected, place-most protected)
+overhead-most c protected = omega (arith, overhead-is c protected, offset-most protected)
 
 -- there are at most 38 bytes before the area
 pub overhead-few : (c : ClassFields) (protected : Bool) → overhead_of c protected ≤ 38
@@ -98,7 +98,7 @@ overhead-few c protected = omega (arith, overhead-most c protected, side_size-sm
 -- a frame with room has at least the header and the side information
 pub room-least : (h : HeaderFields) (frame : List ℕ) → HasRoom h frame
     → 4 + side_size_of (class_of h) ≤ length frame
-room-least h frame room = grind (arith, overhead-is, place-least)
+room-least h frame room = grind (arith, overhead-is, offset-least)
 
 -- a protected frame with room has a header and a check word
 pub room-protected : (h : HeaderFields) (frame : List ℕ) → h.protected ≡ true → HasRoom h frame
@@ -128,13 +128,13 @@ frame_with_side-unprotected h s frame is = rw is refl
 
 -- the header and the check word, where there is one, are the bytes before the side information
 pub length-crc_part : (h : HeaderFields) (s : Side) (b : Bool)
-    → length (cond b (bytes (bits_of 16 (check_word_of h s))) []) + 4 ≡ side_place b
+    → length (cond b (bytes (bits_of 16 (check_word_of h s))) []) + 4 ≡ side_offset b
 length-crc_part h s b = grind (arith, length-word)
 
 -- the parts of a frame with other side information
 record IsMade (h : HeaderFields) (s : Side) (frame : List ℕ) : Type 0 where
   front : length (take 4 frame) ≡ 4
-  word : length (crc_part h s) + 4 ≡ side_place h.protected
+  word : length (crc_part h s) + 4 ≡ side_offset h.protected
   part : length (bytes (side_bits (class_of h) s)) ≡ side_size_of (class_of h)
   whole : frame_with_side h s frame
       ≡ ((take 4 frame ++ crc_part h s) ++ bytes (side_bits (class_of h) s))
@@ -149,7 +149,7 @@ made {h} {s} {frame} class shaped room =
     let rest = drop (overhead_of c h.protected) frame in
     record {
       front = omega
-          (arith, room, overhead-is c h.protected, place-least h.protected, length-take 4 frame);
+          (arith, room, overhead-is c h.protected, offset-least h.protected, length-take 4 frame);
       word = length-crc_part h s h.protected;
       part = length-bytes (side_size_of c) (side_bits c s) (length-side_bits c class s shaped);
       whole = grind (arith, append_assoc, part);
@@ -265,7 +265,8 @@ word_of-said frame all long =
 
 word_cases : (h : HeaderFields) (s : Side) (frame : List ℕ) {b : Bool} → h.protected ≡ b
     → AreBytes frame → HasRoom h frame → (h.protected ≡ true → stored_crc frame ≡ check_word_of h s)
-    → cond b (bytes (bits_of 16 (check_word_of h s))) [] ++ drop (side_place b) frame ≡ drop 4 frame
+    → cond b (bytes (bits_of 16 (check_word_of h s))) [] ++ drop (side_offset b) frame
+    ≡ drop 4 frame
 word_cases h s frame is all room right =
     grind (arith, word_of-said, room-protected, drop-drop, take-append-drop)
 
@@ -296,11 +297,11 @@ unfolding frame_with_side side_part
 frame_with_side-own h {frame} class all room right =
     let c = class_of h in
     let s = side_in h frame in
-    let place = side_place h.protected in
+    let offset = side_offset h.protected in
     let size = side_size_of c in
-    let behind = drop place frame in
+    let behind = drop offset frame in
     let rest : drop (overhead_of c h.protected) frame ≡ drop size behind =
-    ap (λ n. drop n frame) (overhead-is c h.protected) ∙ sym (drop-drop size place frame) in
+    ap (λ n. drop n frame) (overhead-is c h.protected) ∙ sym (drop-drop size offset frame) in
     ap₂ (λ (xs ys : List ℕ). take 4 frame ++ (crc_part h s ++ (xs ++ ys)))
     (side_there h frame class all room) rest
     ∙ ap (λ (l : List ℕ). take 4 frame ++ (crc_part h s ++ l)) (take-append-drop size behind)

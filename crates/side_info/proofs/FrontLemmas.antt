@@ -19,7 +19,7 @@ use Rattle.side_info.proofs.FrameLemmas.{length-crc_part}
 use Rattle.side_info.proofs.SideLemmas.{AreBits-side_bits, each_class, IsShaped, IsShaped-side_at}
 use Rattle.side_info.proofs.SideLemmas.{length-side_bits, side_at-side_bits, side_bits-side_at}
 use Rattle.side_info.{proofs.SideLemmas.SideFits-side_at, specs.CheckWord.check_word_of}
-use Rattle.side_info.specs.{Frame.{crc_part, side_place}, FrameFields.header_like}
+use Rattle.side_info.specs.{Frame.{crc_part, side_offset}, FrameFields.header_like}
 use Rattle.side_info.specs.FrontBytes.{AreFrontBytes, AreHeadersAlike, begin_width, front_view}
 use Rattle.side_info.specs.FrontBytes.{header_of, own_side, padded_side, side_of}
 use Rattle.side_info.specs.Granule.{granule_bits}
@@ -303,7 +303,7 @@ head-word h s {word} {four} frame is protected right put =
     ap (λ n. bytes (bits_of 16 n)) right
     ∙ ap (λ b. cond b (bytes (bits_of 16 (check_word_of h s))) []) (sym protected) in
     let size : length (crc_part h s) + 4 ≡ 6 =
-    length-crc_part h s h.protected ∙ ap side_place protected in
+    length-crc_part h s h.protected ∙ ap side_offset protected in
     ap (take 6)
     (put
     ∙ ap₂ (λ (xs ys : List ℕ). xs ++ (ys ++ rest))

@@ -80,7 +80,7 @@ pub both_put : (version : Version) {channels at next : ℕ} (gs hs : List Granul
     → length before ≡ at → old ≡ before ++ (pair_bits version channels gs ++ after)
     → ArePairsAlike gs hs → new ≡ before ++ (pair_bits version channels hs ++ after)
 both_put version {channels} {next = next} gs hs before after
-    {middle = middle} both two place first second l b e alike =
+    {middle = middle} both two offset first second l b e alike =
     let g0 : List ℕ = granule_bits version (get_or gs 0 no_granule) in
     let g1 : List ℕ = granule_bits version (get_or gs 1 no_granule) in
     let h0 : List ℕ = granule_bits version (get_or hs 0 no_granule) in
@@ -153,14 +153,14 @@ all_put_gains c class {t} t_shaped {old} {middle} {next = next} begin_is next_is
     ∙ sym (side_bits-parts c t t_shaped.granules)
 
 -- ---- a frame
--- the bytes from a place on, where the bits of the first of them are known
-bytes_there : (place size : ℕ) (frame : List ℕ) {bs : List ℕ} → AreBytes (drop place frame)
-    → bits (take size (drop place frame)) ≡ bs
-    → drop place frame ≡ bytes bs ++ drop (place + size) frame
-bytes_there place size frame all e =
-    sym (take-append-drop size (drop place frame))
-    ∙ ap₂ (λ xs ys. xs ++ ys) (sym (bytes-bits (take size (drop place frame))
-    (AreBelow-take 256 size (drop place frame) all)) ∙ ap bytes e) (drop-drop size place frame)
+-- the bytes from an offset on, where the bits of the first of them are known
+bytes_there : (offset size : ℕ) (frame : List ℕ) {bs : List ℕ} → AreBytes (drop offset frame)
+    → bits (take size (drop offset frame)) ≡ bs
+    → drop offset frame ≡ bytes bs ++ drop (offset + size) frame
+bytes_there offset size frame all e =
+    sym (take-append-drop size (drop offset frame))
+    ∙ ap₂ (λ xs ys. xs ++ ys) (sym (bytes-bits (take size (drop offset frame))
+    (AreBelow-take 256 size (drop offset frame) all)) ∙ ap bytes e) (drop-drop size offset frame)
 
 -- an unprotected frame whose side bytes were replaced is the frame with this side information
 pub gains-unprotected : (h : HeaderFields) (s : Side) (old : List ℕ) {new : List ℕ}

@@ -15,7 +15,7 @@ use Rattle.side_info.proofs.FrameLemmas.{area-frame_with_side, drop-take-append,
 use Rattle.side_info.proofs.FrameLemmas.{overhead-is, shaped-side_in, side_part-frame_with_side}
 use Rattle.side_info.proofs.{FrameLemmas.side_there, GranuleLemmas.length-flat}
 use Rattle.side_info.proofs.SideLemmas.{each_class, each_side, IsShaped, length-side_bits}
-use Rattle.side_info.specs.Frame.{frame_with_side, side_in, side_part, side_place}
+use Rattle.side_info.specs.Frame.{frame_with_side, side_in, side_offset, side_part}
 use Rattle.side_info.specs.{Granule.{granule_bits, granule_numbers, granule_size}, Parts.class_with}
 use Rattle.side_info.specs.Side.{front_widths, granule_in, granules_in, side_bits}
 use Rattle.side_info.specs.declared.{granule.Granule.Granule, side.Side.Side}
@@ -117,10 +117,11 @@ last_bits c class {s} {t} s_shaped t_shaped alike =
     let least = least_size c class in
     let before = 8 * side_size_of c - granule_size c.version in
     let more = granule_size c.version - 16 in
-    let place : 8 * (side_size_of c - 2) ≡ before + more = omega (arith, least.0, least.1) in
+    let offset : 8 * (side_size_of c - 2) ≡ before + more = omega (arith, least.0, least.1) in
     let last : (u : Side) → IsShaped u → drop (8 * (side_size_of c - 2)) (side_bits c u)
     ≡ drop more (granule_bits c.version (last_granule c u)) =
-    λ u shaped. ap (λ n. drop n (side_bits c u)) place ∙ sym (drop-drop more before (side_bits c u))
+    λ u shaped. ap (λ n. drop n (side_bits c u)) offset
+    ∙ sym (drop-drop more before (side_bits c u))
     ∙ ap (drop more) (last_granule-side_bits c class u shaped) in
     last t t_shaped ∙ last_16 c.version (last_granule c s) alike
     ∙ sym (last s s_shaped)
@@ -137,18 +138,19 @@ last_bytes c class s_shaped t_shaped alike =
 
 -- the bytes from within the side information on are the rest of it and the area
 behind_part : (h : HeaderFields) {n : ℕ} (frame : List ℕ) → n ≤ side_size_of (class_of h)
-    → drop (side_place h.protected + n) frame
+    → drop (side_offset h.protected + n) frame
     ≡ drop n (side_part h frame) ++ drop (overhead_of (class_of h) h.protected) frame
 unfolding side_part
 behind_part h {n} frame within =
-    let place = side_place h.protected in
+    let offset = side_offset h.protected in
     let size = side_size_of (class_of h) in
-    let area : drop size (drop place frame) ≡ drop (overhead_of (class_of h) h.protected) frame =
-    drop-drop size place frame ∙ ap (λ k. drop k frame) (sym (overhead-is (class_of h) h.protected))
+    let area : drop size (drop offset frame) ≡ drop (overhead_of (class_of h) h.protected) frame =
+    drop-drop size offset frame
+    ∙ ap (λ k. drop k frame) (sym (overhead-is (class_of h) h.protected))
     in
-    sym (drop-drop n place frame)
-    ∙ sym (drop-take-append n size (drop place frame) within)
-    ∙ ap (λ (l : List ℕ). drop n (take size (drop place frame)) ++ l) area
+    sym (drop-drop n offset frame)
+    ∙ sym (drop-take-append n size (drop offset frame) within)
+    ∙ ap (λ (l : List ℕ). drop n (take size (drop offset frame)) ++ l) area
 
 -- From two bytes before its area on, a frame stays as it is if it gets side information whose last
 -- granule and channel differs in no field but global_gain.
@@ -162,7 +164,7 @@ last_bytes-frame_with_side h {s} frame class all shaped room alike =
     let n = side_size_of c - 2 in
     let area = drop (overhead_of c h.protected) frame in
     let least = least_size c class in
-    let place : overhead_of c h.protected - 2 ≡ side_place h.protected + n =
+    let offset : overhead_of c h.protected - 2 ≡ side_offset h.protected + n =
     omega (arith, overhead-is c h.protected, least.0, least.1) in
     let from : (l : List ℕ) → drop (overhead_of c h.protected - 2) l
     ≡ drop n (side_part h l) ++ drop (overhead_of c h.protected) l = grind (arith, behind_part) in

@@ -22,7 +22,7 @@ pub bool_byte-is : (flag : Bool) → bool_byte flag ≡ flag_of flag
 bool_byte-is flag = grind arith
 
 -- ---- one granule and channel as one number
--- the fields of a granule at their places, added up, are the number that joins them
+-- the fields of a granule at their offsets, added up, are the number that joins them
 granule_joined : (version : Version) (g : Granule)
     → ((g.part2_3_length * 131072 + g.big_values * 256 + g.global_gain) * 2
     ^ (compress_width version + 23) + (g.scalefac_compress * 8388608

@@ -8,12 +8,12 @@ use Rattle.side_info.specs.{CheckWord.check_word_of, Side.{side_at, side_bits}}
 use Rattle.side_info.specs.declared.side.Side.{Side}
 
 -- the byte at which the side information begins: after the header, or after the check word
-abbrev pub side_place : Bool → ℕ
-side_place protected = 4 + (if protected then 2 else 0)
+abbrev pub side_offset : Bool → ℕ
+side_offset protected = 4 + (if protected then 2 else 0)
 
 -- the bytes of the side information in a frame with this header
 unfoldable pub side_part : HeaderFields → List ℕ → List ℕ
-side_part h frame = take (side_size_of (class_of h)) (drop (side_place h.protected) frame)
+side_part h frame = take (side_size_of (class_of h)) (drop (side_offset h.protected) frame)
 
 -- the side information that is in a frame with this header
 unfoldable pub side_in : HeaderFields → List ℕ → Side

@@ -6,7 +6,7 @@ use Rattle.frame_header.specs.Fields.{ClassFields, HeaderFields, IsHeader, IsSlo
 use Rattle.frame_header.specs.{HeaderBits.header_bits, Reading.header_fields}
 use Rattle.frame_header.specs.{Tables.{class_of, side_size_of}, declared.version.Version.Version}
 use Rattle.frame_header.specs.declared.version.Version.TheVariants.{One, Two, TwoFive}
-use Rattle.side_info.specs.{Frame.{crc_part, side_in, side_place}, FrameFields.FrameFields}
+use Rattle.side_info.specs.{Frame.{crc_part, side_in, side_offset}, FrameFields.FrameFields}
 use Rattle.side_info.specs.Side.{payload_bits, side_at, side_bits, SideFits}
 use Rattle.side_info.specs.declared.frame_front.{Extent.Extent, FrameFront.TheInside.Inside}
 use Rattle.side_info.specs.declared.side.Side.{Side}
@@ -92,7 +92,7 @@ pub record PutsSlot (slot : SlotFields) (old new : List ℕ) : Type 0 where
 
 -- the first n bytes are the header and, for a protected frame, the check word
 pub record HasHeaderPart (f : FrameFields) (n : ℕ) (room : List ℕ) : Type 0 where
-  pub place : n ≡ side_place f.header.protected
+  pub offset : n ≡ side_offset f.header.protected
   pub head : take n room ≡ bytes (header_bits f.header) ++ crc_part f.header f.side
 
 -- 32 zeros, over which these bytes may be written

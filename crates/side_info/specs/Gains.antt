@@ -13,13 +13,14 @@ pub record PutsSide (class : ClassFields) (s : Side) (old new : List ℕ) : Type
   pub first : length (slice_index_or s.granules 0 []) ≡ 2
   pub second : length (slice_index_or s.granules 1 []) ≡ 2
 
--- the side bytes from byte `place` of a frame on get the gains of `s` likewise; what is before and
+-- the side bytes from byte `offset` of a frame on get the gains of `s` likewise; what is before and
 -- after them stays
-pub record PutsSideAt (class : ClassFields) (place : ℕ) (s : Side) (old new : List ℕ) : Type 0 where
-  pub before : take place new ≡ take place old
-  pub behind : drop (place + side_size_of class) new ≡ drop (place + side_size_of class) old
-  pub side : HasOtherGains (side_at class (bits (take (side_size_of class) (drop place old)))) s
-      → bits (take (side_size_of class) (drop place new)) ≡ side_bits class s
+pub record PutsSideAt (class : ClassFields) (offset : ℕ) (s : Side)
+    (old new : List ℕ) : Type 0 where
+  pub before : take offset new ≡ take offset old
+  pub behind : drop (offset + side_size_of class) new ≡ drop (offset + side_size_of class) old
+  pub side : HasOtherGains (side_at class (bits (take (side_size_of class) (drop offset old)))) s
+      → bits (take (side_size_of class) (drop offset new)) ≡ side_bits class s
 
 -- a frame gets the check word that is right for its side bytes; everything else stays
 pub record PutsCrc (h : HeaderFields) (old new : List ℕ) : Type 0 where

@@ -93,15 +93,15 @@ fn fill(part: &[u8], room: &mut [u8; 32])
     }
 }
 
-/// The bytes of side information of this class from byte `place` of a frame on, with zeros after them.
+/// The bytes of side information of this class from byte `offset` of a frame on, with zeros after them.
 #[inline(always)]
-fn side_room(class: Class, place: usize, frame: &[u8]) -> [u8; 32]
-    requires { place + side_size_of class ≤ length frame.now }
-    ensures { result ≡ padded_side (take (side_size_of class) (drop place frame.now)) }
+fn side_room(class: Class, offset: usize, frame: &[u8]) -> [u8; 32]
+    requires { offset + side_size_of class ≤ length frame.now }
+    ensures { result ≡ padded_side (take (side_size_of class) (drop offset frame.now)) }
 {
     let size = class.side_size() as usize;
     let mut room = [0; MOST];
-    fill(&frame[place..place + size], &mut room);
+    fill(&frame[offset..offset + size], &mut room);
     room
 }
 
@@ -146,14 +146,14 @@ fn begin_at(version: Version, part: &[u8]) -> u16
     }
 }
 
-/// Writes these bytes into a frame, from byte `place` on.
+/// Writes these bytes into a frame, from byte `offset` on.
 #[inline(always)]
-fn put_bytes(part: &[u8], place: usize, frame: &mut [u8])
-    requires { place + length part.now ≤ length frame.old }
-    ensures { frame.new ≡ take place frame.old ++ (part.now ++ drop
-        (place + length part.now) frame.old) }
+fn put_bytes(part: &[u8], offset: usize, frame: &mut [u8])
+    requires { offset + length part.now ≤ length frame.old }
+    ensures { frame.new ≡ take offset frame.old ++ (part.now ++ drop
+        (offset + length part.now) frame.old) }
 {
-    frame[place..place + part.len()].copy_from_slice(part);
+    frame[offset..offset + part.len()].copy_from_slice(part);
 }
 
 /// The first four bytes of a frame.
@@ -175,12 +175,12 @@ fn room_of_frame(class: Class, header: &Header, frame: &[u8]) -> [u8; 32]
     ensures room { result ≡ padded_side (side_part header.now frame.now) }
     ensures octets { AreBytes (side_part header.now frame.now) }
 {
-    let place = if header.protected {
+    let offset = if header.protected {
         PROTECTED_SIZE
     } else {
         HEADER_SIZE
     };
-    side_room(class, place, frame)
+    side_room(class, offset, frame)
 }
 
 /// Writes side information over all the bytes.
@@ -408,7 +408,7 @@ impl FrameFront {
     }
 
     /// The same, where the class of the header is known.
-    // In MPEG-1 with two channels, the most common class, the compiler knows the places of the fields.
+    // In MPEG-1 with two channels, the most common class, the compiler knows the offsets of the fields.
     #[inline(always)]
     pub fn extent_in(&self, class: Class) -> Extent
         requires { class ≡ class_of self.now.header }
@@ -503,14 +503,14 @@ impl FrameFront {
         }
     }
 
-    // Writes the side information from byte `place` on, with zeros after it up to 32 bytes.
+    // Writes the side information from byte `offset` on, with zeros after it up to 32 bytes.
     #[inline(always)]
-    fn put_room(&self, place: usize, room: &mut [u8])
-        requires { place + 32 ≤ length room.old }
-        ensures { take (place + side_size_of (class_of self.now.header)) room.new ≡ take place
+    fn put_room(&self, offset: usize, room: &mut [u8])
+        requires { offset + 32 ≤ length room.old }
+        ensures { take (offset + side_size_of (class_of self.now.header)) room.new ≡ take offset
             room.old ++ bytes (side_bits (class_of self.now.header) self.now.side) }
     {
-        put_bytes(&self.side, place, room);
+        put_bytes(&self.side, offset, room);
     }
 
     /// Writes the header, the check word of a protected frame, and the side information into the first of at least 38
@@ -526,8 +526,8 @@ impl FrameFront {
         ensures size { result ≤ most_front }
         ensures front { take result room.new ≡ frame_front_bytes self.now.header self.now.side }
     {
-        let place = self.put_head(room);
-        self.put_room(place, room);
-        place + class.side_size() as usize
+        let offset = self.put_head(room);
+        self.put_room(offset, room);
+        offset + class.side_size() as usize
     }
 }

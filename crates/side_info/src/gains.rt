@@ -94,7 +94,7 @@ fn put_all(class: Class, side: &Side, bytes: &mut [u8])
 }
 
 /// Writes gains into side information, which has to be all the bytes. In MPEG-1 with two channels, the
-/// most common class, the compiler knows their places.
+/// most common class, the compiler knows their offsets.
 #[inline(always)]
 fn put_by_class(class: Class, side: &Side, bytes: &mut [u8])
     requires size { length bytes.old ≡ side_size_of class }
@@ -106,14 +106,14 @@ fn put_by_class(class: Class, side: &Side, bytes: &mut [u8])
     }
 }
 
-/// Writes gains into the side information that begins at byte `place` of a frame.
+/// Writes gains into the side information that begins at byte `offset` of a frame.
 #[inline(always)]
-fn put_at_place(class: Class, side: &Side, place: usize, frame: &mut [u8])
-    requires room { place + side_size_of class ≤ length frame.old }
-    ensures { PutsSideAt class place side.now frame.old frame.new }
+fn put_at_offset(class: Class, side: &Side, offset: usize, frame: &mut [u8])
+    requires room { offset + side_size_of class ≤ length frame.old }
+    ensures { PutsSideAt class offset side.now frame.old frame.new }
 {
-    let end = place + class.side_size() as usize;
-    put_by_class(class, side, &mut frame[place..end]);
+    let end = offset + class.side_size() as usize;
+    put_by_class(class, side, &mut frame[offset..end]);
 }
 
 /// Writes the check word that is right for the header and the side bytes in the frame.
@@ -138,9 +138,9 @@ pub fn put_gains(front: &FrameFront, class: Class, side: &Side, frame: &mut [u8]
     ensures { PutsGains front.now.header side.now frame.old frame.new }
 {
     if front.protected() {
-        put_at_place(class, side, PROTECTED_SIZE, frame);
+        put_at_offset(class, side, PROTECTED_SIZE, frame);
         put_right_crc(&front.header(), frame);
     } else {
-        put_at_place(class, side, HEADER_SIZE, frame);
+        put_at_offset(class, side, HEADER_SIZE, frame);
     }
 }

@@ -58,7 +58,7 @@ fn read_parts(version: Version, channels: u8, bytes: &[u8], side: &mut Side)
 }
 
 /// Reads the side information of a frame of this version with `channels` channels, over what was in `side`.
-/// In most arms version and channels are constants, so that the compiler knows the places of the fields.
+/// In most arms version and channels are constants, so that the compiler knows the offsets of the fields.
 #[inline(always)]
 fn read_shape(version: Version, channels: u8, bytes: &[u8], side: &mut Side)
     requires channels { AreChannels channels }

@@ -3,7 +3,7 @@ use Rattle.std.proofs.Common.{ap, arith, codes, drop, List, Option, option_map, 
 use Rattle.std.proofs.{Common.{◌+◌, ◌-◌, ◌∙◌, ◌≡◌, ◌≤◌}, lemmas.List.{drop-drop, drop-take}}
 use Rattle.frame_header.specs.Fields.{HeaderFields}
 use Rattle.frame_header.specs.Tables.{area_of, class_of, length_of, overhead_of}
-use Rattle.info_header.specs.HeadText.{has_text, head_text_of, high_place, low_place}
+use Rattle.info_header.specs.HeadText.{has_text, head_text_of, high_offset, low_offset}
 use Rattle.side_info.proofs.FrameLemmas.{overhead-most}
 use Rattle.sync_survey.{proofs.ItemListLemmas.nearer_frame, specs.MainData.{area_bytes, head_bytes}}
 use Rattle.sync_survey.specs.{Walk.{frame_bytes, head_of}, declared.places.Head.Head}
@@ -23,16 +23,16 @@ text_same : (place : ℕ) (xs ys : List ℕ) → drop place xs ≡ drop place ys
 unfolding has_text
 text_same place xs ys same = grind (arith, codes)
 
-text_by : (h : HeaderFields) (xs ys : List ℕ) → has_text (low_place h) xs
-    ≡ has_text (low_place h) ys → has_text (high_place h) xs ≡ has_text (high_place h) ys
+text_by : (h : HeaderFields) (xs ys : List ℕ) → has_text (low_offset h) xs
+    ≡ has_text (low_offset h) ys → has_text (high_offset h) xs ≡ has_text (high_offset h) ys
     → head_text_of h xs ≡ head_text_of h ys
 unfolding head_text_of
 text_by h xs ys low high = rw (low, high) refl
 
 -- both places at which a text may be are after the first bytes of the side information
-places : (h : HeaderFields) → (overhead_of (class_of h) h.protected - 2 ≤ low_place h)
-    × (overhead_of (class_of h) h.protected - 2 ≤ high_place h)
-unfolding low_place high_place
+places : (h : HeaderFields) → (overhead_of (class_of h) h.protected - 2 ≤ low_offset h)
+    × (overhead_of (class_of h) h.protected - 2 ≤ high_offset h)
+unfolding low_offset high_offset
 places h = grind (arith, overhead-most)
 
 text-same : (h : HeaderFields) (xs ys : List ℕ) → drop (overhead_of (class_of h) h.protected - 2) xs

@@ -17,7 +17,7 @@ use Rattle.tag_blocks.{proofs.NumbersLemmas.little_bytes-little_number, specs.Bl
 use Rattle.tag_blocks.specs.Items.{has_whole_item, is_item, is_key_char, is_undo, item_and_more}
 use Rattle.tag_blocks.specs.Items.{item_bytes, item_length, items_bytes, items_length, key_length}
 use Rattle.tag_blocks.specs.Items.{next_if_admitted, next_item, tag_item_front, tag_item_of}
-use Rattle.tag_blocks.specs.{Items.{tag_items_from, TagItem, value_place}, Laws.AreByteValues}
+use Rattle.tag_blocks.specs.{Items.{tag_items_from, TagItem, value_offset}, Laws.AreByteValues}
 
 -- ---- lengths
 
@@ -75,7 +75,7 @@ little_number-little_bytes below = grind (arith, append-nil)
 pub record Stands (bytes : List ℕ) : Type 0 where
   pub least : 2 ≤ key_length bytes
   pub most : key_length bytes ≤ 255
-  pub within : value_place bytes + ape_number 0 bytes ≤ length bytes
+  pub within : value_offset bytes + ape_number 0 bytes ≤ length bytes
   pub zero_behind : get_or bytes (8 + key_length bytes) 0 ≡ 0
 
 -- if an item is whole, all the conditions hold
@@ -103,7 +103,7 @@ has_whole_item-not none = grind (arith, false_from_ne_true, has_whole_item-parts
 
 -- an item is as long as the bytes before its value plus its value
 pub length-front : (bytes : List ℕ) → has_whole_item bytes ≡ true
-    → item_length (tag_item_front bytes) ≡ value_place bytes + ape_number 0 bytes
+    → item_length (tag_item_front bytes) ≡ value_offset bytes + ape_number 0 bytes
 unfolding tag_item_front
 length-front bytes is =
     grind (arith, has_whole_item-parts, is, length-prefix_len, length-take-le, length-drop)
@@ -124,7 +124,7 @@ split n bytes = sym (take-append-drop n bytes)
 parts_of : {bytes : List ℕ} → has_whole_item bytes ≡ true
     → bytes ≡ take 4 bytes ++ (take 4 (drop 4 bytes)
     ++ (take (key_length bytes) (drop 8 bytes) ++ (0 ∷ (take (ape_number 0 bytes)
-    (drop (value_place bytes) bytes) ++ drop (value_place bytes + ape_number 0 bytes) bytes))))
+    (drop (value_offset bytes) bytes) ++ drop (value_offset bytes + ape_number 0 bytes) bytes))))
 parts_of {bytes} is =
     let k : ℕ = key_length bytes in
     let parts = has_whole_item-parts is in
@@ -151,16 +151,16 @@ pub bytes-front : {bytes : List ℕ} → AreByteValues bytes → has_whole_item 
 unfolding item_bytes tag_item_front
 bytes-front {bytes} octets is =
     let parts = has_whole_item-parts is in
-    let size : little_bytes 4 (length (take (ape_number 0 bytes) (drop (value_place bytes) bytes)))
+    let size : little_bytes 4 (length (take (ape_number 0 bytes) (drop (value_offset bytes) bytes)))
     ≡ take 4 bytes =
-    ap (little_bytes 4) (length-take-le (ape_number 0 bytes) (drop (value_place bytes) bytes)
-    (omega (arith, parts.within, length-drop (value_place bytes) bytes)))
+    ap (little_bytes 4) (length-take-le (ape_number 0 bytes) (drop (value_offset bytes) bytes)
+    (omega (arith, parts.within, length-drop (value_offset bytes) bytes)))
     ∙ little_bytes-ape_number 0 bytes octets (omega (arith, parts.within)) in
     let flags : little_bytes 4 (ape_number 4 bytes) ≡ take 4 (drop 4 bytes) =
     little_bytes-ape_number 4 bytes octets (omega (arith, parts.within, parts.least)) in
     let key : List ℕ = take (key_length bytes) (drop 8 bytes) in
-    let value : List ℕ = take (ape_number 0 bytes) (drop (value_place bytes) bytes) in
-    let rest : drop (value_place bytes + ape_number 0 bytes) bytes
+    let value : List ℕ = take (ape_number 0 bytes) (drop (value_offset bytes) bytes) in
+    let rest : drop (value_offset bytes + ape_number 0 bytes) bytes
     ≡ drop (item_length (tag_item_front bytes)) bytes = grind (arith, length-front, is) in
     parts_of is
     ∙ ap (λ l. take 4 bytes ++ (take 4 (drop 4 bytes) ++ (key ++ (0 ∷ (value ++ l))))) rest
@@ -192,7 +192,7 @@ is_item-front bytes octets is =
       has_whole_item-parts is,
       is,
       length-prefix_len is_key_char (drop 8 bytes),
-      length-take (ape_number 0 bytes) (drop (value_place bytes) bytes),
+      length-take (ape_number 0 bytes) (drop (value_offset bytes) bytes),
       and_from,
       le-leb,
       key_passes

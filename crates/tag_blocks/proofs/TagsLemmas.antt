@@ -21,8 +21,8 @@ use Rattle.tag_blocks.specs.Blocks.{block_front, is_ape}
 use Rattle.tag_blocks.specs.Items.{is_item, items_bytes, items_length, TagItem}
 use Rattle.tag_blocks.specs.Laws.{AreByteValues}
 use Rattle.tag_blocks.specs.Tags.{ape_count, are_footer_flags, are_header_flags, end_bytes}
-use Rattle.tag_blocks.specs.Tags.{footer_place, is_footer, is_reserved, IsTag, item_part, tag_bytes}
-use Rattle.tag_blocks.specs.Tags.{tag_items_of, tag_of, tag_size, TagFields}
+use Rattle.tag_blocks.specs.Tags.{footer_offset, is_footer, is_reserved, IsTag, item_part}
+use Rattle.tag_blocks.specs.Tags.{tag_bytes, tag_items_of, tag_of, tag_size, TagFields}
 use Rattle.tag_blocks.specs.declared.{block.Kind.TheVariants.Ape, tag_fault.TagFault.TagFault}
 
 -- ---- lengths
@@ -95,12 +95,12 @@ is_footer-end {count = count} is bits = grind (arith, and_from, eq-eqb, count, b
 pub record AreParts (tag : TagFields) (block : List ℕ) : Type 0 where
   pub header : IsEnd (tag_size tag) (length tag.items) tag.header_flags block
       (items_bytes tag.items ++ end_bytes (tag_size tag) (length tag.items) tag.footer_flags)
-  pub place : footer_place block ≡ 32 + items_length tag.items
+  pub offset : footer_offset block ≡ 32 + items_length tag.items
   pub items : item_part block ≡ items_bytes tag.items
-  pub behind : drop (footer_place block) block
+  pub behind : drop (footer_offset block) block
       ≡ end_bytes (tag_size tag) (length tag.items) tag.footer_flags
   pub footer : IsEnd (tag_size tag)
-      (length tag.items) tag.footer_flags (drop (footer_place block) block) []
+      (length tag.items) tag.footer_flags (drop (footer_offset block) block) []
 
 tag_bytes-is : (tag : TagFields)
     → tag_bytes tag ≡ end_bytes (tag_size tag) (length tag.items) tag.header_flags
@@ -121,16 +121,16 @@ tag_bytes-parts {tag} is =
     subst (λ b. IsEnd size count tag.header_flags b (items_bytes tag.items ++ footer))
     (sym (tag_bytes-is tag))
     (end_bytes-parts (items_bytes tag.items ++ footer) s n (ltb-true _ _ is.header_number)) in
-    let place : footer_place block ≡ 32 + items_length tag.items =
+    let offset : footer_offset block ≡ 32 + items_length tag.items =
     omega (arith, length-tag_bytes tag) in
-    let many : footer_place block - 32 ≡ items_length tag.items = omega (arith, place) in
-    let behind : drop (footer_place block) block ≡ footer =
-    ap (λ k. drop k block) place ∙ sym (drop-drop (items_length tag.items) 32 block)
+    let many : footer_offset block - 32 ≡ items_length tag.items = omega (arith, offset) in
+    let behind : drop (footer_offset block) block ≡ footer =
+    ap (λ k. drop k block) offset ∙ sym (drop-drop (items_length tag.items) 32 block)
     ∙ ap (drop (items_length tag.items)) header.behind ∙ drop_at (items_bytes tag.items) footer
     (items_length tag.items) (length-items_bytes tag.items) in
     record {
       header = header;
-      place = place;
+      offset = offset;
       items = grind (arith, take_at, footer, length-items_bytes);
       behind = behind;
       footer = subst (λ b. IsEnd size count tag.footer_flags b []) (append-nil footer ∙ sym behind)
@@ -163,34 +163,34 @@ unfolding tag_of
 tag_of-count block good bad = rw (good, bad) refl
 
 -- if the footer isn't right after the last item, the fault is after the last one
-pub tag_of-place : (block : List ℕ) → is_reserved block ≡ true
+pub tag_of-offset : (block : List ℕ) → is_reserved block ≡ true
     → (length (tag_items_of block) == ape_count block) ≡ true
-    → (32 + items_length (tag_items_of block) == footer_place block) ≡ false
+    → (32 + items_length (tag_items_of block) == footer_offset block) ≡ false
     → tag_of block ≡ Err (TagFault.BadTag (32 + items_length (tag_items_of block)))
 unfolding tag_of
-tag_of-place block good counted bad = rw (good, counted, bad) refl
+tag_of-offset block good counted bad = rw (good, counted, bad) refl
 
 -- if there is no footer for this header, the fault is where the footer should be
 pub tag_of-footer : (block : List ℕ) → is_reserved block ≡ true
     → (length (tag_items_of block) == ape_count block) ≡ true
-    → (32 + items_length (tag_items_of block) == footer_place block) ≡ true
-    → is_footer (ape_size block) (ape_count block) (drop (footer_place block) block) ≡ false
-    → tag_of block ≡ Err (TagFault.BadTag (footer_place block))
+    → (32 + items_length (tag_items_of block) == footer_offset block) ≡ true
+    → is_footer (ape_size block) (ape_count block) (drop (footer_offset block) block) ≡ false
+    → tag_of block ≡ Err (TagFault.BadTag (footer_offset block))
 unfolding tag_of
 tag_of-footer block good counted placed bad = rw (good, counted, placed, bad) refl
 
 abbrev pub tag_in : List ℕ → TagFields
 tag_in block = record {
   header_flags = ape_flags block;
-  footer_flags = ape_flags (drop (footer_place block) block);
+  footer_flags = ape_flags (drop (footer_offset block) block);
   items = tag_items_of block;
 }
 
 -- if nothing is at fault, the block is a tag
 pub tag_of-whole : (block : List ℕ) → is_reserved block ≡ true
     → (length (tag_items_of block) == ape_count block) ≡ true
-    → (32 + items_length (tag_items_of block) == footer_place block) ≡ true
-    → is_footer (ape_size block) (ape_count block) (drop (footer_place block) block) ≡ true
+    → (32 + items_length (tag_items_of block) == footer_offset block) ≡ true
+    → is_footer (ape_size block) (ape_count block) (drop (footer_offset block) block) ≡ true
     → tag_of block ≡ Ok (tag_in block)
 unfolding tag_of
 tag_of-whole block good counted placed footed = rw (good, counted, placed, footed) refl
@@ -204,9 +204,9 @@ tag_of-tag_bytes {tag} is =
     let items : tag_items_of block ≡ tag.items = grind (arith, count, tag_items_from-items_bytes) in
     let counted : (length (tag_items_of block) == ape_count block) ≡ true =
     eq-eqb (length (tag_items_of block)) (ape_count block) (ap length items ∙ sym count) in
-    let placed : (32 + items_length (tag_items_of block) == footer_place block) ≡ true =
+    let placed : (32 + items_length (tag_items_of block) == footer_offset block) ≡ true =
     grind (arith, eq-eqb, items) in
-    let footed : is_footer (ape_size block) (ape_count block) (drop (footer_place block) block)
+    let footed : is_footer (ape_size block) (ape_count block) (drop (footer_offset block) block)
     ≡ true = grind (arith, count, is_footer-end) in
     tag_of-whole block parts.header.reserved counted placed footed
     ∙ ap Ok (rw (parts.header.flags_is, parts.footer.flags_is, items) refl)
@@ -332,12 +332,13 @@ pub record IsWhole (block : List ℕ) : Type 0 where
   pub most : length block ≤ 1048576
   pub reserved : is_reserved block ≡ true
   pub count : length (tag_items_of block) ≡ ape_count block
-  pub place : 32 + items_length (tag_items_of block) ≡ footer_place block
-  pub footer : is_footer (ape_size block) (ape_count block) (drop (footer_place block) block) ≡ true
+  pub offset : 32 + items_length (tag_items_of block) ≡ footer_offset block
+  pub footer : is_footer (ape_size block) (ape_count block) (drop (footer_offset block) block)
+      ≡ true
 
 part-octets : (block : List ℕ) → AreByteValues block → AreByteValues (item_part block)
 part-octets block octets =
-    octets-take (footer_place block - 32) (drop 32 block) (octets-drop 32 block octets)
+    octets-take (footer_offset block - 32) (drop 32 block) (octets-drop 32 block octets)
 
 -- the items of a block without fault are the items of a tag
 pub IsTag-in : {block : List ℕ} → IsWhole block → IsTag (tag_in block)
@@ -349,14 +350,15 @@ IsTag-in {block} whole =
     record {
       items = read.all;
       one = omega (arith, read.few);
-      others = omega (arith, sum, whole.place, whole.most);
-      own = omega (arith, sum, whole.place, whole.most);
+      others = omega (arith, sum, whole.offset, whole.most);
+      own = omega (arith, sum, whole.offset, whole.most);
       header_bits = whole.is.header_bits;
       footer_bits = grind (arith, is_footer-parts);
       header_number = lt-ltb (ape_flags block) (2 ^ 32) (ape_number-below 20 block whole.octets);
       footer_number =
-          lt-ltb (ape_flags (drop (footer_place block) block)) (2 ^ 32) (ape_number-below 20
-          (drop (footer_place block) block) (octets-drop (footer_place block) block whole.octets));
+          lt-ltb (ape_flags (drop (footer_offset block) block)) (2 ^ 32) (ape_number-below 20
+          (drop (footer_offset block) block)
+          (octets-drop (footer_offset block) block whole.octets));
     }
 
 none_left : {n : ℕ} (bytes : List ℕ) → length bytes ≤ n → drop n bytes ≡ []
@@ -370,11 +372,11 @@ pub tag_bytes-in : {block : List ℕ} → IsWhole block → tag_bytes (tag_in bl
 unfolding tag_bytes
 tag_bytes-in {block} whole =
     let items : List TagItem = tag_items_of block in
-    let end : ℕ = footer_place block in
+    let end : ℕ = footer_offset block in
     let footer : List ℕ = drop end block in
     let foot = is_footer-parts whole.footer in
     let size : items_length items + 32 ≡ ape_size block =
-    omega (arith, whole.place, whole.is.long) in
+    omega (arith, whole.offset, whole.is.long) in
     let header : end_bytes (items_length items + 32) (length items) (ape_flags block)
     ≡ take 32 block = grind (arith, end_bytes-back) in
     let short : length footer ≡ 32 = omega (arith, length-drop end block, whole.is.least) in
@@ -389,7 +391,7 @@ tag_bytes-in {block} whole =
       arith,
       length-take (end - 32) (drop 32 block),
       length-drop 32 block,
-      whole.place,
+      whole.offset,
       whole.is.least,
     ) in
     let nothing : items_bytes items ≡ item_part block =
@@ -397,7 +399,7 @@ tag_bytes-in {block} whole =
     let split : item_part block ++ footer ≡ drop 32 block =
     grind (
       arith,
-      up_to (items_length items) whole.place,
+      up_to (items_length items) whole.offset,
       items,
       drop-drop (end - 32) 32
           block,
@@ -426,34 +428,34 @@ module _ (block : List ℕ) (items : List TagItem) (many long count : ℕ) where
   counted found good = sym (found.many_is ∙ ap length found.items_is) ∙ good ∙ found.count_is
 
   -- if the footer isn't right after the items that were read, the fault is after the last one
-  pub place_fault : AreFound block items many long count → many ≡ count
-      → (32 + long ≡ footer_place block → ⊥) → tag_of block ≡ Err (TagFault.BadTag (32 + long))
-  place_fault found good bad = grind (arith, long, tag_of-place, eq-eqb, counted, ne_eqb)
+  pub offset_fault : AreFound block items many long count → many ≡ count
+      → (32 + long ≡ footer_offset block → ⊥) → tag_of block ≡ Err (TagFault.BadTag (32 + long))
+  offset_fault found good bad = grind (arith, long, tag_of-offset, eq-eqb, counted, ne_eqb)
 
-  placed : AreFound block items many long count → 32 + long ≡ footer_place block
-      → 32 + items_length (tag_items_of block) ≡ footer_place block
+  placed : AreFound block items many long count → 32 + long ≡ footer_offset block
+      → 32 + items_length (tag_items_of block) ≡ footer_offset block
   placed found good = sym (ap (λ n. 32 + n) (found.long_is ∙ ap items_length found.items_is)) ∙ good
 
-  -- if what is there isn't a footer for this header, the fault is at its place
+  -- if what is there isn't a footer for this header, the fault is at its offset
   pub footer_fault : AreFound block items many long count → many ≡ count
-      → 32 + long ≡ footer_place block
-      → is_footer (ape_size block) (ape_count block) (drop (footer_place block) block) ≡ false
-      → tag_of block ≡ Err (TagFault.BadTag (footer_place block))
-  footer_fault found good place bad = grind (arith, tag_of-footer, eq-eqb, counted, placed, place)
+      → 32 + long ≡ footer_offset block
+      → is_footer (ape_size block) (ape_count block) (drop (footer_offset block) block) ≡ false
+      → tag_of block ≡ Err (TagFault.BadTag (footer_offset block))
+  footer_fault found good offset bad = grind (arith, tag_of-footer, eq-eqb, counted, placed, offset)
 
   -- if nothing is at fault, the block has no fault
   pub whole_found : block_front block ≡ Some (record { kind = Ape; length = length block })
       → AreByteValues block → length block ≤ 1048576 → AreFound block items many long count
-      → many ≡ count → 32 + long ≡ footer_place block
-      → is_footer (ape_size block) (ape_count block) (drop (footer_place block) block) ≡ true
+      → many ≡ count → 32 + long ≡ footer_offset block
+      → is_footer (ape_size block) (ape_count block) (drop (footer_offset block) block) ≡ true
       → IsWhole block
-  whole_found is octets most found good place footer = record {
+  whole_found is octets most found good offset footer = record {
     is = block_front-is is;
     octets = octets;
     most = most;
     reserved = found.reserved;
     count = counted found good;
-    place = placed found place;
+    offset = placed found offset;
     footer = footer;
   }
 
@@ -469,7 +471,7 @@ found-within block octets long =
       arith,
       long,
       tag_items_from-within (ape_count block) false (item_part block) (part-octets block octets),
-      length-take (footer_place block - 32) (drop 32 block),
+      length-take (footer_offset block - 32) (drop 32 block),
       length-drop 32 block,
     )
 
@@ -478,24 +480,24 @@ pub block-long : (block : List ℕ)
     → block_front block ≡ Some (record { kind = Ape; length = length block }) → 64 ≤ length block
 block-long block is = let here = block_front-is is in omega (arith, here.room, here.long)
 
--- ---- the place of a fault is in the block
+-- ---- the offset of a fault is in the block
 
-fault_cases : (block : List ℕ) (a b c d : Bool) (items_long : ℕ) (tag : TagFields) {place : ℕ}
+fault_cases : (block : List ℕ) (a b c d : Bool) (items_long : ℕ) (tag : TagFields) {offset : ℕ}
     → 64 ≤ length block → 64 + items_long ≤ length block → cond (not a) (Err (TagFault.BadTag 24))
     (cond (not b) (Err (TagFault.BadTag (32 + items_long))) (cond (not c) (Err (TagFault.BadTag
-    (32 + items_long))) (cond (not d) (Err (TagFault.BadTag (footer_place block))) (Ok tag))))
-    ≡ Err (TagFault.BadTag place) → place < length block
-fault_cases block false b c d n tag {place} long within e = grind (arith, place, long)
-fault_cases block true true true false n tag {place} long within e = grind (arith, place, long)
+    (32 + items_long))) (cond (not d) (Err (TagFault.BadTag (footer_offset block))) (Ok tag))))
+    ≡ Err (TagFault.BadTag offset) → offset < length block
+fault_cases block false b c d n tag {offset} long within e = grind (arith, offset, long)
+fault_cases block true true true false n tag {offset} long within e = grind (arith, offset, long)
 fault_cases block true true true true n tag long within e = absurd cc
-fault_cases block true _ _ d n tag {place} long within e = grind (arith, place)
+fault_cases block true _ _ d n tag {offset} long within e = grind (arith, offset)
 
 -- a fault is at a byte of the block
-pub place-within : (block : List ℕ) {place : ℕ} → AreByteValues block → 64 ≤ length block
-    → tag_of block ≡ Err (TagFault.BadTag place) → place < length block
+pub offset-within : (block : List ℕ) {offset : ℕ} → AreByteValues block → 64 ≤ length block
+    → tag_of block ≡ Err (TagFault.BadTag offset) → offset < length block
 unfolding tag_of
-place-within block {place} octets long e =
-    grind (arith, fault_cases, place, long, found-within, octets)
+offset-within block {offset} octets long e =
+    grind (arith, fault_cases, offset, long, found-within, octets)
 
 -- ---- a block that is a tag has no fault
 
@@ -512,15 +514,15 @@ pub tag_of-ok : {block : List ℕ} {tag : TagFields} → AreByteValues block
 unfolding tag_of
 tag_of-ok {block} {tag} octets is most e =
     let parts = ok_cases (is_reserved block) (length (tag_items_of block) == ape_count block)
-    (32 + items_length (tag_items_of block) == footer_place block)
-    (is_footer (ape_size block) (ape_count block) (drop (footer_place block) block)) _ _ _ _ e in (
+    (32 + items_length (tag_items_of block) == footer_offset block)
+    (is_footer (ape_size block) (ape_count block) (drop (footer_offset block) block)) _ _ _ _ e in (
       record {
         is = block_front-is is;
         octets = octets;
         most = most;
         reserved = parts.0;
         count = eqb-true _ _ parts.1;
-        place = eqb-true _ _ parts.2;
+        offset = eqb-true _ _ parts.2;
         footer = parts.3;
       },
       parts.4,

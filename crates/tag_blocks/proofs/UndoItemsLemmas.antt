@@ -33,7 +33,7 @@ pub position-none : (items : List TagItem) → position is_undo items ≡ None
     → length items ≤ position_or_len is_undo items
 position-none items e = grind (arith, ltb-false, missed_cases)
 
--- ---- the items with another undo item or without one, by its place
+-- ---- the items with another undo item or without one, by its index
 
 set_cases : (undo : Undo) (item : TagItem) (items : List TagItem) (d : TagItem) (is : Bool)
     → is_undo item ≡ is → position_or_len is_undo (item ∷ items) < length (item ∷ items)
@@ -276,7 +276,7 @@ IsTag-without_undo {tag} is =
       footer_number = is.footer_number;
     }
 
--- ---- by the place that was found
+-- ---- by the index that was found
 
 -- removing the item at the index of the undo item gives the items without it
 pub removed : (items : List TagItem) {left : List TagItem} {at : ℕ} → position is_undo items
@@ -303,34 +303,34 @@ added undo items none is = is ∙ sym ((with_undo-added undo items (position-non
 
 -- ---- what the tag says then
 
-put_cases : {undo : Undo} (item : TagItem) (items : List TagItem) (place : ℕ) (is : Bool)
+put_cases : {undo : Undo} (item : TagItem) (items : List TagItem) (offset : ℕ) (is : Bool)
     → is_undo item ≡ is → undo_of (undo_text undo) ≡ Some undo
     → ((p : ℕ) → undo_from p (with_undo undo items) ≡ Found undo)
-    → undo_from place (with_undo undo (item ∷ items)) ≡ Found undo
-put_cases {undo} item items place true own text rest =
+    → undo_from offset (with_undo undo (item ∷ items)) ≡ Found undo
+put_cases {undo} item items offset true own text rest =
     rw (own, changed-is undo item, own, text) refl
-put_cases item items place false own text rest = grind (arith, own)
+put_cases item items offset false own text rest = grind (arith, own)
 
 -- an undo that was put in is found
-pub undo_from-with_undo : {undo : Undo} (items : List TagItem) (place : ℕ)
-    → undo_of (undo_text undo) ≡ Some undo → undo_from place (with_undo undo items) ≡ Found undo
-undo_from-with_undo {undo} [] place text = rw (new-is undo, text) refl
-undo_from-with_undo {undo} (item ∷ items) place text = put_cases item items place
+pub undo_from-with_undo : {undo : Undo} (items : List TagItem) (offset : ℕ)
+    → undo_of (undo_text undo) ≡ Some undo → undo_from offset (with_undo undo items) ≡ Found undo
+undo_from-with_undo {undo} [] offset text = rw (new-is undo, text) refl
+undo_from-with_undo {undo} (item ∷ items) offset text = put_cases item items offset
     (is_undo item) refl text (λ p. undo_from-with_undo items p text)
 
-missing_cases : (item : TagItem) (items : List TagItem) (place : ℕ) (is : Bool) → is_undo item ≡ is
+missing_cases : (item : TagItem) (items : List TagItem) (offset : ℕ) (is : Bool) → is_undo item ≡ is
     → undo_items (item ∷ items) ≡ []
-    → (undo_items items ≡ [] → undo_from (place + item_length item) items ≡ Missing)
-    → undo_from place (item ∷ items) ≡ Missing
-missing_cases item items place true own none rest = grind (arith, undo-cons, own, none)
-missing_cases item items place false own none rest = grind (arith, own, undo-cons, none)
+    → (undo_items items ≡ [] → undo_from (offset + item_length item) items ≡ Missing)
+    → undo_from offset (item ∷ items) ≡ Missing
+missing_cases item items offset true own none rest = grind (arith, undo-cons, own, none)
+missing_cases item items offset false own none rest = grind (arith, own, undo-cons, none)
 
 -- if there is no undo item, none is found
-pub undo_from-missing : (items : List TagItem) (place : ℕ) → undo_items items ≡ []
-    → undo_from place items ≡ Missing
-undo_from-missing [] place none = refl
-undo_from-missing (item ∷ items) place none = missing_cases item items place
-    (is_undo item) refl none (λ rest. undo_from-missing items (place + item_length item) rest)
+pub undo_from-missing : (items : List TagItem) (offset : ℕ) → undo_items items ≡ []
+    → undo_from offset items ≡ Missing
+undo_from-missing [] offset none = refl
+undo_from-missing (item ∷ items) offset none = missing_cases item items offset
+    (is_undo item) refl none (λ rest. undo_from-missing items (offset + item_length item) rest)
 
 back_cases : (undo : Undo) (item : TagItem) (items : List TagItem) (is : Bool) → is_undo item ≡ is
     → without_undo (with_undo undo items) ≡ without_undo items

@@ -47,7 +47,7 @@ is_id3v1 bytes = begins_with (codes "TAG") bytes
 
 -- ---- APEv2
 
--- the little-endian number of 32 bits at this place
+-- the little-endian number of 32 bits at this offset
 abbrev pub ape_number : ℕ → List ℕ → ℕ
 ape_number at bytes = little_number 4 (take 4 (drop at bytes))
 

@@ -60,21 +60,21 @@ abbrev pub key_length : List ℕ → ℕ
 key_length bytes = prefix_len is_key_char (drop 8 bytes)
 
 -- where the value begins, after the key and its zero byte
-abbrev pub value_place : List ℕ → ℕ
-value_place bytes = 9 + key_length bytes
+abbrev pub value_offset : List ℕ → ℕ
+value_offset bytes = 9 + key_length bytes
 
 -- a key of 2 to 255 characters, a zero byte, and a value that is whole
 unfoldable pub has_whole_item : List ℕ → Bool
 has_whole_item bytes =
     nat_le 2 (key_length bytes) && nat_le (key_length bytes) 255
-    && nat_le (value_place bytes + ape_number 0 bytes) (length bytes)
+    && nat_le (value_offset bytes + ape_number 0 bytes) (length bytes)
     && (slice_index bytes (8 + key_length bytes) == 0)
 
 -- where the key ends, and where the value begins and ends; all of them are within the bytes
 pub record IsItemLayout (bytes : List ℕ) (key_end value_at end : ℕ) : Type 0 where
   pub key : key_end ≡ 8 + key_length bytes
-  pub value : value_at ≡ value_place bytes
-  pub end_is : end ≡ value_place bytes + ape_number 0 bytes
+  pub value : value_at ≡ value_offset bytes
+  pub end_is : end ≡ value_offset bytes + ape_number 0 bytes
   pub within : end ≤ length bytes
 
 -- the item that is there
@@ -83,7 +83,7 @@ tag_item_front bytes = record {
   key = take (key_length bytes) (drop 8 bytes);
   flags = ape_number 4 bytes;
   value =
-      take (ape_number 0 bytes) (drop (value_place bytes) bytes);
+      take (ape_number 0 bytes) (drop (value_offset bytes) bytes);
 }
 
 -- the item with which the bytes begin, if one does

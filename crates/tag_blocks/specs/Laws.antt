@@ -41,9 +41,9 @@ ItemsAreAll = (most : ℕ) (bytes : List ℕ) (items : List TagItem) → AreByte
 -- After another undo is put in, the undo item says it; after the undo item is taken out, there is
 -- none; and all others stay.
 pub record ChangesUndoAlone (undo : Undo) (items : List TagItem) : Type 0 where
-  pub put : (place : ℕ) → undo_from place (with_undo undo items) ≡ Found undo
+  pub put : (offset : ℕ) → undo_from offset (with_undo undo items) ≡ Found undo
   pub put_others : other_items (with_undo undo items) ≡ other_items items
-  pub gone : (place : ℕ) → undo_from place (without_undo items) ≡ Missing
+  pub gone : (offset : ℕ) → undo_from offset (without_undo items) ≡ Missing
   pub gone_others : other_items (without_undo items) ≡ other_items items
   pub back : without_undo (with_undo undo items) ≡ without_undo items
 

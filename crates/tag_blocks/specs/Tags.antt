@@ -1,5 +1,5 @@
 -- APEv2 tags: a header, items and a footer. What a tag is, its bytes, and the tag that a block is,
--- or the place of the first fault in it.
+-- or the offset of the first fault in it.
 use Rattle.std.specs.{Int.bit_at, List.list_all}
 use Rattle.std.specs.Prelude.{Bool, codes, drop, Err, false, filter, if◌then◌else◌, length, List}
 use Rattle.std.specs.Prelude.{nat_lt, not, Ok, replicate, Result, take, true, ℕ, ⊤, ◌&&◌, ◌++◌, ◌+◌}
@@ -75,12 +75,12 @@ abbrev pub is_reserved : List ℕ → Bool
 is_reserved bytes = list_all (λ b. b == 0) (take 8 (drop 24 bytes))
 
 -- where the items end and the footer begins
-abbrev pub footer_place : List ℕ → ℕ
-footer_place block = length block - 32
+abbrev pub footer_offset : List ℕ → ℕ
+footer_offset block = length block - 32
 
 -- the bytes between header and footer
 abbrev pub item_part : List ℕ → List ℕ
-item_part block = take (footer_place block - 32) (drop 32 block)
+item_part block = take (footer_offset block - 32) (drop 32 block)
 
 -- the items that are there, up to as many as the header counts
 abbrev pub tag_items_of : List ℕ → List TagItem
@@ -94,7 +94,7 @@ is_footer size count footer =
     && are_footer_flags (ape_flags footer)
     && is_reserved footer
 
--- the tag that an APEv2 block is, or the place of the first fault: in
+-- the tag that an APEv2 block is, or the offset of the first fault: in
 -- the header, at the first item that isn't whole, has no legal key or
 -- is a second undo item, after the last item, or at the footer
 unfoldable pub tag_of : List ℕ → Result TagFields TagFault
@@ -102,17 +102,17 @@ tag_of block =
     if not (is_reserved block) then Err (BadTag 24) else
     if not (length (tag_items_of block) == ape_count block)
     then Err (BadTag (32 + items_length (tag_items_of block))) else
-    if not (32 + items_length (tag_items_of block) == footer_place block)
+    if not (32 + items_length (tag_items_of block) == footer_offset block)
     then Err (BadTag (32 + items_length (tag_items_of block))) else
-    if not (is_footer (ape_size block) (ape_count block) (drop (footer_place block) block))
-    then Err (BadTag (footer_place block)) else
+    if not (is_footer (ape_size block) (ape_count block) (drop (footer_offset block) block))
+    then Err (BadTag (footer_offset block)) else
     Ok (record {
       header_flags = ape_flags block;
-      footer_flags = ape_flags (drop (footer_place block) block);
+      footer_flags = ape_flags (drop (footer_offset block) block);
       items = tag_items_of block;
     })
 
--- the place of a fault is a byte of the block
-abbrev pub IsPlaceIn : List ℕ → TagFault → Type 0
-IsPlaceIn block (BadTag place) = place < length block
-IsPlaceIn block Memory = ⊤
+-- the offset of a fault is a byte of the block
+abbrev pub IsOffsetIn : List ℕ → TagFault → Type 0
+IsOffsetIn block (BadTag offset) = offset < length block
+IsOffsetIn block Memory = ⊤

@@ -5,17 +5,17 @@ use Rattle.tag_blocks.specs.{Items.{is_undo, item_length, TagItem}, UndoText.{un
 use Rattle.tag_blocks.specs.declared.undo.{Undo.Undo, UndoItem.UndoItem}
 use Rattle.tag_blocks.specs.declared.undo.UndoItem.TheVariants.{Bad, Found, Missing}
 
--- what an undo item at this place says, by its value
+-- what an undo item at this offset says, by its value
 abbrev pub undo_at : ℕ → Option Undo → UndoItem
-undo_at place None = Bad place
-undo_at place (Some undo) = Found undo
+undo_at offset None = Bad offset
+undo_at offset (Some undo) = Found undo
 
--- what the undo item says, where the first of these items is at `place`: `Missing` where there is
--- none, the place of the item where its value has another form, otherwise what its value says
+-- what the undo item says, where the first of these items is at `offset`: `Missing` where there is
+-- none, the offset of the item where its value has another form, otherwise what its value says
 abbrev pub undo_from : ℕ → List TagItem → UndoItem
-undo_from place [] = Missing
-undo_from place (item ∷ items) = if is_undo item then undo_at place (undo_of item.value)
-    else undo_from (place + item_length item) items
+undo_from offset [] = Missing
+undo_from offset (item ∷ items) = if is_undo item then undo_at offset (undo_of item.value)
+    else undo_from (offset + item_length item) items
 
 -- a new undo item
 abbrev pub new_undo_item : Undo → TagItem

@@ -64,7 +64,7 @@ struct Layout {
 #[tactic(auto, unfolding(crate::specs::Items::has_whole_item))]
 fn layout_at(bytes: &[u8]) -> Option<Layout>
     ensures stands { is_some result ≡ has_whole_item bytes.now }
-    ensures places { IfSome result (λ layout. IsItemLayout bytes.now layout.key_end layout.value_at
+    ensures offsets { IfSome result (λ layout. IsItemLayout bytes.now layout.key_end layout.value_at
         layout.end) }
 {
     if bytes.len() < KEY_AT {

@@ -65,7 +65,7 @@ pub(crate) fn items_length(items: &[ApeItem]) -> usize
 }
 
 /// The index of the undo item among the items.
-pub(crate) fn undo_place(items: &[ApeItem]) -> Option<usize>
+pub(crate) fn undo_index(items: &[ApeItem]) -> Option<usize>
     ensures { result ≡ position is_undo items.now }
 {
     items.iter().position(|item| item.is_undo())
@@ -85,7 +85,7 @@ pub(crate) fn put_undo(
     ensures stays { OnErr result (items.new.items ≡ items.old.items) }
 {
     let value = copy_of(alloc, &undo.text())?;
-    match undo_place(items) {
+    match undo_index(items) {
         Some(at) => {
             let item = &mut items[at];
             item.value = value;

@@ -5,13 +5,13 @@ ghost use Rattle.tag_blocks.specs.declared.tag_fault.TagFault.TheVariants.{Memor
 ghost use Rattle.tag_blocks.specs.Blocks.{block_front};
 ghost use Rattle.tag_blocks.specs.UndoText.{UndoFitsText, undo_of};
 ghost use Rattle.tag_blocks.specs.Items.{items_length};
-ghost use Rattle.tag_blocks.specs.Tags.{tag_of, tag_bytes, IsPlaceIn};
+ghost use Rattle.tag_blocks.specs.Tags.{tag_of, tag_bytes, IsOffsetIn};
 ghost use Rattle.tag_blocks.specs.UndoItems.{undo_at, undo_from, with_undo, without_undo};
 
 use crate::block::{APE_FLAGS_AT, APE_HEADER, APE_SIZE_AT, ape_number};
 use crate::ends::{COUNT_AT, RESERVED_AT, append_end, is_footer, is_reserved};
 use crate::item::ApeItem;
-use crate::items::{append_items, items_length, put_undo, read_items, undo_place};
+use crate::items::{append_items, items_length, put_undo, read_items, undo_index};
 use crate::tag_fault::TagFault;
 use crate::undo::{Undo, UndoItem};
 use std::alloc::{AllocError, Global};
@@ -67,9 +67,9 @@ fn read_block(alloc: Global, block: &[u8]) -> Result<Tag, TagFault>
     let Ok(items) = read_items(alloc, &block[APE_HEADER..end], count) else {
         return Err(TagFault::Memory);
     };
-    let place = APE_HEADER + items_length(&items);
-    if items.len() != count as usize || place != end {
-        return Err(TagFault::BadTag(place as u64));
+    let offset = APE_HEADER + items_length(&items);
+    if items.len() != count as usize || offset != end {
+        return Err(TagFault::BadTag(offset as u64));
     }
     let footer = &block[end..];
     if !is_footer(footer, ape_number(block, APE_SIZE_AT), count) {
@@ -83,13 +83,13 @@ fn read_block(alloc: Global, block: &[u8]) -> Result<Tag, TagFault>
     })
 }
 
-/// What an undo item at this place says, by its value. The place is in bytes from the block's first byte.
-fn undo_item_of(place: u64, item: &ApeItem) -> UndoItem
-    ensures { result ≡ undo_at place (undo_of item.now.value) }
+/// What an undo item at this offset says, by its value. The offset is in bytes from the block's first byte.
+fn undo_item_of(offset: u64, item: &ApeItem) -> UndoItem
+    ensures { result ≡ undo_at offset (undo_of item.now.value) }
 {
     match Undo::read(&item.value) {
         Some(undo) => UndoItem::Found(undo),
-        None => UndoItem::Bad(place),
+        None => UndoItem::Bad(offset),
     }
 }
 
@@ -115,15 +115,15 @@ impl Tag {
     /// 1,048,576 bytes.
     ///
     /// # Errors
-    /// `BadTag` with the place of the first fault, in bytes from the block's first byte. Faults are looked
+    /// `BadTag` with the offset of the first fault, in bytes from the block's first byte. Faults are looked
     /// for in this order (APEv2):
     /// - the last 8 bytes of the header aren't zero: 24;
     /// - one of the items that the header counts isn't whole before the footer, has no key of 2 to 255 characters
     ///   from 20 to 7e (hexadecimal), or is a second one with the key `MP3GAIN_UNDO`, compared ignoring ASCII case:
-    ///   the place of the first such item;
+    ///   the offset of the first such item;
     /// - the last item doesn't end where the footer begins: its end;
     /// - the footer lacks the text, version 2000, the header's size and count, a clear flag bit 29 or 8 zero bytes:
-    ///   the place of the footer.
+    ///   the offset of the footer.
     ///
     /// `Memory` if out of memory.
     pub fn read(alloc: Global, block: &[u8]) -> Result<Tag, TagFault>
@@ -134,7 +134,7 @@ impl Tag {
             (λ tag. tag_of block.now ≡ Ok tag)
             (λ fault. (fault ≡ Memory) ⊎ (tag_of block.now ≡ Err fault)) }
         ensures whole { IfOk result (λ tag. tag_bytes tag ≡ block.now) }
-        ensures within { IfErr result (IsPlaceIn block.now) }
+        ensures within { IfErr result (IsOffsetIn block.now) }
     {
         read_block(alloc, block)
     }
@@ -159,12 +159,12 @@ impl Tag {
     pub fn undo(&self) -> UndoItem
         ensures { result ≡ undo_from 32 self.now.items }
     {
-        let mut place = APE_HEADER as u64;
+        let mut offset = APE_HEADER as u64;
         for item in &self.items {
             if item.is_undo() {
-                return undo_item_of(place, item);
+                return undo_item_of(offset, item);
             }
-            place += item.length() as u64;
+            offset += item.length() as u64;
         }
         UndoItem::Missing
     }
@@ -188,7 +188,7 @@ impl Tag {
     pub fn drop_undo(&mut self)
         ensures { self.new ≡ record self.old { items = without_undo self.old.items } }
     {
-        if let Some(at) = undo_place(&self.items) {
+        if let Some(at) = undo_index(&self.items) {
             self.items.remove(at);
         }
     }

@@ -21,7 +21,7 @@ pub struct Undo {
 pub enum UndoItem {
     /// There is none.
     Missing,
-    /// Its value isn't of the form that `Undo::read` takes. The place of the item, in bytes from the block's
+    /// Its value isn't of the form that `Undo::read` takes. The offset of the item, in bytes from the block's
     /// first byte.
     Bad(u64),
     /// What its value says.

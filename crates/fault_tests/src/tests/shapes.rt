@@ -15,8 +15,8 @@ pub struct Shape {
     pub blocks: &'static [Piece],
 }
 
-/// The place of the text of the survey's head.
-fn text_place(survey: &Survey) -> Option<u32> {
+/// The offset of the text of the survey's head.
+fn text_offset(survey: &Survey) -> Option<u32> {
     match survey.head() {
         Some(head) => Some(head.text_at),
         None => None,
@@ -38,7 +38,7 @@ fn has_start(survey: &Survey, shape: &Shape) -> bool {
     let junk = shape.first.saturating_sub(shape.front_end);
     survey.junk() == (shape.front_end, junk)
         && survey.first() == shape.first
-        && text_place(survey) == shape.text_at
+        && text_offset(survey) == shape.text_at
 }
 
 fn has_shape(survey: &Survey, shape: &Shape) -> bool {

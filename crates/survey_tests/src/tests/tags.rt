@@ -45,7 +45,7 @@ const NOT_RESERVED: Stretch = Bytes(
 /// The tag of a file: where it is, and its bytes.
 #[derive(Drop)]
 struct Found {
-    place: TagPlace,
+    extent: TagExtent,
     bytes: Vec<u8>,
 }
 
@@ -56,9 +56,9 @@ enum NoTag {
     Tag(FileTagFault),
 }
 
-fn written(alloc: Global, place: TagPlace, tag: &Tag) -> Result<Found, FileTagFault> {
+fn written(alloc: Global, extent: TagExtent, tag: &Tag) -> Result<Found, FileTagFault> {
     let bytes = tag.write(alloc)?;
-    Ok(Found { place, bytes })
+    Ok(Found { extent, bytes })
 }
 
 /// The tag of the file `a`.
@@ -68,7 +68,7 @@ fn tag_of<D: Folder>(alloc: Global, folder: &mut D) -> Result<Found, NoTag> {
         Err(fault) => return Err(NoTag::Survey(fault)),
     };
     match read_tag(alloc, folder, "a", &survey) {
-        Ok(tag) => match written(alloc, tag_place(&survey), &tag) {
+        Ok(tag) => match written(alloc, tag_extent(&survey), &tag) {
             Ok(found) => Ok(found),
             Err(fault) => Err(NoTag::Tag(fault)),
         },
@@ -126,7 +126,7 @@ fn put_parts(alloc: Global, folder: &mut MemFolder, parts: &[Stretch]) -> Result
 
 fn is_found(found: &Found, tagged: Tagged) -> bool {
     let (offset, length, bytes) = tagged;
-    found.place.offset == offset && found.place.length == length && found.bytes.as_slice() == bytes
+    found.extent.offset == offset && found.extent.length == length && found.bytes.as_slice() == bytes
 }
 
 /// Whether the file `a` has this tag, or its tag isn't read for this reason.

@@ -13,9 +13,9 @@ returns-in-Err g c =
       few = tt;
       octets = tt;
       refused =
-          rw c.of_survey.ensures (file_fault c.args.place c.args.allowed c.args.name.now old new
+          rw c.of_survey.ensures (file_fault c.args.number c.args.allowed c.args.name.now old new
           c.in-Err.fault c.survey.ensures.files c.in-Err.ensures.refused);
       numbers = rw c.of_survey.ensures
-          (survey_numbers c.args.place c.in-Err.fault c.in-Err.ensures.numbers);
+          (survey_numbers c.args.number c.in-Err.fault c.in-Err.ensures.numbers);
       reads = search;
     }

@@ -2,7 +2,7 @@
 -- Info frame.
 use Rattle.std.proofs.Common.{ap, ap₂, arith, drop, List, map, Option, sym, take, ℕ, ◌+◌, ◌∙◌}
 use Rattle.cut_edits.{proofs.SealedLemmas.{for-whole, sealed-read}, specs.Exact.row_sealed_part}
-use Rattle.exact_span.specs.TagWord.{text_place}
+use Rattle.exact_span.specs.TagWord.{text_offset}
 use Rattle.frame_header.specs.Fields.{ClassFields}
 use Rattle.info_header.specs.InfoFrame.{info_frame}
 use Rattle.laying.{proofs.LaidLemmas.{first-there, laid-slots}, specs.Laid.{frames_laid, laid_part}}
@@ -12,7 +12,7 @@ use Rattle.sync_survey.specs.{Faults.survey_view, Row.Row}
 use Rattle.cut_edits.proofs.pieces.select_sealed.Goals as goal
 
 abbrev kept_at : ClassFields → List ℕ → List ℕ
-kept_at class bytes = take 36 (drop (text_place class + 120) bytes)
+kept_at class bytes = take 36 (drop (text_offset class + 120) bytes)
 
 pub returns-clause-laid : goal.returns-clause-laid
 returns-clause-laid c = λ file has.

@@ -1,7 +1,7 @@
 -- One entry more.
 use Rattle.std.proofs.Common.{ap, arith, drop, length, take, ◌*◌, ◌+◌, ◌-◌, ◌/◌, ◌∙◌, ◌≡◌, ◌≤◌}
 use Rattle.std.proofs.lemmas.List.{length-drop, length-set, length-take-le}
-use Rattle.info_header.proofs.FileInfoLemmas.{bytes-between, entries-more, place-rises}
+use Rattle.info_header.proofs.FileInfoLemmas.{bytes-between, entries-more, offset-rises}
 use Rattle.info_header.{proofs.FileInfoLemmas.place-within, specs.FileInfo.frames_length}
 use Rattle.info_header.specs.Info.{seek_table_entry}
 use Rattle.info_header.proofs.file_info.table_over.Goals as goal
@@ -29,7 +29,7 @@ loop-i-preserved g c =
     (omega (arith, length-drop at frames, within, so_far.early)) in
     record {
       many = length-set c.loop-i.table i c.entry.result ∙ so_far.many;
-      early = place-rises i (length frames);
+      early = offset-rises i (length frames);
       bytes = bytes;
       most = omega (arith, so_far.most, c.bytes_in-offset.ensures.most, many, so_far.early);
       entries =

@@ -1,4 +1,4 @@
--- The places are the ones of the definition.
+-- The offsets are the ones of the definition.
 use Rattle.std.proofs.Common.{ap, arith, get_or, length, ◌+◌, ◌-◌, ◌∙◌, ◌≡◌, ◌≤◌}
 use Rattle.std.proofs.lemmas.List.{take_rest}
 use Rattle.tag_blocks.proofs.ItemsLemmas.{has_whole_item-from, has_whole_item-not}
@@ -33,18 +33,18 @@ returns-then-length-lt2-clause-stands c =
 pub returns-clause-stands : goal.returns-clause-stands
 returns-clause-stands c =
     let k = key (goal.at.returns-clause-stands c).After-ape_number in
-    let place : 8 + key_length c.args.bytes.now ≡ 8 + c.key_length-length.result + 1 - 1 =
+    let offset : 8 + key_length c.args.bytes.now ≡ 8 + c.key_length-length.result + 1 - 1 =
     omega (arith, k) in
     has_whole_item-from (record {
       least = omega (arith, k, c.if-length-lt2.false);
       most = omega (arith, k, c.if-length-gt255.false);
       within = omega (arith, k, c.ape_number.ensures, c.if-end-bytes.false);
-      zero_behind = ap (λ n. get_or c.args.bytes.now n 0) place ∙ c.if-bytes-value_at-ne0.false;
+      zero_behind = ap (λ n. get_or c.args.bytes.now n 0) offset ∙ c.if-bytes-value_at-ne0.false;
     })
 
-pub returns-clause-places : goal.returns-clause-places
-returns-clause-places c =
-    let k = key (goal.at.returns-clause-places c).After-ape_number in
+pub returns-clause-offsets : goal.returns-clause-offsets
+returns-clause-offsets c =
+    let k = key (goal.at.returns-clause-offsets c).After-ape_number in
     let size : c.ape_number.result ≡ ape_number 0 c.args.bytes.now = c.ape_number.ensures in
     let within : 8 + c.key_length-length.result + 1 + c.ape_number.result
     ≤ length c.args.bytes.now = c.if-end-bytes.false in

@@ -11,7 +11,7 @@ returns-in-Some-clause-put c =
     let value : c.in_ok-value.value.items ≡ undo_text undo =
     c.in_ok-value.ensures ∙ c.text.ensures.text in
     let found =
-    ap (position is_undo) (sym c.deref.ensures.value) ∙ sym c.undo_place.ensures ∙ c.in-Some.is in
+    ap (position is_undo) (sym c.deref.ensures.value) ∙ sym c.undo_index.ensures ∙ c.in-Some.is in
     replaced undo items found
     c.index_mut-item.ensures.value
     (ap (λ v. set items c.in-Some.at
@@ -26,7 +26,7 @@ returns-in_ok-push-in-None-clause-put c =
     let value : c.in_ok-value.value.items ≡ undo_text undo =
     c.in_ok-value.ensures ∙ c.text.ensures.text in
     let none =
-    ap (position is_undo) (sym c.deref.ensures.value) ∙ sym c.undo_place.ensures ∙ c.in-None.is in
+    ap (position is_undo) (sym c.deref.ensures.value) ∙ sym c.undo_index.ensures ∙ c.in-None.is in
     added undo items none
     (c.in_ok-push-in-None.ensures.items ∙ ap₂ (λ k v. items
     ++ (record { key = k; flags = 0; value = v } ∷ [])) c.in_ok-key-in-None.ensures value)

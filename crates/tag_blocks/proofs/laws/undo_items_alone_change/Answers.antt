@@ -7,9 +7,9 @@ use Rattle.tag_blocks.proofs.laws.undo_items_alone_change.Goals as goal
 
 pub returns : goal.returns
 returns c = λ undo items fits one. record {
-  put = λ place. undo_from-with_undo items place (undo_of-undo_text fits);
+  put = λ offset. undo_from-with_undo items offset (undo_of-undo_text fits);
   put_others = others-with_undo undo items;
-  gone = λ place. undo_from-missing (without_undo items) place (undos-without_undo items one);
+  gone = λ offset. undo_from-missing (without_undo items) offset (undos-without_undo items one);
   gone_others = others-without_undo items;
   back = without_undo-with_undo undo items;
 }

@@ -16,7 +16,7 @@ is : (c : goal.After-from-2)
 is c =
     ap₂ (λ m n. m + n)
     (c.from.ensures ∙ ap (λ v. get_or (get_or LENGTHS (3 * v + c.self.inside.frequency_index) [])
-    (c.slot.inside.rate_index - 1) 0) c.version_place.ensures) c.from-2.ensures
+    (c.slot.inside.rate_index - 1) 0) c.version_index.ensures) c.from-2.ensures
     ∙ length_in_table-is _ _ c.self.invariant c.slot.invariant
     ∙ ap₂ length_of c.self.view_is c.slot.view_is
 

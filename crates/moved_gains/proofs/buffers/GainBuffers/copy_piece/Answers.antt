@@ -25,7 +25,7 @@ returns g c = record {
       record {
         piece = take c.args.n fed.held;
         is = λ file holds.
-            held_piece c.in_ok-fill.ensures.place c.in_ok-fill.ensures.enough
+            held_piece c.in_ok-fill.ensures.file_offset c.in_ok-fill.ensures.enough
             c.in_ok-fill.ensures.ready.fed_from file
             (input_holds (g.D.Folder.seen c.args.folder.now).files
             (g.D.Folder.seen c.fill.new.folder).files pass.input.now pass.output.now passed.passed
@@ -39,5 +39,5 @@ returns g c = record {
   done = search rules;
   cause = search rules;
   ready = ready_after c.in_ok-fill.ensures.enough
-      c.pass_on.ensures.place c.pass_on.ensures.held c.in_ok-fill.ensures.ready;
+      c.pass_on.ensures.file_offset c.pass_on.ensures.held c.in_ok-fill.ensures.ready;
 }

@@ -15,7 +15,7 @@ read_behind-requires-clause-input g c = grind (arith, still_there, input_held)
 pub returns-in_err-self-inside : goal.returns-in_err-self-inside
 returns-in_err-self-inside g c = record {
   passed = search rules;
-  place = search rules;
+  file_offset = search rules;
   enough = search rules;
   prefix = let pass = c.args.pass.now in
       let first = c.in_ok-hand_on.ensures.appended
@@ -35,7 +35,7 @@ returns-in_err-self-inside g c = record {
 pub returns : goal.returns
 returns g c = record {
   passed = search rules;
-  place = search rules;
+  file_offset = search rules;
   enough = grind (arith, fills, length-take);
   prefix = search rules;
   done = search rules;
@@ -66,9 +66,9 @@ returns g c = record {
               subst (λ f. Holds f pass.input.now file) c.in_ok-self-inside.ensures.files holds in
               let old = input_held _ _ pass.input.now pass.output.now _ file
               c.requires.ready.apart c.in_ok-hand_on.ensures.appended mid in
-              let was = subst (λ p. take (length p.feed.held) (drop p.feed.place file)
+              let was = subst (λ p. take (length p.feed.held) (drop p.feed.file_offset file)
               ≡ p.feed.held) (sym c.self.view_is) (c.requires.ready.fed_from.same file old) in
-              let front = fed_front a.place (drop a.done a.room.items) file (omega
+              let front = fed_front a.file_offset (drop a.done a.room.items) file (omega
               (arith, length-drop a.done a.room.items, c.self.invariant.size, c.self.invariant.few))
               was in
               let kept = c.keep_from-kept.ensures.kept file (front ∙ ap (λ (l : List ℕ).

@@ -10,13 +10,13 @@ use Rattle.side_info.proofs.frame_front.FrameFront.put_room.Goals as goal
 pub returns : goal.returns
 returns c =
     let a = c.self.inside in
-    let place = c.args.place in
+    let offset = c.args.offset in
     let room = c.args.room.now in
     let new = c.put_bytes.new.frame in
-    subst (λ (f : FrameFields). take (place + side_size_of (class_of f.header)) new
-    ≡ take place room ++ bytes (side_bits (class_of f.header) f.side)) c.self.view_is
-    (put-first (take place room) _ _ (drop (place + length a.side) room)
-    (c.put_bytes.ensures ∙ ap (λ (xs : List ℕ). take place room
-    ++ (xs ++ drop (place + length a.side) room)) (room-is c.self.invariant))
+    subst (λ (f : FrameFields). take (offset + side_size_of (class_of f.header)) new
+    ≡ take offset room ++ bytes (side_bits (class_of f.header) f.side)) c.self.view_is
+    (put-first (take offset room) _ _ (drop (offset + length a.side) room)
+    (c.put_bytes.ensures ∙ ap (λ (xs : List ℕ). take offset room
+    ++ (xs ++ drop (offset + length a.side) room)) (room-is c.self.invariant))
     (omega
-    (arith, length-take-le place room (omega (arith, c.requires)), part-size c.self.invariant)))
+    (arith, length-take-le offset room (omega (arith, c.requires)), part-size c.self.invariant)))

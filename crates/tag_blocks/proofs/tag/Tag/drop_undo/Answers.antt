@@ -8,7 +8,7 @@ is_removed : (c : goal.After-drop-remove-in-Some)
     → c.remove.new.self.items ≡ without_undo c.self.inside.items.items
 is_removed c =
     removed c.self.inside.items.items
-    (ap (position is_undo) (sym c.deref.ensures.value) ∙ sym c.undo_place.ensures ∙ c.in-Some.is)
+    (ap (position is_undo) (sym c.deref.ensures.value) ∙ sym c.undo_index.ensures ∙ c.in-Some.is)
     c.remove.ensures.by_index.2
 
 pub invariant_of-self : goal.invariant_of-self
@@ -25,7 +25,7 @@ returns-in-Some c = rw (is_removed c, ← c.self.view_is) refl
 pub returns-in_default : goal.returns-in_default
 returns-in_default c =
     let same = none_removed (ap (position is_undo)
-    (sym c.deref.ensures.value) ∙ sym c.undo_place.ensures ∙ c.in_default.is) in
+    (sym c.deref.ensures.value) ∙ sym c.undo_index.ensures ∙ c.in_default.is) in
     sym c.self.view_is ∙ ap (λ items. record {
       header_flags = c.self.inside.header_flags;
       footer_flags = c.self.inside.footer_flags;

@@ -1,4 +1,4 @@
--- The place of the tag of a file (its first APEv2 block), and the file with another tag instead.
+-- The extent of the tag of a file (its first APEv2 block), and the file with another tag instead.
 use Rattle.std.specs.List.{find}
 use Rattle.std.specs.Prelude.{Bool, drop, false, filter, if◌then◌else◌, length, List, map, nat_le}
 use Rattle.std.specs.Prelude.{nat_lt, None, Option, option_map, slice_get, Some, take, true, ℕ, []}
@@ -40,7 +40,7 @@ last_end rows = end_of (slice_get rows (length rows - 1))
     end_of None = 0
     end_of (Some r) = row_end r
 
--- the offset of the tag, or the place for one: right after the last frame
+-- the offset of the tag, or the one for a new tag: right after the last frame
 abbrev pub tag_offset : SurveyFields → ℕ
 tag_offset s = place_of s.frames (tag_block s)
   where

@@ -3,14 +3,14 @@ ghost use Rattle.std.specs.Prelude.{◌≡◌, ◌≤◌, option_copied};
 ghost use Rattle.std.specs.List.{find};
 ghost use Rattle.sync_survey.specs.Faults.{survey_view, longest_file};
 ghost use Rattle.sync_survey.specs.Survey.{IsSurveyLaidOut};
-ghost use Rattle.moved_gains.specs.TagPlace.{is_tag, tag_block, tag_offset, tag_length, last_end};
+ghost use Rattle.moved_gains.specs.TagExtent.{is_tag, tag_block, tag_offset, tag_length, last_end};
 
 use sync_survey::{Piece, Row, Survey};
 use tag_blocks::Kind;
 
-/// The place of a tag in a file, in bytes.
+/// Where a tag is in a file, and how long it is, in bytes.
 #[derive(Clone, Copy, Debug, PartialEq, Eq)]
-pub struct TagPlace {
+pub struct TagExtent {
     /// The offset of the tag's block; if there is none, the end of the last frame, where a new one goes.
     pub offset: u64,
     /// The length of the block, 0 if there is none.
@@ -51,17 +51,17 @@ fn last_end(frames: &[Row]) -> u64
 
 /// The offset and the length of the file's tag, or where a new one goes: right after the last frame, with
 /// length 0.
-pub fn tag_place(survey: &Survey) -> TagPlace
+pub fn tag_extent(survey: &Survey) -> TagExtent
     requires { IsSurveyLaidOut (survey_view survey.now) }
     ensures offset { result.offset ≡ tag_offset (survey_view survey.now) }
     ensures length { result.length ≡ tag_length (survey_view survey.now) }
 {
     match first_tag(survey) {
-        Some(piece) => TagPlace {
+        Some(piece) => TagExtent {
             offset: piece.offset,
             length: piece.block.length,
         },
-        None => TagPlace {
+        None => TagExtent {
             offset: last_end(survey.frames()),
             length: 0,
         },

@@ -16,7 +16,7 @@ use Rattle.moved_gains.proofs.ReadFileLemmas.{has_stream, HasStream, later_chain
 use Rattle.moved_gains.proofs.{SplitItemLemmas.split-tag, TagReadingLemmas.place-some}
 use Rattle.moved_gains.{proofs.WrittenLemmas.AreSized, specs.{Edited.is_lost_at, Gains.moved_side}}
 use Rattle.moved_gains.specs.Moving.{row_end}
-use Rattle.moved_gains.specs.TagPlace.{is_tag, last_end, tag_block, tag_length, tag_offset}
+use Rattle.moved_gains.specs.TagExtent.{is_tag, last_end, tag_block, tag_length, tag_offset}
 use Rattle.requests.specs.declared.shift.Steps.{Steps}
 use Rattle.side_info.proofs.FrameLemmas.{length-frame_with_side, shaped-side_in}
 use Rattle.side_info.specs.Frame.{frame_with_side, side_in}
@@ -128,7 +128,7 @@ last_ends from row (q ∷ rows) {to} ends =
 -- ---- where the tag is
 
 -- the tag is after some frames and before the others,
--- or there is none and all frames are before its place
+-- or there is none and all frames are before its offset
 pub record IsAmong (s : SurveyFields) : Type 0 where
   pub before : List Row
   pub behind : List Row
@@ -140,7 +140,7 @@ pub record IsAmong (s : SurveyFields) : Type 0 where
   pub up : tag_offset s + tag_length s ≤ s.length
 
 -- the tag is after some frames and before the others, and no frame begins where
--- it begins, since a tag has bytes and no frame is after the place for one
+-- it begins, since a tag has bytes and no frame is after the offset for one
 pub record IsApart (s : SurveyFields) : Type 0 where
   pub among : IsAmong s
   pub apart : (among.behind ≡ []) ⊎ (0 < tag_length s)
@@ -165,7 +165,7 @@ length-marked_rows : (head : Option Head) (rows : List Row)
 unfolding marked_rows
 length-marked_rows head rows = grind (arith, length-map, length-enumerate_from)
 
--- without a tag its place is the end of the last frame, and it has no bytes
+-- without a tag its offset is the end of the last frame, and it has no bytes
 pub tag_none : (s : SurveyFields) → tag_block s ≡ None
     → (tag_offset s ≡ last_end s.frames) × (tag_length s ≡ 0)
 tag_none s is = (rw is refl, rw is refl)
