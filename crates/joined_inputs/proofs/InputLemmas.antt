@@ -61,7 +61,7 @@ after-some class (i ∷ inputs) = after-some class inputs
 pub after-none : (inputs : List InputFields) → class_after None inputs ≡ class_of_first inputs
 after-none inputs = grind (arith, after-some)
 
--- the items up to a place and the one there are the items up to the next place
+-- the items before a number and the one with it are the items before the next number
 pub take-next : {X : Type 0} (xs : List X) (i : ℕ) {x : X} {rest : List X} → drop i xs ≡ x ∷ rest
     → take (i + 1) xs ≡ take i xs ++ x ∷ []
 take-next xs i is = take-add i 1 xs ∙ ap (λ l. take i xs ++ take 1 l) is
@@ -113,21 +113,21 @@ pub follows-may : (first : Option ClassFields) (class : ClassFields) → HasClas
     → may_join first class ≡ true
 follows-may first class follows = grind (arith, same-class)
 
-part-ok : (place : ℕ) (first : Option ClassFields) {allowed : ℕ} {f : Contents} {i : InputFields}
+part-ok : (number : ℕ) (first : Option ClassFields) {allowed : ℕ} {f : Contents} {i : InputFields}
     → IsSurveyed allowed (Told f) i.name i.survey → HasClassOfFirst first i.survey.class
-    → i.from ≡ 0 → join_part place first allowed (f i.name) ≡ Ok (part_in f i)
-part-ok place first is follows whole = grind (arith, there_holds, follows-may)
+    → i.from ≡ 0 → join_part number first allowed (f i.name) ≡ Ok (part_in f i)
+part-ok number first is follows whole = grind (arith, there_holds, follows-may)
 
 -- the parts of inputs that were surveyed are all there
-pub parts-all : (place : ℕ) (first : Option ClassFields) (allowed : ℕ) (f : Contents)
+pub parts-all : (number : ℕ) (first : Option ClassFields) (allowed : ℕ) (f : Contents)
     (inputs : List InputFields) → AreJoinInputs first allowed (Told f) inputs
-    → join_parts_from place first allowed f (input_names inputs) ≡ Ok (map (part_in f) inputs)
+    → join_parts_from number first allowed f (input_names inputs) ≡ Ok (map (part_in f) inputs)
 unfolding join_parts_from
-parts-all place first allowed f [] are = refl
-parts-all place first allowed f (i ∷ inputs) are =
+parts-all number first allowed f [] are = refl
+parts-all number first allowed f (i ∷ inputs) are =
     rw (
-      part-ok place first are.0 are.1 are.2,
-      parts-all (place + 1) (Some (unwrap_or first i.survey.class))
+      part-ok number first are.0 are.1 are.2,
+      parts-all (number + 1) (Some (unwrap_or first i.survey.class))
           (allowed - length i.survey.frames) f inputs are.3,
     ) refl
 
@@ -136,30 +136,30 @@ parts-all place first allowed f (i ∷ inputs) are =
 module _ (Q : Result (List FilePart) EditFault → Type 0)
     (more : (p : FilePart) (r : Result (List FilePart) EditFault) → Q r
     → Q (then_made r (λ parts. Ok (p ∷ parts)))) (f : Contents) (after : List (List ℕ)) where
-  parts-behind : (place : ℕ) (first : Option ClassFields) (allowed : ℕ) (before : List InputFields)
+  parts-behind : (number : ℕ) (first : Option ClassFields) (allowed : ℕ) (before : List InputFields)
       → AreJoinInputs first allowed (Told f) before → Q
-      (join_parts_from (place + length before) (class_after first before)
+      (join_parts_from (number + length before) (class_after first before)
       (allowed - frames_together before) f after)
-      → Q (join_parts_from place first allowed f (input_names before ++ after))
+      → Q (join_parts_from number first allowed f (input_names before ++ after))
   unfolding join_parts_from frames_together
-  parts-behind place first allowed [] are q = grind arith
-  parts-behind place first allowed (i ∷ before) are q =
-      let next : place + length (i ∷ before) ≡ place + 1 + length before = omega arith in
+  parts-behind number first allowed [] are q = grind arith
+  parts-behind number first allowed (i ∷ before) are q =
+      let next : number + length (i ∷ before) ≡ number + 1 + length before = omega arith in
       let left : allowed - (length i.survey.frames + frames_together before)
       ≡ (allowed - length i.survey.frames) - frames_together before = omega arith in
-      rw (part-ok place first are.0 are.1 are.2)
-      (more _ _ (parts-behind (place + 1) (Some (unwrap_or first i.survey.class))
+      rw (part-ok number first are.0 are.1 are.2)
+      (more _ _ (parts-behind (number + 1) (Some (unwrap_or first i.survey.class))
       (allowed - length i.survey.frames) before are.3 (rw (next, left) at q)))
 
 -- ---- what holds of every refusal
 
 module _ (P : EditFault → Type 0) where
-  by-all : (place : ℕ) (first : Option ClassFields) (file : List ℕ)
+  by-all : (number : ℕ) (first : Option ClassFields) (file : List ℕ)
       (r : Result SurveyFields SurveyFault)
-      → ((fault : SurveyFault) → r ≡ Err fault → P (Input place fault)) → P (Refused (Differ place))
-      → IfErr (surveyed_part place first file r) P
-  by-all place first file (Err fault) faults differ = faults fault refl
-  by-all place first file (Ok s) faults differ = grind arith
+      → ((fault : SurveyFault) → r ≡ Err fault → P (Input number fault))
+      → P (Refused (Differ number)) → IfErr (surveyed_part number first file r) P
+  by-all number first file (Err fault) faults differ = faults fault refl
+  by-all number first file (Ok s) faults differ = grind arith
 
   -- refusals of the inputs from one on
   module _ (from : ℕ) (faults : (at : ℕ) (fault : SurveyFault) → from ≤ at → P (Input at fault))
@@ -281,12 +281,12 @@ module _ (file : List FilePart → List ℕ) (stream : List FilePart → List St
 
 -- a fault of the next input is one met before the output is created
 pub part-early : {names : List (List ℕ)} (before : List InputFields) (name : List ℕ)
-    (after : List (List ℕ)) {place : ℕ} (allowed : ℕ) {first : Option ClassFields} {old mid : Seen}
+    (after : List (List ℕ)) {number : ℕ} (allowed : ℕ) {first : Option ClassFields} {old mid : Seen}
     (new : Seen)
-    (fault : EditFault) → input_names before ++ name ∷ after ≡ names → length before ≡ place
+    (fault : EditFault) → input_names before ++ name ∷ after ≡ names → length before ≡ number
     → first ≡ class_of_first before → allowed + frames_together before ≡ most_frames → mid ≡ old
     → AreJoinInputs None most_frames old.files before
-    → IsPartFault place first allowed name mid new fault
+    → IsPartFault number first allowed name mid new fault
     → IsEarlyInputFault names old new fault
 part-early before name after allowed {old = old} new fault is long class many stays are h =
     λ file stream.

@@ -25,15 +25,15 @@ pub record IsPart (first : Option ClassFields) (allowed : ℕ) (o : Option (List
   pub whole : whole_part file survey ≡ part
 
 -- a part that isn't refused is such a part
-pub part-is : (place : ℕ) {first : Option ClassFields} {allowed : ℕ} (o : Option (List ℕ))
-    {part : FilePart} → join_part place first allowed o ≡ Ok part → IsPart first allowed o part
-part-is place None e = absurd cc
-part-is place {first} {allowed} (Some file) {part} e =
+pub part-is : (number : ℕ) {first : Option ClassFields} {allowed : ℕ} (o : Option (List ℕ))
+    {part : FilePart} → join_part number first allowed o ≡ Ok part → IsPart first allowed o part
+part-is number None e = absurd cc
+part-is number {first} {allowed} (Some file) {part} e =
     at (survey_of file allowed) refl e
   where
     made : (s : SurveyFields) → survey_of file allowed ≡ Ok s → (b : Bool)
         → may_join first s.class ≡ b
-        → cond b (Ok (whole_part file s)) (Err (Refused (Differ place))) ≡ Ok part
+        → cond b (Ok (whole_part file s)) (Err (Refused (Differ number))) ≡ Ok part
         → IsPart first allowed (Some file) part
     made s surveyed true may e = record {
       file = file;
@@ -46,6 +46,6 @@ part-is place {first} {allowed} (Some file) {part} e =
     made s surveyed false may e = absurd cc
 
     at : (r : Result SurveyFields SurveyFault) → survey_of file allowed ≡ r
-        → surveyed_part place first file r ≡ Ok part → IsPart first allowed (Some file) part
+        → surveyed_part number first file r ≡ Ok part → IsPart first allowed (Some file) part
     at (Err fault) surveyed e = absurd cc
     at (Ok s) surveyed e = made s surveyed (may_join first s.class) refl e

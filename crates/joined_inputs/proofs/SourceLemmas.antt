@@ -21,15 +21,15 @@ use Rattle.sync_survey.specs.{Faults.{HoldsStream, SurveyFields}, MainData.Strea
 -- ---- the inputs as sources
 
 -- no input has the output's name
-pub sources-inputs : (class : ClassFields) (output : List ℕ) (place : ℕ)
+pub sources-inputs : (class : ClassFields) (output : List ℕ) (number : ℕ)
     (first : Option ClassFields) (allowed : ℕ) (files : Files) (inputs : List InputFields)
-    → clash_from (output ∷ []) place (input_names inputs) ≡ None
+    → clash_from (output ∷ []) number (input_names inputs) ≡ None
     → AreInputsOfClass class inputs → AreJoinInputs first allowed files inputs
     → AreSources class output files inputs
-sources-inputs class output place first allowed files [] none alike are = tt
-sources-inputs class output place first allowed files (i ∷ inputs) none alike are =
-    let later = clash_from (output ∷ []) (place + 1) (input_names inputs) in
-    let other = no_clash place none in (
+sources-inputs class output number first allowed files [] none alike are = tt
+sources-inputs class output number first allowed files (i ∷ inputs) none alike are =
+    let later = clash_from (output ∷ []) (number + 1) (input_names inputs) in
+    let other = no_clash number none in (
       (
         record {
           apart = other_name [] other.0;
@@ -39,7 +39,7 @@ sources-inputs class output place first allowed files (i ∷ inputs) none alike 
         },
         alike.2,
       ),
-      sources-inputs class output (place + 1) _
+      sources-inputs class output (number + 1) _
           (allowed - length i.survey.frames) files inputs other.1 alike.3 are.3,
     )
 

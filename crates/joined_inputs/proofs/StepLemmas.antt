@@ -284,26 +284,26 @@ pub named-first : {ranges later : List RangeFields} {i : RangeFields} → ranges
     → 0 < length (range_names ranges)
 named-first is = rw is (omega arith)
 
--- the input at a place has the name at that place
-pub cause-at : (names : List (List ℕ)) (place : ℕ) {name : List ℕ} (output : List ℕ)
+-- the input with a number has the name with that number
+pub cause-at : (names : List (List ℕ)) (number : ℕ) {name : List ℕ} (output : List ℕ)
     {later : List (List ℕ)} (size : ℕ) (files : Files) (before after : Counts) (fault : PassFault)
-    → drop place names ≡ name ∷ later → HasPassCause (route name output size) files before after
+    → drop number names ≡ name ∷ later → HasPassCause (route name output size) files before after
     fault
-    → HasPassCause (route (slice_index_or names place []) output size) files before after fault
-cause-at names place {name} output size files before after fault is cause =
-    let here : place ≡ place + 0 = omega arith in
-    let named : slice_index_or names place [] ≡ name = grind (arith, here, get_or-drop) in
+    → HasPassCause (route (slice_index_or names number []) output size) files before after fault
+cause-at names number {name} output size files before after fault is cause =
+    let here : number ≡ number + 0 = omega arith in
+    let named : slice_index_or names number [] ≡ name = grind (arith, here, get_or-drop) in
     rw named cause
 
--- the input of a range is named by the range's place
-pub cause-named : (ranges : List RangeFields) (place : ℕ) {r : RangeFields} (output : List ℕ)
+-- the input of a range is named by the number of the range
+pub cause-named : (ranges : List RangeFields) (number : ℕ) {r : RangeFields} (output : List ℕ)
     {later : List RangeFields} (size : ℕ) (files : Files) (before after : Counts)
-    (fault : PassFault) → drop place ranges ≡ r ∷ later
+    (fault : PassFault) → drop number ranges ≡ r ∷ later
     → HasPassCause (route r.name output size) files before after fault
-    → HasPassCause (route (slice_index_or (range_names ranges) place []) output size) files before
+    → HasPassCause (route (slice_index_or (range_names ranges) number []) output size) files before
     after fault
-cause-named ranges place {r} output {later} size files before after fault is cause =
-    let from : drop place (range_names ranges) ≡ r.name ∷ range_names later =
+cause-named ranges number {r} output {later} size files before after fault is cause =
+    let from : drop number (range_names ranges) ≡ r.name ∷ range_names later =
     grind (arith, drop-map, is) in
-    cause-at (range_names ranges) place output size files before after
+    cause-at (range_names ranges) number output size files before after
     fault from cause

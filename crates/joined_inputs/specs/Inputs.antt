@@ -45,18 +45,18 @@ pub record IsSurveyed (allowed : ℕ) (files : Files) (name : List ℕ)
 
 -- where the contents of the files are known, an input gives this refusal
 abbrev pub GivesFault : ℕ → Option ClassFields → ℕ → List ℕ → Files → EditFault → Type 0
-GivesFault place first allowed name files fault =
-    IfTold files (λ f. join_part place first allowed (f name) ≡ Err fault)
+GivesFault number first allowed name files fault =
+    IfTold files (λ f. join_part number first allowed (f name) ≡ Err fault)
 
 -- what the fault of an input says about its cause
 abbrev pub IsPartFault : ℕ → Option ClassFields → ℕ → List ℕ → Seen → Seen → EditFault → Type 0
-IsPartFault place first allowed name old new fault = by_why
+IsPartFault number first allowed name old new fault = by_why
     (record no_cause {
-      rejected = GivesFault place first allowed name old.files fault × (new ≡ old);
+      rejected = GivesFault number first allowed name old.files fault × (new ≡ old);
       missing =
-          GivesFault place first allowed name old.files fault × MissesAt place name old new fault;
-      unread = ReadsNothing place name old new fault;
-      shorter = LosesInput place name old new fault;
+          GivesFault number first allowed name old.files fault × MissesAt number name old new fault;
+      unread = ReadsNothing number name old new fault;
+      shorter = LosesInput number name old new fault;
       no_memory = NeedsMemory name old new;
     })
     (why_of fault)
@@ -70,10 +70,10 @@ IsEarlyInputFault names old new fault =
 -- the fault is one of `count` inputs, of the output, or out of memory; the class of the first input
 -- can't differ
 abbrev pub HasJoinNumbers : ℕ → EditFault → Type 0
-HasJoinNumbers count (Input place fault) =
-    (place < count) × (fault ≢ NoRoom) × HasRightNumbers fault
+HasJoinNumbers count (Input number fault) =
+    (number < count) × (fault ≢ NoRoom) × HasRightNumbers fault
 HasJoinNumbers count (Refused refusal) = join_refuses count refusal ≡ true
-HasJoinNumbers count (Write place) = place ≡ 0
+HasJoinNumbers count (Write number) = number ≡ 0
 HasJoinNumbers count Memory = Unit {0}
 HasJoinNumbers count _ = ⊥
 

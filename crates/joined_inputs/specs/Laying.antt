@@ -92,10 +92,10 @@ pub record IsJoinPass (first : Relay) (inputs : List InputFields) (files : Files
 -- the pass over one of these inputs ended early, for this cause
 pub record HasJoinCause (names : List (List ℕ)) (output : List ℕ) (files : Files)
     (before after : Counts) (stopped : Stopped) : Type 0 where
-  pub within : stopped.place < length names
+  pub within : stopped.number < length names
   pub size : ℕ
   pub cause : HasPassCause
-      (route (slice_index_or names stopped.place []) output size) files before after stopped.fault
+      (route (slice_index_or names stopped.number []) output size) files before after stopped.fault
 
 -- ---- what a step returns
 

@@ -25,24 +25,25 @@ may_join (Some first) class = same_class class first
 -- all frames of the input with this number, given its survey, or why it is refused
 abbrev pub surveyed_part : ℕ → Option ClassFields → List ℕ → Result SurveyFields SurveyFault
     → Result FilePart EditFault
-surveyed_part place first file (Err fault) = Err (Input place fault)
-surveyed_part place first file (Ok s) =
-    if may_join first s.class then Ok (whole_part file s) else Err (Refused (Differ place))
+surveyed_part number first file (Err fault) = Err (Input number fault)
+surveyed_part number first file (Ok s) =
+    if may_join first s.class then Ok (whole_part file s) else Err (Refused (Differ number))
 
 -- All frames of the input with this number, counted from 0, which may have `allowed` frames. It is
 -- refused if it isn't there, then if it has a fault, and then if its frames are of another class
 -- than the first input's.
 abbrev pub join_part : ℕ → Option ClassFields → ℕ → Option (List ℕ) → Result FilePart EditFault
-join_part place first allowed None = Err (Input place Absent)
-join_part place first allowed (Some file) = surveyed_part place first file (survey_of file allowed)
+join_part number first allowed None = Err (Input number Absent)
+join_part number first allowed (Some file) =
+    surveyed_part number first file (survey_of file allowed)
 
 -- the inputs from this number on, or the first refusal; together they may have `allowed` frames
 unfoldable pub join_parts_from : ℕ → Option ClassFields → ℕ → Contents → List (List ℕ)
     → Result (List FilePart) EditFault
-join_parts_from place first allowed files [] = Ok []
-join_parts_from place first allowed files (name ∷ names) =
-    then_made (join_part place first allowed (files name))
-    (λ part. then_made (join_parts_from (place + 1) (Some (unwrap_or first part.survey.class))
+join_parts_from number first allowed files [] = Ok []
+join_parts_from number first allowed files (name ∷ names) =
+    then_made (join_part number first allowed (files name))
+    (λ part. then_made (join_parts_from (number + 1) (Some (unwrap_or first part.survey.class))
     (allowed - length part.survey.frames) files names) (λ parts. Ok (part ∷ parts)))
 
 -- the inputs with these names, or the first refusal
@@ -53,7 +54,7 @@ join_parts files names = join_parts_from 0 None most_frames files names
 
 -- any of the `count` inputs after the first may differ from it
 abbrev pub join_refuses : ℕ → Refusal → Bool
-join_refuses count (Differ place) = nat_lt 0 place && nat_lt place count
+join_refuses count (Differ number) = nat_lt 0 number && nat_lt number count
 join_refuses count _ = false
 
 -- the stream of what is made of the inputs; empty if they are refused

@@ -13,10 +13,10 @@ pub struct JoinInput<'a> {
 }
 
 /// The input with this number, counted from 0.
-pub fn input_at<'b, 'a>(inputs: &'b [JoinInput<'a>], place: usize) -> &'b JoinInput<'a>
-    requires { place < length inputs.now }
-    ensures { drop place (map input_view inputs.now)
-        ≡ input_view result.now ∷ drop (place + 1) (map input_view inputs.now) }
+pub fn input_at<'b, 'a>(inputs: &'b [JoinInput<'a>], number: usize) -> &'b JoinInput<'a>
+    requires { number < length inputs.now }
+    ensures { drop number (map input_view inputs.now)
+        ≡ input_view result.now ∷ drop (number + 1) (map input_view inputs.now) }
 {
-    &inputs[place]
+    &inputs[number]
 }

@@ -58,7 +58,7 @@ pub fn lay_all<D: Folder, R: LaidRanges + Copy>(
             Ok(count) => at += count,
             Err(fault) => {
                 return Err(Stopped {
-                    place: i as u32,
+                    number: i as u32,
                     fault,
                 });
             }
@@ -66,6 +66,6 @@ pub fn lay_all<D: Folder, R: LaidRanges + Copy>(
     }
     match first.finish(folder, &mut buffers.writer, &mut buffers.waiting) {
         Ok(()) => Ok(()),
-        Err(fault) => Err(Stopped { place: 0, fault }),
+        Err(fault) => Err(Stopped { number: 0, fault }),
     }
 }

@@ -26,10 +26,10 @@ pub trait LaidRanges {
         ensures { result ≡ length (ranges self.now) };
 
     /// The range with this number, counted from 0.
-    fn range(&self, place: usize) -> LaidRange<'_>
-        requires { place < length (ranges self.now) }
-        ensures { drop place (ranges self.now)
-            ≡ range_view result ∷ drop (place + 1) (ranges self.now) };
+    fn range(&self, number: usize) -> LaidRange<'_>
+        requires { number < length (ranges self.now) }
+        ensures { drop number (ranges self.now)
+            ≡ range_view result ∷ drop (number + 1) (ranges self.now) };
 }
 
 /// The frames of each input from the first that is written on.
@@ -45,8 +45,8 @@ impl<'b, 'a> LaidRanges for Rests<'b, 'a> {
         self.inputs.len()
     }
 
-    fn range(&self, place: usize) -> LaidRange<'_> {
-        let input = input_at(self.inputs, place);
+    fn range(&self, number: usize) -> LaidRange<'_> {
+        let input = input_at(self.inputs, number);
         LaidRange {
             name: input.name,
             survey: &input.survey,

@@ -9,14 +9,14 @@ use outside::PassFault;
 /// frames belongs to the first.
 #[derive(Clone, Copy)]
 pub struct Stopped {
-    pub place: u32,
+    pub number: u32,
     pub fault: PassFault,
 }
 
 impl From<Stopped> for EditFault {
-    ghost from_gives = { λ stopped e. e ≡ pass_edit_fault stopped.place 0 stopped.fault };
+    ghost from_gives = { λ stopped e. e ≡ pass_edit_fault stopped.number 0 stopped.fault };
 
     fn from(stopped: Stopped) -> EditFault {
-        EditFault::of_pass(stopped.place, 0, stopped.fault)
+        EditFault::of_pass(stopped.number, 0, stopped.fault)
     }
 }

@@ -14,12 +14,12 @@ use std::alloc::Global;
 use sync_survey::Survey;
 
 /// The name of the input with this number, counted from 0.
-fn name_at(inputs: &[String], place: usize) -> &str
-    requires { place < length inputs.now }
-    ensures { drop place (map string_bytes inputs.now)
-        ≡ result.now ∷ drop (place + 1) (map string_bytes inputs.now) }
+fn name_at(inputs: &[String], number: usize) -> &str
+    requires { number < length inputs.now }
+    ensures { drop number (map string_bytes inputs.now)
+        ≡ result.now ∷ drop (number + 1) (map string_bytes inputs.now) }
 {
-    inputs[place].as_str()
+    inputs[number].as_str()
 }
 
 /// Whether an input of this class may follow: any if there is no input before it, otherwise one of
@@ -34,7 +34,7 @@ fn may_follow(first: Option<Class>, class: Class) -> bool
     }
 }
 
-/// The survey of the input with the number `place`, counted from 0, which may have `allowed`
+/// The survey of input `number`, counted from 0, which may have `allowed`
 /// frames, after a first input of this class.
 ///
 /// # Errors
@@ -44,25 +44,25 @@ fn survey_part<D: Folder>(
     alloc: Global,
     folder: &mut D,
     name: &str,
-    place: u32,
+    number: u32,
     first: Option<Class>,
     allowed: u32,
 ) -> Result<Survey, EditFault>
-    requires behind { is_some first ≡ true → 0 < place }
+    requires behind { is_some first ≡ true → 0 < number }
     ensures input { OnOk result (IfOk result
         (λ s. IsSurveyed allowed (D.seen folder.old).files name.now (survey_view s))) }
     ensures follows { IfOk result (λ s. HasClassOfFirst first (survey_view s).class) }
-    ensures refused { IfErr result (IsPartFault place first allowed name.now
+    ensures refused { IfErr result (IsPartFault number first allowed name.now
         (D.seen folder.old)
         (D.seen folder.new)) }
-    ensures numbers { IfErr result (HasJoinNumbers (place + 1)) }
+    ensures numbers { IfErr result (HasJoinNumbers (number + 1)) }
     ensures reads { OnlyRead result (D.seen folder.old) (D.seen folder.new) }
 {
-    let survey = survey_at(alloc, folder, name, place, allowed)?;
+    let survey = survey_at(alloc, folder, name, number, allowed)?;
     if may_follow(first, survey.class()) {
         Ok(survey)
     } else {
-        Err(Refusal::Differ(place).into())
+        Err(Refusal::Differ(number).into())
     }
 }
 
@@ -99,10 +99,10 @@ pub fn survey_all<'a, D: Folder>(
 {
     let mut inputs = Vec::new(alloc);
     let mut left = MOST_FRAMES;
-    for place in 0..names.len() {
+    for number in 0..names.len() {
         let first = first_class(&inputs);
-        let name = name_at(names, place);
-        let survey = survey_part(alloc, folder, name, place as u32, first, left)?;
+        let name = name_at(names, number);
+        let survey = survey_part(alloc, folder, name, number as u32, first, left)?;
         left -= survey.frames().len() as u32;
         inputs.push(JoinInput {
             name,

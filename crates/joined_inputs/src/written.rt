@@ -70,12 +70,12 @@ fn append_joined<D: Folder>(
         buffers,
     } = work;
     if let Err(fault) = append_front(first, folder, info.as_slice(), buffers) {
-        return Err(Stopped { place: 0, fault });
+        return Err(Stopped { number: 0, fault });
     }
     lay_all(first, folder, Rests { inputs }, plan.placed(), buffers)?;
     match first.pass.finish(folder, &mut buffers.waiting) {
         Ok(()) => Ok(()),
-        Err(fault) => Err(Stopped { place: 0, fault }),
+        Err(fault) => Err(Stopped { number: 0, fault }),
     }
 }
 
@@ -114,6 +114,6 @@ pub fn write_joined<D: Folder>(
     };
     match append_joined(&first, folder, inputs, work) {
         Ok(()) => Ok(()),
-        Err(stopped) => Err(EditFault::of_pass(stopped.place, 0, stopped.fault)),
+        Err(stopped) => Err(EditFault::of_pass(stopped.number, 0, stopped.fault)),
     }
 }

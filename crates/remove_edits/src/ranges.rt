@@ -23,8 +23,8 @@ impl<'a> LaidRanges for LeftParts<'a> {
         self.parts.len()
     }
 
-    fn range(&self, place: usize) -> LaidRange<'_> {
-        let part = &self.parts[place];
+    fn range(&self, number: usize) -> LaidRange<'_> {
+        let part = &self.parts[number];
         LaidRange {
             name: self.name,
             survey: self.survey,

@@ -18,13 +18,13 @@ stops-among within named stops = grind arith
 -- such a fault is one of reading the inputs
 pub stops-fault : {inputs : List (List ℕ)} {old new : Seen} {stopped : Stopped}
     → new.files ≡ old.files → StopsAmongInputs inputs old.files old.counts new.counts stopped
-    → IsInputReadFault inputs old new (pass_edit_fault stopped.place 0 stopped.fault)
+    → IsInputReadFault inputs old new (pass_edit_fault stopped.number 0 stopped.fault)
 stops-fault files is = grind arith
 
 -- the numbers of such a fault are in range
 pub stops-numbers : {inputs : List (List ℕ)} {count : ℕ} {files : Files} {before after : Counts}
     {stopped : Stopped} → length inputs ≡ count → StopsAmongInputs inputs files before after stopped
-    → HasJoinNumbers count (pass_edit_fault stopped.place 0 stopped.fault)
+    → HasJoinNumbers count (pass_edit_fault stopped.number 0 stopped.fault)
 stops-numbers many is = grind arith
 
 -- a fault of reading stays one if more was read before

@@ -34,7 +34,7 @@ AreHeld files (i ∷ inputs) = IsHeld files i.name i.survey × AreHeld files inp
 -- the pass over this input ended early, for this cause
 pub record StopsAtInput (place : ℕ) (name : List ℕ) (files : Files) (before after : Counts)
     (stopped : Stopped) : Type 0 where
-  pub place_is : stopped.place ≡ place
+  pub place_is : stopped.number ≡ place
   pub size : ℕ
   pub cause : HasInputCause name size files before after stopped.fault
   pub read : IsReadPassFault stopped.fault
@@ -42,8 +42,9 @@ pub record StopsAtInput (place : ℕ) (name : List ℕ) (files : Files) (before 
 -- the pass over one of these inputs ended early, for this cause
 pub record StopsAmongInputs (inputs : List (List ℕ)) (files : Files) (before after : Counts)
     (stopped : Stopped) : Type 0 where
-  pub within : stopped.place < length inputs
-  pub stops : StopsAtInput stopped.place (slice_index_or inputs stopped.place []) files before after
+  pub within : stopped.number < length inputs
+  pub stops : StopsAtInput stopped.number (slice_index_or inputs stopped.number []) files before
+      after
       stopped
 
 -- one of the inputs could not be read

@@ -85,7 +85,10 @@ fn head_of<D: Folder>(
 {
     match head_fields(folder, name, survey) {
         Ok(head) => Ok(head),
-        Err(fault) => Err(Stopped { place, fault }),
+        Err(fault) => Err(Stopped {
+            number: place,
+            fault,
+        }),
     }
 }
 

@@ -160,7 +160,7 @@ fn main_data<D: Folder>(
     match source.main_data(folder, place.frame as usize, window, into) {
         Ok(()) => Ok(()),
         Err(fault) => Err(Stopped {
-            place: place.input,
+            number: place.input,
             fault,
         }),
     }

@@ -13,29 +13,29 @@ use Rattle.sync_survey.specs.{Faults.survey_view, Row.Row}
 use Rattle.joined_inputs.proofs.surveys.survey_all.Given as given
 use Rattle.joined_inputs.proofs.surveys.survey_all.Goals as goal
 
-pub loop-place-init : goal.loop-place-init
+pub loop-number-init : goal.loop-number-init
 unfolding frames_together
-loop-place-init g c = grind arith
+loop-number-init g c = grind arith
 
 pub returns-in_err-survey-clause-refused : goal.returns-in_err-survey-clause-refused
 returns-in_err-survey-clause-refused g c =
     let names = map string_bytes c.args.names.now in
-    let place = c.loop-place.place in
-    let inv = c.loop-place.invariant in
-    let before = map input_view c.loop-place.inputs.items in
-    let long : length before ≡ place = omega (
+    let number = c.loop-number.number in
+    let inv = c.loop-number.invariant in
+    let before = map input_view c.loop-number.inputs.items in
+    let long : length before ≡ number = omega (
       arith,
       length-map before (λ (i : InputFields). i.name),
       ap length inv.named,
-      length-take place names,
+      length-take number names,
       length-map c.args.names.now string_bytes,
-      c.loop-place-test.true,
+      c.loop-number-test.true,
     ) in
-    let whole : input_names before ++ c.name_at-name.result.now ∷ drop (place + 1) names ≡ names =
-    rw (inv.named, ← c.name_at-name.ensures) (take-append-drop place names) in
+    let whole : input_names before ++ c.name_at-name.result.now ∷ drop (number + 1) names ≡ names =
+    rw (inv.named, ← c.name_at-name.ensures) (take-append-drop number names) in
     err_with _ _ c.from_residual.ensures.1
-    (part-early before c.name_at-name.result.now (drop (place + 1) names)
-    c.loop-place.left _ _ whole long
+    (part-early before c.name_at-name.result.now (drop (number + 1) names)
+    c.loop-number.left _ _ whole long
     (c.first_class-first.ensures
     ∙ ap (λ l. class_of_first (map input_view l)) c.deref.ensures.value)
     inv.allowed (ap₂ seen_folder inv.files inv.counts) inv.surveyed c.in_err-survey.ensures.refused)
@@ -50,40 +50,41 @@ module _ (g : given.Over) (c : In_ok-survey g) where
   }
 
   abbrev inputs : List InputFields
-  inputs = map input_view c.loop-place.inputs.items ++ next ∷ []
+  inputs = map input_view c.loop-number.inputs.items ++ next ∷ []
 
   are : AreJoinInputs None most_frames (g.D.Folder.seen c.args.folder.now).files inputs
   are = grind (arith, inputs-more, after-none)
 
-  named : input_names inputs ≡ take (c.loop-place.place + 1) (map string_bytes c.args.names.now)
-  named = grind (arith, map-append, take-next, c.loop-place.invariant.named, c.name_at-name.ensures)
+  named : input_names inputs ≡ take (c.loop-number.number + 1) (map string_bytes c.args.names.now)
+  named =
+      grind (arith, map-append, take-next, c.loop-number.invariant.named, c.name_at-name.ensures)
 
 pub returns-in_err-push-clause-refused : goal.returns-in_err-push-clause-refused
 returns-in_err-push-clause-refused g c =
     let names = map string_bytes c.args.names.now in
-    let place = c.loop-place.place in
-    let inv = c.loop-place.invariant in
+    let number = c.loop-number.number in
+    let inv = c.loop-number.invariant in
     let at = (goal.at.returns-in_err-push-clause-refused g c).In_ok-survey in
-    let whole : input_names (inputs g at) ++ drop (place + 1) names ≡ names =
-    rw (named g at) (take-append-drop (place + 1) names) in
+    let whole : input_names (inputs g at) ++ drop (number + 1) names ≡ names =
+    rw (named g at) (take-append-drop (number + 1) names) in
     err_with _ _ c.from_residual-in_err-push.ensures.1
     (λ _ _. rw whole at
-    (found-input most_frames (inputs g at) (drop (place + 1) names) (are g at)
-    (omega (arith, length-append (map input_view c.loop-place.inputs.items) (next g at ∷ [])))
+    (found-input most_frames (inputs g at) (drop (number + 1) names) (are g at)
+    (omega (arith, length-append (map input_view c.loop-number.inputs.items) (next g at ∷ [])))
     (ap₂ seen_folder (c.survey_part.ensures.reads.files ∙ inv.files)
     (c.in_ok-survey.ensures.reads.done ∙ inv.counts))))
 
 -- one more input was added
 now : (g : given.Over) (c : In_ok-push g) → map input_view c.push.new.self.items
-    ≡ inputs g (goal.at.loop-place-preserved g c).In_ok-survey
+    ≡ inputs g (goal.at.loop-number-preserved g c).In_ok-survey
 now g c =
     ap (map input_view) c.in_ok-push.ensures.items
-    ∙ map-append input_view c.loop-place.inputs.items _
+    ∙ map-append input_view c.loop-number.inputs.items _
 
-pub loop-place-preserved : goal.loop-place-preserved
-loop-place-preserved g c =
-    let at = (goal.at.loop-place-preserved g c).In_ok-survey in
-    let before = map input_view c.loop-place.inputs.items in
+pub loop-number-preserved : goal.loop-number-preserved
+loop-number-preserved g c =
+    let at = (goal.at.loop-number-preserved g c).In_ok-survey in
+    let before = map input_view c.loop-number.inputs.items in
     let frames = ap (λ (l : List Row). length l) c.frames.ensures in
     record {
       surveyed = rw (now g c) (are g at);
@@ -91,10 +92,10 @@ loop-place-preserved g c =
       allowed = rw (now g c) (omega (
         arith,
         frames-more before (next g at),
-        c.loop-place.invariant.allowed,
+        c.loop-number.invariant.allowed,
         c.in_ok-survey.ensures.input.few,
         frames,
       ));
-      files = c.survey_part.ensures.reads.files ∙ c.loop-place.invariant.files;
-      counts = c.in_ok-survey.ensures.reads.done ∙ c.loop-place.invariant.counts;
+      files = c.survey_part.ensures.reads.files ∙ c.loop-number.invariant.files;
+      counts = c.in_ok-survey.ensures.reads.done ∙ c.loop-number.invariant.counts;
     }

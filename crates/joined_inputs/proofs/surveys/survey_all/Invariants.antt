@@ -4,11 +4,11 @@ use Rattle.commands.specs.SingleOutput.{most_frames}
 use Rattle.joined_inputs.specs.Inputs.{AreJoinInputs, frames_together, input_names, input_view}
 use Rattle.joined_inputs.proofs.surveys.survey_all.Given as goal
 
-abbrev pub invariant-loop-place : goal.invariant-loop-place
-invariant-loop-place g l = record {
+abbrev pub invariant-loop-number : goal.invariant-loop-number
+invariant-loop-number g l = record {
   surveyed : AreJoinInputs None most_frames (g.D.Folder.seen l.fn.folder).files
       (map input_view l.inputs.items);
-  named : input_names (map input_view l.inputs.items) ≡ take l.place (map string_bytes l.names);
+  named : input_names (map input_view l.inputs.items) ≡ take l.number (map string_bytes l.names);
   allowed : l.left + frames_together (map input_view l.inputs.items) ≡ most_frames;
   files : (g.D.Folder.seen l.folder).files ≡ (g.D.Folder.seen l.fn.folder).files;
   counts : (g.D.Folder.seen l.folder).counts ≡ (g.D.Folder.seen l.fn.folder).counts;

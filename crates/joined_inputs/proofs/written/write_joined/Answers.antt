@@ -96,7 +96,7 @@ returns-in-Err-clause-wrote g c =
       left = rw c.of_pass.ensures
           (pass_fault _ (input_view c.input_at.result.now).name c.args.output.now (apart g at) _ _ _
           created (names g at) (ap (λ l. first_input (input_names l)) c.input_at.ensures)
-          c.in-Err.stopped.place c.in-Err.stopped.fault cause.size _
+          c.in-Err.stopped.number c.in-Err.stopped.fault cause.size _
           c.in-Ok.ensures.answer.done part
           cause.cause);
     }

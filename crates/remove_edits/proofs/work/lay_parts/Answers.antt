@@ -50,5 +50,5 @@ returns-in-Err-clause-cause g c =
       subst (λ n. HasPassCause (route n relay.pass.output.now h.size) old.files old.counts
           new.counts c.in-Err.stopped.fault)
           (names-same relay.pass.input.now (survey_view relay.survey.now) c.args.parts.now
-          c.in-Err.stopped.place h.within) h.cause,
+          c.in-Err.stopped.number h.within) h.cause,
     )

@@ -1,4 +1,4 @@
--- The range is the rest of the input at its place.
+-- The range is the rest of the input with its number.
 use Rattle.std.proofs.{Common.arith, lemmas.List.drop-map}
 use Rattle.joined_inputs.proofs.ranges.RestsLaidRanges.range.Goals as goal
 

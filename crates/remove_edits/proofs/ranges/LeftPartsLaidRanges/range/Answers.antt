@@ -1,4 +1,4 @@
--- The range is the part at its place.
+-- The range is the part with its number.
 use Rattle.std.proofs.Common.{arith, length, List, refl, slice_index_or, suc, zero, ℕ, [], ◌<◌, ◌∷◌}
 use Rattle.std.proofs.{Common.◌≡◌, lemmas.List.length-map}
 use Rattle.joined_inputs.proofs.StepLemmas.{map-next}
@@ -18,6 +18,6 @@ returns c =
     let parts = c.args.self.now.parts.now in
     let range = part_range c.args.self.now.name.now (survey_view c.args.self.now.survey.now) in
     let none : Part = record { from = 0; to = 0 } in
-    let within : c.args.place < length parts = omega (arith, c.requires, length-map parts range) in
-    let part = slice_index_or parts c.args.place none in
-    map-next range parts within (any-default parts c.args.place none part within)
+    let within : c.args.number < length parts = omega (arith, c.requires, length-map parts range) in
+    let part = slice_index_or parts c.args.number none in
+    map-next range parts within (any-default parts c.args.number none part within)
