@@ -1,13 +1,13 @@
 -- Before a row in which each free byte saves at most one byte of areas,
 -- the first area that leaves enough for the frames after it is the best.
-use Rattle.std.proofs.Common.{All, append-nil, append_assoc, arith, drop, get_or, inl, inr, length}
-use Rattle.std.proofs.Common.{length-append, List, replicate, suc, take, zero, ℕ, ◌++◌, ◌+◌, ◌-◌}
-use Rattle.std.proofs.{Common.{◌<◌, ◌∙◌, ◌≡◌, ◌≤◌}, lemmas.Bool.cases_lt}
+use Rattle.std.proofs.Common.{append-nil, append_assoc, arith, drop, get_or, inl, inr, length}
+use Rattle.std.proofs.Common.{length-append, List, min, replicate, suc, take, zero, ℕ, ◌++◌, ◌+◌}
+use Rattle.std.proofs.{Common.{◌-◌, ◌<◌, ◌^◌, ◌∙◌, ◌≡◌, ◌≤◌}, lemmas.Bool.cases_lt}
 use Rattle.std.proofs.lemmas.List.{drop_all, get_or-append-add, get_or-replicate}
 use Rattle.std.proofs.lemmas.List.{get_or_append_left, length-replicate, take_all}
 use Rattle.best_plan.proofs.{RowLemmas.not-greater, UnitSlopeLemmas.end-rises}
-use Rattle.best_plan.specs.Rows.{AppendsRow, area_sum, AreSums, HasSlopeAtMostOne, IsAreaChoice}
-use Rattle.best_plan.specs.Rows.{IsEndAt, IsSum, nothing}
+use Rattle.best_plan.specs.Rows.{AppendsRow, area_sum, AreAreasAndSums, AreSums, HasSlopeAtMostOne}
+use Rattle.best_plan.specs.Rows.{IsAreaChoice, IsEndAt, IsSum, nothing}
 use Rattle.slot_plan.{proofs.AreaLemmas.Ascend, specs.Reserve.free_bytes_behind}
 
 -- `more` further free bytes save at most `more` bytes of areas
@@ -17,7 +17,7 @@ near-more zero near from within = grind arith
 near-more {sums} {least} {free} (suc more) near from within =
     grind (arith, near-more more near from (omega (arith, within)))
 
-module _ (window free bytes least place cost at : ℕ) (areas later : List ℕ)
+module _ (window free bytes least place cost : ℕ) (areas later : List ℕ)
     (width : length later ≡ window + 1) (near : HasSlopeAtMostOne later least)
     (ascend : Ascend areas)
     (small : (k : ℕ) → k < place → free + get_or areas k 0 < bytes + least)
@@ -28,7 +28,7 @@ module _ (window free bytes least place cost at : ℕ) (areas later : List ℕ)
   none-before before fits = grind (arith, width)
 
   -- if no area leaves enough, there is no sum
-  pub no-choice : length areas ≤ place → cost ≡ nothing
+  pub no-choice : {at : ℕ} → length areas ≤ place → cost ≡ nothing
       → IsAreaChoice window free bytes areas later cost at
   no-choice past none = grind (arith, none-before)
 
@@ -62,31 +62,52 @@ module _ (window free bytes least place cost at : ℕ) (areas later : List ℕ)
     near-choice = grind (arith, cases_lt, none-before, from-place)
 
     -- the first area that leaves enough has the least sum
-    pub near-at : at ≡ place → IsAreaChoice window free bytes areas later cost at
+    pub near-at : {at : ℕ} → at ≡ place → IsAreaChoice window free bytes areas later cost at
     near-at here = grind (arith, near-choice)
 
--- `place` is where the first area is that leaves enough, if there is one
-module _ (window free bytes least wanted place cost at : ℕ) (areas later : List ℕ) where
-  -- the first area that leaves enough has the least sum
-  pub near-one : window ≤ 511 → free ≤ window → length later ≡ window + 1
-      → HasSlopeAtMostOne later least → Ascend areas → All (λ n. n ≤ 1441) areas
-      → wanted ≤ bytes + least → (wanted < nothing → wanted ≡ bytes + least)
-      → ((k : ℕ) → k < place → free + get_or areas k 0 < wanted)
-      → (place < length areas → wanted ≤ free + get_or areas place 0) → cost ≤ nothing
-      → (place < length areas → IsSum window free bytes (get_or areas place 0) later cost)
-      → (place < length areas → at ≡ place) → (length areas ≤ place → cost ≡ nothing)
-      → IsAreaChoice window free bytes areas later cost at
-  near-one narrow within width near ascend areas_most most whole small large low sum here none =
-      let before : (k : ℕ) → k < place → free + get_or areas k 0 < bytes + least = grind arith in
-      elim (cases_lt place (length areas))
-      as (λ _. IsAreaChoice window free bytes areas later cost at) [
-        | inl some ↦
-            let fits = large some in
-            let exact : wanted ≡ bytes + least = grind arith in
-            near-at window free bytes least place cost at areas later width near ascend before low
-            some (omega (arith, exact, fits)) (sum some) (here some)
-        | inr past ↦ grind (arith, no-choice, width)
-      ]
+-- Areas before a row in which each free byte saves at most one byte
+-- of areas, and `wanted`, the free bytes and area that leave enough.
+pub record IsBeforeSlope (window bytes least wanted : ℕ) (areas later : List ℕ) : Type 0 where
+  pub rows : AreAreasAndSums window areas later
+  pub near : HasSlopeAtMostOne later least
+  pub most : wanted ≤ bytes + least
+  pub whole : wanted < nothing → wanted ≡ bytes + least
+
+-- `wanted` is what the area and the least free bytes need, as far as a sum can hold it
+pub before-slope : {window bytes least wanted : ℕ} {areas later : List ℕ}
+    → AreAreasAndSums window areas later → HasSlopeAtMostOne later least
+    → wanted ≡ min (bytes + least) (2 ^ 32 - 1)
+    → IsBeforeSlope window bytes least wanted areas later
+before-slope rows near is = record {
+  rows = rows;
+  near = near;
+  most = omega (arith, is);
+  whole = λ less. omega (arith, is, less);
+}
+
+-- the first area that leaves enough, at `place`, has the least sum; without one there is none
+near-one : {window bytes least wanted : ℕ} {areas later : List ℕ}
+    → IsBeforeSlope window bytes least wanted areas later → {free : ℕ} → free ≤ window
+    → {place : ℕ} → ((k : ℕ) → k < place → free + get_or areas k 0 < wanted)
+    → (place < length areas → wanted ≤ free + get_or areas place 0) → {cost : ℕ} → cost ≤ nothing
+    → (place < length areas → IsSum window free bytes (get_or areas place 0) later cost) → {at : ℕ}
+    → (place < length areas → at ≡ place) → (length areas ≤ place → cost ≡ nothing)
+    → IsAreaChoice window free bytes areas later cost at
+near-one {window} {bytes} {least} {wanted} {areas} {later} is {free} within {place}
+    small large {cost} low sum {at} here none =
+    let before : (k : ℕ) → k < place → free + get_or areas k 0 < bytes + least =
+    grind (arith, is.most) in
+    elim (cases_lt place (length areas))
+    as (λ _. IsAreaChoice window free bytes areas later cost at) [
+      | inl some ↦
+          let fits = large some in
+          let exact : wanted ≡ bytes + least =
+          grind (arith, is.rows, is.whole) in
+          near-at window free bytes least place cost areas later
+          is.rows.width is.near is.rows.choices.ascending before
+          low some (omega (arith, exact, fits)) (sum some) (here some)
+      | inr past ↦ grind (arith, no-choice, is.rows, is.near)
+    ]
 
 -- what was written back to a whole list is what the list has
 pub wrote-back : {n : ℕ} {new : List ℕ} (old : List ℕ) → length new ≡ length old → n ≡ length old
@@ -106,11 +127,8 @@ pub record IsNearTo (window bytes wanted : ℕ) (areas later : List ℕ) (place 
   pub each : (free : ℕ) → free < start
       → IsAreaChoice window free bytes areas later (get_or row free 0) (get_or cells free 0)
 
-module _ (window bytes least wanted : ℕ) (areas later : List ℕ) (narrow : window ≤ 511)
-    (wide : length later ≡ window + 1) (near : HasSlopeAtMostOne later least)
-    (ascend : Ascend areas)
-    (areas_most : All (λ n. n ≤ 1441) areas)
-    (most : wanted ≤ bytes + least) (whole : wanted < nothing → wanted ≡ bytes + least) where
+module _ {window bytes least wanted : ℕ} {areas later : List ℕ}
+    (before : IsBeforeSlope window bytes least wanted areas later) where
   -- no area leaves enough
   pub near-begin : {start : ℕ} {row old new : List ℕ}
       → IsEndAt window wanted areas (length areas) start → length row ≡ window + 1
@@ -124,10 +142,7 @@ module _ (window bytes least wanted : ℕ) (areas later : List ℕ) (narrow : wi
     width = width;
     ends = ends;
     each = λ free less.
-        near-one window free bytes least wanted (length areas) (get_or row free 0)
-        (get_or (replicate start 0) free 0) areas later narrow
-        (omega (arith, less, ends.within)) wide near ascend areas_most
-        most whole (λ k before. ends.small free k less before)
+        near-one before (omega (arith, less, ends.within)) (λ k early. ends.small free k less early)
         (λ some. absurd (omega (arith, some))) (omega (arith, none free less)) (λ some.
         absurd (omega (arith, some))) (λ some. absurd (omega (arith, some))) (λ _. none free less);
   }
@@ -162,35 +177,33 @@ module _ (window bytes least wanted : ℕ) (areas later : List ℕ) (narrow : wi
         each = λ free less.
             elim (cases_lt free start) as (λ _. IsAreaChoice window free bytes areas later
             (get_or next free 0) (get_or (so_far.cells ++ added) free 0)) [
-              | inl before ↦ grind (arith, get_or_append_left)
+              | inl early ↦ grind (arith, get_or_append_left)
               | inr from ↦
                   let behind : ℕ = free - start in
                   let here : free ≡ length so_far.cells + behind =
                   omega (arith, from, so_far.many) in
                   let at : get_or (so_far.cells ++ added) free 0 ≡ place - 1 =
                   grind (arith, get_or-append-add, get_or-replicate, many) in
-                  near-one window free bytes least wanted (place - 1) (get_or next free 0)
-                  (get_or (so_far.cells ++ added) free 0) areas later narrow
-                  (omega (arith, less, is.within)) wide near ascend areas_most
-                  most whole (λ k before. is.small free k less before)
+                  near-one before (omega (arith, less, is.within))
+                  (λ k early. is.small free k less early)
                   (λ _. so_far.ends.large free from (omega (arith, less, is.within)))
                   (sums.most free from less) (λ _. sums.each free from less) (λ _. at)
                   (λ past. absurd (omega (arith, past, some, within)))
             ];
       }
 
-  -- after the last of the areas the row is whole
-  pub near-end : {start : ℕ} {row old new : List ℕ}
-      → IsNearTo window bytes wanted areas later 0 start row old new
-      → AppendsRow window bytes areas later row old new
-  near-end {start} is =
-      let all : start ≡ window + 1 = grind (arith, cases_lt) in
-      record {
-        cells = is.cells;
-        appended = is.appended;
-        is = record {
-          width = is.width;
-          many = is.many ∙ all;
-          each = λ free within. is.each free (omega (arith, within, all));
-        };
-      }
+-- after the last of the areas the row is whole
+pub near-end : {window bytes wanted start : ℕ} {areas later row old new : List ℕ}
+    → IsNearTo window bytes wanted areas later 0 start row old new
+    → AppendsRow window bytes areas later row old new
+near-end {window} {start = start} is =
+    let all : start ≡ window + 1 = grind (arith, cases_lt) in
+    record {
+      cells = is.cells;
+      appended = is.appended;
+      is = record {
+        width = is.width;
+        many = is.many ∙ all;
+        each = λ free within. is.each free (omega (arith, within, all));
+      };
+    }
