@@ -80,29 +80,36 @@ module _ {X : Type 0} (cut : Cutting X) (proper : IsProperCutting cut) where
       (then_made (cut.places f) (places_result cut prefix file s)) (IsNotBefore (Input 1 Read))
   made-before prefix file s f = grind (arith, made-all)
 
-  -- ---- the streams of the pieces
+-- ---- the streams of the pieces
 
-  module _ (prefix file : List ℕ) (s : SurveyFields) (octets : AreBytes file)
-      (survey_is : survey_of file most_frames ≡ Ok s) where
-    abbrev Hold : ℕ → List LaidPart → Type 0
-    Hold k ls = AreStreams (pieces_from prefix k file (cut.survey s) ls)
-        (map (λ (l : LaidPart). stream_laid l file (cut.survey s)) ls)
+-- The cutting is proper, and this survey is that of a file of bytes.
+pub record IsCutFile {X : Type 0} (cut : Cutting X) (file : List ℕ) (s : SurveyFields) : Type 0
+  where
+    pub proper : IsProperCutting cut
+    pub octets : AreBytes file
+    pub survey_is : survey_of file most_frames ≡ Ok s
 
-    from-hold : (k : ℕ) (from : X) (tos : List X) {ls : List LaidPart}
-        → piece_parts_from cut file s from tos ≡ Ok ls → Hold k ls
-    from-hold k from [] {ls} e = let none : [] ≡ ls = cc in subst (Hold k) none tt
-    from-hold k from (to ∷ tos) {ls} e =
-        let parts = then_ok e in
-        let more = first-parts parts.2 in
-        rw (← more.2) (
-          proper.streams from to file s parts.0 octets survey_is parts.1,
-          from-hold (k + 1) to tos more.1,
-        )
+module _ {X : Type 0} {cut : Cutting X} {file : List ℕ} {s : SurveyFields}
+    (source : IsCutFile cut file s) (prefix : List ℕ) where
+  abbrev Hold : ℕ → List LaidPart → Type 0
+  Hold k ls = AreStreams (pieces_from prefix k file (cut.survey s) ls)
+      (map (λ (l : LaidPart). stream_laid l file (cut.survey s)) ls)
 
-    -- all pieces that are laid hold their streams
-    pub at-hold : (places : List X) {ls : List LaidPart} → piece_parts cut file s places ≡ Ok ls
-        → Hold 1 ls
-    at-hold places e = grind (arith, from-hold)
+  from-hold : (k : ℕ) (from : X) (tos : List X) {ls : List LaidPart}
+      → piece_parts_from cut file s from tos ≡ Ok ls → Hold k ls
+  from-hold k from [] {ls} e = let none : [] ≡ ls = cc in subst (Hold k) none tt
+  from-hold k from (to ∷ tos) {ls} e =
+      let parts = then_ok e in
+      let more = first-parts parts.2 in
+      rw (← more.2) (
+        source.proper.streams from to file s parts.0 source.octets source.survey_is parts.1,
+        from-hold (k + 1) to tos more.1,
+      )
+
+  -- all pieces that are laid hold their streams
+  pub at-hold : (places : List X) {ls : List LaidPart} → piece_parts cut file s places ≡ Ok ls
+      → Hold 1 ls
+  at-hold places e = grind (arith, from-hold)
 
 names-made : (s : SurveyFields) (bytes : List ℕ) (pieces : List PlannedPiece)
     → map (λ (o : Output). o.name) (piece_outputs s pieces bytes) ≡ names_of_pieces pieces
@@ -126,10 +133,7 @@ pub clash-found : {X : Type 0} (cut : Cutting X) (input prefix : List ℕ) {shee
     → clash_of (split_command cut input prefix) ≡ other
 clash-found cut input prefix is clash e = grind arith
 
-module _ {X : Type 0} (cut : Cutting X) (proper : IsProperCutting cut) (input prefix : List ℕ) where
-  abbrev more : List (List ℕ)
-  more = cut.more
-
+module _ {X : Type 0} (cut : Cutting X) (input prefix : List ℕ) where
   abbrev command : Command
   command = split_command cut input prefix
 
@@ -143,310 +147,352 @@ module _ {X : Type 0} (cut : Cutting X) (proper : IsProperCutting cut) (input pr
       → IsCommandFault command now now (EqualNames place)
   equal-left {place} now e = record { defined = gives-equal now.files e; stays = refl }
 
-  module _ (apart : clash_of command ≡ None) where
-    makes-where : (f : Contents) {o : Option (List ℕ)} → f input ≡ o
-        → command.makes f ≡ input_pieces cut prefix (cut.places f) o
-    unfolding split_result
-    makes-where f is = grind (arith, none-equal)
+  makes-where : (f : Contents) {o : Option (List ℕ)} → clash_of command ≡ None → f input ≡ o
+      → command.makes f ≡ input_pieces cut prefix (cut.places f) o
+  unfolding split_result
+  makes-where f apart is = grind (arith, none-equal)
 
-    stays-touched : {old new : Files} → new ≡ old → OnlyTouches (piece_names prefix) old new
-    stays-touched {old} stays = rw stays (touches_none (piece_names prefix) old)
+stays-touched : (prefix : List ℕ) {old new : Files} → new ≡ old
+    → OnlyTouches (piece_names prefix) old new
+stays-touched prefix {old} stays = rw stays (touches_none (piece_names prefix) old)
 
-    makes-bytes : (f : Contents) {bytes : List ℕ} {r : Result SurveyFields SurveyFault}
-        → f input ≡ Some bytes → survey_of bytes most_frames ≡ r
-        → command.makes f ≡ surveyed_pieces cut prefix (cut.places f) bytes r
-    makes-bytes f {bytes} held is =
-        makes-where f held ∙ ap (surveyed_pieces cut prefix (cut.places f) bytes) is
+-- ---- no input has the name of a piece
 
-    -- the command begins with the survey of its input
-    pub begins : BeginsWithSurvey command input
-    begins = record {
-      first = refl;
-      names = apart;
-      absent = λ f is. makes-where f is;
-      refused = λ f bytes fault held is. makes-bytes f held is;
-      takes = λ f bytes s held is.
-          rw (makes-bytes f held is) (takes _ (made-late cut proper prefix bytes s f));
-    }
+-- The cutting is proper, and no input has the name of a piece.
+pub record CanSplit {X : Type 0} (cut : Cutting X) (input prefix : List ℕ) : Type 0 where
+  pub proper : IsProperCutting cut
+  pub apart : clash_of (split_command cut input prefix) ≡ None
 
-    -- ---- a surveyed input
+module _ {X : Type 0} {cut : Cutting X} {input prefix : List ℕ}
+    (can : CanSplit cut input prefix) where
+  makes-bytes : (f : Contents) {bytes : List ℕ} {r : Result SurveyFields SurveyFault}
+      → f input ≡ Some bytes → survey_of bytes most_frames ≡ r
+      → (split_command cut input prefix).makes f ≡ surveyed_pieces cut prefix (cut.places f) bytes r
+  makes-bytes f {bytes} held is = makes-where cut input prefix f can.apart held
+      ∙ ap (surveyed_pieces cut prefix (cut.places f) bytes) is
 
-    module _ (old mid new : Seen) (stays : mid ≡ old) (fault : EditFault) where
-      -- a head that could not be read leaves everything as it was
-      pub head-left : IsHeadFault input mid new fault → IsCommandFault command old new fault
-      head-left h =
-          survey_left begins old new fault (head_is_file input old new fault (rw stays at h))
+  -- the command begins with the survey of its input
+  pub begins : BeginsWithSurvey (split_command cut input prefix) input
+  begins = record {
+    first = refl;
+    names = can.apart;
+    absent = λ f is. makes-where cut input prefix f can.apart is;
+    refused = λ f bytes fault held is. makes-bytes f held is;
+    takes = λ f bytes s held is.
+        rw (makes-bytes f held is) (takes _ (made-late cut can.proper prefix bytes s f));
+  }
 
-    module _ (s : SurveyFields) (old : Seen) (there : IsFileThere old.files input) (survey_is :
-        (bytes : List ℕ) → Holds old.files input bytes → survey_of bytes most_frames ≡ Ok s) where
-      makes-then : {f : Contents} → old.files ≡ Told f
-          → (bytes : List ℕ) × (f input ≡ Some bytes) × (survey_of bytes most_frames ≡ Ok s)
-          × (command.makes f ≡ then_made (cut.places f) (places_result cut prefix bytes s))
-      makes-then {f} told =
-          let held = there_holds f (rw told at there) in
-          let sound = survey_is held.0 (rw told held.1) in
-          (held.0, held.1, sound, makes-bytes f held.1 sound)
+  -- a head that could not be read leaves everything as it was
+  pub head-left : {old mid : Seen} (new : Seen) (fault : EditFault) → mid ≡ old
+      → IsHeadFault input mid new fault
+      → IsCommandFault (split_command cut input prefix) old new fault
+  head-left {old} new fault stays h =
+      survey_left begins old new fault (head_is_file input old new fault (rw stays at h))
 
-      behind-takes : IfTold old.files (λ f. TakesMemory (command.makes f))
-      behind-takes = if-told (λ f told. let made = makes-then told in
-          rw made.3 (takes _ (made-late cut proper prefix made.0 s f)))
+-- ---- a surveyed input
 
-      -- no fault of the definition comes before the sheet that could not be read
-      behind-before : IfTold old.files (λ f. IfErr (command.makes f) (IsNotBefore (Input 1 Read)))
-      behind-before = if-told (λ f told. let made = makes-then told in
-          rw made.3 (made-before cut proper prefix made.0 s f))
+-- The input can be split, is there, and has this survey.
+pub record IsSplitSurveyed {X : Type 0} (cut : Cutting X) (input prefix : List ℕ)
+    (s : SurveyFields) (old : Seen) : Type 0 where
+  pub can : CanSplit cut input prefix
+  pub there : IsFileThere old.files input
+  pub surveyed : (bytes : List ℕ) → Holds old.files input bytes
+      → survey_of bytes most_frames ≡ Ok s
 
-      -- if there are no places, the command is refused
-      places-refused : (fault : EditFault) → SaysPlaces cut old.files (Err fault)
-          → HasAnswer command old.files (Err fault)
-      places-refused fault none =
-          if-told (λ f told.
-          let made = makes-then told in
-          made.3 ∙ ap (λ p. then_made p (places_result cut prefix made.0 s)) (rw told at none))
+module _ {X : Type 0} {cut : Cutting X} {input prefix : List ℕ} {s : SurveyFields} {old : Seen}
+    (source : IsSplitSurveyed cut input prefix s old) where
+  makes-then : {f : Contents} → old.files ≡ Told f
+      → (bytes : List ℕ) × (f input ≡ Some bytes) × (survey_of bytes most_frames ≡ Ok s)
+      × ((split_command cut input prefix).makes f
+      ≡ then_made (cut.places f) (places_result cut prefix bytes s))
+  makes-then {f} told =
+      let held = there_holds f (rw told at source.there) in
+      let sound = source.surveyed held.0 (rw told held.1) in
+      (held.0, held.1, sound, makes-bytes source.can f held.1 sound)
 
-      module _ (new : Seen) (fault : EditFault) where
-        places-left-here : IsPlacesFault cut old new fault → IsCommandFault command old new fault
-        places-left-here h = each_why (why_of fault) h (record {
-          rejected = λ r. record { defined = places-refused fault r.0; stays = r.1 };
-          missing = λ m. record {
-            defined = places-refused fault m.0;
-            rose = missed_name (input ∷ more) 1 (first_at more) m.1;
-            files = m.1.files;
-          };
-          unread = λ u. record {
-            names = apart;
-            before = rw u.is behind-before;
-            rose = unread_name (input ∷ more) 1 (first_at more) u;
-            files = inl u.files;
-          };
-          shorter = λ l. record {
-            ended = lost_name (input ∷ more) 1 (first_at more) l;
-            touches = stays-touched l.files;
-          };
-          unwritten = λ k w. absurd w;
-          unsent = λ w. absurd w;
-          no_memory = λ same. record { names = apart; takes = behind-takes; stays = same };
-        })
+  behind-takes : IfTold old.files (λ f. TakesMemory ((split_command cut input prefix).makes f))
+  behind-takes = if-told (λ f told. let made = makes-then told in
+      rw made.3 (takes _ (made-late cut source.can.proper prefix made.0 s f)))
 
-      -- ---- these positions
+  -- no fault of the definition comes before the sheet that could not be read
+  behind-before : IfTold old.files (λ f.
+      IfErr ((split_command cut input prefix).makes f) (IsNotBefore (Input 1 Read)))
+  behind-before = if-told (λ f told. let made = makes-then told in
+      rw made.3 (made-before cut source.can.proper prefix made.0 s f))
 
-      module _ (places : List X) (are : SaysPlaces cut old.files (Ok places)) where
-        makes-at : {f : Contents} → old.files ≡ Told f
-            → (bytes : List ℕ) × (f input ≡ Some bytes) × (survey_of bytes most_frames ≡ Ok s)
-            × (cut.places f ≡ Ok places)
-            × (command.makes f ≡ places_result cut prefix bytes s places)
-        makes-at {f} told =
-            let made = makes-then told in
-            let here : cut.places f ≡ Ok places = rw told at are in (
-              made.0,
-              made.1,
-              made.2,
-              here,
-              made.3 ∙ ap (λ p. then_made p (places_result cut prefix made.0 s)) here,
-            )
+  -- if there are no places, the command is refused
+  places-refused : (fault : EditFault) → SaysPlaces cut old.files (Err fault)
+      → HasAnswer (split_command cut input prefix) old.files (Err fault)
+  places-refused fault none =
+      if-told (λ f told.
+      let made = makes-then told in
+      made.3 ∙ ap (λ p. then_made p (places_result cut prefix made.0 s)) (rw told at none))
 
-        range-refused : {fault : EditFault} → ((bytes : List ℕ) → Holds old.files input bytes
-            → piece_parts cut bytes s places ≡ Err fault) → HasAnswer command old.files (Err fault)
-        range-refused none =
-            if-told (λ f told.
-            let made = makes-at told in
-            made.4 ∙ ap (λ r. then_made r (pieces_result prefix made.0 (cut.survey s)))
-            (none made.0 (subst (λ fs. Holds fs input made.0) (sym told) made.1)))
+  places-left-here : (new : Seen) (fault : EditFault) → IsPlacesFault cut old new fault
+      → IsCommandFault (split_command cut input prefix) old new fault
+  places-left-here new fault h = each_why (why_of fault) h (record {
+    rejected = λ r. record { defined = places-refused fault r.0; stays = r.1 };
+    missing = λ m. record {
+      defined = places-refused fault m.0;
+      rose = missed_name (input ∷ cut.more) 1 (first_at cut.more) m.1;
+      files = m.1.files;
+    };
+    unread = λ u. record {
+      names = source.can.apart;
+      before = rw u.is behind-before;
+      rose = unread_name (input ∷ cut.more) 1 (first_at cut.more) u;
+      files = inl u.files;
+    };
+    shorter = λ l. record {
+      ended = lost_name (input ∷ cut.more) 1 (first_at cut.more) l;
+      touches = stays-touched prefix l.files;
+    };
+    unwritten = λ k w. absurd w;
+    unsent = λ w. absurd w;
+    no_memory = λ same. record { names = source.can.apart; takes = behind-takes; stays = same };
+  })
 
-        -- the outputs hold their streams
-        pub split-streams : ((bytes : List ℕ) → Holds old.files input bytes → AreBytes bytes)
-            → HoldsStreams command old.files
-        unfolding input_streams
-        split-streams octets =
-            if-told {files = old.files} (λ f told. λ whole is.
-            let made = makes-at {f = f} told in
-            let t = cut.survey s in
-            let parts =
-            then_ok {r = piece_parts cut made.0 s places} {make =
-            pieces_result prefix made.0 t} {b = whole}
-            (sym made.4 ∙ is) in
-            let same : record { outputs = pieces_from prefix 1 made.0 t parts.0; text = [] }
-            ≡ whole = cc in
-            let streams : command.streams f
-            ≡ map (λ (l : LaidPart). stream_laid l made.0 t) parts.0 =
-            ap (input_streams cut (cut.places f)) made.1
-            ∙ ap (surveyed_streams cut (cut.places f) made.0) made.2
-            ∙ ap (places_streams cut made.0 s) made.3
-            ∙ ap (laid_streams made.0 t) parts.1 in
-            record {
-              sources = ((made.0, made.1, survey_of-sound made.0 most_frames {s = s} made.2), tt);
-              streams = subst (λ (m : Made). AreStreams m.outputs (command.streams f)) same
-                  (subst (AreStreams (pieces_from prefix 1 made.0 t parts.0)) (sym streams)
-                  (at-hold cut proper prefix made.0 s (octets made.0 (subst
-                  (λ fs. Holds fs input made.0) (sym told) made.1)) made.2 places
-                  {ls = parts.0} parts.1));
-            })
+  -- if there are no places, everything stays as it was
+  pub places-left : {mid : Seen} (new : Seen) (fault : EditFault) → mid ≡ old
+      → IsPlacesFault cut mid new fault
+      → IsCommandFault (split_command cut input prefix) old new fault
+  places-left new fault stays h = places-left-here new fault (rw stays at h)
 
-        -- the pieces, all or some of which were written
-        module _ (pieces : List PlannedPiece) (named : ArePieces prefix (cut.survey s) 1 pieces)
-            (laid : (bytes : List ℕ) → Holds old.files input bytes → piece_parts cut bytes s places
-            ≡ Ok (map piece_part pieces)) (few : length pieces ≤ 99) where
-          abbrev laid_survey : SurveyFields
-          laid_survey = cut.survey s
+  -- if memory runs out, everything stays as it was
+  pub memory-left : {new : Seen} → new ≡ old
+      → IsCommandFault (split_command cut input prefix) old new Memory
+  memory-left same = record { names = source.can.apart; takes = behind-takes; stays = same }
 
-          abbrev made : List ℕ → Made
-          made bytes = record { outputs = piece_outputs laid_survey pieces bytes; text = [] }
+-- ---- these positions
 
-          makes-pieces : {f : Contents} → old.files ≡ Told f →
-              (bytes : List ℕ) × (Holds old.files input bytes) × (command.makes f ≡ Ok (made bytes))
-          makes-pieces {f} told =
-              let at = makes-at told in
-              let holds = subst (λ fs. Holds fs input at.0) (sym told) at.1 in (
-                at.0,
-                holds,
-                at.4 ∙ ap (λ r. then_made r (pieces_result prefix at.0 laid_survey))
-                    (laid at.0 holds)
-                    ∙ ap (λ (outputs : List Output). Ok (record { outputs = outputs; text = [] }))
-                    (sym (outputs-are prefix laid_survey 1 pieces at.0 named)),
-              )
+-- The input is split at these places.
+pub record IsSplitAt {X : Type 0} (cut : Cutting X) (input prefix : List ℕ) (s : SurveyFields)
+    (old : Seen) (places : List X) : Type 0 where
+  pub source : IsSplitSurveyed cut input prefix s old
+  pub are : SaysPlaces cut old.files (Ok places)
 
-          none-before : (P : EditFault → Type 0) → IfTold old.files (λ f. IfErr (command.makes f) P)
-          none-before P = if-told (λ f told. rw (makes-pieces told).2 tt)
+module _ {X : Type 0} {cut : Cutting X} {input prefix : List ℕ} {s : SurveyFields} {old : Seen}
+    {places : List X} (split : IsSplitAt cut input prefix s old places) where
+  makes-at : {f : Contents} → old.files ≡ Told f
+      → (bytes : List ℕ) × (f input ≡ Some bytes) × (survey_of bytes most_frames ≡ Ok s)
+      × (cut.places f ≡ Ok places)
+      × ((split_command cut input prefix).makes f ≡ places_result cut prefix bytes s places)
+  makes-at {f} told =
+      let made = makes-then split.source told in
+      let here : cut.places f ≡ Ok places = rw told at split.are in (
+        made.0,
+        made.1,
+        made.2,
+        here,
+        made.3 ∙ ap (λ p. then_made p (places_result cut prefix made.0 s)) here,
+      )
 
-          whole : (new : Files) → ((bytes : List ℕ) → Holds old.files input bytes
-              → new ≡ with_outputs (piece_outputs laid_survey pieces bytes) old.files)
-              → IfTold old.files (λ f. (made : Made) × (command.makes f ≡ Ok made)
-              × (new ≡ Told (written_files made.outputs f)))
-          unfolding with_outputs
-          whole new all = if-told (λ f told. let makes = makes-pieces told in (
-            made makes.0,
-            makes.2,
-            subst (λ fs. new ≡ with_outputs (piece_outputs laid_survey pieces makes.0) fs) told
-                (all makes.0 makes.1),
-          ))
+  range-refused : {fault : EditFault} → ((bytes : List ℕ) → Holds old.files input bytes
+      → piece_parts cut bytes s places ≡ Err fault)
+      → HasAnswer (split_command cut input prefix) old.files (Err fault)
+  range-refused none =
+      if-told (λ f told.
+      let made = makes-at told in
+      made.4 ∙ ap (λ r. then_made r (pieces_result prefix made.0 (cut.survey s)))
+      (none made.0 (subst (λ fs. Holds fs input made.0) (sym told) made.1)))
 
-          -- the names of these pieces are those that are about to be written
-          pub pieces-to-write : IsToWrite command (names_of_pieces pieces) old.files
-          pieces-to-write = record {
-            free = apart;
-            made = if-told (λ f told. let makes = makes-pieces told in
-                (made makes.0, makes.2, names-made laid_survey makes.0 pieces));
-            front = ap (λ n. take n (piece_names prefix))
-                (length-map pieces (λ (p : PlannedPiece). string_bytes p.name))
-                ∙ sym (names-prefix prefix laid_survey pieces few named);
-          }
+  -- if places give no pieces, everything stays as it was
+  pub range-left : {new : Seen} (fault : EditFault) → new ≡ old → (fault ≡ Memory)
+      ⊎ (IsEditRefusal cut.refuses fault × ((bytes : List ℕ) → Holds old.files input bytes
+      → piece_parts cut bytes s places ≡ Err fault))
+      → IsCommandFault (split_command cut input prefix) old new fault
+  range-left fault same h = grind (arith, memory-left split.source, range-refused)
 
-          names-touched : {before after : Files} → OnlyTouches (names_of_pieces pieces) before after
-              → OnlyTouches (piece_names prefix) before after
-          names-touched {before} {after} only =
-              touches_more
-              (λ other. names-all prefix laid_survey pieces (λ name. other ≢ name) few named) only
+  -- the outputs hold their streams
+  pub split-streams : ((bytes : List ℕ) → Holds old.files input bytes → AreBytes bytes)
+      → HoldsStreams (split_command cut input prefix) old.files
+  unfolding input_streams
+  split-streams octets =
+      if-told {files = old.files} (λ f told. λ whole is.
+      let made = makes-at {f = f} told in
+      let t = cut.survey s in
+      let parts =
+      then_ok {r = piece_parts cut made.0 s places} {make =
+      pieces_result prefix made.0 t} {b = whole}
+      (sym made.4 ∙ is) in
+      let same : record { outputs = pieces_from prefix 1 made.0 t parts.0; text = [] }
+      ≡ whole = cc in
+      let streams : (split_command cut input prefix).streams f
+      ≡ map (λ (l : LaidPart). stream_laid l made.0 t) parts.0 =
+      ap (input_streams cut (cut.places f)) made.1
+      ∙ ap (surveyed_streams cut (cut.places f) made.0) made.2
+      ∙ ap (places_streams cut made.0 s) made.3
+      ∙ ap (laid_streams made.0 t) parts.1 in
+      let cut_file : IsCutFile cut made.0 s = record {
+        proper = split.source.can.proper;
+        octets = octets made.0 (subst (λ fs. Holds fs input made.0) (sym told) made.1);
+        survey_is = made.2;
+      } in
+      record {
+        sources = ((made.0, made.1, survey_of-sound made.0 most_frames {s = s} made.2), tt);
+        streams = subst
+            (λ (m : Made). AreStreams m.outputs ((split_command cut input prefix).streams f)) same
+            (subst (AreStreams (pieces_from prefix 1 made.0 t parts.0)) (sym streams)
+            (at-hold cut_file prefix places {ls = parts.0} parts.1));
+      })
 
-          first-touched : (k : ℕ) {new : Files}
-              → OnlyTouches (take (k + 1) (names_of_pieces pieces)) old.files new
-              → OnlyTouches (take (k + 1) (piece_names prefix)) old.files new
-          first-touched k {new} touches = touches_more (λ other. names-first prefix
-              laid_survey pieces (λ name. other ≢ name) k few named) touches
+-- ---- the pieces, all or some of which were written
 
-          part : (k : ℕ) (new : Files)
-              → IsWrittenPart (pieces_of input laid_survey pieces) k old.files new
-              → IsWrittenTo command k old.files new
-          unfolding with_part
-          part k new h = record {
-            made = if-told (λ f told. let makes = makes-pieces told in
-                let part = h.files makes.0 makes.1 in (
-                  made makes.0,
-                  makes.2,
-                  part.0,
-                  part.1,
-                  subst (λ fs. new
-                      ≡ with_part k part.1 (piece_outputs laid_survey pieces makes.0) fs)
-                      told part.2,
-                ));
-            touches = first-touched k h.touches;
-          }
+-- The input is split at these places, and these are the pieces between them.
+pub record AreSplitPieces {X : Type 0} (cut : Cutting X) (input prefix : List ℕ)
+    (s : SurveyFields) (old : Seen) (places : List X) (pieces : List PlannedPiece) : Type 0 where
+  pub split : IsSplitAt cut input prefix s old places
+  pub named : ArePieces prefix (cut.survey s) 1 pieces
+  pub laid : (bytes : List ℕ) → Holds old.files input bytes
+      → piece_parts cut bytes s places ≡ Ok (map piece_part pieces)
+  pub few : length pieces ≤ 99
 
-          unfinished : {k : ℕ} {new : Files}
-              → IsUnfinishedPart (pieces_of input laid_survey pieces) k old.files new
-              → IsOutputUnfinished command k old.files new
-          unfolding with_part
-          unfinished {k} {new} h = record {
-            made = if-told (λ f told. let makes = makes-pieces told in
-                let part = h.files makes.0 makes.1 in (
-                  made makes.0,
-                  makes.2,
-                  part.0,
-                  part.1,
-                  part.2,
-                  subst (λ fs. new
-                      ≡ with_part k part.1 (piece_outputs laid_survey pieces makes.0) fs)
-                      told part.3,
-                ));
-            touches = first-touched k h.touches;
-          }
+-- what is made of an input with these bytes and this survey
+abbrev made_of : SurveyFields → List PlannedPiece → List ℕ → Made
+made_of s pieces bytes = record { outputs = piece_outputs s pieces bytes; text = [] }
 
-          split-left-here : (new : Seen) (fault : EditFault)
-              → OnlyTouches (names_of_pieces pieces) old.files new.files
-              → IsPiecesFault (pieces_of input laid_survey pieces) old new fault
-              → IsCommandFault command old new fault
-          split-left-here new fault only h = each_why (why_of fault) h (record {
-            rejected = λ w. absurd w;
-            missing = λ w. absurd w;
-            unread = λ u. record {
-              names = apart;
-              before = none-before (IsNotBefore fault);
-              rose = rw u.is u.rose;
-              files = inr (u.place, part u.place new.files u.files);
-            };
-            shorter = λ l. let ended = rw l.is at l.ended in record {
-              ended = rw l.is
-                  (record { rose = ended.rose; counts = ended.counts; untold = ended.untold });
-              touches = names-touched only;
-            };
-            unwritten = λ k w. record {
-              rose = rw (← (name-here prefix laid_survey pieces few w.within named)) w.rose;
-              files = inl (unfinished w.files);
-            };
-            unsent = λ w. absurd w;
-            no_memory = λ w. absurd w;
-          })
+module _ {X : Type 0} {cut : Cutting X} {input prefix : List ℕ} {s : SurveyFields} {old : Seen}
+    {places : List X} {pieces : List PlannedPiece}
+    (are : AreSplitPieces cut input prefix s old places pieces) where
+  makes-pieces : {f : Contents} → old.files ≡ Told f
+      → (bytes : List ℕ) × (Holds old.files input bytes)
+      × ((split_command cut input prefix).makes f ≡ Ok (made_of (cut.survey s) pieces bytes))
+  makes-pieces {f} told =
+      let at = makes-at are.split told in
+      let holds = subst (λ fs. Holds fs input at.0) (sym told) at.1 in (
+        at.0,
+        holds,
+        at.4 ∙ ap (λ r. then_made r (pieces_result prefix at.0 (cut.survey s)))
+            (are.laid at.0 holds)
+            ∙ ap (λ (outputs : List Output). Ok (record { outputs = outputs; text = [] }))
+            (sym (outputs-are prefix (cut.survey s) 1 pieces at.0 are.named)),
+      )
 
-      -- ---- what is left by a step after those that left everything as it was
+  none-before : (P : EditFault → Type 0)
+      → IfTold old.files (λ f. IfErr ((split_command cut input prefix).makes f) P)
+  none-before P = if-told (λ f told. rw (makes-pieces told).2 tt)
 
-      module _ (mid new : Seen) (stays : mid ≡ old) where
-        -- if there are no places, everything stays as it was
-        pub places-left : (fault : EditFault) → IsPlacesFault cut mid new fault
-            → IsCommandFault command old new fault
-        places-left fault h = places-left-here new fault (rw stays at h)
+  whole : (new : Files) → ((bytes : List ℕ) → Holds old.files input bytes
+      → new ≡ with_outputs (piece_outputs (cut.survey s) pieces bytes) old.files)
+      → IfTold old.files (λ f. (made : Made) × ((split_command cut input prefix).makes f ≡ Ok made)
+      × (new ≡ Told (written_files made.outputs f)))
+  unfolding with_outputs
+  whole new all = if-told (λ f told. let makes = makes-pieces told in (
+    made_of (cut.survey s) pieces makes.0,
+    makes.2,
+    subst (λ fs. new ≡ with_outputs (piece_outputs (cut.survey s) pieces makes.0) fs) told
+        (all makes.0 makes.1),
+  ))
 
-        -- if memory runs out, everything stays as it was
-        pub memory-left : new ≡ mid → IsCommandFault command old new Memory
-        memory-left same = record { names = apart; takes = behind-takes; stays = same ∙ stays }
+  -- the names of these pieces are those that are about to be written
+  pub pieces-to-write :
+      IsToWrite (split_command cut input prefix) (names_of_pieces pieces) old.files
+  pieces-to-write = record {
+    free = are.split.source.can.apart;
+    made = if-told (λ f told. let makes = makes-pieces told in (
+      made_of (cut.survey s) pieces makes.0,
+      makes.2,
+      names-made (cut.survey s) makes.0 pieces,
+    ));
+    front = ap (λ n. take n (piece_names prefix))
+        (length-map pieces (λ (p : PlannedPiece). string_bytes p.name))
+        ∙ sym (names-prefix prefix (cut.survey s) pieces are.few are.named);
+  }
 
-        module _ (places : List X) (are : SaysPlaces cut old.files (Ok places)) where
-          -- if places give no pieces, everything stays as it was
-          pub range-left : (fault : EditFault) → new ≡ mid → (fault ≡ Memory)
-              ⊎ (IsEditRefusal cut.refuses fault × ((bytes : List ℕ) → Holds old.files input bytes
-              → piece_parts cut bytes s places ≡ Err fault)) → IsCommandFault command old new fault
-          range-left fault same h = grind (arith, memory-left, range-refused)
+  names-touched : {before after : Files} → OnlyTouches (names_of_pieces pieces) before after
+      → OnlyTouches (piece_names prefix) before after
+  names-touched only = touches_more
+      (λ other. names-all prefix (cut.survey s) pieces (λ name. other ≢ name) are.few are.named)
+      only
 
-          module _ (pieces : List PlannedPiece) (named : ArePieces prefix (cut.survey s) 1 pieces)
-              (laid : (bytes : List ℕ) → Holds old.files input bytes
-              → piece_parts cut bytes s places
-              ≡ Ok (map piece_part pieces)) (few : length pieces ≤ 99) where
-            -- if all pieces were written, and no count changed, the command is done
-            pub split-done : ((bytes : List ℕ) → Holds mid.files input bytes
-                → new.files ≡ with_outputs (piece_outputs (cut.survey s) pieces bytes) mid.files)
-                → OnlyTouches (names_of_pieces pieces) mid.files new.files → new.counts ≡ mid.counts
-                → IsCommandDone command old new
-            split-done wrote touches counts = record {
-              made = whole places are pieces named laid few new.files (rw stays at wrote);
-              touches = names-touched places are pieces named laid few (rw stays at touches);
-              counts = counts ∙ ap (λ (m : Seen). m.counts) stays;
-            }
+  first-touched : (k : ℕ) {new : Files}
+      → OnlyTouches (take (k + 1) (names_of_pieces pieces)) old.files new
+      → OnlyTouches (take (k + 1) (piece_names prefix)) old.files new
+  first-touched k touches = touches_more (λ other. names-first prefix
+      (cut.survey s) pieces (λ name. other ≢ name) k are.few are.named) touches
 
-            -- a fault of the second pass leaves the pieces before it whole
-            pub split-left : OnlyTouches (names_of_pieces pieces) mid.files new.files
-                → (fault : EditFault)
-                → IsPiecesFault (pieces_of input (cut.survey s) pieces) mid new fault
-                → IsCommandFault command old new fault
-            split-left touches fault h = split-left-here places are pieces named laid few new fault
-                (rw stays at touches) (rw stays at h)
+  part : (k : ℕ) (new : Files)
+      → IsWrittenPart (pieces_of input (cut.survey s) pieces) k old.files new
+      → IsWrittenTo (split_command cut input prefix) k old.files new
+  unfolding with_part
+  part k new h = record {
+    made = if-told (λ f told. let makes = makes-pieces told in
+        let part = h.files makes.0 makes.1 in (
+          made_of (cut.survey s) pieces makes.0,
+          makes.2,
+          part.0,
+          part.1,
+          subst (λ fs. new
+              ≡ with_part k part.1 (piece_outputs (cut.survey s) pieces makes.0) fs)
+              told part.2,
+        ));
+    touches = first-touched k h.touches;
+  }
+
+  unfinished : {k : ℕ} {new : Files}
+      → IsUnfinishedPart (pieces_of input (cut.survey s) pieces) k old.files new
+      → IsOutputUnfinished (split_command cut input prefix) k old.files new
+  unfolding with_part
+  unfinished {k} {new} h = record {
+    made = if-told (λ f told. let makes = makes-pieces told in
+        let part = h.files makes.0 makes.1 in (
+          made_of (cut.survey s) pieces makes.0,
+          makes.2,
+          part.0,
+          part.1,
+          part.2,
+          subst (λ fs. new
+              ≡ with_part k part.1 (piece_outputs (cut.survey s) pieces makes.0) fs)
+              told part.3,
+        ));
+    touches = first-touched k h.touches;
+  }
+
+  split-left-here : (new : Seen) (fault : EditFault)
+      → OnlyTouches (names_of_pieces pieces) old.files new.files
+      → IsPiecesFault (pieces_of input (cut.survey s) pieces) old new fault
+      → IsCommandFault (split_command cut input prefix) old new fault
+  split-left-here new fault only h = each_why (why_of fault) h (record {
+    rejected = λ w. absurd w;
+    missing = λ w. absurd w;
+    unread = λ u. record {
+      names = are.split.source.can.apart;
+      before = none-before (IsNotBefore fault);
+      rose = rw u.is u.rose;
+      files = inr (u.place, part u.place new.files u.files);
+    };
+    shorter = λ l. let ended = rw l.is at l.ended in record {
+      ended = rw l.is
+          (record { rose = ended.rose; counts = ended.counts; untold = ended.untold });
+      touches = names-touched only;
+    };
+    unwritten = λ k w. record {
+      rose = rw (← (name-here prefix (cut.survey s) pieces are.few w.within are.named)) w.rose;
+      files = inl (unfinished w.files);
+    };
+    unsent = λ w. absurd w;
+    no_memory = λ w. absurd w;
+  })
+
+  -- if all pieces were written, and no count changed, the command is done
+  pub split-done : {mid new : Seen} → mid ≡ old
+      → ((bytes : List ℕ) → Holds mid.files input bytes
+      → new.files ≡ with_outputs (piece_outputs (cut.survey s) pieces bytes) mid.files)
+      → OnlyTouches (names_of_pieces pieces) mid.files new.files → new.counts ≡ mid.counts
+      → IsCommandDone (split_command cut input prefix) old new
+  split-done {new = new} stays wrote touches counts = record {
+    made = whole new.files (rw stays at wrote);
+    touches = names-touched (rw stays at touches);
+    counts = counts ∙ ap (λ (m : Seen). m.counts) stays;
+  }
+
+  -- a fault of the second pass leaves the pieces before it whole
+  pub split-left : {mid : Seen} (new : Seen) → mid ≡ old
+      → OnlyTouches (names_of_pieces pieces) mid.files new.files → (fault : EditFault)
+      → IsPiecesFault (pieces_of input (cut.survey s) pieces) mid new fault
+      → IsCommandFault (split_command cut input prefix) old new fault
+  split-left new stays touches fault h =
+      split-left-here new fault (rw stays at touches) (rw stays at h)
 
 -- ---- faults that come before the outputs are asked for
 

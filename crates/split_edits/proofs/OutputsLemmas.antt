@@ -35,33 +35,36 @@ more-written : (xs : List Output) (name bytes : List ℕ) (files : Files) (input
 unfolding with_outputs files_holding
 more-written xs name bytes files input file holds = grind (arith, written-append)
 
--- after k whole outputs the next one wasn't created, or holds a prefix
-module _ (k : ℕ) (outputs rest : List Output) (o : Output) (now new : Files) (input file : List ℕ)
-    (next : drop k outputs ≡ o ∷ rest) where
-  not-created : (old : Files) → Holds old input file → now ≡ with_outputs (take k outputs) old
-      → new ≡ now → new ≡ with_part k None outputs old
-  unfolding with_outputs with_part
-  not-created old holds is stays = grind (arith, append-nil)
+-- These outputs begin with k whole ones, and this one is next.
+pub record IsNextOutput (k : ℕ) (outputs rest : List Output) (o : Output) (input file : List ℕ)
+    (old now : Files) : Type 0 where
+  pub next : drop k outputs ≡ o ∷ rest
+  pub holds : Holds old input file
+  pub is : now ≡ with_outputs (take k outputs) old
 
-  begun-with : (old : Files) → Holds old input file → now ≡ with_outputs (take k outputs) old
-      → (n : ℕ) → new ≡ files_holding now o.name (take n o.bytes)
+-- after k whole outputs the next one wasn't created, or holds a prefix
+module _ {k : ℕ} {outputs rest : List Output} {o : Output} {input file : List ℕ} {old now : Files}
+    (at : IsNextOutput k outputs rest o input file old now) where
+  not-created : {new : Files} → new ≡ now → new ≡ with_part k None outputs old
+  unfolding with_outputs with_part
+  not-created stays = grind (arith, append-nil, at.next, at.holds, at.is)
+
+  begun-with : {new : Files} (n : ℕ) → new ≡ files_holding now o.name (take n o.bytes)
       → new ≡ with_part k (Some n) outputs old
   unfolding with_outputs with_part files_holding
-  begun-with old holds is n part = grind (arith, written-append)
+  begun-with n part = grind (arith, written-append, at.next, at.holds, at.is)
 
-  module _ (old : Files) (holds : Holds old input file)
-      (is : now ≡ with_outputs (take k outputs) old) where
-    -- a prefix of the next output is a part of all outputs
-    pub part-of : HoldsPrefix o.name o.bytes now new
-        → (count : Option ℕ) × (new ≡ with_part k count outputs old)
-    part-of (inl stays) = (None, not-created old holds is stays)
-    part-of (inr part) = (Some part.0, begun-with old holds is part.0 part.1)
+  -- a prefix of the next output is a part of all outputs
+  pub part-of : (new : Files) → HoldsPrefix o.name o.bytes now new
+      → (count : Option ℕ) × (new ≡ with_part k count outputs old)
+  part-of new (inl stays) = (None, not-created stays)
+  part-of new (inr part) = (Some part.0, begun-with part.0 part.1)
 
-    -- if the next output was created and a write failed, it lacks bytes
-    pub less-of : HoldsLess o.name o.bytes now new → (count : Option ℕ)
-        × LacksBytes count (drop k outputs) × (new ≡ with_part k count outputs old)
-    less-of (inl stays) = (None, tt, not-created old holds is stays)
-    less-of (inr part) = (Some part.0, rw next part.1, begun-with old holds is part.0 part.2)
+  -- if the next output was created and a write failed, it lacks bytes
+  pub less-of : (new : Files) → HoldsLess o.name o.bytes now new → (count : Option ℕ)
+      × LacksBytes count (drop k outputs) × (new ≡ with_part k count outputs old)
+  less-of new (inl stays) = (None, tt, not-created stays)
+  less-of new (inr part) = (Some part.0, rw at.next part.1, begun-with part.0 part.2)
 
 -- ---- the input, beside an output that was written
 
@@ -98,22 +101,28 @@ none-wrote s {files = files} there = record {
 abbrev pub piece_made : SurveyFields → PlannedPiece → List ℕ → List ℕ
 piece_made s piece file = file_laid (selected_part piece.selected) file s
 
+-- The pieces before this one are whole, and only its name was touched since.
+pub record IsNextPiece (s : SurveyFields) (input : List ℕ) (all : List PlannedPiece) (k : ℕ)
+    (piece : PlannedPiece) (old now new : Files) : Type 0 where
+  pub next : drop k all ≡ piece ∷ drop (k + 1) all
+  pub wrote : Wrote s input (take k all) old now
+  pub touches : OnlyTouches (string_bytes piece.name ∷ []) now new
+
 -- the next piece was written, or begun
-module _ (s : SurveyFields) (input : List ℕ) (all : List PlannedPiece) (k : ℕ)
-    (piece : PlannedPiece)
-    (old now new : Files) (next : drop k all ≡ piece ∷ drop (k + 1) all) (wrote : Wrote s input
-    (take k all) old now) (touches : OnlyTouches (string_bytes piece.name ∷ []) now new) where
+module _ {s : SurveyFields} {input : List ℕ} {all : List PlannedPiece} {k : ℕ}
+    {piece : PlannedPiece} {old now new : Files}
+    (at : IsNextPiece s input all k piece old now new) where
   abbrev done : List PlannedPiece
   done = take k all
 
   more : take (k + 1) all ≡ done ++ piece ∷ []
-  more = take-add k 1 all ∙ ap (λ (ps : List PlannedPiece). done ++ take 1 ps) next
+  more = take-add k 1 all ∙ ap (λ (ps : List PlannedPiece). done ++ take 1 ps) at.next
 
   touched : OnlyTouches (names_of_pieces (take (k + 1) all)) old new
   touched = rw (
     more,
     map-append (λ (p : PlannedPiece). string_bytes p.name) done (piece ∷ []),
-  ) (touches_both wrote.touches touches)
+  ) (touches_both at.wrote.touches at.touches)
 
   touched-here : OnlyTouches (take (k + 1) (names_of_pieces all)) old new
   touched-here = rw (take-map (λ (p : PlannedPiece). string_bytes p.name) (k + 1) all) touched
@@ -130,32 +139,37 @@ module _ (s : SurveyFields) (input : List ℕ) (all : List PlannedPiece) (k : �
       → Wrote s input (take (k + 1) all) old new
   more-wrote apart whole =
       let beside =
-      stands-beside apart wrote.stands.there
-      touches.others in
+      stands-beside apart at.wrote.stands.there
+      at.touches.others in
       record {
-        files = grind (arith, more-written, more, map-append);
+        files = grind (arith, more-written, more, map-append, at.wrote.files);
         touches = touched;
         stands = record {
           there = beside.there;
-          before = λ bytes holds. wrote.stands.before bytes (beside.before bytes holds);
-          after = λ bytes holds. beside.after bytes (wrote.stands.after bytes holds);
+          before = λ bytes holds. at.wrote.stands.before bytes (beside.before bytes holds);
+          after = λ bytes holds. beside.after bytes (at.wrote.stands.after bytes holds);
         };
       }
 
   out : (bytes : List ℕ) → drop k (piece_outputs s all bytes)
       ≡ output_of bytes s piece ∷ piece_outputs s (drop (k + 1) all) bytes
-  out bytes = drop-map (output_of bytes s) k all ∙ ap (map (output_of bytes s)) next
+  out bytes = drop-map (output_of bytes s) k all ∙ ap (map (output_of bytes s)) at.next
 
   now-is : (bytes : List ℕ) → Holds old input bytes
       → now ≡ with_outputs (take k (piece_outputs s all bytes)) old
-  now-is bytes holds = wrote.files bytes holds
+  now-is bytes holds = at.wrote.files bytes holds
       ∙ ap (λ os. with_outputs os old) (sym (take-map (output_of bytes s) k all))
+
+  next-output : (bytes : List ℕ) → Holds old input bytes
+      → IsNextOutput k (piece_outputs s all bytes) (piece_outputs s (drop (k + 1) all) bytes)
+      (output_of bytes s piece) input bytes old now
+  next-output bytes holds = record { next = out bytes; holds = holds; is = now-is bytes holds }
 
   few : (bytes : List ℕ) → k < length (piece_outputs s all bytes)
   few bytes = omega (arith, ap length (out bytes), length-drop k (piece_outputs s all bytes))
 
   place-is : {place : ℕ} → place ≡ length done → place ≡ k
-  place-is is = omega (arith, is, length-take k all, ap length next, length-drop k all)
+  place-is is = omega (arith, is, length-take k all, ap length at.next, length-drop k all)
 
   name-here : {place : ℕ} → place ≡ length done
       → slice_index_or (names_of_pieces all) place [] ≡ string_bytes piece.name
@@ -164,15 +178,14 @@ module _ (s : SurveyFields) (input : List ℕ) (all : List PlannedPiece) (k : �
       ap (λ n. slice_index_or (names_of_pieces all) n []) here
       ∙ sym (get_or-drop k (names_of_pieces all) 0 [])
       ∙ ap (λ (l : List (List ℕ)). slice_index_or l 0 [])
-      (drop-map (λ (p : PlannedPiece). string_bytes p.name) k all ∙ ap names_of_pieces next)
+      (drop-map (λ (p : PlannedPiece). string_bytes p.name) k all ∙ ap names_of_pieces at.next)
 
   part-written : ((bytes : List ℕ) → Holds now input bytes
       → HoldsPrefix (string_bytes piece.name) (piece_made s piece bytes) now new) → {place : ℕ}
       → place ≡ length done → IsWrittenPart (pieces_of input s all) place old new
   part-written begun_output {place} is = rw (place-is is) (record {
-    files = λ bytes holds. let part = part-of k _ _ (output_of bytes s piece) now new input bytes
-        (out bytes) old holds (now-is bytes holds)
-        (begun_output bytes (wrote.stands.after bytes holds)) in
+    files = λ bytes holds. let part = part-of (next-output bytes holds) new
+        (begun_output bytes (at.wrote.stands.after bytes holds)) in
         (few bytes, part.0, part.1);
     touches = touched-here;
   })
@@ -181,9 +194,8 @@ module _ (s : SurveyFields) (input : List ℕ) (all : List PlannedPiece) (k : �
       → HoldsLess (string_bytes piece.name) (piece_made s piece bytes) now new) → {place : ℕ}
       → place ≡ length done → IsUnfinishedPart (pieces_of input s all) place old new
   part-unfinished begun_output {place} is = rw (place-is is) (record {
-    files = λ bytes holds. let part = less-of k _ _ (output_of bytes s piece) now new input bytes
-        (out bytes) old holds (now-is bytes holds)
-        (begun_output bytes (wrote.stands.after bytes holds)) in
+    files = λ bytes holds. let part = less-of (next-output bytes holds) new
+        (begun_output bytes (at.wrote.stands.after bytes holds)) in
         (few bytes, part.0, part.1, part.2);
     touches = touched-here;
   })
@@ -214,7 +226,7 @@ module _ (s : SurveyFields) (input : List ℕ) (all : List PlannedPiece) (k : �
         within = omega (
           arith,
           place-is is,
-          ap length next,
+          ap length at.next,
           length-drop k all,
           length-map all (λ (p : PlannedPiece). string_bytes p.name),
         );

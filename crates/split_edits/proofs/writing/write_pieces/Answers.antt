@@ -6,9 +6,9 @@ use Rattle.commands.proofs.OutputLemmas.{touches_whole}
 use Rattle.cut_edits.proofs.LaidPassLemmas.{relay-ready}
 use Rattle.laying.{proofs.RelayLemmas.item-next, specs.Laid.IsWritableSelection}
 use Rattle.outside.proofs.FilesLemmas.{emptied_held_other, fails_touches}
-use Rattle.outside.specs.declared.pass.PassFault.TheVariants.{Write}
-use Rattle.split_edits.proofs.OutputsLemmas.{all-touched, more-wrote, none-wrote, piece_made}
-use Rattle.split_edits.proofs.OutputsLemmas.{pieces-fault, Wrote}
+use Rattle.outside.specs.{Files.{Files, OnlyTouches}, declared.pass.PassFault.TheVariants.Write}
+use Rattle.split_edits.proofs.OutputsLemmas.{all-touched, IsNextPiece, more-wrote, none-wrote}
+use Rattle.split_edits.proofs.OutputsLemmas.{piece_made, pieces-fault, Wrote}
 use Rattle.split_edits.proofs.writing.write_pieces.Goals.{After-create, After-loop-piece}
 use Rattle.split_edits.specs.declared.piece.PlannedPiece.{PlannedPiece}
 use Rattle.sync_survey.specs.Faults.{survey_view}
@@ -47,6 +47,14 @@ module _ (g : given.Over) (c : After-create g) where
     c.loop-piece-test.true,
   )
 
+  next-piece : {new : Files} → OnlyTouches (string_bytes piece.name ∷ [])
+      (g.D.Folder.seen c.loop-piece.folder).files new
+      → IsNextPiece (survey_view c.args.survey.now) c.args.input.now c.args.pieces.now
+      c.loop-piece.piece-index piece (g.D.Folder.seen c.args.folder.now).files
+      (g.D.Folder.seen c.loop-piece.folder).files new
+  next-piece touches =
+      record { next = next; wrote = c.loop-piece.invariant.wrote; touches = touches }
+
   apart : c.args.input.now ≢ c.as_str.result.now
   apart same = ready.0 (same ∙ c.as_str.ensures.value)
 
@@ -71,14 +79,10 @@ returns-in_default g c =
     let kept = rw c.as_str.ensures.value at c.in_default.ensures.answer.kept in
     record {
       written = tt;
-      touches = all-touched (survey_view c.args.survey.now) c.args.input.now c.args.pieces.now
-          c.loop-piece.piece-index (piece g at) _ _ _ (next g at) c.loop-piece.invariant.wrote
-          (fails_touches (rw c.as_str.ensures.value at c.in_default.ensures.answer.kept));
+      touches = all-touched (next-piece g at (fails_touches kept));
       done = tt;
       left =
-          pieces-fault (survey_view c.args.survey.now)
-          c.args.input.now c.args.pieces.now c.loop-piece.piece-index (piece g at) _ _ _ (next g at)
-          c.loop-piece.invariant.wrote (fails_touches kept) Write _
+          pieces-fault (next-piece g at (fails_touches kept)) Write _
           (place-is g at) c.loop-piece.invariant.counts (
             refl,
             record {
@@ -103,15 +107,11 @@ returns-in-Err g c =
     (apart g at) _ _ _ c.in-Ok.ensures.answer.created c.in-Err.ensures.prefix in
     record {
       written = tt;
-      touches = all-touched (survey_view c.args.survey.now)
-          c.args.input.now c.args.pieces.now c.loop-piece.piece-index (piece g at) _ _ _
-          (next g at) c.loop-piece.invariant.wrote (rw c.as_str.ensures.value at touches);
+      touches = all-touched (next-piece g at (rw c.as_str.ensures.value at touches));
       done = tt;
       left =
           rw c.of_pass.ensures
-          (pieces-fault (survey_view c.args.survey.now)
-          c.args.input.now c.args.pieces.now c.loop-piece.piece-index (piece g at) _ _ _
-          (next g at) c.loop-piece.invariant.wrote (rw c.as_str.ensures.value at touches)
+          (pieces-fault (next-piece g at (rw c.as_str.ensures.value at touches))
           c.in-Err.fault _ (place-is g at) c.loop-piece.invariant.counts
           (rw c.as_str.ensures.value at fault));
       numbers = search rules;
@@ -126,9 +126,7 @@ loop-piece-preserved g c =
     let whole = output_whole (piece_made (survey_view c.args.survey.now) (piece g at)) _ _
     (apart g at) _ _ _ c.in-Ok.ensures.answer.created c.in_default-write.ensures.written in
     record {
-      wrote = more-wrote (survey_view c.args.survey.now)
-          c.args.input.now c.args.pieces.now c.loop-piece.piece-index (piece g at) _ _ _
-          (next g at) c.loop-piece.invariant.wrote (rw c.as_str.ensures.value at touches)
+      wrote = more-wrote (next-piece g at (rw c.as_str.ensures.value at touches))
           (ready g at).0 (rw c.as_str.ensures.value at whole);
       place = omega (arith, c.loop-piece.invariant.place);
       fed = c.in_default-write.ensures.ready.pass.fed_from;
