@@ -106,6 +106,22 @@ salvage_proper input = record {
 
 -- ---- a fault of the reading
 
+-- This was read of the input, which is there, and can be laid anew.
+pub record CanBeSalvaged (input : List ℕ) (files : Files) (m : Mended) : Type 0 where
+  pub is : IsMended input files m
+  pub there : IsFileThere files input
+  pub octets : HoldsOctets input files
+  pub placed : IsSurveyLaidOut (survey_view m.survey)
+
+-- The work chose all frames of what was read, has said nothing yet, and reports on what was read.
+pub record IsPreparedOf (m : Mended) (selected : Selected) (work : SalvageWork) : Type 0 where
+  pub made : IsWorkOf m.survey selected work.laid
+  pub own :
+      IsSelected own_choice (all_chosen (survey_view m.survey)) (survey_view m.survey) selected
+  pub unsaid : work.sending ≡ []
+  pub reports : (d : DamagedFields) → m.emptied.items ≡ emptied_from 0 d.survey.frames
+      → m.gaps.items ≡ d.gaps → IsReportOf d work.report
+
 module _ (input : List ℕ) where
   refuses-bytes : (files : Files) {fault : SurveyFault} → IsFileThere files input
       → ((bytes : List ℕ) → Holds files input bytes → damaged_of bytes ≡ Err fault)
@@ -191,24 +207,21 @@ module _ (input : List ℕ) where
       rw is.survey (damaged_fields-relaid (damaged_of-is bytes (is.read bytes holds)).1 is.laid)
 
   -- the work that was made from what is left is prepared for the pass
-  pub ready-of : (files : Files) (m : Mended) (selected : Selected) (work : SalvageWork)
-      → IsMended input files m → IsWorkOf m.survey selected work.laid → IsFileThere files input
-      → HoldsOctets input files → IsSurveyLaidOut (survey_view m.survey)
-      → IsSelected own_choice (all_chosen (survey_view m.survey)) (survey_view m.survey) selected
-      → work.sending ≡ [] → ((d : DamagedFields) → m.emptied.items ≡ emptied_from 0 d.survey.frames
-      → m.gaps.items ≡ d.gaps → IsReportOf d work.report) → IsSalvageReady input files work
-  ready-of files m selected work is made there octets placed own unsaid reports = record {
-    octets = octets;
-    of = is.of;
-    read = is.read;
-    laid = is.laid;
+  pub ready-of : {files : Files} {m : Mended} {selected : Selected} {work : SalvageWork}
+      → CanBeSalvaged input files m → IsPreparedOf m selected work
+      → IsSalvageReady input files work
+  ready-of {files} {m} {selected} {work} can prepared = record {
+    octets = can.octets;
+    of = can.is.of;
+    read = can.is.read;
+    laid = can.is.laid;
     layable =
-        work_layable m.survey selected work.laid made {input = input} {files = files} there placed
-        (mended-has files m is) own.writable;
-    survey = ap survey_view made.survey_is ∙ is.survey;
-    selected = rw made.survey_is (rw made.selected_is own);
-    unsaid = unsaid;
-    reports = reports is.of is.emptied is.gaps;
+        work_layable m.survey selected work.laid prepared.made {input = input} {files = files}
+        can.there can.placed (mended-has files m can.is) prepared.own.writable;
+    survey = ap survey_view prepared.made.survey_is ∙ can.is.survey;
+    selected = rw prepared.made.survey_is (rw prepared.made.selected_is prepared.own);
+    unsaid = prepared.unsaid;
+    reports = prepared.reports can.is.of can.is.emptied can.is.gaps;
   }
 
   module _ (files : Files) (work : SalvageWork) (ready : IsSalvageReady input files work) where

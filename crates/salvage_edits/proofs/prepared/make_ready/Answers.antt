@@ -19,7 +19,11 @@ plan_file-requires c =
 
 pub returns : goal.returns
 returns c = λ input files mended there octets.
-    ready-of input files c.args.mended c.in_ok-selected.selected _ mended c.in_ok-laid.ensures there
-    octets c.requires.laid (rw c.all_frames.ensures at c.in_ok-selected.ensures)
-    c.in_ok-sending.ensures
-    (λ d emptied gaps. record { gaps = gaps; emptied = emptied })
+    ready-of input {m = c.args.mended} {selected = c.in_ok-selected.selected}
+    (record { is = mended; there = there; octets = octets; placed = c.requires.laid })
+    (record {
+      made = c.in_ok-laid.ensures;
+      own = rw c.all_frames.ensures at c.in_ok-selected.ensures;
+      unsaid = c.in_ok-sending.ensures;
+      reports = λ d emptied gaps. record { gaps = gaps; emptied = emptied };
+    })
