@@ -50,84 +50,108 @@ module _ (text : List ℕ → SurveyFields → List ℕ) (input : List ℕ) wher
     takes = λ f bytes s held is. rw (gives_survey f held is) tt;
   }
 
-  -- ---- a file without fault, with this text
+-- ---- a file without fault, with this text
 
-  module _ (files : Files) (s : SurveyFields) (said : List ℕ) (there : IsFileThere files input)
-      (is : (bytes : List ℕ) → Holds files input bytes → survey_of bytes most_frames ≡ Ok s)
-      (text_is : (bytes : List ℕ) → Holds files input bytes → text bytes s ≡ said) where
-    abbrev made_of : Made
-    made_of = record { outputs = []; text = said }
+-- The input is there, has this survey, and this is its text.
+pub record HasText (text : List ℕ → SurveyFields → List ℕ) (input : List ℕ) (files : Files)
+    (s : SurveyFields) (said : List ℕ) : Type 0 where
+  pub there : IsFileThere files input
+  pub surveyed : (bytes : List ℕ) → Holds files input bytes → survey_of bytes most_frames ≡ Ok s
+  pub text_is : (bytes : List ℕ) → Holds files input bytes → text bytes s ≡ said
 
-    gives : HasAnswer (text_command text input) files (Ok made_of)
-    gives = grind (arith, gives_bytes)
+-- All of this text was sent or, if a write failed, a prefix.
+pub record IsTold {T : Type 0} (said : List ℕ) (old new : Heard) (result : Result T EditFault)
+    : Type 0 where
+  pub fault : IfErr result (λ fault. fault ≡ NotSent)
+  pub sent : OnOk result (new.sent ≡ sent_and_more old.sent said)
+  pub prefix : OnErr result (SentPrefix said old.sent new.sent)
+  pub cause : HasCause old.faults new.faults result
 
-    module _ (new : Files) (counts after : Counts) (same : new ≡ files)
-        (done : after ≡ counts) where
-      -- if no count changed, the command is done
-      pub is_done : IsCommandDone (text_command text input) (seen_folder files counts)
-          (seen_folder new after)
-      is_done = record {
-        made = at files same gives;
-        touches = rw same (touches_none [] files);
-        counts = done;
-      }
-        where
-          at : (fs : Files) → new ≡ fs → HasAnswer (text_command text input) fs (Ok made_of)
-              → IfTold fs (λ f. (made : Made) × ((text_command text input).makes f ≡ Ok made)
-              × (new ≡ Told (written_files made.outputs f)))
-          at (Untold touched) e g = tt
-          at (Told f) e g = (made_of, g, e)
+-- what is made of a file with this text
+abbrev made_of : List ℕ → Made
+made_of said = record { outputs = []; text = said }
 
-      -- if a write to standard output failed, the command leaves what it may
-      pub unsent : IsCommandFault (text_command text input) (seen_folder files counts)
-          (seen_folder new after) NotSent
-      unsent = is_done
+module _ {text : List ℕ → SurveyFields → List ℕ} {input : List ℕ} {files : Files}
+    {s : SurveyFields} {said : List ℕ} (has : HasText text input files s said) where
+  gives : HasAnswer (text_command text input) files (Ok (made_of said))
+  gives = grind (arith, gives_bytes, has.there, has.surveyed, has.text_is)
 
-      -- if memory runs out for what is sent, the command leaves what it may
-      pub no_room : IsCommandFault (text_command text input) (seen_folder files counts)
-          (seen_folder new after) Memory
-      no_room = record { names = refl; takes = at files gives; stays = ap₂ seen_folder same done }
-        where
-          at : (fs : Files) → HasAnswer (text_command text input) fs (Ok made_of)
-              → IfTold fs (λ f. TakesMemory ((text_command text input).makes f))
-          at (Untold touched) g = tt
-          at (Told f) g = rw g tt
+  -- if no count changed, the command is done
+  pub is_done : {new : Files} {counts after : Counts} → new ≡ files → after ≡ counts
+      → IsCommandDone (text_command text input) (seen_folder files counts) (seen_folder new after)
+  is_done {new} same done = record {
+    made = at files same gives;
+    touches = rw same (touches_none [] files);
+    counts = done;
+  }
+    where
+      at : (fs : Files) → new ≡ fs → HasAnswer (text_command text input) fs (Ok (made_of said))
+          → IfTold fs (λ f. (made : Made) × ((text_command text input).makes f ≡ Ok made)
+          × (new ≡ Told (written_files made.outputs f)))
+      at (Untold touched) e g = tt
+      at (Told f) e g = (made_of said, g, e)
 
-    -- the command writes no output, so its streams hold
-    pub holds_streams : HoldsStreams (text_command text input) files
-    holds_streams = at files there is gives
-      where
-        none_written : (f : Contents) (bytes : List ℕ) → f input ≡ Some bytes → IsWellFormed bytes
-            → (made : Made) → ok_made made_of ≡ ok_made made
-            → MakesStreams (text_command text input) f made
-        none_written f bytes holds sound made e =
-            rw (← (made-same e))
-            (record { sources = ((bytes, holds, sound), tt); streams = tt })
+  -- if a write to standard output failed, the command leaves what it may
+  pub unsent : {new : Files} {counts after : Counts} → new ≡ files → after ≡ counts
+      → IsCommandFault (text_command text input) (seen_folder files counts)
+      (seen_folder new after) NotSent
+  unsent same done = is_done same done
 
-        at : (fs : Files) → IsFileThere fs input
-            → ((bytes : List ℕ) → Holds fs input bytes → survey_of bytes most_frames ≡ Ok s)
-            → HasAnswer (text_command text input) fs (Ok made_of)
-            → HoldsStreams (text_command text input) fs
-        at (Untold touched) there is g = tt
-        at (Told f) there is g =
-            let held = there_holds f there in
-            let parts = survey_of-parts held.0 most_frames (is held.0 held.1) in
-            λ made e. none_written f held.0 held.1 (
-              s,
-              survey_fields-allowed held.0 most_frames (omega arith) parts.1,
-            ) made (sym g ∙ e)
+  -- if memory runs out for what is sent, the command leaves what it may
+  pub no_room : {new : Files} {counts after : Counts} → new ≡ files → after ≡ counts
+      → IsCommandFault (text_command text input) (seen_folder files counts)
+      (seen_folder new after) Memory
+  no_room same done =
+      record { names = refl; takes = at files gives; stays = ap₂ seen_folder same done }
+    where
+      at : (fs : Files) → HasAnswer (text_command text input) fs (Ok (made_of said))
+          → IfTold fs (λ f. TakesMemory ((text_command text input).makes f))
+      at (Untold touched) g = tt
+      at (Told f) g = rw g tt
 
-    -- the text of the command is this one
-    only_text : {told : List ℕ} → IsCommandText (text_command text input) files told → said ≡ told
-    only_text h = grind arith
+  -- the command writes no output, so its streams hold
+  pub holds_streams : HoldsStreams (text_command text input) files
+  holds_streams = at files has.there has.surveyed gives
+    where
+      none_written : (f : Contents) {bytes : List ℕ} → f input ≡ Some bytes → IsWellFormed bytes
+          → (made : Made) → ok_made (made_of said) ≡ ok_made made
+          → MakesStreams (text_command text input) f made
+      none_written f {bytes} holds sound made e =
+          rw (← (made-same e))
+          (record { sources = ((bytes, holds, sound), tt); streams = tt })
 
-    -- all of the text was sent or, if a write failed, a prefix
-    pub says : {T : Type 0} (old new : Heard) (result : Result T EditFault)
-        → IfErr result (λ fault. fault ≡ NotSent)
-        → OnOk result (new.sent ≡ sent_and_more old.sent said)
-        → OnErr result (SentPrefix said old.sent new.sent) → HasCause old.faults new.faults result
-        → SaysText (text_command text input) files old new (answer_fault result)
-    says old new = grind (arith, told_by, says-all, only_text, says-prefix)
+      at : (fs : Files) → IsFileThere fs input
+          → ((bytes : List ℕ) → Holds fs input bytes → survey_of bytes most_frames ≡ Ok s)
+          → HasAnswer (text_command text input) fs (Ok (made_of said))
+          → HoldsStreams (text_command text input) fs
+      at (Untold touched) there is g = tt
+      at (Told f) there is g =
+          let held = there_holds f there in
+          let parts = survey_of-parts held.0 most_frames (is held.0 held.1) in
+          λ made e. none_written f held.1 (
+            s,
+            survey_fields-allowed held.0 most_frames (omega arith) parts.1,
+          ) made (sym g ∙ e)
+
+  -- the text of the command is this one
+  only_text : {told : List ℕ} → IsCommandText (text_command text input) files told → said ≡ told
+  only_text h = grind (arith, has.there, has.surveyed, has.text_is)
+
+  -- all of the text was sent or, if a write failed, a prefix
+  pub says : {T : Type 0} {old new : Heard} {result : Result T EditFault}
+      → IsTold said old new result
+      → SaysText (text_command text input) files old new (answer_fault result)
+  says told = grind (
+    arith,
+    told_by,
+    says-all,
+    only_text,
+    says-prefix,
+    told.fault,
+    told.sent,
+    told.prefix,
+    told.cause,
+  )
 
 -- ---- a call that is refused before anything is sent
 

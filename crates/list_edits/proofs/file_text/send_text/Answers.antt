@@ -1,13 +1,12 @@
 -- What the call leaves, given the survey, what was read besides, and what was sent of the text.
-use Rattle.std.{proofs.Common.{ap₂, List, ℕ, ◌∙◌, ◌≡◌}, specs.Prelude.{IfErr, OnOk}}
+use Rattle.std.{proofs.Common.{ap₂, ◌∙◌, ◌≡◌}, specs.Prelude.{IfErr, OnOk}}
 use Rattle.commands.proofs.SurveyedLemmas.{survey_left}
 use Rattle.commands.specs.AfterCall.{HasNumbers, IsCommandDone, IsCommandFault}
 use Rattle.commands.specs.Command.{HoldsStreams}
-use Rattle.list_edits.proofs.TextLemmas.{begins, holds_streams, is_done, no_room, refused_run, says}
-use Rattle.list_edits.proofs.{TextLemmas.{told_by, unsent}, file_text.send_text.Goals.In_ok-text}
-use Rattle.list_edits.specs.TextCommand.{text_command}
-use Rattle.outside.{proofs.CountsLemmas.only_reads_same, specs.{Counts.OnlyReads, Files.Holds}}
-use Rattle.outside.specs.Seen.{seen_folder}
+use Rattle.list_edits.proofs.TextLemmas.{begins, HasText, holds_streams, is_done, no_room}
+use Rattle.list_edits.proofs.TextLemmas.{refused_run, says, told_by, unsent}
+use Rattle.list_edits.{proofs.file_text.send_text.Goals.In_ok-text, specs.TextCommand.text_command}
+use Rattle.outside.{proofs.CountsLemmas.only_reads_same, specs.{Counts.OnlyReads, Seen.seen_folder}}
 use Rattle.sync_survey.specs.Faults.{survey_view}
 use Rattle.list_edits.proofs.file_text.send_text.Given as given
 use Rattle.list_edits.proofs.file_text.send_text.Goals as goal
@@ -35,15 +34,15 @@ returns-in_err-text g c =
     (c.read.ensures.reads.files ∙ files)
     (rw (← counts) c.read.ensures.reads.counts)
 
--- the text of the input's bytes, where they are known, is the text from what was read
-text_is : (g : given.Over) (c : In_ok-text g) (bytes : List ℕ)
-    → Holds (g.D.Folder.seen c.args.folder.now).files c.args.input.now bytes
-    → g.K.FileText.text bytes (survey_view c.in_ok-survey.survey)
-    ≡ g.K.FileText.said c.in_ok-text.text (survey_view c.in_ok-survey.survey)
-text_is g c bytes holds =
-    let files = c.survey_at.ensures.reads.files in
-    c.in_ok-text.ensures.text bytes
-    (rw files holds)
+-- where the input's bytes are known, their text is the text from what was read
+has_text : (g : given.Over) (c : In_ok-text g) → HasText g.K.FileText.text c.args.input.now
+    (g.D.Folder.seen c.args.folder.now).files (survey_view c.in_ok-survey.survey)
+    (g.K.FileText.said c.in_ok-text.text (survey_view c.in_ok-survey.survey))
+has_text g c = let files = c.survey_at.ensures.reads.files in record {
+  there = c.in_ok-survey.ensures.there;
+  surveyed = c.in_ok-survey.ensures.surveyed;
+  text_is = λ bytes holds. c.in_ok-text.ensures.text bytes (rw files holds);
+}
 
 -- neither files nor counts changed
 files_stay : (g : given.Over) (c : In_ok-text g)
@@ -62,46 +61,36 @@ only_read g c =
 
 pub returns-in_err-buffer : goal.returns-in_err-buffer
 returns-in_err-buffer g c =
-    let known = c.in_ok-survey.ensures in
-    let text = g.K.FileText.text in
-    let s = survey_view c.in_ok-survey.survey in
-    let said = g.K.FileText.said c.in_ok-text.text s in
     let h = (goal.at.returns-in_err-buffer g c).In_ok-text in
-    let input = c.args.input.now in
-    let old = g.D.Folder.seen c.args.folder.now in
     let end = c.from_residual-in_err-buffer in
-    refused_run text _ _ end.ensures.1
-    (no_room text input old.files s said known.there known.surveyed (text_is g h) _ _ _
-    (files_stay g h) (counts_stay g h))
+    refused_run g.K.FileText.text _ _ end.ensures.1
+    (no_room (has_text g h) (files_stay g h) (counts_stay g h))
     tt (files_stay g h) (only_read g h)
 
 pub returns : goal.returns
 returns g c =
-    let known = c.in_ok-survey.ensures in
-    let text = g.K.FileText.text in
-    let input = c.args.input.now in
-    let s = survey_view c.in_ok-survey.survey in
-    let said = g.K.FileText.said c.in_ok-text.text s in
     let h = (goal.at.returns g c).In_ok-text in
-    let command = text_command text input in
+    let has = has_text g h in
+    let command = text_command g.K.FileText.text c.args.input.now in
     let old = g.D.Folder.seen c.args.folder.now in
     let new = g.D.Folder.seen c.read.new.folder in
     let sink = g.T.Sink in
     let fault = c.tell.ensures.fault in
     record {
       done = told_by (λ r. OnOk r (IsCommandDone command old new))
-          (λ x. is_done text input old.files s said known.there known.surveyed (text_is g h) _ _ _
-          (files_stay g h) (counts_stay g h)) tt fault;
+          (λ x. is_done has (files_stay g h) (counts_stay g h)) tt fault;
       left = told_by (λ r. IfErr r (IsCommandFault command old new)) (λ x. tt)
-          (unsent text input old.files s said known.there known.surveyed (text_is g h) _ _ _
-          (files_stay g h) (counts_stay g h)) fault;
-      says = says text input old.files s said known.there known.surveyed (text_is g h)
-          (sink.heard c.args.out.now) (sink.heard c.tell.new.out) c.tell.result fault
-          c.tell.ensures.sent c.tell.ensures.prefix c.tell.ensures.cause;
+          (unsent has (files_stay g h) (counts_stay g h)) fault;
+      says = says has {old = sink.heard c.args.out.now} {new = sink.heard c.tell.new.out}
+          {result = c.tell.result} (record {
+            fault = fault;
+            sent = c.tell.ensures.sent;
+            prefix = c.tell.ensures.prefix;
+            cause = c.tell.ensures.cause;
+          });
       numbers = told_by (λ r. IfErr r (HasNumbers command)) (λ x. tt) (λ none. absurd cc) fault;
-      streams = told_by (λ r. OnOk r (HoldsStreams command old.files))
-          (λ x. holds_streams text input old.files s said known.there known.surveyed (text_is g h))
-          tt fault;
+      streams =
+          told_by (λ r. OnOk r (HoldsStreams command old.files)) (λ x. holds_streams has) tt fault;
       files = files_stay g h;
       counts = only_read g h;
     }
