@@ -32,52 +32,69 @@ look_failed {was = was} {now = now} {name = name} (Err f) is fed reads refused o
       (look_refusal (none_read fed) refused outside);
 }
 
-module _ (was now : Seen) (name : List ℕ) (begun : Begun) (old : DamagedSoFar) (item : Item)
-    (size : ℕ)
-    (front : List ℕ) (left : ℕ)
-    (shows : (bytes : List ℕ) → Holds was.files name bytes → Shows bytes old.at front left)
-    (role : Role) (later : role ≡ Later (begun_class begun))
-    (read : (bytes : List ℕ) → Shows bytes old.at front left
-    → item_read bytes role old.at ≡ Some item)
-    (begins : IsBegunFile was.files name begun)
-    (reading : IsDamagedReading was.files name begun old) where
+-- An item was read of the bytes that are shown at the offset that was reached, as a later thing of
+-- this file, and ends within the file.
+pub record IsReadOn (was : Seen) (name : List ℕ) (begun : Begun) (old : DamagedSoFar) (item : Item)
+    (size : ℕ) (front : List ℕ) (left : ℕ) (role : Role) : Type 0 where
+  pub shows : (bytes : List ℕ) → Holds was.files name bytes → Shows bytes old.at front left
+  pub later : role ≡ Later (begun_class begun)
+  pub read : (bytes : List ℕ) → Shows bytes old.at front left
+      → item_read bytes role old.at ≡ Some item
+  pub begins : IsBegunFile was.files name begun
+  pub reading : IsDamagedReading was.files name begun old
+  pub usable : admits_item role old.at item front ≡ true
+  pub passes : PassesFront front left (record { item = item; size = size })
+  pub within : old.at + size ≤ begun.size
+
+module _ {was : Seen} {name : List ℕ} {begun : Begun} {old : DamagedSoFar} {item : Item} {size : ℕ}
+    {front : List ℕ} {left : ℕ} {role : Role}
+    (on : IsReadOn was name begun old item size front left role) where
   read_there : (bytes : List ℕ) → Holds was.files name bytes
       → item_read bytes (Later (begun_class begun)) old.at ≡ Some item
   read_there bytes holds =
-      subst (λ (role : Role). item_read bytes role old.at ≡ Some item) later
-      (read bytes (shows bytes holds))
+      subst (λ (role : Role). item_read bytes role old.at ≡ Some item) on.later
+      (on.read bytes (on.shows bytes holds))
 
   -- the file is refused if memory ran out, or if the item is a frame too many
-  keep_refused : now.counts ≡ was.counts → {fault : SurveyFault} → (fault ≡ Memory)
-      ⊎ IsPastMost item old fault → IsDamagedRefusal name was.files was.counts now.counts fault
-  keep_refused same {fault} is =
+  keep_refused : (now : Seen) → now.counts ≡ was.counts → {fault : SurveyFault}
+      → (fault ≡ Memory) ⊎ IsPastMost item old fault
+      → IsDamagedRefusal name was.files was.counts now.counts fault
+  keep_refused now same {fault} is =
       elim is as (λ _. IsDamagedRefusal name was.files was.counts now.counts fault) [
-        | inl memory ↦ grind (arith, memory_refusal)
-        | inr past ↦ grind (arith, bytes_refusal, past_rightly, past_most, read_there)
+        | inl memory ↦ grind (arith, memory_refusal, on.begins)
+        | inr past ↦ grind (
+          arith,
+          bytes_refusal,
+          past_rightly,
+          past_most,
+          read_there,
+          on.begins,
+          on.reading,
+        )
       ]
 
   -- the item is kept, or is refused
-  pub keeps_on : {result : Result (Unit {0}) SurveyFault} {new : DamagedSoFar} {fed : Fed}
-      → admits_item role old.at item front ≡ true
-      → PassesFront front left (record { item = item; size = size }) → old.at + size ≤ begun.size
-      → MatchResult result (λ _. AddsItem item size front old new)
+  pub keeps_on : {now : Seen} {result : Result (Unit {0}) SurveyFault} {new : DamagedSoFar}
+      {fed : Fed} → MatchResult result (λ _. AddsItem item size front old new)
       (λ fault. (fault ≡ Memory) ⊎ IsPastMost item old fault)
       → OnOk result (length old.rows.items ≤ most_frames → length new.rows.items ≤ most_frames)
       → now.counts ≡ was.counts → ReadsBy fed name result was now
       → ThingAnswer name begun old new fed was now result
-  keeps_on {result} {new} usable passes within kept few same reads = record {
+  keeps_on {now} {result} {new} kept few same reads = record {
     reading = on_both result (λ _. AddsItem item size front old new) _ _ _ kept few
         (λ _ adds fewer. record {
           reading = record {
             told = λ bytes holds. item_more bytes begun old new
-                (reading.told bytes holds) (shows bytes holds)
-                (read_there bytes holds) passes.zeros passes.own adds;
-            laid = item_laid begun old new reading.laid item front fewer passes.item
-                (subst (λ (role : Role). admits_item role old.at item front ≡ true) later usable)
-                passes.least within adds;
+                (on.reading.told bytes holds) (on.shows bytes holds)
+                (read_there bytes holds) on.passes.zeros on.passes.own adds;
+            laid = item_laid begun old new on.reading.laid item front fewer on.passes.item
+                (subst (λ (role : Role). admits_item role old.at item front ≡ true) on.later
+                on.usable)
+                on.passes.least on.within adds;
           };
-          on = omega (arith, adds.at, passes.some);
+          on = omega (arith, adds.at, on.passes.some);
         });
     reads = reads;
-    refused = grind (arith, if_err, keep_refused);
+    refused = if_err result (λ _. AddsItem item size front old new) _ _ kept
+        (λ _ is. keep_refused now same is);
   }

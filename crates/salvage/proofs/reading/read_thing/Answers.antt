@@ -1,6 +1,6 @@
 -- A later frame is read and kept.
 use Rattle.std.proofs.Common.{ap, arith, length, rules, ◌∙◌}
-use Rattle.salvage.proofs.ReadingStepLemmas.{keeps_on, look_failed}
+use Rattle.salvage.proofs.ReadingStepLemmas.{IsReadOn, keeps_on, look_failed}
 use Rattle.salvage.specs.declared.usable.Role.TheVariants.{Later}
 use Rattle.sync_survey.proofs.{FoldersLemmas.shown_in, StepLemmas.room_passed}
 use Rattle.salvage.proofs.reading.read_thing.Goals as goal
@@ -16,12 +16,23 @@ keep-requires-clause-room g c = room_passed c.in-Some.ensures.passes
 
 pub returns : goal.returns
 returns g c =
-    keeps_on (g.D.Folder.seen c.args.folder.now) (g.D.Folder.seen c.look.new.folder)
-    c.args.name.now c.args.begun.now c.args.found.now c.in-Some.step.item c.in-Some.step.size
-    c.bytes-front.result.now c.in_ok-left.left
-    (λ bytes holds. shown_in c.bytes-front.ensures (c.in_ok-left.ensures.shows bytes holds))
-    (Later c.class-class.result) (ap Later c.class-class.ensures) c.in-Some.ensures.read
-    c.requires.begun c.requires.reading
-    c.in-Some.ensures.usable c.in-Some.ensures.passes
-    (omega (arith, c.in-Some.ensures.passes.within, c.in_ok-left.ensures.left, c.requires.before))
-    c.keep.ensures.kept c.keep.ensures.few c.in_ok-left.ensures.reads.done (search rules)
+    let on : IsReadOn (g.D.Folder.seen c.args.folder.now) c.args.name.now c.args.begun.now
+    c.args.found.now c.in-Some.step.item c.in-Some.step.size c.bytes-front.result.now
+    c.in_ok-left.left (Later c.class-class.result) = record {
+      shows = λ bytes holds.
+          shown_in c.bytes-front.ensures (c.in_ok-left.ensures.shows bytes holds);
+      later = ap Later c.class-class.ensures;
+      read = c.in-Some.ensures.read;
+      begins = c.requires.begun;
+      reading = c.requires.reading;
+      usable = c.in-Some.ensures.usable;
+      passes = c.in-Some.ensures.passes;
+      within = omega (
+        arith,
+        c.in-Some.ensures.passes.within,
+        c.in_ok-left.ensures.left,
+        c.requires.before,
+      );
+    } in
+    keeps_on on {now = g.D.Folder.seen c.look.new.folder} c.keep.ensures.kept c.keep.ensures.few
+    c.in_ok-left.ensures.reads.done (search rules)
