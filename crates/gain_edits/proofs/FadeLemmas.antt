@@ -15,7 +15,7 @@ use Rattle.commands.specs.declared.fault.EditFault.{EditFault, TheVariants.{Inpu
 use Rattle.commands.specs.declared.fault.Refusal.{Refusal}
 use Rattle.fade_plan.specs.{Curves.{curve_of, CurvePoint}, Sheets.{envelope_of, EnvelopePoint}}
 use Rattle.fade_plan.specs.declared.envelope_fault.EnvelopeFault.{EnvelopeFault}
-use Rattle.gain_edits.proofs.{ProperLemmas.changed_all, RefusalLemmas.range_may}
+use Rattle.gain_edits.proofs.{ProperLemmas.changed_all, RefusalLemmas.{IsSurveyedInput, range_may}}
 use Rattle.gain_edits.specs.Change.{change_making, changed_or_fault}
 use Rattle.gain_edits.specs.Fade.{choice_refuses, curve_change, curve_result, fade_change}
 use Rattle.gain_edits.specs.Fade.{fade_refuses, fade_task, faded_stream, input_sheet_change}
@@ -145,107 +145,119 @@ module _ (sheet : List ℕ) (back : Bool) (input : List ℕ) where
           lost_name,
         )
 
-  -- the input was surveyed
-  module _ (s : SurveyFields) where
-    makes_by : (f : Contents) {bytes : List ℕ} → f input ≡ Some bytes
-        → survey_of bytes most_frames ≡ Ok s → (fade_task sheet back input).makes f
-        ≡ changed_or_fault bytes s (input_sheet_change (f sheet) back s)
-    makes_by f held is = grind (arith, made-survey)
+-- the input was surveyed
+module _ (sheet : List ℕ) (back : Bool) where
+  makes_by : (f : Contents) {input bytes : List ℕ} {s : SurveyFields} → f input ≡ Some bytes
+      → survey_of bytes most_frames ≡ Ok s → (fade_task sheet back input).makes f
+      ≡ changed_or_fault bytes s (input_sheet_change (f sheet) back s)
+  makes_by f held is = grind (arith, made-survey)
 
-    refuses_by : (files : Files) (fault : EditFault) → IsFileThere files input
-        → ((bytes : List ℕ) → Holds files input bytes → survey_of bytes most_frames ≡ Ok s)
-        → IfTold files (λ f. input_sheet_change (f sheet) back s ≡ Err fault)
-        → TaskRefuses (fade_task sheet back input) files fault
-    refuses_by (Untold touched) fault there is refused = tt
-    refuses_by (Told f) fault there is refused =
-        let held = there_holds f there in
-        makes_by f held.1 (is held.0 held.1) ∙ ap (changed_or_fault held.0 s) refused
+  refuses_by : {input : List ℕ} {s : SurveyFields} {old : Seen} (fault : EditFault)
+      → IsSurveyedInput input s old
+      → IfTold old.files (λ f. input_sheet_change (f sheet) back s ≡ Err fault)
+      → TaskRefuses (fade_task sheet back input) old.files fault
+  refuses_by {input} {s} {old} fault source refused =
+      at old.files source.there source.surveyed refused
+    where
+      at : (files : Files) → IsFileThere files input
+          → ((bytes : List ℕ) → Holds files input bytes → survey_of bytes most_frames ≡ Ok s)
+          → IfTold files (λ f. input_sheet_change (f sheet) back s ≡ Err fault)
+          → TaskRefuses (fade_task sheet back input) files fault
+      at (Untold touched) there is refused = tt
+      at (Told f) there is refused =
+          let held = there_holds f there in
+          makes_by f held.1 (is held.0 held.1) ∙ ap (changed_or_fault held.0 s) refused
 
-    -- no fault of the definition comes before the sheet that could not be read
-    sheet_before : (files : Files) {fault : EditFault} → IsFileThere files input
-        → ((bytes : List ℕ) → Holds files input bytes → survey_of bytes most_frames ≡ Ok s)
-        → fault ≡ Input 1 Read
-        → IfTold files (λ f. IfErr ((fade_task sheet back input).makes f) (IsNotBefore fault))
-    sheet_before (Untold touched) there is unread = tt
-    sheet_before (Told f) there is unread =
-        let held = there_holds f there in
-        subst (λ e. IfErr ((fade_task sheet back input).makes f) (IsNotBefore e)) (sym unread)
-        (subst (λ r. IfErr r (IsNotBefore (Input 1 Read)))
-        (sym (makes_by f held.1 (is held.0 held.1))) (changed_all (IsNotBefore
-        (Input 1 Read)) held.0 s (input_sheet_change (f sheet) back s)
-        (input_sheet_change-before (f sheet) back s)))
+  -- no fault of the definition comes before the sheet that could not be read
+  sheet_before : {input : List ℕ} {s : SurveyFields} {old : Seen} {fault : EditFault}
+      → IsSurveyedInput input s old → fault ≡ Input 1 Read → IfTold old.files
+      (λ f. IfErr ((fade_task sheet back input).makes f) (IsNotBefore fault))
+  sheet_before {input} {s} {old} {fault} source unread =
+      at old.files source.there source.surveyed
+    where
+      at : (files : Files) → IsFileThere files input
+          → ((bytes : List ℕ) → Holds files input bytes → survey_of bytes most_frames ≡ Ok s)
+          → IfTold files (λ f. IfErr ((fade_task sheet back input).makes f) (IsNotBefore fault))
+      at (Untold touched) there is = tt
+      at (Told f) there is =
+          let held = there_holds f there in
+          subst (λ e. IfErr ((fade_task sheet back input).makes f) (IsNotBefore e)) (sym unread)
+          (subst (λ r. IfErr r (IsNotBefore (Input 1 Read)))
+          (sym (makes_by f held.1 (is held.0 held.1))) (changed_all (IsNotBefore
+          (Input 1 Read)) held.0 s (input_sheet_change (f sheet) back s)
+          (input_sheet_change-before (f sheet) back s)))
 
-    with_sheet : (files : Files) {r : Result FileChange EditFault} → IsFileThere files sheet
-        → ((bytes : List ℕ) → Holds files sheet bytes → input_sheet_change (Some bytes) back s ≡ r)
-        → IfTold files (λ f. input_sheet_change (f sheet) back s ≡ r)
-    with_sheet files there are = grind arith
+  with_sheet : (s : SurveyFields) (files : Files) {r : Result FileChange EditFault}
+      → IsFileThere files sheet
+      → ((bytes : List ℕ) → Holds files sheet bytes → input_sheet_change (Some bytes) back s ≡ r)
+      → IfTold files (λ f. input_sheet_change (f sheet) back s ≡ r)
+  with_sheet s files there are = grind arith
 
-    without_sheet : (files : Files) {fault : EditFault} → IfTold files (λ f. f sheet ≡ None) → fault
-        ≡ Input 1 Absent → IfTold files (λ f. input_sheet_change (f sheet) back s ≡ Err fault)
-    without_sheet files missing is = grind arith
+  without_sheet : (s : SurveyFields) (files : Files) {fault : EditFault}
+      → IfTold files (λ f. f sheet ≡ None) → fault ≡ Input 1 Absent
+      → IfTold files (λ f. input_sheet_change (f sheet) back s ≡ Err fault)
+  without_sheet s files missing is = grind arith
 
-    module _ (old new : Seen) (there : IsFileThere old.files input) (surveyed : (bytes : List ℕ)
-        → Holds old.files input bytes → survey_of bytes most_frames ≡ Ok s) where
-      -- a fault of the change is one met before the output is created
-      pub change_early : (fault : EditFault) → IsChangeFault sheet back s old new fault
-          → IsEarlyFault (fade_task sheet back input) old new fault
-      change_early fault h = each_why (why_of fault) h (record {
-        rejected = λ r. record {
-          defined = refuses_by old.files fault there surveyed
-              (with_sheet old.files r.there r.bytes);
-          stays = r.stays;
-        };
-        missing = λ m. record {
-          defined = refuses_by old.files fault there surveyed
-              (without_sheet old.files m.missing m.is);
-          rose = missed_name (fade_task sheet back input).inputs 1 refl m;
-          files = m.files;
-        };
-        unread = λ u. record {
-          before = sheet_before old.files there surveyed u.is;
-          rose = unread_name (fade_task sheet back input).inputs 1 refl u;
-          files = u.files;
-        };
-        shorter = λ l. record {
-          ended = lost_name (fade_task sheet back input).inputs 1 refl l;
-          files = l.files;
-        };
-        unwritten = λ k w. absurd w;
-        unsent = λ w. absurd w;
-        no_memory = λ same. record {
-          there = there;
-          few = λ bytes holds. (survey_of-parts bytes most_frames (surveyed bytes holds)).0;
-          stays = same;
-        };
-      })
+  -- a fault of the change is one met before the output is created
+  pub change_early : {input : List ℕ} {s : SurveyFields} {old : Seen} (new : Seen)
+      (fault : EditFault) → IsSurveyedInput input s old → IsChangeFault sheet back s old new fault
+      → IsEarlyFault (fade_task sheet back input) old new fault
+  change_early {input} {s} {old} new fault source h = each_why (why_of fault) h (record {
+    rejected = λ r. record {
+      defined = refuses_by fault source (with_sheet s old.files r.there r.bytes);
+      stays = r.stays;
+    };
+    missing = λ m. record {
+      defined = refuses_by fault source (without_sheet s old.files m.missing m.is);
+      rose = missed_name (fade_task sheet back input).inputs 1 refl m;
+      files = m.files;
+    };
+    unread = λ u. record {
+      before = sheet_before source u.is;
+      rose = unread_name (fade_task sheet back input).inputs 1 refl u;
+      files = u.files;
+    };
+    shorter = λ l. record {
+      ended = lost_name (fade_task sheet back input).inputs 1 refl l;
+      files = l.files;
+    };
+    unwritten = λ k w. absurd w;
+    unsent = λ w. absurd w;
+    no_memory = λ same. record {
+      there = source.there;
+      few = λ bytes holds. (survey_of-parts bytes most_frames (source.surveyed bytes holds)).0;
+      stays = same;
+    };
+  })
 
-      -- a fault of the change after the survey, which changed nothing, is such a fault
-      pub change_early_behind : (fault : EditFault) {mid : Seen} → mid ≡ old
-          → IsChangeFault sheet back s mid new fault
-          → IsEarlyFault (fade_task sheet back input) old new fault
-      change_early_behind fault stays h =
-          change_early fault (subst (λ (m : Seen). IsChangeFault sheet back s m new fault) stays h)
+  -- a fault of the change after the survey, which changed nothing, is such a fault
+  pub change_early_behind : {input : List ℕ} {s : SurveyFields} {mid old : Seen} (new : Seen)
+      (fault : EditFault) → IsSurveyedInput input s old → mid ≡ old
+      → IsChangeFault sheet back s mid new fault
+      → IsEarlyFault (fade_task sheet back input) old new fault
+  change_early_behind {s = s} new fault source stays h = change_early new fault source
+      (subst (λ (m : Seen). IsChangeFault sheet back s m new fault) stays h)
 
-    -- a fade that isn't refused makes the faded file
-    pub fade_makes : {files : Files} {change : FileChange} → IsFileThere files input
-        → ((bytes : List ℕ) → Holds files input bytes → survey_of bytes most_frames ≡ Ok s)
-        → ((bytes : List ℕ) → Holds files input bytes → AreBytes bytes) → IsFileThere files sheet
-        → ((bytes : List ℕ) → Holds files sheet bytes
-        → input_sheet_change (Some bytes) back s ≡ Ok change)
-        → IsMaking (fade_task sheet back input) (λ file. file_with_change change file s) files
-    fade_makes {files} {change} there is octets sheet_there are = record {
-      there = there;
-      makes = at files is octets (with_sheet files sheet_there are);
-    }
-      where
-        at : (files : Files)
-            → ((bytes : List ℕ) → Holds files input bytes → survey_of bytes most_frames ≡ Ok s)
-            → ((bytes : List ℕ) → Holds files input bytes → AreBytes bytes)
-            → IfTold files (λ f. input_sheet_change (f sheet) back s ≡ Ok change)
-            → IfTold files (λ f. (bytes : List ℕ) → f input ≡ Some bytes → AreBytes bytes
-            × ((fade_task sheet back input).makes f ≡ Ok (file_with_change change bytes s)))
-        at (Untold touched) is octets made = tt
-        at (Told f) is octets made = λ bytes holds. (
-          octets bytes holds,
-          makes_by f holds (is bytes holds) ∙ ap (changed_or_fault bytes s) made,
-        )
+  -- a fade that isn't refused makes the faded file
+  pub fade_makes : {input : List ℕ} {s : SurveyFields} {old : Seen} {change : FileChange}
+      → IsSurveyedInput input s old
+      → ((bytes : List ℕ) → Holds old.files input bytes → AreBytes bytes)
+      → IsFileThere old.files sheet → ((bytes : List ℕ) → Holds old.files sheet bytes
+      → input_sheet_change (Some bytes) back s ≡ Ok change)
+      → IsMaking (fade_task sheet back input) (λ file. file_with_change change file s) old.files
+  fade_makes {input} {s} {old} {change} source octets sheet_there are = record {
+    there = source.there;
+    makes = at old.files source.surveyed octets (with_sheet s old.files sheet_there are);
+  }
+    where
+      at : (files : Files)
+          → ((bytes : List ℕ) → Holds files input bytes → survey_of bytes most_frames ≡ Ok s)
+          → ((bytes : List ℕ) → Holds files input bytes → AreBytes bytes)
+          → IfTold files (λ f. input_sheet_change (f sheet) back s ≡ Ok change)
+          → IfTold files (λ f. (bytes : List ℕ) → f input ≡ Some bytes → AreBytes bytes
+          × ((fade_task sheet back input).makes f ≡ Ok (file_with_change change bytes s)))
+      at (Untold touched) is octets made = tt
+      at (Told f) is octets made = λ bytes holds. (
+        octets bytes holds,
+        makes_by f holds (is bytes holds) ∙ ap (changed_or_fault bytes s) made,
+      )

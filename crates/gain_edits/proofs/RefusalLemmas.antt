@@ -188,75 +188,86 @@ decided-may UndoAll s (Some tag) asks = undone_tag_change-may s tag
 
 -- ---- what the code returns
 
-module _ (changes : Changes) (name : List ℕ) (old new : Seen) (s : SurveyFields)
-    (there : IsFileThere old.files name)
-    (is : (bytes : List ℕ) → Holds old.files name bytes → survey_of bytes most_frames ≡ Ok s) where
-  -- a fault of the tag is a fault of the input
-  pub tag_is_input : are_noted changes ≡ true → new.files ≡ old.files → (fault : FileTagFault)
-      → IsTagCause name old.files s old.counts new.counts fault
-      → IsInputFault (change_making (changing_of changes)) name old new (tag_edit_fault fault)
-  tag_is_input noted same fault = at fault
-    where
-      refuses : (fault : FileTagFault) (bytes : List ℕ) → file_tag bytes s ≡ Err fault
-          → change_making (changing_of changes) bytes s ≡ Err (tag_edit_fault fault)
-      refuses fault bytes is = ap (changed_or_fault bytes s) (noted-is changes bytes s noted is)
+-- The input is there, and has this survey.
+pub record IsSurveyedInput (input : List ℕ) (s : SurveyFields) (old : Seen) : Type 0 where
+  pub there : IsFileThere old.files input
+  pub surveyed : (bytes : List ℕ) → Holds old.files input bytes
+      → survey_of bytes most_frames ≡ Ok s
 
-      refused : (fault : FileTagFault) → IsEditRefusal (λ _. true) (tag_edit_fault fault)
-          → ((bytes : List ℕ) → Holds old.files name bytes → file_tag bytes s ≡ Err fault)
-          → new.counts ≡ old.counts
-          → IsInputFault (change_making (changing_of changes)) name old new (tag_edit_fault fault)
-      refused fault kind h stays =
-          refused_is_input (change_making (changing_of changes)) name old new s
-          (λ _. true) kind there is (λ bytes holds. refuses fault bytes (h bytes holds))
-          (ap₂ seen_folder same stays)
+-- a fault of the tag is a fault of the input
+pub tag_is_input : (changes : Changes) {name : List ℕ} {s : SurveyFields} {old : Seen} (new : Seen)
+    → IsSurveyedInput name s old → are_noted changes ≡ true → new.files ≡ old.files
+    → (fault : FileTagFault) → IsTagCause name old.files s old.counts new.counts fault
+    → IsInputFault (change_making (changing_of changes)) name old new (tag_edit_fault fault)
+tag_is_input changes {name} {s} {old} new source noted same fault = at fault
+  where
+    refuses : (fault : FileTagFault) (bytes : List ℕ) → file_tag bytes s ≡ Err fault
+        → change_making (changing_of changes) bytes s ≡ Err (tag_edit_fault fault)
+    refuses fault bytes is = ap (changed_or_fault bytes s) (noted-is changes bytes s noted is)
 
-      at : (fault : FileTagFault) → IsTagCause name old.files s old.counts new.counts fault
-          → IsInputFault (change_making (changing_of changes)) name old new (tag_edit_fault fault)
-      at (TooLarge size) h = refused (TooLarge size) refl h.0 h.3
-      at (BadBlock place) h = refused (BadBlock place) refl h.0 h.3
-      at (Read Failed) h = record { is = refl; rose = h.0; files = same }
-      at (Read (Shrunk first second)) h = record {
-        first = first;
-        second = second;
-        is = refl;
-        rose = h.3;
-        counts = h.4;
-        untold = h.0;
-        files =
-            same;
-      }
-      at NoRoom h =
-          memory_is_input (change_making (changing_of changes)) name old new s there is
-          (ap₂ seen_folder same h)
+    refused : (fault : FileTagFault) → IsEditRefusal (λ _. true) (tag_edit_fault fault)
+        → ((bytes : List ℕ) → Holds old.files name bytes → file_tag bytes s ≡ Err fault)
+        → new.counts ≡ old.counts
+        → IsInputFault (change_making (changing_of changes)) name old new (tag_edit_fault fault)
+    refused fault kind h stays =
+        refused_is_input (change_making (changing_of changes)) name old new s
+        (λ _. true) kind source.there source.surveyed
+        (λ bytes holds. refuses fault bytes (h bytes holds)) (ap₂ seen_folder same stays)
 
-  -- once the tag was read, the code returns what the definition says, or memory ran out
-  pub answered : {made : Result FileChange EditFault}
-      → IfErr made (IsEditRefusal (refuses_of_changes changes))
-      → ((bytes : List ℕ) → Holds old.files name bytes → changing_of changes bytes s ≡ made)
-      → new ≡ old → OnlyReads old.counts new.counts → (r : Result Change EditFault)
-      → IsChangeDecided s made r → IsDecision changes name old new s r
-  answered may whole stays reads (Ok change) is-made = grind arith
-  answered {made} may whole stays reads (Err fault) answer = record {
-    change = tt;
-    refused = cause fault answer;
-    numbers = kind fault answer;
-    done = tt;
-    files = λ i. (stays i).files;
-    counts = reads;
-  }
-    where
-      cause : (fault : EditFault) → (fault ≡ Memory) ⊎ (made ≡ Err fault)
-          → IsInputFault (change_making (changing_of changes)) name old new fault
-      cause fault (inl memory) =
-          subst (IsInputFault (change_making (changing_of changes)) name old new) (sym memory)
-          (memory_is_input (change_making (changing_of changes)) name old new s there is stays)
-      cause fault (inr refused) =
-          refused_is_input (change_making (changing_of changes)) name old new s
-          (refuses_of_changes changes)
-          (of_err (IsEditRefusal (refuses_of_changes changes)) may refused) there
-          is
-          (λ bytes holds. ap (changed_or_fault bytes s) (whole bytes holds ∙ refused)) stays
+    at : (fault : FileTagFault) → IsTagCause name old.files s old.counts new.counts fault
+        → IsInputFault (change_making (changing_of changes)) name old new (tag_edit_fault fault)
+    at (TooLarge size) h = refused (TooLarge size) refl h.0 h.3
+    at (BadBlock place) h = refused (BadBlock place) refl h.0 h.3
+    at (Read Failed) h = record { is = refl; rose = h.0; files = same }
+    at (Read (Shrunk first second)) h = record {
+      first = first;
+      second = second;
+      is = refl;
+      rose = h.3;
+      counts = h.4;
+      untold = h.0;
+      files = same;
+    }
+    at NoRoom h =
+        memory_is_input (change_making (changing_of changes)) name old new s source.there
+        source.surveyed (ap₂ seen_folder same h)
 
-      kind : (fault : EditFault) → (fault ≡ Memory) ⊎ (made ≡ Err fault)
-          → HasInputNumbers (refuses_of_changes changes) fault
-      kind fault h = grind arith
+-- By the definition this is the change of the input, or why it is refused.
+pub record IsChangeOf (changes : Changes) (name : List ℕ) (s : SurveyFields) (old : Seen)
+    (made : Result FileChange EditFault) : Type 0 where
+  pub source : IsSurveyedInput name s old
+  pub may : IfErr made (IsEditRefusal (refuses_of_changes changes))
+  pub whole : (bytes : List ℕ) → Holds old.files name bytes → changing_of changes bytes s ≡ made
+
+-- once the tag was read, the code returns what the definition says, or memory ran out
+pub answered : {changes : Changes} {name : List ℕ} {s : SurveyFields} {old new : Seen}
+    {made : Result FileChange EditFault} → IsChangeOf changes name s old made
+    → new ≡ old → OnlyReads old.counts new.counts → (r : Result Change EditFault)
+    → IsChangeDecided s made r → IsDecision changes name old new s r
+answered of stays reads (Ok change) is-made = grind (arith, of.source, of.may, of.whole)
+answered {changes} {name} {s} {old} {new} {made} of stays reads (Err fault) answer = record {
+  change = tt;
+  refused = cause fault answer;
+  numbers = kind fault answer;
+  done = tt;
+  files = λ i. (stays i).files;
+  counts = reads;
+}
+  where
+    cause : (fault : EditFault) → (fault ≡ Memory) ⊎ (made ≡ Err fault)
+        → IsInputFault (change_making (changing_of changes)) name old new fault
+    cause fault (inl memory) =
+        subst (IsInputFault (change_making (changing_of changes)) name old new) (sym memory)
+        (memory_is_input (change_making (changing_of changes)) name old new s of.source.there
+        of.source.surveyed stays)
+    cause fault (inr refused) =
+        refused_is_input (change_making (changing_of changes)) name old new s
+        (refuses_of_changes changes)
+        (of_err (IsEditRefusal (refuses_of_changes changes)) of.may refused) of.source.there
+        of.source.surveyed
+        (λ bytes holds. ap (changed_or_fault bytes s) (of.whole bytes holds ∙ refused)) stays
+
+    kind : (fault : EditFault) → (fault ≡ Memory) ⊎ (made ≡ Err fault)
+        → HasInputNumbers (refuses_of_changes changes) fault
+    kind fault (inl memory) = grind arith
+    kind fault (inr refused) = grind (arith, of.may)

@@ -10,28 +10,35 @@ returns-then-not-noted g c =
     let changes = c.args.self.now in
     let s = survey_view c.args.survey.now in
     let asks = sym c.are_noted-noted.ensures ∙ c.if-not-noted.true in
-    answered changes c.args.name.now _ _ s
-    c.requires.there c.requires.surveyed (decided-may changes s None asks)
-    (λ bytes holds. plain-is changes bytes s asks) refl
-    (search rules) c.decide.result c.decide.ensures
+    answered {changes = changes} {name = c.args.name.now} {old = g.D.Folder.seen c.args.folder.now}
+    (record {
+      source = record { there = c.requires.there; surveyed = c.requires.surveyed };
+      may = decided-may changes s None asks;
+      whole = λ bytes holds. plain-is changes bytes s asks;
+    }) refl (search rules) c.decide.result c.decide.ensures
 
 pub returns-in-Ok : goal.returns-in-Ok
 returns-in-Ok g c =
     let changes = c.args.self.now in
     let s = survey_view c.args.survey.now in
     let asks = sym c.are_noted-noted.ensures ∙ c.if-not-noted.false in
-    answered changes c.args.name.now _ _ s
-    c.requires.there c.requires.surveyed (decided-may changes s (Some c.in-Ok.tag) asks)
-    (λ bytes holds. noted-is changes bytes s asks (c.in-Ok.ensures.exact bytes holds))
-    (ap₂ seen_folder c.read_tag.ensures.files c.in-Ok.ensures.done)
+    answered {changes = changes} {name = c.args.name.now} {old = g.D.Folder.seen c.args.folder.now}
+    (record {
+      source = record { there = c.requires.there; surveyed = c.requires.surveyed };
+      may = decided-may changes s (Some c.in-Ok.tag) asks;
+      whole = λ bytes holds.
+          noted-is changes bytes s asks (c.in-Ok.ensures.exact bytes holds);
+    }) (ap₂ seen_folder c.read_tag.ensures.files c.in-Ok.ensures.done)
     c.read_tag.ensures.counts c.decide-in-Ok.result c.decide-in-Ok.ensures
 
 pub returns-in-Err : goal.returns-in-Err
 returns-in-Err g c = record {
   change = tt;
   refused = rw c.of_tag.ensures
-      (tag_is_input c.args.self.now c.args.name.now _ _ (survey_view c.args.survey.now)
-      c.requires.there c.requires.surveyed (sym c.are_noted-noted.ensures ∙ c.if-not-noted.false)
+      (tag_is_input c.args.self.now {name = c.args.name.now} {s = survey_view c.args.survey.now}
+      {old = g.D.Folder.seen c.args.folder.now} _
+      (record { there = c.requires.there; surveyed = c.requires.surveyed })
+      (sym c.are_noted-noted.ensures ∙ c.if-not-noted.false)
       c.read_tag.ensures.files c.in-Err.fault c.in-Err.ensures.cause);
   numbers = search rules;
   done = tt;

@@ -27,10 +27,11 @@ returns-in_err-change-clause-refused g c =
     let edit = c.args.self.now in
     let old = g.D.Folder.seen c.args.folder.now in
     err_with _ _ c.from_residual-in_err-change.ensures.1
-    (change_early_behind edit.sheet.now edit.back edit.input.now (survey_view c.in_ok-survey.survey)
-    old _
-    c.in_ok-survey.ensures.there c.in_ok-survey.ensures.surveyed _
-    (ap₂ seen_folder c.survey_at.ensures.reads.files c.in_ok-survey.ensures.reads.done)
+    (change_early_behind edit.sheet.now edit.back {input = edit.input.now}
+    {s = survey_view c.in_ok-survey.survey} {old = old} _ _ (record {
+      there = c.in_ok-survey.ensures.there;
+      surveyed = c.in_ok-survey.ensures.surveyed;
+    }) (ap₂ seen_folder c.survey_at.ensures.reads.files c.in_ok-survey.ensures.reads.done)
     c.in_err-change.ensures.refused)
 
 pub returns-in_err-change-clause-numbers : goal.returns-in_err-change-clause-numbers
@@ -43,10 +44,12 @@ pub returns-in_err-buffers-clause-refused : goal.returns-in_err-buffers-clause-r
 returns-in_err-buffers-clause-refused g c =
     let edit = c.args.self.now in
     err_with _ _ c.from_residual-in_err-buffers.ensures.1
-    (change_early edit.sheet.now edit.back edit.input.now (survey_view c.in_ok-survey.survey)
-    (g.D.Folder.seen c.args.folder.now) _
-    c.in_ok-survey.ensures.there c.in_ok-survey.ensures.surveyed Memory
-    (ap₂ seen_folder (c.fade_change.ensures.reads.files ∙ c.survey_at.ensures.reads.files)
+    (change_early edit.sheet.now edit.back {input = edit.input.now}
+    {s = survey_view c.in_ok-survey.survey} {old = g.D.Folder.seen c.args.folder.now} _ Memory
+    (record {
+      there = c.in_ok-survey.ensures.there;
+      surveyed = c.in_ok-survey.ensures.surveyed;
+    }) (ap₂ seen_folder (c.fade_change.ensures.reads.files ∙ c.survey_at.ensures.reads.files)
     (c.in_ok-change.ensures.reads.done ∙ c.in_ok-survey.ensures.reads.done)))
 
 pub returns-clause-making : goal.returns-clause-making
@@ -54,8 +57,11 @@ returns-clause-making g c =
     let edit = c.args.self.now in
     let s = survey_view c.in_ok-survey.survey in
     let same = c.survey_at.ensures.reads.files in
-    fade_makes edit.sheet.now edit.back edit.input.now s
-    c.in_ok-survey.ensures.there c.in_ok-survey.ensures.surveyed c.in_ok-survey.ensures.octets
+    fade_makes edit.sheet.now edit.back {input = edit.input.now} {s = s}
+    {old = g.D.Folder.seen c.args.folder.now} (record {
+      there = c.in_ok-survey.ensures.there;
+      surveyed = c.in_ok-survey.ensures.surveyed;
+    }) c.in_ok-survey.ensures.octets
     (subst (λ f. IsFileThere f edit.sheet.now) same c.in_ok-change.ensures.there)
     (λ bytes holds. c.in_ok-change.ensures.change bytes
     (subst (λ f. Holds f edit.sheet.now bytes) (sym same) holds))
