@@ -7,9 +7,8 @@ use Rattle.commands.proofs.InputLemmas.{of_bytes_behind}
 use Rattle.commands.proofs.NamedLemmas.{lost_name, missed_name, unread_name}
 use Rattle.commands.proofs.{RefusingLemmas.then_all, WhyLemmas.each_why}
 use Rattle.commands.specs.{AfterCall.{IsLateFault, IsNotBefore, why_of}, Refusing.then_made}
-use Rattle.commands.specs.SingleOutput.{first_input, IsEarlyFault, most_frames, NeedsMemory, Task}
-use Rattle.commands.specs.{SingleOutput.TaskRefuses, declared.fault.EditFault.EditFault}
-use Rattle.commands.specs.declared.fault.EditFault.TheVariants.{Input, Refused}
+use Rattle.commands.specs.SingleOutput.{first_input, most_frames, NeedsMemory, TaskRefuses}
+use Rattle.commands.specs.declared.fault.EditFault.{EditFault, TheVariants.{Input, Refused}}
 use Rattle.commands.specs.declared.fault.Refusal.TheVariants.{Differ}
 use Rattle.frame_header.specs.Fields.{ClassFields}
 use Rattle.joined_inputs.specs.Inputs.{AreInputsOfClass, AreJoinInputs, CanInputsBeJoined}
@@ -211,85 +210,101 @@ found-input allowed (i ∷ before) after are some stays = grind (arith, survey_o
 
 -- ---- a fault of an input after those before it
 
-module _ (file : List FilePart → List ℕ) (stream : List FilePart → List StreamFrame)
-    (before : List InputFields) (name : List ℕ) (after : List (List ℕ)) where
-  abbrev names : List (List ℕ)
-  names = input_names before ++ name ∷ after
+-- Of the inputs with these names, those before this one were read.
+pub record AreBefore (before : List InputFields) (name : List ℕ) (names : List (List ℕ))
+    (files : Files) : Type 0 where
+  pub after : List (List ℕ)
+  pub is : input_names before ++ name ∷ after ≡ names
+  pub are : AreJoinInputs None most_frames files before
 
-  abbrev task : Task
-  task = parts_task file stream names
+named : {before : List InputFields} {name : List ℕ} {names : List (List ℕ)} {files : Files}
+    → AreBefore before name names files → name ≡ slice_index_or names (length before) []
+named {before} {name} b =
+    sym (get_or_at (input_names before) name b.after [] (length before)
+    (length-map before (λ (i : InputFields). i.name)))
+    ∙ ap (λ (l : List (List ℕ)). slice_index_or l (length before) []) b.is
 
-  named : name ≡ slice_index_or names (length before) []
-  named = sym (get_or_at (input_names before) name after [] (length before)
-      (length-map before (λ (i : InputFields). i.name)))
-
-  refuses-by : (files : Files) (fault : EditFault) → AreJoinInputs None most_frames files before
+module _ (file : List FilePart → List ℕ) (stream : List FilePart → List StreamFrame) where
+  refuses-by : {before : List InputFields} {name : List ℕ} {names : List (List ℕ)} (files : Files)
+      (fault : EditFault) → AreBefore before name names files
       → IfTold files (λ f. join_part (length before) (class_after None before)
       (most_frames - frames_together before) (f name) ≡ Err fault)
-      → TaskRefuses task files fault
+      → TaskRefuses (parts_task file stream names) files fault
   unfolding join_parts_from
-  refuses-by (Untold touched) fault are is = tt
-  refuses-by (Told f) fault are is =
+  refuses-by (Untold touched) fault b is = tt
+  refuses-by {before} {name} (Told f) fault b is =
       let here : 0 + length before ≡ length before = omega arith in
-      ap (λ (r : Result (List FilePart) EditFault). then_made r (λ parts. Ok (file parts)))
+      rw (← b.is)
+      (ap (λ (r : Result (List FilePart) EditFault). then_made r (λ parts. Ok (file parts)))
       (parts-behind (λ r. r ≡ Err fault)
       (λ p r e. ap (λ (q : Result (List FilePart) EditFault). then_made q (λ parts. Ok (p ∷ parts)))
       e)
-      f (name ∷ after) 0 None most_frames before are (rw (here, is) refl))
+      f (name ∷ b.after) 0 None most_frames before b.are (rw (here, is) refl)))
 
-  unread-by : (files : Files) → AreJoinInputs None most_frames files before
-      → IfTold files (λ f. IfErr (task.makes f)
-      (IsNotBefore (Input (length before) Read)))
-  unread-by (Untold touched) are = tt
-  unread-by (Told f) are =
+  unread-by : {before : List InputFields} {name : List ℕ} {names : List (List ℕ)} (files : Files)
+      → AreBefore before name names files → IfTold files (λ f.
+      IfErr ((parts_task file stream names).makes f) (IsNotBefore (Input (length before) Read)))
+  unread-by (Untold touched) b = tt
+  unread-by {before} {name} (Told f) b =
       let P = IsNotBefore (Input (length before) Read) in
-      then_all P (join_parts f names) (λ parts. Ok (file parts))
+      rw (← b.is)
+      (then_all P (join_parts f (input_names before ++ name ∷ b.after)) (λ parts. Ok (file parts))
       (parts-behind (λ r. IfErr r P) (λ p r h. then_all P r (λ parts. Ok (p ∷ parts)) h
-      (λ parts. tt)) f (name ∷ after) 0 None most_frames before are
+      (λ parts. tt)) f (name ∷ b.after) 0 None most_frames before b.are
       (from-all P (length before) (λ at fault behind. behind) (λ at behind. behind)
       (0 + length before) (class_after None before) (most_frames - frames_together before) f
-      (name ∷ after) (omega arith)))
-      (λ parts. tt)
+      (name ∷ b.after) (omega arith)))
+      (λ parts. tt))
 
-  module _ (old new : Seen) (fault : EditFault)
-      (are : AreJoinInputs None most_frames old.files before) where
-    needs-first : NeedsMemory name old new → NeedsMemory (first_input names) old new
-    needs-first n = first before are
-      where
-        first : (bs : List InputFields) → AreJoinInputs None most_frames old.files bs
-            → NeedsMemory (first_input (input_names bs ++ name ∷ after)) old new
-        first [] are = n
-        first (b ∷ bs) are =
-            found-input most_frames (b ∷ bs) (name ∷ after) are (omega arith) n.stays
+module _ {before : List InputFields} {name : List ℕ} {names : List (List ℕ)} (old new : Seen)
+    (b : AreBefore before name names old.files) where
+  needs-first : NeedsMemory name old new → NeedsMemory (first_input names) old new
+  needs-first n = rw (← b.is) (first before b.are)
+    where
+      first : (bs : List InputFields) → AreJoinInputs None most_frames old.files bs
+          → NeedsMemory (first_input (input_names bs ++ name ∷ b.after)) old new
+      first [] are = n
+      first (i ∷ bs) are =
+          found-input most_frames (i ∷ bs) (name ∷ b.after) are (omega arith) n.stays
 
-    early-here : IsPartFault (length before) (class_after None before)
-        (most_frames - frames_together before) name
-        old new fault → IsEarlyFault task old new fault
-    early-here h = each_why (why_of fault) h (record {
-      rejected = λ r. record { defined = refuses-by old.files fault are r.0; stays = r.1 };
-      missing = λ m. record {
-        defined = refuses-by old.files fault are m.0;
-        rose = missed_name names (length before) named m.1;
-        files = m.1.files;
-      };
-      unread = grind (arith, unread-by, unread_name, named);
-      shorter = grind (arith, lost_name, named);
-      unwritten = λ k w. absurd w;
-      unsent = λ w. absurd w;
-      no_memory = needs-first;
-    })
+  early-here : (fault : EditFault) → IsPartFault (length before) (class_after None before)
+      (most_frames - frames_together before) name old new fault
+      → IsEarlyInputFault names old new fault
+  early-here fault h = λ file stream. each_why (why_of fault) h (record {
+    rejected = λ r.
+        record { defined = refuses-by file stream old.files fault b r.0; stays = r.1 };
+    missing = λ m. record {
+      defined = refuses-by file stream old.files fault b m.0;
+      rose = missed_name names (length before) (named b) m.1;
+      files = m.1.files;
+    };
+    unread = λ u. record {
+      before = rw u.is (unread-by file stream old.files b);
+      rose = unread_name names (length before) (named b) u;
+      files = u.files;
+    };
+    shorter = λ l.
+        record { ended = lost_name names (length before) (named b) l; files = l.files };
+    unwritten = λ k w. absurd w;
+    unsent = λ w. absurd w;
+    no_memory = needs-first;
+  })
+
+-- This input is the next: its number, the class that it has to have, and how many frames are left.
+pub record IsNextInput (before : List InputFields) (name : List ℕ) (names : List (List ℕ))
+    (old : Seen) (number allowed : ℕ) (first : Option ClassFields) : Type 0 where
+  pub before_it : AreBefore before name names old.files
+  pub long : length before ≡ number
+  pub class : first ≡ class_of_first before
+  pub many : allowed + frames_together before ≡ most_frames
 
 -- a fault of the next input is one met before the output is created
-pub part-early : {names : List (List ℕ)} (before : List InputFields) (name : List ℕ)
-    (after : List (List ℕ)) {number : ℕ} (allowed : ℕ) {first : Option ClassFields} {old mid : Seen}
-    (new : Seen)
-    (fault : EditFault) → input_names before ++ name ∷ after ≡ names → length before ≡ number
-    → first ≡ class_of_first before → allowed + frames_together before ≡ most_frames → mid ≡ old
-    → AreJoinInputs None most_frames old.files before
+pub part-early : {before : List InputFields} {name : List ℕ} {names : List (List ℕ)}
+    {old mid : Seen} {number allowed : ℕ} {first : Option ClassFields} (new : Seen)
+    (fault : EditFault) → IsNextInput before name names old number allowed first → mid ≡ old
     → IsPartFault number first allowed name mid new fault
     → IsEarlyInputFault names old new fault
-part-early before name after allowed {old = old} new fault is long class many stays are h =
-    λ file stream.
-    let left : allowed ≡ most_frames - frames_together before = omega (arith, many) in
-    rw (← is) (early-here file stream before name after old new fault are
-    (rw (← long, class, ← after-none before, left, stays) at h))
+part-early {before} {old = old} {allowed = allowed} new fault next stays h =
+    let left : allowed ≡ most_frames - frames_together before = omega (arith, next.many) in
+    early-here old new next.before_it fault
+    (rw (← next.long, next.class, ← after-none before, left, stays) at h)

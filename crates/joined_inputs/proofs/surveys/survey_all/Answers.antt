@@ -34,11 +34,14 @@ returns-in_err-survey-clause-refused g c =
     let whole : input_names before ++ c.name_at-name.result.now ∷ drop (number + 1) names ≡ names =
     rw (inv.named, ← c.name_at-name.ensures) (take-append-drop number names) in
     err_with _ _ c.from_residual.ensures.1
-    (part-early before c.name_at-name.result.now (drop (number + 1) names)
-    c.loop-number.left _ _ whole long
-    (c.first_class-first.ensures
-    ∙ ap (λ l. class_of_first (map input_view l)) c.deref.ensures.value)
-    inv.allowed (ap₂ seen_folder inv.files inv.counts) inv.surveyed c.in_err-survey.ensures.refused)
+    (part-early {before = before} {name = c.name_at-name.result.now} {names = names}
+    {old = g.D.Folder.seen c.args.folder.now} {allowed = c.loop-number.left} _ _ (record {
+      before_it = record { after = drop (number + 1) names; is = whole; are = inv.surveyed };
+      long = long;
+      class = c.first_class-first.ensures
+          ∙ ap (λ l. class_of_first (map input_view l)) c.deref.ensures.value;
+      many = inv.allowed;
+    }) (ap₂ seen_folder inv.files inv.counts) c.in_err-survey.ensures.refused)
 
 -- the inputs so far, including this one
 module _ (g : given.Over) (c : In_ok-survey g) where
