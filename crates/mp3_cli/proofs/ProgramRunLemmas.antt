@@ -46,7 +46,7 @@ module _ (keeps : Bool) (words : List (List ℕ)) (asked : Request) (is : job_of
         defined = is_defined keeps words asked is folder after old.out new.out old.err new.err
             status all;
         accepted = λ files told calls found. is_accepted keeps words asked is folder after
-            old.out new.out old.err new.err status all told calls.0 calls.1 calls.2 found;
+            old.out new.out old.err new.err status all told calls found;
         streams = λ zero_is. written-streams words is sound
             (asked_done (command_of asked) keeps (done zero_is))
             (asked_streams (command_of asked) keeps (done zero_is) (streams zero_is));

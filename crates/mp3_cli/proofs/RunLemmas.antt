@@ -225,18 +225,16 @@ module _ (command : Command) (old new : Seen) (out_old out_new err_old err_new :
     told_twice e = grind arith
 
     not_failed : {made : Made} {fault : EditFault} (why : Why) → command.makes f ≡ Ok made
-        → (Rose old.counts.read_faults.times new.counts.read_faults.times → ⊥)
-        → (Rose old.counts.write_faults.times new.counts.write_faults.times → ⊥)
-        → (Rose out_old.faults out_new.faults → ⊥) → status ≢ 4 → all.fault ≡ Some fault
-        → why_of fault ≡ why → status ≡ cause_status why
+        → NoCallFailed (world old out_old err_old) (world new out_new err_new) → status ≢ 4
+        → all.fault ≡ Some fault → why_of fault ≡ why → status ≡ cause_status why
         → by_why (left_cases command old new fault) why → ⊥
-    not_failed Unread ok reads writes sends found e w is left = reads left.rose.0
-    not_failed Shorter ok reads writes sends found e w is left = told_twice left.ended.untold
-    not_failed (Unwritten k) ok reads writes sends found e w is left = writes left.rose.0
-    not_failed NoMemory ok reads writes sends found e w is left = found is
-    not_failed {fault = fault} Unsent ok reads writes sends found e w is left =
-        sends (sent_rose command old.files out_old out_new fault w (says_here e))
-    not_failed _ ok reads writes sends found e w is left = grind (arith, not_made, gives)
+    not_failed Unread ok calls found e w is left = calls.0 left.rose.0
+    not_failed Shorter ok calls found e w is left = told_twice left.ended.untold
+    not_failed (Unwritten k) ok calls found e w is left = calls.1 left.rose.0
+    not_failed NoMemory ok calls found e w is left = found is
+    not_failed {fault = fault} Unsent ok calls found e w is left =
+        calls.2 (sent_rose command old.files out_old out_new fault w (says_here e))
+    not_failed _ ok calls found e w is left = grind (arith, not_made, gives)
 
     -- where the command succeeded, the files are those from before and all that it makes
     pub files_where_done : status ≡ 0 → (made : Made) × (command.makes f ≡ Ok made)
@@ -249,11 +247,10 @@ module _ (command : Command) (old new : Seen) (out_old out_new err_old err_new :
 
     -- where no call failed and memory didn't run out, a
     -- command that makes something ends with status 0
-    pub done_where_made : (Rose old.counts.read_faults.times new.counts.read_faults.times → ⊥)
-        → (Rose old.counts.write_faults.times new.counts.write_faults.times → ⊥)
-        → (Rose out_old.faults out_new.faults → ⊥) → status ≢ 4
-        → (made : Made) × (command.makes f ≡ Ok made) → status ≡ 0
-    done_where_made reads writes sends found made = grind (arith, by_case, not_failed)
+    pub done_where_made : NoCallFailed (world old out_old err_old) (world new out_new err_new)
+        → status ≢ 4 → (made : Made) × (command.makes f ≡ Ok made) → status ≡ 0
+    done_where_made calls found made = by_case (λ zero_is e. zero_is)
+        (λ fault why e is w left. absurd (not_failed why made.1 calls found e w is left))
 
 -- ---- of words
 
@@ -305,11 +302,9 @@ module _ (keeps : Bool) (words : List (List ℕ)) (asked : Request) (is : job_of
   -- where no call failed and memory didn't run out, status 0 comes exactly if words and files are
   -- legal, and no output is there where what is there is kept
   pub is_accepted : {f : Contents} → old.files ≡ Told f
-      → (Rose old.counts.read_faults.times new.counts.read_faults.times → ⊥)
-      → (Rose old.counts.write_faults.times new.counts.write_faults.times → ⊥)
-      → (Rose out_old.faults out_new.faults → ⊥) → status ≢ 4
+      → NoCallFailed (world old out_old err_old) (world new out_new err_new) → status ≢ 4
       → (status ≡ 0) ↔ IsLegalKept keeps words f
-  is_accepted {f} told reads writes sends found =
+  is_accepted {f} told calls found =
       let law = legal-by (Ok asked) f in
       let command = command_of asked in
       let takes = kept-accepts keeps command f in (
@@ -320,7 +315,7 @@ module _ (keeps : Bool) (words : List (List ℕ)) (asked : Request) (is : job_of
               missing = λ keep. subst (OutputsAreMissing f) (sym is) (kept.1 keep);
             }),
         (λ legal. done_where_made (kept_command_of keeps asked) old new out_old out_new err_old
-            err_new status all f told reads writes sends found (takes.0 (
+            err_new status all f told calls found (takes.0 (
               law.0 (subst (IsLegalBy f) is legal.legal),
               λ keep. subst (OutputsAreMissing f) is (legal.missing keep),
             ))),
