@@ -1,10 +1,10 @@
 -- Frames that are in another file with moved gains, moved again: what is
 -- written for them there is what is written here with both steps together.
 use Rattle.std.proofs.Common.{ap, ap₂, arith, Bool, cond, drop, false, length, List, map, refl}
-use Rattle.std.proofs.Common.{subst, sym, take, true, ℕ, ◌+ℤ◌, [], ◌++◌, ◌+◌, ◌-◌, ◌<◌, ◌∙◌, ◌∷◌}
-use Rattle.std.proofs.{Common.{◌≡◌, ◌≤◌}, lemmas.List.{drop-drop, drop_at, take_at}}
+use Rattle.std.proofs.Common.{subst, sym, take, true, ℕ, [], ◌++◌, ◌+◌, ◌-◌, ◌<◌, ◌∙◌, ◌∷◌, ◌≡◌}
+use Rattle.std.proofs.{Common.◌≤◌, lemmas.List.{drop-drop, drop_at, take_at}}
 use Rattle.frame_header.specs.Fields.{HeaderFields}
-use Rattle.gain_laws.proofs.MovedTwiceLemmas.{side_twice, sum_of}
+use Rattle.gain_laws.proofs.MovedTwiceLemmas.{AreTogether, side_twice, sum_of}
 use Rattle.gain_laws.proofs.WholeFrameLemmas.{AreFramesOf, frame_of, IsFrameOf, row_shaped}
 use Rattle.gain_laws.proofs.WholeFrameLemmas.{row_sized}
 use Rattle.moved_gains.proofs.LostOffsetLemmas.{end_rises, EndBy}
@@ -18,11 +18,6 @@ use Rattle.requests.specs.declared.shift.Steps.{Steps}
 use Rattle.side_info.proofs.{FrameLemmas.frame_with_side-again, SideLemmas.IsShaped}
 use Rattle.side_info.specs.{Frame.frame_with_side, declared.side.Side.Side}
 use Rattle.sync_survey.specs.Row.{Row}
-
--- all these steps are the sum of one change and of the other
-pub record AreTogether (one two all : Steps) : Type 0 where
-  pub left : all.left ≡ one.left +ℤ two.left
-  pub right : all.right ≡ one.right +ℤ two.right
 
 sum_side : {one two all : Steps} → AreTogether one two all → (s : Side)
     → moved_side (sum_of one two) s ≡ moved_side all s
@@ -107,51 +102,67 @@ ends_again steps {to} at {end} there (row ∷ rows) ends place =
           (omega (arith, low, ends.0, ends.1)) high ∙ omega (arith, here, low, ends.0, ends.1))),
     )
 
-module _ (one two all : ℕ → Steps) (file new : List ℕ) (to : ℕ → ℕ) where
-  -- the bytes up to the end, moved again
-  pub moved_again : (at : ℕ) {end : ℕ} (there : ℕ) (rows : List Row) (tail : List ℕ)
-      → AllTogether one two all to rows → AreFramesOf file rows → EndBy at rows end
-      → end ≤ length file → AreMovedBy to at end there
-      → drop there new ≡ moved_to one file at end rows ++ tail
-      → moved_to two new there (end - at + there) (map (stood to one) rows)
-      ≡ moved_to all file at end rows
-  moved_again at there [] tail sum frames ends within place is =
-      grind (arith, take_at, between_long)
-  moved_again at {end} there (row ∷ rows) tail sum frames ends within place is =
-      let up = end_rises (row_end row) rows ends.2 in
-      let here = place row.offset ends.0 (omega (arith, ends.1, up)) in
-      let gap = bytes_between file at row.offset in
-      let own = moved_row_bytes (one row.offset) file row in
-      let rest = moved_to one file (row_end row) end rows in
-      let size = row_length row in
-      let next = to row.offset + size in
-      let stands : drop there new ≡ gap ++ (own ++ (rest ++ tail)) =
-      is ∙ append_three gap own rest tail in
-      let gap_long : length gap ≡ row.offset - at =
-      between_long file ends.0 (omega (arith, ends.1, up, within)) in
-      let own_long : length own ≡ size = row_sized (one row.offset) frames.0 in
-      let near : to row.offset - there ≡ row.offset - at = omega (arith, here) in
-      let far : there + (row.offset - at) ≡ to row.offset = omega (arith, here) in
-      let first : bytes_between new there (to row.offset) ≡ gap =
-      ap (λ k. take k (drop there new)) near ∙ ap (take (row.offset - at)) stands
-      ∙ take_at gap (own ++ (rest ++ tail)) (row.offset - at) gap_long in
-      let own_there : drop (to row.offset) new ≡ own ++ (rest ++ tail) =
-      ap (λ k. drop k new) (sym far) ∙ sym (drop-drop (row.offset - at) there new)
-      ∙ ap (drop (row.offset - at)) stands
-      ∙ drop_at gap (own ++ (rest ++ tail)) (row.offset - at) gap_long in
-      let own_again : moved_row_bytes (two (to row.offset)) new (stood to one row)
-      ≡ moved_row_bytes (all row.offset) file row =
-      ap (moved_bytes (two (to row.offset)) (stood to one row))
-      (ap (take size) own_there ∙ take_at own (rest ++ tail) size own_long)
-      ∙ bytes_again one refl sum.0 to frames.0 in
-      let rest_there : drop next new ≡ rest ++ tail = sym (drop-drop size (to row.offset) new)
-      ∙ ap (drop size) own_there ∙ drop_at own (rest ++ tail) size own_long in
-      let total : end - row_end row + next ≡ end - at + there =
-      omega (arith, here, ends.0, ends.1, up) in
-      let rest_again : moved_to two new next (end - at + there) (map (stood to one) rows)
-      ≡ moved_to all file (row_end row) end rows =
-      ap (λ k. moved_to two new next k (map (stood to one) rows)) (sym total)
-      ∙ moved_again (row_end row) next rows tail sum.1 frames.1 ends.2 within
-      (λ x low high. place x (omega (arith, low, ends.0, ends.1)) high
-      ∙ omega (arith, here, low, ends.0, ends.1)) rest_there in
-      ap₂ (λ (a b : List ℕ). a ++ b) first (ap₂ (λ (a b : List ℕ). a ++ b) own_again rest_again)
+-- The frames of a file stand in the new one with one change, in order between two offsets, from an
+-- offset there on and before other bytes. All steps are the sum of this change and of the other.
+pub record StandAgain (one two all : ℕ → Steps) (file new : List ℕ) (to : ℕ → ℕ) (at end there : ℕ)
+    (rows : List Row) (tail : List ℕ) : Type 0 where
+  pub sum : AllTogether one two all to rows
+  pub frames : AreFramesOf file rows
+  pub ends : EndBy at rows end
+  pub within : end ≤ length file
+  pub place : AreMovedBy to at end there
+  pub is : drop there new ≡ moved_to one file at end rows ++ tail
+
+-- the bytes up to the end, moved again
+pub moved_again : {one two all : ℕ → Steps} {file new : List ℕ} {to : ℕ → ℕ} {end : ℕ}
+    (rows : List Row) {at there : ℕ} {tail : List ℕ}
+    → StandAgain one two all file new to at end there rows tail
+    → moved_to two new there (end - at + there) (map (stood to one) rows)
+    ≡ moved_to all file at end rows
+moved_again [] a =
+    let is = a.is in
+    grind (arith, take_at, between_long)
+moved_again {one} {two} {all} {file} {new} {to} {end} (row ∷ rows) {at} {there} {tail} a =
+    let up = end_rises (row_end row) rows a.ends.2 in
+    let here = a.place row.offset a.ends.0 (omega (arith, a.ends.1, up)) in
+    let gap = bytes_between file at row.offset in
+    let own = moved_row_bytes (one row.offset) file row in
+    let rest = moved_to one file (row_end row) end rows in
+    let size = row_length row in
+    let next = to row.offset + size in
+    let stands : drop there new ≡ gap ++ (own ++ (rest ++ tail)) =
+    a.is ∙ append_three gap own rest tail in
+    let gap_long : length gap ≡ row.offset - at =
+    between_long file a.ends.0 (omega (arith, a.ends.1, up, a.within)) in
+    let own_long : length own ≡ size = row_sized (one row.offset) a.frames.0 in
+    let near : to row.offset - there ≡ row.offset - at = omega (arith, here) in
+    let far : there + (row.offset - at) ≡ to row.offset = omega (arith, here) in
+    let first : bytes_between new there (to row.offset) ≡ gap =
+    ap (λ k. take k (drop there new)) near ∙ ap (take (row.offset - at)) stands
+    ∙ take_at gap (own ++ (rest ++ tail)) (row.offset - at) gap_long in
+    let own_there : drop (to row.offset) new ≡ own ++ (rest ++ tail) =
+    ap (λ k. drop k new) (sym far) ∙ sym (drop-drop (row.offset - at) there new)
+    ∙ ap (drop (row.offset - at)) stands
+    ∙ drop_at gap (own ++ (rest ++ tail)) (row.offset - at) gap_long in
+    let own_again : moved_row_bytes (two (to row.offset)) new (stood to one row)
+    ≡ moved_row_bytes (all row.offset) file row =
+    ap (moved_bytes (two (to row.offset)) (stood to one row))
+    (ap (take size) own_there ∙ take_at own (rest ++ tail) size own_long)
+    ∙ bytes_again one refl a.sum.0 to a.frames.0 in
+    let rest_there : drop next new ≡ rest ++ tail = sym (drop-drop size (to row.offset) new)
+    ∙ ap (drop size) own_there ∙ drop_at own (rest ++ tail) size own_long in
+    let total : end - row_end row + next ≡ end - at + there =
+    omega (arith, here, a.ends.0, a.ends.1, up) in
+    let rest_again : moved_to two new next (end - at + there) (map (stood to one) rows)
+    ≡ moved_to all file (row_end row) end rows =
+    ap (λ k. moved_to two new next k (map (stood to one) rows)) (sym total)
+    ∙ moved_again rows (record {
+      sum = a.sum.1;
+      frames = a.frames.1;
+      ends = a.ends.2;
+      within = a.within;
+      place = λ x low high. a.place x (omega (arith, low, a.ends.0, a.ends.1)) high
+          ∙ omega (arith, here, low, a.ends.0, a.ends.1);
+      is = rest_there;
+    }) in
+    ap₂ (λ (a b : List ℕ). a ++ b) first (ap₂ (λ (a b : List ℕ). a ++ b) own_again rest_again)

@@ -104,21 +104,42 @@ granule_next a b sum g first =
 
 -- ---- the gains of a frame
 
+-- main_data_begin, the private bits, scfsi of both channels, and the four granules
+pub record SideParts : Type 0 where
+  pub m : ℕ
+  pub p : ℕ
+  pub a : ℕ
+  pub b : ℕ
+  pub g : Granule
+  pub h : Granule
+  pub k : Granule
+  pub l : Granule
+
+-- the side information of these parts
+abbrev pub side_of : SideParts → Side
+side_of x = side_with x.m x.p x.a x.b x.g x.h x.k x.l
+
+-- what holds for the side information of any parts holds for any whose lists are long enough
+pub each_of : (P : Side → Type 0) → ((x : SideParts) → P (side_of x)) → {s : Side} → IsShaped s
+    → P s
+each_of P each {s} shaped = each_shaped P
+    (λ m p a b g h k l.
+    each (record { m = m; p = p; a = a; b = b; g = g; h = h; k = k; l = l })) s shaped
+
 -- the steps of one change and then another
 abbrev pub sum_of : Steps → Steps → Steps
 sum_of a b = record { left = a.left +ℤ b.left; right = a.right +ℤ b.right; wrap = a.wrap || b.wrap }
 
-twice-with : (one two : Steps) (m p a b : ℕ) (g h k l : Granule)
-    → moved_side two (moved_side one (side_with m p a b g h k l))
-    ≡ moved_side (sum_of one two) (side_with m p a b g h k l)
+twice-with : (one two : Steps) (x : SideParts)
+    → moved_side two (moved_side one (side_of x)) ≡ moved_side (sum_of one two) (side_of x)
 unfolding moved_side
-twice-with one two m p a b g h k l = grind (arith, granule_twice, side_with)
+twice-with one two x = grind (arith, granule_twice, side_with)
 
 -- moved by one change and then by another is moved by their sum
 pub side_twice : (one two : Steps) {s : Side} → IsShaped s
     → moved_side two (moved_side one s) ≡ moved_side (sum_of one two) s
-side_twice one two {s} shaped = each_shaped (λ t. moved_side two (moved_side one t)
-    ≡ moved_side (sum_of one two) t) (twice-with one two) s shaped
+side_twice one two shaped = each_of (λ t. moved_side two (moved_side one t)
+    ≡ moved_side (sum_of one two) t) (twice-with one two) shaped
 
 -- the gains are within their bits
 pub record GainsFit (s : Side) : Type 0 where
@@ -143,15 +164,14 @@ IsNoStep steps = (steps.left ≡ pos 0) × (steps.right ≡ pos 0)
 abbrev NoneGoal : Steps → Side → Type 0
 NoneGoal steps s = GainsFit s → moved_side steps s ≡ s
 
-none-with : (steps : Steps) → IsNoStep steps → (m p a b : ℕ) (g h k l : Granule)
-    → NoneGoal steps (side_with m p a b g h k l)
+none-with : (steps : Steps) → IsNoStep steps → (x : SideParts) → NoneGoal steps (side_of x)
 unfolding moved_side
-none-with steps none m p a b g h k l fits = grind (arith, granule_none, side_with)
+none-with steps none x fits = grind (arith, granule_none, side_with)
 
 -- moved by no step, side information stays
 pub side_none : (steps : Steps) → IsNoStep steps → {s : Side} → IsShaped s → GainsFit s
     → moved_side steps s ≡ s
-side_none steps none {s} shaped = each_shaped (NoneGoal steps) (none-with steps none) s shaped
+side_none steps none shaped = each_of (NoneGoal steps) (none-with steps none) shaped
 
 free_of : {b : Bool} (stuck : OutOfRange) → cond b (Some stuck) None ≡ None → b ≡ false
 free_of stuck e = grind arith
@@ -173,19 +193,29 @@ first_out_of steps s =
     (option_or (gain_out_of_range steps.left s 1 0) (gain_out_of_range steps.right s 1 1)))
 
 -- the four gains stay within the range
-pub record AreFree (left right : ℤ) (g h k l : Granule) : Type 0 where
-  pub first : is_stuck left g ≡ false
-  pub second : is_stuck right h ≡ false
-  pub third : is_stuck left k ≡ false
-  pub fourth : is_stuck right l ≡ false
+pub record AreFree (left right : ℤ) (x : SideParts) : Type 0 where
+  pub first : is_stuck left x.g ≡ false
+  pub second : is_stuck right x.h ≡ false
+  pub third : is_stuck left x.k ≡ false
+  pub fourth : is_stuck right x.l ≡ false
 
-module _ (steps : Steps) (m p a b : ℕ) (g h k l : Granule) where
+-- the parts with the gains of each granule and channel moved by the steps of the channel
+abbrev pub moved_parts : Steps → SideParts → SideParts
+moved_parts steps x =
+    record x {
+      g = moved_granule steps.left x.g;
+      h = moved_granule steps.right x.h;
+      k = moved_granule steps.left x.k;
+      l = moved_granule steps.right x.l;
+    }
+
+module _ (steps : Steps) (x : SideParts) where
   -- if no gain would leave the range, each of the four can move
-  pub free-parts : steps.wrap ≡ false → side_out_of_range steps (side_with m p a b g h k l) ≡ None
-      → AreFree steps.left steps.right g h k l
+  pub free-parts : steps.wrap ≡ false → side_out_of_range steps (side_of x) ≡ None
+      → AreFree steps.left steps.right x
   unfolding side_out_of_range
   free-parts strict free =
-      let s = side_with m p a b g h k l in
+      let s = side_of x in
       let last =
       option_or (gain_out_of_range steps.left s 1 0) (gain_out_of_range steps.right s 1 1) in
       let all = none_each
@@ -200,15 +230,13 @@ module _ (steps : Steps) (m p a b : ℕ) (g h k l : Granule) where
       }
 
   -- if each of the four gains can move, none would leave the range
-  pub free-whole : AreFree steps.left steps.right g h k l → steps.wrap ≡ false
-      → side_out_of_range steps (side_with m p a b g h k l) ≡ None
+  pub free-whole : AreFree steps.left steps.right x → steps.wrap ≡ false
+      → side_out_of_range steps (side_of x) ≡ None
   unfolding side_out_of_range
   free-whole free strict = grind (arith, side_with, none_both, none_of)
 
-  -- the gains of each granule and channel move by the steps of the channel
-  pub moved_granule-with : moved_side steps (side_with m p a b g h k l) ≡ side_with m p a b
-      (moved_granule steps.left g) (moved_granule steps.right h) (moved_granule steps.left k)
-      (moved_granule steps.right l)
+  -- the gains of side information are those of its moved parts
+  pub moved_granule-with : moved_side steps (side_of x) ≡ side_of (moved_parts steps x)
   unfolding moved_side
   moved_granule-with = refl
 
@@ -222,38 +250,46 @@ ThenGoal one two all s =
     side_out_of_range one s ≡ None → side_out_of_range all s ≡ None
     → side_out_of_range two (moved_side one s) ≡ None
 
-then-with : (one two : Steps) {all : Steps} → one.wrap ≡ false → two.wrap ≡ false → all.wrap ≡ false
-    → all.left ≡ one.left +ℤ two.left → all.right ≡ one.right +ℤ two.right
-    → (m p a b : ℕ) (g h k l : Granule) → ThenGoal one two all (side_with m p a b g h k l)
-then-with one two
-    {all} strict_one strict_two strict_all left right m p a b g h k l first whole =
-    let f = free-parts one m p a b g h k l strict_one first in
-    let w = free-parts all m p a b g h k l strict_all whole in
-    let on_left = granule_next one.left two.left left in
-    let on_right = granule_next one.right two.right right in
-    ap (side_out_of_range two) (moved_granule-with one m p a b g h k l)
-    ∙ free-whole two m p a b (moved_granule one.left g) (moved_granule one.right h)
-    (moved_granule one.left k)
-    (moved_granule one.right l)
+-- all these steps are the sum of one change and of the other
+pub record AreTogether (one two all : Steps) : Type 0 where
+  pub left : all.left ≡ one.left +ℤ two.left
+  pub right : all.right ≡ one.right +ℤ two.right
+
+-- neither of two changes wraps, nor do both together
+pub record AreStrict (one two all : Steps) : Type 0 where
+  pub first : one.wrap ≡ false
+  pub second : two.wrap ≡ false
+  pub both : all.wrap ≡ false
+
+then-with : {one two all : Steps} → AreStrict one two all → AreTogether one two all
+    → (x : SideParts) → ThenGoal one two all (side_of x)
+then-with {one} {two} {all} strict sum x first whole =
+    let f = free-parts one x strict.first first in
+    let w = free-parts all x strict.both whole in
+    let on_left = granule_next one.left two.left sum.left in
+    let on_right = granule_next one.right two.right sum.right in
+    ap (side_out_of_range two) (moved_granule-with one x)
+    ∙ free-whole two (moved_parts one x)
     (record {
-      first = on_left g f.first ∙ w.first;
-      second = on_right h f.second ∙ w.second;
-      third = on_left k f.third ∙ w.third;
-      fourth = on_right l f.fourth ∙ w.fourth;
+      first = on_left x.g f.first ∙ w.first;
+      second = on_right x.h f.second ∙ w.second;
+      third = on_left x.k f.third ∙ w.third;
+      fourth = on_right x.l f.fourth ∙ w.fourth;
     })
-    strict_two
+    strict.second
 
 -- if no gain leaves the range by one change nor by both together, none
 -- leaves it by the other change after the first; with wrap none ever does
-pub side_then : (one two all : Steps) {s : Side} → IsShaped s → two.wrap ≡ one.wrap || all.wrap
-    → all.left ≡ one.left +ℤ two.left → all.right ≡ one.right +ℤ two.right → side_out_of_range one s
-    ≡ None → side_out_of_range all s ≡ None → side_out_of_range two (moved_side one s) ≡ None
-side_then one two all {s} shaped wraps left right first whole =
+pub side_then : {one two all : Steps} {s : Side} → IsShaped s → two.wrap ≡ one.wrap || all.wrap
+    → AreTogether one two all → side_out_of_range one s ≡ None → side_out_of_range all s ≡ None
+    → side_out_of_range two (moved_side one s) ≡ None
+side_then {one} {two} {all} {s} shaped wraps sum first whole =
     by_wrap one.wrap all.wrap refl refl
   where
     by_wrap : (v w : Bool) → one.wrap ≡ v → all.wrap ≡ w
         → side_out_of_range two (moved_side one s) ≡ None
     by_wrap false false e d =
-        each_shaped (ThenGoal one two all) (then-with one two e
-        (wraps ∙ ap₂ (λ (x y : Bool). x || y) e d) d left right) s shaped first whole
+        let strict : AreStrict one two all =
+        record { first = e; second = wraps ∙ ap₂ (λ (x y : Bool). x || y) e d; both = d } in
+        each_of (ThenGoal one two all) (then-with strict sum) shaped first whole
     by_wrap _ _ e d = wrapped-free two (moved_side one s) (wraps ∙ ap₂ (λ (x y : Bool). x || y) e d)

@@ -15,9 +15,9 @@ use Rattle.gain_edits.proofs.{ProperLemmas.survey_fields-file_with_change, Refus
 use Rattle.gain_edits.specs.Change.{change_result}
 use Rattle.gain_edits.specs.Channels.{channel_fault, joint_fault, joint_refusal}
 use Rattle.gain_edits.specs.{Channels.single_channel_fault, Gain.gain_change, GainRange.range_fault}
-use Rattle.gain_laws.proofs.MovedAgainLemmas.{AllTogether, AreMovedBy, AreTogether, even_together}
-use Rattle.gain_laws.proofs.MovedAgainLemmas.{moved_again, stood}
-use Rattle.gain_laws.proofs.MovedTwiceLemmas.{GainsFit, IsNoStep, side_none}
+use Rattle.gain_laws.proofs.MovedAgainLemmas.{AllTogether, AreMovedBy, even_together, moved_again}
+use Rattle.gain_laws.proofs.MovedAgainLemmas.{StandAgain, stood}
+use Rattle.gain_laws.proofs.MovedTwiceLemmas.{AreTogether, GainsFit, IsNoStep, side_none}
 use Rattle.gain_laws.proofs.RangeAgainLemmas.{constant_steps-opposite, range_back, row_fits, still}
 use Rattle.gain_laws.proofs.WholeFrameLemmas.{AreFramesOf, frame_none, frame_of, frames_there}
 use Rattle.gain_laws.proofs.WholeFrameLemmas.{IsFrameOf, row_shaped}
@@ -283,14 +283,23 @@ module _ (one two : ℕ → Steps) (file : List ℕ) (s : SurveyFields)
   to_end : length file - s.first + s.junk ≡ length moved
   to_end = omega (arith, size, here.size, here.junk, here.first)
 
+  again : StandAgain one two (constant_steps still) file moved to s.first (length file) s.junk
+      s.frames []
+  again = record {
+    sum = sum;
+    frames = frames;
+    ends = subst (EndBy s.first s.frames) (sym here.size) here.ends;
+    within = omega arith;
+    place = by;
+    is = rows_stand;
+  }
+
   rows_again : moved_from two moved m.first m.frames
       ≡ moved_from (constant_steps still) file s.first s.frames
   rows_again =
       ap₂ (λ k (l : List Row). moved_to two moved k (length moved) l) new_places.1 new_frames
       ∙ ap (λ k. moved_to two moved s.junk k (map (stood to one) s.frames)) (sym to_end)
-      ∙ moved_again one two
-      (constant_steps still) file moved to s.first s.junk s.frames [] sum
-      frames (subst (EndBy s.first s.frames) (sym here.size) here.ends) (omega arith) by rows_stand
+      ∙ moved_again s.frames again
 
   junk_again : take m.junk moved ≡ junk
   junk_again = ap (λ k. take k moved) new_places.0 ∙ ap (take s.junk) stands

@@ -1,22 +1,22 @@
 -- Two changes of gains, one after the other: if no gain leaves its range by either, none does by
 -- both together, nor when the first is taken back.
-use Rattle.std.proofs.Common.{ap₂, arith, Bool, cond, false, List, map, None, Option, pos, refl}
+use Rattle.std.proofs.Common.{ap, ap₂, arith, Bool, cond, false, List, map, None, Option, pos, refl}
 use Rattle.std.proofs.Common.{sym, true, ℕ, ℤ, ◌+ℤ◌, [], ◌<◌, ◌||◌, ◌∙◌, ◌∷◌, ◌≡◌}
 use Rattle.std.proofs.lemmas.Bool.{le-ltb}
 use Rattle.commands.proofs.RefusingLemmas.{first-nil}
 use Rattle.gain_edits.proofs.RangeFaultLemmas.{frame-none, none-frame}
 use Rattle.gain_edits.specs.GainRange.{range_fault, row_range_fault}
-use Rattle.gain_laws.proofs.MovedAgainLemmas.{AreTogether, stood}
-use Rattle.gain_laws.proofs.MovedTwiceLemmas.{free-parts, free-whole, gains_fit, GainsFit}
-use Rattle.gain_laws.proofs.MovedTwiceLemmas.{granule_next, is_stuck, IsNoStep, moved_granule-with}
-use Rattle.gain_laws.proofs.MovedTwiceLemmas.{side_then, wrapped-free}
+use Rattle.gain_laws.proofs.MovedAgainLemmas.{stood}
+use Rattle.gain_laws.proofs.MovedTwiceLemmas.{AreStrict, AreTogether, each_of, free-parts}
+use Rattle.gain_laws.proofs.MovedTwiceLemmas.{free-whole, gains_fit, GainsFit, granule_next}
+use Rattle.gain_laws.proofs.MovedTwiceLemmas.{is_stuck, IsNoStep, moved_granule-with, moved_parts}
+use Rattle.gain_laws.proofs.MovedTwiceLemmas.{side_of, side_then, SideParts, wrapped-free}
 use Rattle.gain_laws.proofs.WholeFrameLemmas.{AreFramesOf, frame_of, IsFrameOf, row_shaped}
 use Rattle.moved_gains.{proofs.MovedFrameLemmas.whole_class, specs.Course.constant_steps}
 use Rattle.moved_gains.specs.Gains.{moved_side, moved_side_unless_lost, side_out_of_range}
 use Rattle.moved_gains.specs.declared.gains.OutOfRange.{OutOfRange}
 use Rattle.requests.specs.declared.shift.Steps.{Steps}
-use Rattle.side_info.proofs.FrameLemmas.{fits-side_in}
-use Rattle.side_info.proofs.SideLemmas.{each_shaped, IsShaped, side_with}
+use Rattle.side_info.proofs.{FrameLemmas.fits-side_in, SideLemmas.IsShaped}
 use Rattle.side_info.specs.declared.{granule.Granule.Granule, side.Side.Side}
 use Rattle.sync_survey.specs.Row.{Row}
 
@@ -27,11 +27,23 @@ BothGoal one two all s =
     side_out_of_range one s ≡ None → side_out_of_range two (moved_side one s) ≡ None
     → side_out_of_range all s ≡ None
 
-both-with : {one two all : Steps} → one.wrap ≡ false → two.wrap ≡ false → all.wrap ≡ false
-    → AreTogether one two all → (m p a b : ℕ) (g h k l : Granule)
-    → BothGoal one two all (side_with m p a b g h k l)
-both-with strict_one strict_two strict_all sum m p a b g h k l first second =
-    grind (arith, free-parts, moved_granule-with, granule_next, free-whole)
+both-with : {one two all : Steps} → AreStrict one two all → AreTogether one two all
+    → (x : SideParts) → BothGoal one two all (side_of x)
+both-with {one} {two} {all} strict sum x first second =
+    let f = free-parts one x strict.first first in
+    let y = moved_parts one x in
+    let n = free-parts two y strict.second
+    (sym (ap (side_out_of_range two) (moved_granule-with one x)) ∙ second) in
+    let on_left = granule_next one.left two.left sum.left in
+    let on_right = granule_next one.right two.right sum.right in
+    free-whole all x
+    (record {
+      first = sym (on_left x.g f.first) ∙ n.first;
+      second = sym (on_right x.h f.second) ∙ n.second;
+      third = sym (on_left x.k f.third) ∙ n.third;
+      fourth = sym (on_right x.l f.fourth) ∙ n.fourth;
+    })
+    strict.both
 
 -- if no gain is stuck by the one change and then by the other, none is by both together
 pub side_both : {one two all : Steps} {s : Side} → IsShaped s → all.wrap ≡ one.wrap || two.wrap
@@ -42,8 +54,9 @@ side_both {one} {two} {all} {s} shaped wraps sum first second =
   where
     by_wrap : (v w : Bool) → one.wrap ≡ v → two.wrap ≡ w → side_out_of_range all s ≡ None
     by_wrap false false e d =
-        each_shaped (BothGoal one two all) (both-with e d
-        (wraps ∙ ap₂ (λ (x y : Bool). x || y) e d) sum) s shaped first second
+        let strict : AreStrict one two all =
+        record { first = e; second = d; both = wraps ∙ ap₂ (λ (x y : Bool). x || y) e d } in
+        each_of (BothGoal one two all) (both-with strict sum) shaped first second
     by_wrap false true e d = wrapped-free all s (wraps ∙ ap₂ (λ (x y : Bool). x || y) e d)
     by_wrap true w e d = wrapped-free all s (wraps ∙ ap₂ (λ (x y : Bool). x || y) e d)
 
@@ -58,15 +71,14 @@ still_granule none g small = grind (arith, pos, le-ltb, is_stuck)
 abbrev StillGoal : Steps → Side → Type 0
 StillGoal steps s = GainsFit s → side_out_of_range steps s ≡ None
 
-still-with : {steps : Steps} → IsNoStep steps → steps.wrap ≡ false
-    → (m p a b : ℕ) (g h k l : Granule) → StillGoal steps (side_with m p a b g h k l)
-still-with none strict m p a b g h k l fits = grind (arith, free-whole, still_granule)
+still-with : {steps : Steps} → IsNoStep steps → steps.wrap ≡ false → (x : SideParts)
+    → StillGoal steps (side_of x)
+still-with none strict x fits = grind (arith, free-whole, still_granule)
 
 -- by 0 steps no gain is stuck
 pub side_still : {steps : Steps} → IsNoStep steps → steps.wrap ≡ false → {s : Side} → IsShaped s
     → GainsFit s → side_out_of_range steps s ≡ None
-side_still {steps} none strict {s} shaped =
-    each_shaped (StillGoal steps) (still-with none strict) s shaped
+side_still {steps} none strict shaped = each_of (StillGoal steps) (still-with none strict) shaped
 
 -- the gains of a frame fit
 pub row_fits : {file : List ℕ} {row : Row} → IsFrameOf file row → GainsFit row.side
@@ -132,11 +144,12 @@ range_back one two file to (row ∷ rows) opposite frames free =
     let b = two (to row.offset) in
     let f = frame-none one row rows free in
     let shaped = row_shaped frames.0 in
+    let sum : AreTogether a b still =
+    record { left = sym opposite.0.left; right = sym opposite.0.right } in
     none-frame two (stood to one row) (map (stood to one) rows)
     (moved_or_lost row.lost b a row.side
     ∙ unless_both row.lost
-    (λ first again. side_then a b still shaped (opposite.0.wraps ∙ or_none a.wrap)
-    (sym opposite.0.left) (sym opposite.0.right) first
+    (λ first again. side_then shaped (opposite.0.wraps ∙ or_none a.wrap) sum first
     (side_still (refl, refl) refl shaped (row_fits frames.0)))
     f.0 f.0)
     (range_back one two file to rows opposite.1 frames.1 f.1)

@@ -6,7 +6,8 @@ use Rattle.std.proofs.Common.{◌+◌, ◌-◌, ◌∙◌, ◌∷◌, ◌≡◌,
 use Rattle.std.proofs.lemmas.List.{drop-drop, drop_at, length-take-le, map-append, take_at}
 use Rattle.bit_fields.specs.Bits.{AreBytes}
 use Rattle.gain_laws.proofs.MovedAgainLemmas.{AllTogether, AreMovedBy, ends_again, IsTogether}
-use Rattle.gain_laws.proofs.{MovedAgainLemmas.{moved_again, stood}, NewTagLemmas.tagged-again}
+use Rattle.gain_laws.proofs.MovedAgainLemmas.{moved_again, StandAgain, stood}
+use Rattle.gain_laws.proofs.NewTagLemmas.{tagged-again}
 use Rattle.gain_laws.proofs.WholeFrameLemmas.{AreFramesOf, frames_there, IsFrameOf}
 use Rattle.gain_laws.specs.NewTagLaws.{HasNewTag}
 use Rattle.moved_gains.proofs.{EditedSurveyLemmas.survey_fields-edited_file, LostOffsetLemmas.EndBy}
@@ -238,11 +239,19 @@ module _ (one : ℕ → Steps) (file : List ℕ) (allowed : ℕ) (s : SurveyFiel
         ) in
         let by : AreMovedBy to s.first (length file) n.first =
         grind (arith, follows, kept, old_size, new_first, here.junk, at.before) in
+        let again : StandAgain one two all file new to s.first (length file) n.first s.frames [] =
+        record {
+          sum = sum;
+          frames = frames;
+          ends = subst (EndBy s.first s.frames) (sym here.size) here.ends;
+          within = omega arith;
+          place = by;
+          is = rows_stand;
+        } in
         let rows_same : moved_to two new n.first (length new) n.frames
         ≡ moved_to all file s.first (length file) s.frames =
         ap₂ (λ k (l : List Row). moved_to two new n.first k l) (sym end) new_frames
-        ∙ moved_again one two all file new to s.first n.first s.frames [] sum frames
-        (subst (EndBy s.first s.frames) (sym here.size) here.ends) (omega arith) by rows_stand in
+        ∙ moved_again s.frames again in
         (parted_front two new allowed n new_is at_new).tagged bytes
         ∙ ap₂ (λ (j k : List ℕ). j ++ (bytes ++ k)) before_same
         (ap₂ (λ (j k : List ℕ). j ++ k) between_same rows_same)
@@ -291,26 +300,41 @@ module _ (one : ℕ → Steps) (file : List ℕ) (allowed : ℕ) (s : SurveyFiel
       before_stands = ap (λ k. drop k new) (first_same at) ∙ ap (drop s.junk) stands_flat
           ∙ drop_at junk (before ++ (block ++ behind)) s.junk junk_long
 
+      before_stand : StandAgain one two all file new to s.first a n.first at.before
+          (block ++ behind)
+      before_stand = record {
+        sum = each_before (IsTogether one two all to) at.before at.behind sum_both;
+        frames = each_before (IsFrameOf file) at.before at.behind both;
+        ends = at.front;
+        within = omega (arith, up);
+        place = by_before at;
+        is = before_stands;
+      }
+
       before_again : moved_to two new n.first (tag_offset n) (map (stood to one) at.before)
           ≡ moved_to all file s.first a at.before
       before_again =
           ap (λ k. moved_to two new n.first k (map (stood to one) at.before)) (sym (to_place at))
-          ∙ moved_again one two all file new to s.first n.first at.before (block ++ behind)
-          (each_before (IsTogether one two all to) at.before at.behind sum_both)
-          (each_before (IsFrameOf file) at.before at.behind both) at.front (omega (arith, up))
-          (by_before at) before_stands
+          ∙ moved_again at.before before_stand
 
       behind_stands : drop after new ≡ behind ++ []
       behind_stands = behind_there (junk ++ before) behind parted ∙ sym (append-nil behind)
+
+      behind_stand : StandAgain one two all file new to (a + old) (length file) after at.behind []
+      behind_stand = record {
+        sum = each_behind (IsTogether one two all to) at.before at.behind sum_both;
+        frames = each_behind (IsFrameOf file) at.before at.behind both;
+        ends = rest_file at;
+        within = omega arith;
+        place = by_behind at;
+        is = behind_stands;
+      }
 
       behind_again : moved_to two new after (length new) (map (stood to one) at.behind)
           ≡ moved_to all file (a + old) (length file) at.behind
       behind_again =
           ap (λ k. moved_to two new after k (map (stood to one) at.behind)) (sym (to_end at))
-          ∙ moved_again one two all file new to (a + old) after at.behind []
-          (each_behind (IsTogether one two all to) at.before at.behind sum_both)
-          (each_behind (IsFrameOf file) at.before at.behind both) (rest_file at) (omega arith)
-          (by_behind at) behind_stands
+          ∙ moved_again at.behind behind_stand
 
       among_again : (bytes : List ℕ)
           → file_with_tag bytes (edited_survey two n) (edited_file two new n)

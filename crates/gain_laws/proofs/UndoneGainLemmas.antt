@@ -16,8 +16,8 @@ use Rattle.gain_edits.specs.Undo.{undo_change, undone_change, undone_tag_change}
 use Rattle.gain_edits.specs.UndoItem.{bytes_unless_empty, found_undo, next_undo, no_undo}
 use Rattle.gain_edits.specs.UndoItem.{noted_undo, number_fault, output_length, tag_result}
 use Rattle.gain_edits.specs.UndoItem.{tag_with_undo, tag_without_undo, undo_fault, undo_steps}
-use Rattle.gain_laws.proofs.MovedAgainLemmas.{AreTogether, even_together, stood}
-use Rattle.gain_laws.proofs.MovedTwiceLemmas.{sum_of}
+use Rattle.gain_laws.proofs.MovedAgainLemmas.{even_together, stood}
+use Rattle.gain_laws.proofs.MovedTwiceLemmas.{AreTogether, sum_of}
 use Rattle.gain_laws.proofs.OppositeStepLemmas.{edited_file-still, own_again, still_holds}
 use Rattle.gain_laws.proofs.RangeAgainLemmas.{constant_steps-opposite, range_back, range_both}
 use Rattle.gain_laws.proofs.RangeAgainLemmas.{still}
