@@ -3,13 +3,14 @@
 #                 make install-program, install-library (what programs load), install-development (what C programs are
 #                 built with) and install-python install a part
 # make uninstall  removes them
-# make deb        makes Debian packages of them in OUT
+# make deb        makes Debian packages of them in OUT, for the architecture ARCH, which is this machine's if it isn't set
 # make check      the merge gate
 PREFIX ?= /usr/local
 LIBDIR ?= $(PREFIX)/lib
 PYTHONDIR ?= $(PREFIX)/lib/python3/dist-packages
 DESTDIR ?=
 OUT ?= out
+ARCH ?=
 PROGRAM = crates/mp3edit/out/mp3edit
 # The folder of the built libraries.
 LIBRARY = library/out
@@ -69,7 +70,7 @@ uninstall:
 	rm -f "$(INCLUDE)/mp3edit.h" "$(MAN)/man3/mp3edit.3.gz"
 
 deb: all
-	PROGRAM="$(PROGRAM)" LIBRARY="$(LIBRARY)" scripts/package "$(OUT)"
+	ARCH="$(ARCH)" PROGRAM="$(PROGRAM)" LIBRARY="$(LIBRARY)" scripts/package "$(OUT)"
 
 check:
 	.ci/run
