@@ -5,15 +5,22 @@
 # make uninstall  removes them
 # make deb        makes Debian packages of them in OUT, for the architecture ARCH, which is this machine's if it isn't set
 # make check      the merge gate
+#
+# With ARCH=arm64 all but the last are for 64-bit ARM.
 PREFIX ?= /usr/local
 LIBDIR ?= $(PREFIX)/lib
 PYTHONDIR ?= $(PREFIX)/lib/python3/dist-packages
 DESTDIR ?=
 OUT ?= out
-ARCH ?=
-PROGRAM = crates/mp3edit/out/mp3edit
+ARCH =
+ifeq ($(ARCH),arm64)
+PROGRAM = crates/mp3edit/out/arm64/mp3edit
 # The folder of the built libraries.
+LIBRARY = library/out/arm64
+else
+PROGRAM = crates/mp3edit/out/mp3edit
 LIBRARY = library/out
+endif
 
 BIN = $(DESTDIR)$(PREFIX)/bin
 INCLUDE = $(DESTDIR)$(PREFIX)/include
@@ -29,10 +36,10 @@ VERSION = $(shell sed -n '1s/.*"mp3edit \([^"]*\)".*/\1/p' docs/mp3edit.1)
 all: program library
 
 program:
-	scripts/build
+	scripts/build mp3edit $(ARCH)
 
 library:
-	scripts/build-library
+	scripts/build-library $(ARCH)
 
 install: install-program install-library install-development install-python
 
