@@ -234,7 +234,7 @@ help_text =
 
 -- the program's name and version
 unfoldable pub version_text : List ℕ
-version_text = codes "mp3edit 0.1.0\n"
+version_text = codes "mp3edit 1.0.0\n"
 
 -- the line was sent, and no write failed
 pub record GotWhole (sent_before sent_after : Sent) (faults_before faults_after : ℕ)

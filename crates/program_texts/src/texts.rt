@@ -143,7 +143,7 @@ pub fn say_version<T: Sink>(out: &mut T) -> Result<(), EditFault>
         (answer_fault result) }
     ensures fault { IfErr result (λ fault. fault ≡ EditFault.Sent) }
 {
-    say(out, &["mp3edit 0.1.0\n"])
+    say(out, &["mp3edit 1.0.0\n"])
 }
 
 // The line of a check word at an offset that isn't the right one.

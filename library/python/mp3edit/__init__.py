@@ -20,7 +20,7 @@ from ._session import Session
 if TYPE_CHECKING:
     from _typeshed import ReadableBuffer
 
-__version__ = "0.1.0"
+__version__ = "1.0.0"
 __all__ = [
     "Counts",
     "Info",

@@ -95,12 +95,12 @@ static SAID: [Said; 12] = table! {
     (&["--help"], true, 3, false, b"", FAULT)
     (&["-h"], false, 0, true, b"", b"")
     (&["-h"], true, 3, false, b"", FAULT)
-    (&["--version"], false, 0, false, b"mp3edit 0.1.0\n", b"")
+    (&["--version"], false, 0, false, b"mp3edit 1.0.0\n", b"")
     (&["--version"], true, 3, false, b"", FAULT)
     (&["-n", "drill", "1", "1"], false, 0, false, b"1 frames, 417 bytes in, 469 bytes out, 0 lead-ins\n", b"")
     (&["-n", "--help"], false, 0, true, b"", b"")
     (&["-n", "-h"], false, 0, true, b"", b"")
-    (&["-n", "--version"], false, 0, false, b"mp3edit 0.1.0\n", b"")
+    (&["-n", "--version"], false, 0, false, b"mp3edit 1.0.0\n", b"")
 };
 
 /// The status of a run, and what it sent to both sinks.
