@@ -4,6 +4,8 @@
 #                 built with) and install-python install a part
 # make uninstall  removes them
 # make deb        makes Debian packages of them in OUT, for the architecture ARCH, which is this machine's if it isn't set
+# make dist       makes the source archive of the version in OUT
+# make sums       prints the SHA-256 of the program, of the libraries, and of what is in OUT
 # make check      the merge gate
 #
 # With ARCH=arm64 all but the last are for 64-bit ARM.
@@ -29,9 +31,10 @@ PYTHON = $(DESTDIR)$(PYTHONDIR)/mp3edit
 MAN = $(DESTDIR)$(PREFIX)/share/man
 COMPLETIONS = $(DESTDIR)$(PREFIX)/share/bash-completion/completions
 DOC = $(DESTDIR)$(PREFIX)/share/doc/mp3edit
-VERSION = $(shell sed -n '1s/.*"mp3edit \([^"]*\)".*/\1/p' docs/mp3edit.1)
+VERSION = $(firstword $(shell scripts/release))
 
-.PHONY: all program library install install-program install-library install-development install-python uninstall deb check
+.PHONY: all program library install install-program install-library install-development install-python uninstall deb dist sums \
+	check
 
 all: program library
 
@@ -46,10 +49,10 @@ install: install-program install-library install-development install-python
 install-program: program
 	install -D -m 755 "$(PROGRAM)" "$(BIN)/mp3edit"
 	install -d "$(MAN)/man1"
-	gzip -9nc docs/mp3edit.1 >"$(MAN)/man1/mp3edit.1.gz"
+	gzip -9nc docs/mp3edit.1 | install -m 644 /dev/stdin "$(MAN)/man1/mp3edit.1.gz"
 	install -D -m 644 scripts/completion/mp3edit "$(COMPLETIONS)/mp3edit"
 	install -d "$(DOC)/docs/figures" "$(DOC)/docs/measurements"
-	install -m 644 README.md CHANGELOG.md SECURITY.md CONTRIBUTING.md LICENSE "$(DOC)"
+	install -m 644 README.md CHANGELOG.md SECURITY.md CONTRIBUTING.md LICENSE COPYRIGHT "$(DOC)"
 	install -m 644 docs/*.md "$(DOC)/docs"
 	install -m 644 docs/measurements/*.md "$(DOC)/docs/measurements"
 	for page in crates/*/README.md library/examples/*; do install -D -m 644 "$$page" "$(DOC)/$$page" || exit; done
@@ -63,8 +66,9 @@ install-development: library
 	install -D -m 644 "$(LIBRARY)/libmp3edit.a" "$(LIB)/libmp3edit.a"
 	ln -sf libmp3edit.so.1 "$(LIB)/libmp3edit.so"
 	install -d "$(LIB)/pkgconfig" "$(MAN)/man3"
-	sed 's|@PREFIX@|$(PREFIX)|; s|@LIBDIR@|$(LIBDIR)|; s|@VERSION@|$(VERSION)|' library/mp3edit.pc.in >"$(LIB)/pkgconfig/mp3edit.pc"
-	gzip -9nc docs/mp3edit.3 >"$(MAN)/man3/mp3edit.3.gz"
+	sed 's|@PREFIX@|$(PREFIX)|; s|@LIBDIR@|$(LIBDIR)|; s|@VERSION@|$(VERSION)|' library/mp3edit.pc.in | \
+		install -m 644 /dev/stdin "$(LIB)/pkgconfig/mp3edit.pc"
+	gzip -9nc docs/mp3edit.3 | install -m 644 /dev/stdin "$(MAN)/man3/mp3edit.3.gz"
 
 install-python:
 	install -d "$(PYTHON)"
@@ -78,6 +82,12 @@ uninstall:
 
 deb: all
 	ARCH="$(ARCH)" PROGRAM="$(PROGRAM)" LIBRARY="$(LIBRARY)" scripts/package "$(OUT)"
+
+dist:
+	scripts/dist "$(OUT)"
+
+sums:
+	PROGRAM="$(PROGRAM)" LIBRARY="$(LIBRARY)" scripts/sums "$(OUT)"
 
 check:
 	.ci/run
