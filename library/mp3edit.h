@@ -27,7 +27,7 @@
  *   16 bytes, for blocks of a multiple of 16.
  * - No call comes from a signal handler, or from the child of a fork in a process of several
  *   threads.
- * - 128 KiB of the stack are free, and the processor has SSE4.2 and POPCNT (x86-64-v2).
+ * - 128 KiB of the stack are free, and an x86-64 processor has SSE4.2 and POPCNT (x86-64-v2).
  */
 #ifndef MP3EDIT_H
 #define MP3EDIT_H
