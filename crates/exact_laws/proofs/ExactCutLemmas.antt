@@ -150,9 +150,9 @@ module _ {file : List ℕ} {s : SurveyFields} (r : Recording file s) where
       keeps-by (head r) long (delay_of s.class (leads at.piece) t) (padding_of t)
       (ap (take 28)
       (read-extension at.piece
-      ∙ ap (λ (l : LaidPart). l.extension) (piece-by r t at.there.there made.row_is))
+      ∙ ap (λ (l : LaidPart). l.extension) (piece-by r at.there.there made.row_is))
       ∙ sealed-front made.row.header (info_laid (plain r t) file (own r))
-      (plain-long (head r) long t file (own r) (has-own r) (inside r t at.there.there)))
+      (plain-long (head r) long (has-own r) (inside r at.there.there)))
       (read-head r at).numbers.encoder
 
   -- all pieces have the same peak and gains
@@ -200,7 +200,7 @@ module _ {file : List ℕ} {s : SurveyFields} (r : Recording file s) {place next
   found = whole-found r pieces
 
   there : IsSpanIn t cut_span
-  there = inside r cut_span found.there
+  there = inside r found.there
 
   row-is : slice_get t.frames cut_span.first ≡ Some row
   row-is = ap (slice_get t.frames) (sym first-same) ∙ piece.made.row_is
@@ -260,7 +260,7 @@ module _ {file : List ℕ} {s : SurveyFields} (r : Recording file s) {place next
   plan-by true lacks =
       let chosen = choice r cut_span in
       let plan =
-      the-plan chosen t (has-own r).placed there.some there.within own_choice
+      the-plan chosen t (has-own r).placed there.some there.within
       (inl refl) in
       sym ((led-is chosen t (has-own r).placed there.some there.within least).0
       (led-needed window own_choice needs least (never-laid (lacks refl)) plan))
@@ -478,7 +478,7 @@ module _ {file : List ℕ} {s : SurveyFields} (r : Recording file s) {place next
           let led_frame = lead_in_with_place as-splice.lead f in
           let near : as-led.lead.begin ≤ window = omega (arith, lead-begins) in
           let own_entry =
-          one-entry s.class as-led.lead f (slot_among as-led.slot.chosen) near
+          one-entry as-led.lead (slot_among as-led.slot.chosen) near
           entries.0 true in
           let heard = ap₂ ◌∷◌
           (one-stream true as-splice.lead f ∙ ap silent_lead_in entry) all in
@@ -545,7 +545,7 @@ module _ {file : List ℕ} {s : SurveyFields} (r : Recording file s) {place next
   placed-many =
       sym (length-map cut_frames slot_in)
       ∙ ap length
-      (laid-slots cut file t (has-own r) there.some there.within
+      (laid-slots cut (has-own r) there.some there.within
       (with-fitting (choice r cut_span) t (has-own r).placed there.some there.within cut_span.led))
       ∙ length-map placed (λ (p : Placed). p.slot)
 
@@ -573,10 +573,10 @@ module _ {file : List ℕ} {s : SurveyFields} (r : Recording file s) {place next
         row.header (plain r cut_span).extension (is.header q found_row)
         ∙ ap (λ e.
         info_frame row.header (info_laid (record (plain r cut_span) { extension = e }) file t))
-        (sym (ap (λ (l : LaidPart). l.extension) (piece-by r cut_span found.there row-is)))
+        (sym (ap (λ (l : LaidPart). l.extension) (piece-by r found.there row-is)))
 
     -- the join is what is cut, without the blocks after the frames
     pub cut-file : seamless_file (first ∷ parts) ≡ bare_file cut file t
     cut-file =
-        file-same r.known (inputs r pieces) cut file t row row-is is.frames (λ q. info-is {q = q})
+        file-same r.known (inputs r pieces) cut file t row-is is.frames (λ q. info-is {q = q})
         (front-same (laid-input piece) most_frames {t = s} r.told refl)

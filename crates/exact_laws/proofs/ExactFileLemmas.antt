@@ -154,7 +154,7 @@ module _ {file : List ℕ} {s : SurveyFields} (r : Recording file s) where
       grind (arith, sample, position, and_from, lt-ltb, le-leb) in
       (span-found e).0
 
-  module _ (span : Span) (there : IsSpanIn s span) where
+  module _ {span : Span} (there : IsSpanIn s span) where
     -- the frames of the span are there when the head is set apart
     pub inside : IsSpanIn own span
     inside = span-survey_without_head there
@@ -186,7 +186,7 @@ module _ {file : List ℕ} {s : SurveyFields} (r : Recording file s) where
           ap (λ (l : LaidPart). length l.extension) (piece-by first-row.1)
           ∙ (sealed-whole first-row.0.header
           (for-whole s.class (frames_laid (plain span) file own) (plain span).quality
-          (plain-long head (head_long file s.head) span file own has-own inside))).extension;
+          (plain-long head (head_long file s.head) has-own inside))).extension;
     }
 
   -- what is cut exactly from one place to another is their piece
@@ -200,10 +200,10 @@ module _ {file : List ℕ} {s : SurveyFields} (r : Recording file s) where
       let same : span_piece head one.0 file own ≡ l = cc in
       record {
         there = found.0;
-        right = span-right (span from to) found.0.there;
+        right = span-right found.0.there;
         is =
             sym same ∙ ap (λ sp. span_piece head sp file own) (sym found.1)
-            ∙ piece-is (span from to) found.0.there;
+            ∙ piece-is found.0.there;
       }
 
   -- ---- the frames of the recording

@@ -15,8 +15,8 @@ use Rattle.exact_laws.proofs.ExactSpliceLemmas.{joined-is, st}
 use Rattle.exact_laws.specs.ExactSeamLaws.{ExactSplitThenSeamlessJoin, HasTheSpan, PlaysTheSpan}
 use Rattle.exact_span.specs.declared.exact_place.ExactPlace.{ExactPlace}
 use Rattle.laying.specs.Relaid.{FilePart}
-use Rattle.seam_laws.proofs.PieceListLemmas.{first-plain, laid-pieces, map-pieces, Recording}
-use Rattle.seam_laws.proofs.{PieceListLemmas.recording, SplitFileLemmas.front-row}
+use Rattle.seam_laws.proofs.PieceListLemmas.{first-plain, laid-pieces, LaysPieces, map-pieces}
+use Rattle.seam_laws.proofs.{PieceListLemmas.{Recording, recording}, SplitFileLemmas.front-row}
 use Rattle.seam_laws.specs.SeamlessLaws.{last_place}
 use Rattle.split_edits.specs.Split.{exact_cutting_of}
 use Rattle.sync_survey.specs.Faults.{SurveyFields}
@@ -47,7 +47,7 @@ module _ {file : List ℕ} {s : SurveyFields} (r : Recording file s) {place next
   whole-laid =
       ap (λ e. then_made e (λ span. Ok (span_piece (head r) span file (own r))))
       (whole-found r pieces).found
-      ∙ ap Ok (piece-is r (whole_span r pieces) (whole-found r pieces).there)
+      ∙ ap Ok (piece-is r (whole-found r pieces).there)
 
   plays-span : PlaysTheSpan place (last_place next places) file s first parts
       (length joined.leads) (whole_span r pieces)
@@ -72,11 +72,11 @@ pub exact-joins : ExactSplitThenSeamlessJoin
 unfolding has-span
 exact-joins points file s place next places laid first parts read e inputs =
     let r = recording read in
+    let by : LaysPieces (exact_cutting_of points) (exact_cuts r) file s =
+    record { has = has-own r; lays = exact-laid r } in
     let pieces =
     map-pieces (λ a b p at. at.0)
-    (laid-pieces (exact_cutting_of points) (exact_cuts r) file s (has-own r)
-    (exact-laid r) place next
-    places laid first parts e ⊥ inputs (λ never. absurd never)) in
+    (laid-pieces by places e ⊥ inputs (λ never. absurd never)) in
     record {
       frames = has-span r pieces;
       samples = plays-span r pieces;
@@ -86,8 +86,6 @@ exact-joins points file s place next places laid first parts read e inputs =
         same = λ none.
             cut-file r pieces
             (is-same r pieces
-            (first-plain (exact_cutting_of points) (exact_cuts r) file s (has-own r)
-            (exact-laid r) place
-            next places laid first parts e none (at r pieces).piece));
+            (first-plain by places e none (at r pieces).piece));
       };
     }

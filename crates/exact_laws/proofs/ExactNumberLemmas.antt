@@ -211,10 +211,10 @@ module _ {file : List ℕ} {s : SurveyFields} (r : Recording file s) {place next
   frames-many =
       let raw = own-class (inputs r pieces) in
       let laid =
-      splice-laid first parts (input-whole raw.head)
+      splice-laid parts (input-whole raw.head)
       (inputs-whole first.survey.class parts raw.others) in
       let all = st r in
-      let there = inside r whole_span whole-found.there in
+      let there = inside r whole-found.there in
       let last = high r pieces in
       grind (
         arith,

@@ -47,7 +47,7 @@ module _ {file : List ℕ} {s : SurveyFields} (r : Recording file s) {place next
   count-small =
       omega (
         arith,
-        (inside r t (whole-found r pieces).there).within,
+        (inside r (whole-found r pieces).there).within,
         (many-leads r pieces).one,
         survey_without_head-length s,
         r.few,
@@ -69,7 +69,7 @@ module _ {file : List ℕ} {s : SurveyFields} (r : Recording file s) {place next
       → KeepsPlaces s.class leads t.first (sample r place) (sample r (goal r pieces))
       (input_played (seamless_file (first ∷ parts)) j) (input_played file s)
   read-plays allowed {j} e =
-      let played = read-played raw written-is allowed j e
+      let played = read-played raw written-is allowed e
       ∙ ap₂ (λ (d : ClassFields) (n : ℕ). played_of (Some read) d n)
       (at r pieces).piece.is.of_class
       (frames-many r pieces) in

@@ -104,7 +104,7 @@ module _ {file : List ℕ} {s : SurveyFields} (r : Recording file s) where
         subst (λ (l : LaidPart).
         PlaysItsSamples (head r) s (sample r from) (sample r to) t
         (span_lead_ins t l.placed) (info_laid l file (own r)))
-        (piece-is r t at.there.there)
+        (piece-is r at.there.there)
         (pieces-play file s from to t r.has at.there.found)
 
     -- the lead-ins are those that the span must have
@@ -116,7 +116,7 @@ module _ {file : List ℕ} {s : SurveyFields} (r : Recording file s) where
         omega (
           arith,
           plays.leads.one,
-          (inside r t at.there.there).within,
+          (inside r at.there.there).within,
           survey_without_head-length s,
           r.few,
         )
@@ -165,7 +165,7 @@ module _ {file : List ℕ} {s : SurveyFields} (r : Recording file s) where
           let count = sym (brought-many at.piece.is)
           ∙ ap length frames_are
           ∙ length-append lead_ins (own_frames at.piece)
-          ∙ ap₂ (λ m n. m + n) same (splice-many t.first (inside r t at.there.there).within) in
+          ∙ ap₂ (λ m n. m + n) same (splice-many t.first (inside r at.there.there).within) in
           ap (λ h. counted_positions h p.survey.class (length p.survey.frames)) (read-is at.piece)
           ∙ ap₂ (λ (d : ClassFields) (n : ℕ). counted_positions (Some (read at.piece)) d n)
           at.piece.is.of_class count
@@ -186,7 +186,7 @@ module _ {file : List ℕ} {s : SurveyFields} (r : Recording file s) where
                 frames_are
                 ∙ ap (lead_ins ++◌) (sym (all-range r t.first t.last));
             some = at.there.there.some;
-            within = subst (λ n. t.last ≤ n) (sym (all-many r)) (inside r t at.there.there).within;
+            within = subst (λ n. t.last ≤ n) (sym (all-many r)) (inside r at.there.there).within;
             empty = empty;
             played = played_of (Some (read at.piece)) s.class (many + (t.last - t.first));
             counted = counted;

@@ -267,7 +267,7 @@ module _ {file : List ℕ} {s : SurveyFields} (r : Recording file s) {place next
   later-stream sp =
       ap (λ js. flat_map part_stream (later_parts js parts))
       (joints-are inputs
-      ∙ spans-are s.class (all r) all-known all-fit (map part_brought parts)
+      ∙ spans-are (record { known = all-known; fits = all-fit }) (map part_brought parts)
       (map (position r) places) sp.spans
       (spans sp).are)
       ∙ (spans sp).left ∙ ap (λ n. slice_range (st r) n high) sp.to_is
@@ -313,7 +313,7 @@ module _ {file : List ℕ} {s : SurveyFields} (r : Recording file s) {place next
   splice-lead out = (splice-leads inputs).led (front-parts inputs out).1
 
   -- by the lead-ins that the splice gets, and the stream that is left
-  module _ (got left : List StreamFrame) (got_is : (splice-leads inputs).leads ≡ got)
+  module _ {got left : List StreamFrame} (got_is : (splice-leads inputs).leads ≡ got)
       (left_is : stream inputs ≡ left) where
     got-left : seamless_stream (first ∷ parts) ≡ got ++ left
     got-left = grind (arith, seamless-is)
@@ -355,10 +355,10 @@ module _ {file : List ℕ} {s : SurveyFields} (r : Recording file s) {place next
       by_fit : (b : Bool)
           → fits_behind window 0 (needs_of (splice inputs)) ≡ b
           → IsJoined 0
-      by_fit true fits = joined-without [] whole ((splice-leads inputs).own fits) here refl stays
+      by_fit true fits = joined-without ((splice-leads inputs).own fits) here refl stays
       by_fit false lacks =
           let led = (splice-leads inputs).led lacks in
-          joined-with (silent_lead_in led.0 ∷ []) whole led.3 here led.0 (omega arith) refl
+          joined-with led.3 here led.0 (omega arith) refl
           (omega (arith, stays))
 
   -- no lead-in was given, but a frame that looks like one leaves the splice, which gets it again
@@ -375,7 +375,7 @@ module _ {file : List ℕ} {s : SurveyFields} (r : Recording file s) {place next
       let here = splice-stream sp
       ∙ ap₂ (λ (n : ℕ) (l : List StreamFrame). drop n (l ++ whole)) one none
       ∙ ap (drop 1) whole_is in
-      joined-without (silent_lead_in led.0 ∷ []) (silent.0 ++ behind) led.3 here (sym whole_is) one
+      joined-without led.3 here (sym whole_is) one
 
   module _ (led : IsLed at.piece) where
     -- with its lead-in the first piece is a span
@@ -427,7 +427,7 @@ module _ {file : List ℕ} {s : SurveyFields} (r : Recording file s) {place next
     -- a lead-in was given, and stays
     joined-led : front ≡ 0 → IsJoined 1
     joined-led stays =
-        joined-with [] (silent_lead_in led.brings.first ∷ whole)
+        joined-with
         ((splice-leads inputs).own (splice-fits stays)) (after stays) led.brings.first
         (omega arith) refl (omega (arith, stays))
 
@@ -436,7 +436,7 @@ module _ {file : List ℕ} {s : SurveyFields} (r : Recording file s) {place next
     joined-again out =
         let led = splice-lead out in
         let one : front ≡ 1 = omega (arith, out, front-few inputs) in
-        joined-with (silent_lead_in led.0 ∷ []) whole led.3 (after one) led.0 (omega arith) refl
+        joined-with led.3 (after one) led.0 (omega arith) refl
         (omega (arith, one))
 
   abbrev pub first_leads : ℕ

@@ -57,7 +57,7 @@ module _ {file : List ℕ} {s : SurveyFields} (r : Recording file s) where
       same : laid_is ≡ piece
       same =
           is.is ∙ ap (λ sp. span_piece (head r) sp file (own r)) span-same
-          ∙ piece-is r t found.there
+          ∙ piece-is r found.there
 
       abbrev window : ℕ
       window = window_of s.class.version
@@ -70,8 +70,8 @@ module _ {file : List ℕ} {s : SurveyFields} (r : Recording file s) where
           → IsPlanFrom (first_position file s from) window needs (span_plan led s.class needs)
       planned-by true test = record {
         early = λ near.
-            (led-is (choice r t) (own r) (has-own r).placed (inside r t found.there).some
-            (inside r t found.there).within (led_plan window own_choice needs)).1
+            (led-is (choice r t) (own r) (has-own r).placed (inside r found.there).some
+            (inside r found.there).within (led_plan window own_choice needs)).1
             refl;
         late = λ far. absurd (omega (arith, ltb-true (first_position file s from) 529 test, far));
       }
@@ -80,8 +80,8 @@ module _ {file : List ℕ} {s : SurveyFields} (r : Recording file s) where
             absurd (both_ways (nat_lt (first_position file s from) 529) test
             (lt-ltb (first_position file s from) 529 near));
         late = λ far.
-            the-plan (choice r t) (own r) (has-own r).placed (inside r t found.there).some
-            (inside r t found.there).within own_choice (inl refl);
+            the-plan (choice r t) (own r) (has-own r).placed (inside r found.there).some
+            (inside r found.there).within (inl refl);
       }
 
       planned : IsExactPlan file s from to laid_is
@@ -93,7 +93,7 @@ module _ {file : List ℕ} {s : SurveyFields} (r : Recording file s) where
 
       -- ---- its file as it is read
 
-      module _ (allowed : ℕ) (j : SurveyFields)
+      module _ (allowed : ℕ) {j : SurveyFields}
           (e : survey_of (piece_file file s piece) allowed ≡ Ok j) where
         abbrev bytes : List ℕ
         bytes = piece_file file s piece
@@ -104,7 +104,7 @@ module _ {file : List ℕ} {s : SurveyFields} (r : Recording file s) where
         made : IsFileOf piece file (own r) bytes
         made =
             laid-whole piece (has-own r)
-            (omega (arith, (inside r t found.there).some, (inside r t found.there).within))
+            (omega (arith, (inside r found.there).some, (inside r found.there).within))
 
         input : {c : ClassFields} → j.class ≡ c → IsInput c p
         input of_class = record {
@@ -120,7 +120,7 @@ module _ {file : List ℕ} {s : SurveyFields} (r : Recording file s) where
         one : {c : ClassFields} → j.class ≡ c → IsPiece t.led (choice r t) file (own r) c p
         one {c} of_class = record {
           has = has-own r;
-          right = span-right r t found.there;
+          right = span-right r found.there;
           made = made;
           is = input of_class;
         }
@@ -164,7 +164,7 @@ module _ {file : List ℕ} {s : SurveyFields} (r : Recording file s) where
           (subst (λ (l : LaidPart).
           PlaysItsSamples (head r) s (sample_named file s from)
           (sample_named file s to) t (span_lead_ins t l.placed)
-          (info_laid l file (survey_without_head s))) (piece-is r t found.there)
+          (info_laid l file (survey_without_head s))) (piece-is r found.there)
           (pieces-play file s from to t r.has found.found)).places
 
       -- what is played of it as it is read is what its Info frame says
@@ -187,7 +187,7 @@ module _ {file : List ℕ} {s : SurveyFields} (r : Recording file s) where
   cut-plays : {from to : ExactPlace} {laid : LaidPart} → exact_part from to file s ≡ Ok laid
       → PlaysBetween file s from to laid
   unfolding exact_part
-  cut-plays e = grind (arith, then_ok, between-plays file s r.has)
+  cut-plays e = grind (arith, then_ok, between-plays r.has)
 
   in-turn : (Holds : ExactPlace → ExactPlace → LaidPart → Type 0)
       → ((from to : ExactPlace) (laid : LaidPart) → PlaysBetween file s from to laid

@@ -53,8 +53,8 @@ head_whole file head = grind (arith, table-of, head-extension)
 -- ---- the head of a piece
 
 module _ (head : Option Info) (whole : IfSome head AreInfoFields)
-    (long : IfSome head (λ (i : Info). length i.extension ≡ 36)) (span : Span) (file : List ℕ)
-    (s : SurveyFields) (is : CanBeRelaid file s) (there : IsSpanIn s span) where
+    (long : IfSome head (λ (i : Info). length i.extension ≡ 36)) {span : Span} {file : List ℕ}
+    {s : SurveyFields} (is : CanBeRelaid file s) (there : IsSpanIn s span) where
   abbrev plain : LaidPart
   plain = span_part head span s
 
@@ -68,7 +68,7 @@ module _ (head : Option Info) (whole : IfSome head AreInfoFields)
   count : length (frames_laid plain file s) ≡ leads + (span.last - span.first)
   count =
       let chosen = span_chosen head span in
-      let slots = laid-slots plain file s is
+      let slots = laid-slots plain is
       there.some there.within (with-fitting chosen s is.placed there.some there.within span.led) in
       omega (
         arith,
@@ -86,7 +86,7 @@ module _ (head : Option Info) (whole : IfSome head AreInfoFields)
       let in_range = span-in_range there.is leads-are in
       let fields = info_laid plain file s in
       let sealed = frames-sealed first.header (for-whole s.class (frames_laid plain file s)
-      plain.quality (plain-long head long span file s is there)) in
+      plain.quality (plain-long head long is there)) in
       let said = extension-says head whole
       (omega (arith, in_range.delay_most)) (omega (arith, in_range.padding_most)) in
       record {
@@ -147,12 +147,11 @@ pieces-play file s from to span is e =
     span} (span-there from to head {s = s} {span = span} e) in
     let placed = piece_placed head span file (survey_without_head s) in
     let leads = subst (λ p. AreLeads span (span_lead_ins span p)) (sym placed) (leads-are head
-    (head_whole file s.head) (head_long file s.head) span file (survey_without_head s) had there) in
+    (head_whole file s.head) (head_long file s.head) had there) in
     let of : IsPieceHead s.class (span_lead_ins span piece.placed) span fields =
     grind (
       arith,
-      piece-head head (head_whole file s.head) (head_long file s.head) span file
-          (survey_without_head s) had there,
+      piece-head head (head_whole file s.head) (head_long file s.head) had there,
       head_whole file s.head,
       head_long file s.head,
     )

@@ -43,7 +43,7 @@ moved-by : (x first leads start a k : ℕ) → x + first ≡ start + a + leads
     → x + k + first - (leads + start) ≡ a + k
 moved-by x first leads start a k same = omega (arith, same)
 
-module _ (file : List ℕ) (s : SurveyFields) (is : CanBeRelaid file s) where
+module _ {file : List ℕ} {s : SurveyFields} (is : CanBeRelaid file s) where
   abbrev head : Option Info
   head = fields_of_head file s.head
 
@@ -59,7 +59,7 @@ module _ (file : List ℕ) (s : SurveyFields) (is : CanBeRelaid file s) where
   unfolding piece_samples
   played-samples laid a b start long = search (arith, numbers-moved, moved-by)
 
-  module _ (from to : ExactPlace) (span : Span) (found : file_span from to head s ≡ Ok span) where
+  module _ (from to : ExactPlace) {span : Span} (found : file_span from to head s ≡ Ok span) where
     abbrev piece : LaidPart
     piece = span_piece head span file (survey_without_head s)
 
@@ -144,7 +144,7 @@ module _ (file : List ℕ) (s : SurveyFields) (is : CanBeRelaid file s) where
 pub pieces-recording : PiecesAreTheRecording
 pieces-recording points file s place places laid surveyed e =
     let is = survey-had most_frames surveyed in
-    let each = from-turns file s is points place places e in
+    let each = from-turns is points place places e in
     record {
       each = each;
       all = grind (arith, turns-samples, pieces-whole, turns-ascend);

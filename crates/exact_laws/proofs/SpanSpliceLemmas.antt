@@ -73,7 +73,7 @@ record AreShared (v : Version) (start rest shared frames : ℕ) : Type 0 where
       ≡ true
   whole : (start + rest) / samples_of v ≡ shared
 
-module _ (start rest shared frames : ℕ) (there : shared ≤ frames) where
+module _ (start rest : ℕ) {shared frames : ℕ} (there : shared ≤ frames) where
   are-shared : {v : Version} → start + rest ≡ shared * samples_of v
       → AreShared v start rest shared frames
   are-shared same = grind arith
@@ -142,16 +142,34 @@ module _ (class : ClassFields) (all : List SpliceFrame) (low : ℕ) where
 
 -- ---- a span after the one before it
 
-module _ (class : ClassFields) (all : List SpliceFrame) (known : AreHeadersKnown all)
-    (fits : fits_behind (window_of class.version) (window_of class.version) (needs_of all) ≡ true)
+-- frames of a recording: their headers are known, and they fit behind a whole window
+pub record IsFittingRecording (class : ClassFields) (all : List SpliceFrame) : Type 0 where
+  pub known : AreHeadersKnown all
+  pub fits : fits_behind (window_of class.version) (window_of class.version) (needs_of all) ≡ true
+
+-- two spans of a recording that share frames: those of the first are written from frame `low` on,
+-- after lead-ins
+record IsNextSpan (class : ClassFields) (all leads : List SpliceFrame) (low begin mid end : ℕ)
+    (before input : Brought) : Type 0 where
+  empty : AreEmptyFrames leads
+  one : IsSpanOf class all begin mid before
+  is : IsSpanOf class all mid end input
+  late : low ≤ is.from
+  low_last : low ≤ one.to
+  early : is.from * samples_in class < mid
+  on : one.to ≤ is.to
+
+module _ {class : ClassFields} {all : List SpliceFrame} (recording : IsFittingRecording class all)
   where
+    open recording use {known, fits}
+
     abbrev window : ℕ
     window = window_of class.version
 
-    module _ (leads : List SpliceFrame) (empty : AreEmptyFrames leads) (low begin mid end : ℕ)
-        (before input : Brought) (one : IsSpanOf class all begin mid before)
-        (is : IsSpanOf class all mid end input) (late : low ≤ is.from) (low_last : low ≤ one.to)
-        (early : is.from * samples_in class < mid) (on : one.to ≤ is.to) where
+    module _ {leads : List SpliceFrame} {low begin mid end : ℕ} {before input : Brought}
+        (next : IsNextSpan class all leads low begin mid end before input) where
+      open next use {empty, one, is, late, low_last, early, on}
+
       abbrev last : ℕ
       last = one.to
 
@@ -197,7 +215,7 @@ module _ (class : ClassFields) (all : List SpliceFrame) (known : AreHeadersKnown
       unfolding shared_overlap
       overlap-is =
           let rest = rest_of class (length before.frames) one.played in
-          let are = are-shared is.played.start rest shared (length input.frames) within sum in
+          let are = are-shared is.played.start rest within sum in
           grind (
             arith,
             before.frames,
@@ -333,14 +351,24 @@ module _ (class : ClassFields) (all : List SpliceFrame) (known : AreHeadersKnown
     spans-joints leads empty {low} {begin} {mid} {before} one low_last
         (input ∷ inputs) (end ∷ points) are =
         let is = are.0 in
+        let next : IsNextSpan class all leads low begin mid end before input =
+        record {
+          empty = empty;
+          one = one;
+          is = is;
+          late = are.1;
+          low_last = low_last;
+          early = are.2;
+          on = are.3;
+        } in
         let made =
         joint_with (Follows (length is.lead_ins + one.to - is.from)) (slice_range all one.to is.to)
         in
         ap (λ (j : JointFrames).
         j ∷ joints_from class ((leads ++ slice_range all low one.to) ++ j.frames) input inputs)
-        (span-joint leads empty low begin mid end before input one is are.1 low_last are.2 are.3)
+        (span-joint next)
         ∙ ap (λ l. made ∷ joints_from class l input inputs)
-        (splice-on leads empty low begin mid end before input one is are.1 low_last are.2 are.3)
+        (splice-on next)
         ∙ ap (made ∷◌)
         (spans-joints leads empty is (omega (arith, low_last, are.3)) inputs
         points are.4)
@@ -360,7 +388,7 @@ module _ (class : ClassFields) (all : List SpliceFrame) (known : AreHeadersKnown
 -- each span follows, and the splice has all frames once
 pub spans-one-splice : SpansAreOneSplice
 spans-one-splice class all begin end first inputs points is are known fits =
-    let joints = spans-are class all known fits inputs points is are in
+    let joints = spans-are (record { known = known; fits = fits }) inputs points is are in
     let more = spans_joints class all is.from is.to end inputs points are in (
       ap (λ js. list_all (λ (j : JointFrames). is_following_seam j.seam) js)
           joints

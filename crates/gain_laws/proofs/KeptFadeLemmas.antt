@@ -10,7 +10,7 @@ pub fade_kept : FadeKeepsAll
 fade_kept sheet back file new s all is e =
     let c = made_of {of = fade_change sheet back} {file = file} {new = new} {s = s} is e in
     let parts = faded-parts {sheet = sheet} {back = back} {s = s} {change = c.change} c.made in
-    made_kept (λ tag. ⊥) (fade_change sheet back) file new s c all is
+    made_kept (λ tag. ⊥) c all is
     (λ tag now. none tag (ap (λ (d : FileChange). d.tag) parts.made ∙ now))
   where
     none : (tag : List ℕ) → None ≡ Some tag → ⊥

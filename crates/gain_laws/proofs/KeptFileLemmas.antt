@@ -53,9 +53,9 @@ begins_later : {at to : ℕ} (patches : List Patch) → at < to → ArePatchesIn
     → BeginsAfter at patches
 begins_later patches low order = grind arith
 
-module _ (T : List ℕ → Type 0) (steps : ℕ → Steps) (file : List ℕ) (s : SurveyFields) where
-  -- ---- the patches of frames
+-- ---- the patches of frames
 
+module _ (steps : ℕ → Steps) (file : List ℕ) where
   abbrev row_patch : Row → Patch
   row_patch row = record {
     from = row.offset;
@@ -65,32 +65,6 @@ module _ (T : List ℕ → Type 0) (steps : ℕ → Steps) (file : List ℕ) (s 
 
   abbrev row_patches : List Row → List Patch
   row_patches rows = map row_patch rows
-
-  abbrev Moves : Row → Type 0
-  Moves row = MovesFrame file s (row_patch row)
-
-  abbrev AllMove : List Row → Type 0
-  AllMove rows = Each Moves rows
-
-  moves : (i : ℕ) {row : Row} → slice_get s.frames i ≡ Some row → IsFrameOf file row
-      → MovesFrame file s (row_patch row)
-  moves i there here = grind (arith, row_differs)
-
-  all_move : (n : ℕ) (rows : List Row)
-      → ((i : ℕ) (row : Row) → slice_get rows i ≡ Some row → slice_get s.frames (n + i) ≡ Some row)
-      → AreFramesOf file rows → AllMove rows
-  all_move n [] there here = tt
-  all_move n (row ∷ rows) there here = (
-    moves (n + 0) (there 0 row refl) here.0,
-    all_move (n + 1) rows
-        (λ i r is. ap (slice_get s.frames) (omega arith) ∙ there (suc i) r is) here.1,
-  )
-
-  rows_allowed : (rows : List Row) (patches : List Patch) → AllMove rows
-      → ArePatchesAllowed T file s patches
-      → ArePatchesAllowed T file s (row_patches rows ++ patches)
-  rows_allowed [] patches all later = later
-  rows_allowed (row ∷ rows) patches all later = grind (arith, rows_allowed rows patches all.1 later)
 
   -- frames up to an offset, and patches from it on
   rows_begin : {at : ℕ} (rows : List Row) (patches : List Patch) (to : ℕ) → EndBy at rows to
@@ -117,8 +91,37 @@ module _ (T : List ℕ → Type 0) (steps : ℕ → Steps) (file : List ℕ) (s 
   patches-before at (row ∷ rows) patch patches =
       grind (arith, append_three, moved_to, patches-before (row_end row) rows patch patches)
 
-  -- ---- the junk
+module _ (steps : ℕ → Steps) (file : List ℕ) (s : SurveyFields) where
+  abbrev Moves : Row → Type 0
+  Moves row = MovesFrame file s (row_patch steps file row)
 
+  abbrev AllMove : List Row → Type 0
+  AllMove rows = Each Moves rows
+
+  moves : (i : ℕ) {row : Row} → slice_get s.frames i ≡ Some row → IsFrameOf file row
+      → MovesFrame file s (row_patch steps file row)
+  moves i there here = grind (arith, row_differs)
+
+  all_move : (n : ℕ) (rows : List Row)
+      → ((i : ℕ) (row : Row) → slice_get rows i ≡ Some row → slice_get s.frames (n + i) ≡ Some row)
+      → AreFramesOf file rows → AllMove rows
+  all_move n [] there here = tt
+  all_move n (row ∷ rows) there here = (
+    moves (n + 0) (there 0 row refl) here.0,
+    all_move (n + 1) rows
+        (λ i r is. ap (slice_get s.frames) (omega arith) ∙ there (suc i) r is) here.1,
+  )
+
+module _ (T : List ℕ → Type 0) (steps : ℕ → Steps) (file : List ℕ) (s : SurveyFields) where
+  rows_allowed : (rows : List Row) (patches : List Patch) → AllMove steps file s rows
+      → ArePatchesAllowed T file s patches
+      → ArePatchesAllowed T file s (row_patches steps file rows ++ patches)
+  rows_allowed [] patches all later = later
+  rows_allowed (row ∷ rows) patches all later = grind (arith, rows_allowed rows patches all.1 later)
+
+-- ---- the junk
+
+module _ (T : List ℕ → Type 0) (file : List ℕ) (s : SurveyFields) where
   abbrev junk_patch : Patch
   junk_patch = record { from = s.junk; to = s.first; now = [] }
 
@@ -156,13 +159,13 @@ module _ (T : List ℕ → Type 0) (steps : ℕ → Steps) (file : List ℕ) (s 
 
 -- ---- the changed file
 
-module _ (file : List ℕ) (allowed : ℕ) (s : SurveyFields) (all : AreBytes file)
+module _ (file : List ℕ) (allowed : ℕ) {s : SurveyFields} (all : AreBytes file)
     (is : survey_fields file allowed ≡ Ok s) (steps : ℕ → Steps) where
   known : StandsSomewhere steps file s
   known = stands_somewhere steps allowed is
 
-  each_moves : (T : List ℕ → Type 0) → AllMove T steps file s s.frames
-  each_moves T = all_move T steps file s 0 s.frames (λ i row there.
+  each_moves : AllMove steps file s s.frames
+  each_moves = all_move steps file s 0 s.frames (λ i row there.
       ap (slice_get s.frames) (omega arith) ∙ there) (frames_there file allowed all is)
 
   none : s.junk - 0 ≡ s.junk
@@ -172,11 +175,11 @@ module _ (file : List ℕ) (allowed : ℕ) (s : SurveyFields) (all : AreBytes fi
   keeps_none : KeepsAll (λ tag. None ≡ Some tag) file s (edited_file steps file s)
   keeps_none =
       let T : List ℕ → Type 0 = λ tag. None ≡ Some tag in
-      let patches = row_patches T steps file s s.frames ++ [] in
-      let order = rows_ordered T steps file s s.first s.frames [] s.length known.ends tt in
+      let patches = row_patches steps file s.frames ++ [] in
+      let order = rows_ordered steps file s.first s.frames [] s.length known.ends tt in
       let may : ArePatchesAllowed T file s patches =
-      rows_allowed T steps file s s.frames [] (each_moves T) tt in
-      let joined = after_junk T steps file s (omega arith) known.junk order may in
+      rows_allowed T steps file s s.frames [] each_moves tt in
+      let joined = after_junk T file s (omega arith) known.junk order may in
       record {
         patches = joined.all;
         in_order = joined.in_order;
@@ -184,7 +187,7 @@ module _ (file : List ℕ) (allowed : ℕ) (s : SurveyFields) (all : AreBytes fi
         written =
             sym (written-edited_file steps file allowed is)
             ∙ ap₂ (λ n (l : List ℕ). take n file ++ l) (sym none)
-            (sym (patches-moved T steps file s s.first s.frames))
+            (sym (patches-moved steps file s.first s.frames))
             ∙ sym joined.written;
       }
 
@@ -210,66 +213,66 @@ module _ (file : List ℕ) (allowed : ℕ) (s : SurveyFields) (all : AreBytes fi
     tag_allowed = record { from = refl; to = refl; now = refl }
 
     abbrev rows : List Patch
-    rows = row_patches MayBe steps file s s.frames ++ []
+    rows = row_patches steps file s.frames ++ []
 
     keeps_front : IsInFront s → KeepsAll MayBe file s with_new
     keeps_front front =
-        let order = rows_ordered MayBe steps file s s.first s.frames [] s.length known.ends tt in
+        let order = rows_ordered steps file s.first s.frames [] s.length known.ends tt in
         let may : ArePatchesAllowed MayBe file s rows =
-        rows_allowed MayBe steps file s s.frames [] (each_moves MayBe) tt in
+        rows_allowed MayBe steps file s s.frames [] each_moves tt in
         let joined =
-        after_junk MayBe steps file s front.before known.junk order may in
+        after_junk MayBe file s front.before known.junk order may in
         let zero_less : a - 0 ≡ a = omega arith in
         record {
           patches = tag_patch ∷ joined.all;
           in_order = grind (arith, joined.begins, front.some, front.before, joined.in_order);
           allowed = (inr (inl tag_allowed), joined.allowed);
           written =
-              (parted_front steps file allowed s is front).tagged bytes
+              (parted_front steps file allowed is front).tagged bytes
               ∙ ap₂ (λ n (l : List ℕ). take n file
               ++ (bytes ++ (bytes_between file (a + size) s.junk ++ l))) (sym zero_less)
-              (sym (patches-moved MayBe steps file s s.first s.frames))
+              (sym (patches-moved steps file s.first s.frames))
               ∙ ap (λ (l : List ℕ). bytes_between file 0 a ++ (bytes ++ l)) (sym joined.written);
         }
 
     keeps_among : IsApart s → KeepsAll MayBe file s with_new
     keeps_among apart =
         let among = apart.among in
-        let before = row_patches MayBe steps file s among.before in
-        let behind = row_patches MayBe steps file s among.behind ++ [] in
-        let parts : AllMove MayBe steps file s (among.before ++ among.behind) =
-        subst (AllMove MayBe steps file s) among.all (each_moves MayBe) in
-        let before_moves = each_before (Moves MayBe steps file s) among.before among.behind parts in
-        let behind_moves = each_behind (Moves MayBe steps file s) among.before among.behind parts in
+        let before = row_patches steps file among.before in
+        let behind = row_patches steps file among.behind ++ [] in
+        let parts : AllMove steps file s (among.before ++ among.behind) =
+        subst (AllMove steps file s) among.all each_moves in
+        let before_moves = each_before (Moves steps file s) among.before among.behind parts in
+        let behind_moves = each_behind (Moves steps file s) among.before among.behind parts in
         let behind_allowed : ArePatchesAllowed MayBe file s behind = grind (arith, rows_allowed) in
         let behind_order =
-        rows_ordered MayBe steps file s (a + size) among.behind [] s.length among.rest tt in
+        rows_ordered steps file (a + size) among.behind [] s.length among.rest tt in
         let all_allowed : ArePatchesAllowed MayBe file s (before ++ (tag_patch ∷ behind)) =
         grind (arith, rows_allowed, tag_allowed) in
         let tag_order : ArePatchesInOrder a (tag_patch ∷ behind) = grind arith in
         let order : ArePatchesInOrder s.first (before ++ (tag_patch ∷ behind)) =
-        rows_ordered MayBe steps
-        file s s.first among.before (tag_patch ∷ behind) a among.front tag_order in
-        let joined = after_junk MayBe steps file s
+        rows_ordered steps
+        file s.first among.before (tag_patch ∷ behind) a among.front tag_order in
+        let joined = after_junk MayBe file s
         (omega arith) known.junk order all_allowed in
         record {
           patches = joined.all;
           in_order = joined.in_order;
           allowed = joined.allowed;
           written =
-              (parted_among steps file allowed s is among).tagged bytes
+              (parted_among steps file allowed is among).tagged bytes
               ∙ append_assoc (take s.junk file) (moved_to steps file s.first a among.before)
               (bytes ++ moved_from steps file (a + size) among.behind)
               ∙ ap₂ (λ n (l : List ℕ). take n file
               ++ (moved_to steps file s.first a among.before ++ (bytes ++ l))) (sym none)
-              (sym (patches-moved MayBe steps file s (a + size) among.behind))
+              (sym (patches-moved steps file (a + size) among.behind))
               ∙ ap (λ (l : List ℕ). bytes_between file 0 s.junk ++ l)
-              (sym (patches-before MayBe steps file s s.first among.before tag_patch behind))
+              (sym (patches-before steps file s.first among.before tag_patch behind))
               ∙ sym joined.written;
         }
       where
         tag_begins : (behind : List Row) → EndBy (a + size) behind s.length → (behind ≡ [])
-            ⊎ (0 < size) → BeginsAfter a (row_patches MayBe steps file s behind ++ [])
+            ⊎ (0 < size) → BeginsAfter a (row_patches steps file behind ++ [])
         tag_begins [] ends apart = tt
         tag_begins (row ∷ behind) ends (inl none) = absurd cc
         tag_begins (row ∷ behind) ends (inr some) = omega (arith, ends.0, some)
@@ -288,8 +291,8 @@ changes_kept change file allowed s all is = by_tag change.tag
   where
     by_tag : (o : Option (List ℕ)) → KeepsAll (λ tag. o ≡ Some tag) file s
         (retagged_file o (edited_survey change.steps s) (edited_file change.steps file s))
-    by_tag None = keeps_none file allowed s all is change.steps
-    by_tag (Some bytes) = keeps_tag file allowed s all is change.steps bytes
+    by_tag None = keeps_none file allowed all is change.steps
+    by_tag (Some bytes) = keeps_tag file allowed all is change.steps bytes
 
 -- ---- what may be the tag
 

@@ -15,10 +15,10 @@ use Rattle.sync_survey.{proofs.SurveyedFileLemmas.survey_of-parts, specs.Faults.
 use Rattle.sync_survey.specs.Survey.{survey_of}
 
 -- a change keeps all else, if its new tag, should there be one, may be the tag
-pub made_kept : (T : List ℕ → Type 0) (of : Changing) (file new : List ℕ) (s : SurveyFields)
+pub made_kept : (T : List ℕ → Type 0) {of : Changing} {file new : List ℕ} {s : SurveyFields}
     (c : IsMadeBy of file new s) → AreBytes file → survey_of file most_frames ≡ Ok s
     → ((tag : List ℕ) → c.change.tag ≡ Some tag → T tag) → KeepsAll T file s new
-made_kept T of file new s c all is tags =
+made_kept T {of} {file} {new} {s} c all is tags =
     subst (KeepsAll T file s) c.bytes
     (keeps_weaker (λ tag. c.change.tag ≡ Some tag) T tags
     (changes_kept c.change file most_frames s all (survey_of-parts file most_frames is).1))
@@ -37,12 +37,12 @@ pub gain_kept : GainKeepsAll
 gain_kept shift true file new s all is e =
     let c = made_of is e in
     let tags = noted-tag shift file all is (noted shift file s c.made) in
-    made_kept (λ tag. (true ≡ true) × IsTagBytes tag) (gain_change shift true) file new s c all is
+    made_kept (λ tag. (true ≡ true) × IsTagBytes tag) c all is
     (λ tag now. (refl, one_is c.change.tag tags tag now))
 gain_kept shift false file new s all is e =
     let c = made_of is e in
     let parts = plain-parts shift file s c.made in
-    made_kept (λ tag. (false ≡ true) × IsTagBytes tag) (gain_change shift false) file new s c all is
+    made_kept (λ tag. (false ≡ true) × IsTagBytes tag) c all is
     (λ tag now. absurd (none tag (ap (λ (d : FileChange). d.tag) parts.2 ∙ now)))
   where
     none : (tag : List ℕ) → None ≡ Some tag → ⊥
@@ -52,5 +52,5 @@ gain_kept shift false file new s all is e =
 pub undo_kept : UndoKeepsAll
 undo_kept file new s all is e =
     let c = made_of {of = undo_change} {file = file} {new = new} {s = s} is e in
-    made_kept IsTagBytes undo_change file new s c all is
+    made_kept IsTagBytes c all is
     (one_is c.change.tag (undone-tag file {s = s} {change = c.change} all is c.made))

@@ -19,7 +19,7 @@ use Rattle.tag_blocks.specs.declared.block.Kind.TheVariants.{Ape}
 
 -- ---- a file that got another tag
 
-module _ (file : List ℕ) (allowed : ℕ) (start : Start) (read : IsRead file allowed start)
+module _ {file : List ℕ} {allowed : ℕ} {start : Start} (read : IsRead file allowed start)
     (no_junk : start.front_end ≡ start.first.offset) (block : List ℕ)
     (is : block_front block ≡ Some (record { kind = Ape; length = length block })) where
   abbrev s : SurveyFields
@@ -32,15 +32,15 @@ module _ (file : List ℕ) (allowed : ℕ) (start : Start) (read : IsRead file a
   piece = record { offset = tag_offset s; block = record { kind = Ape; length = length block } }
 
   within : tag_offset s + tag_length s ≤ length file
-  within = room file allowed start read no_junk block (inr is)
+  within = room read no_junk (inr is)
 
   one_block : new_blocks (length block) s ≡ piece ∷ []
   one_block = grind (arith, ne_eqb, block_front-least)
 
   -- no tag is before the new one
   none_before : find is_tag (filter (stands_before s) s.blocks) ≡ None
-  none_before = ap (find is_tag) (before_is file allowed start read no_junk block (inr is))
-      ∙ (split file allowed start read no_junk).none
+  none_before = ap (find is_tag) (before_is read no_junk (inr is))
+      ∙ (split read no_junk).none
 
   -- the tag's block is the new one
   pub new_tag : tag_block (retagged_fields (length block) s) ≡ Some piece
@@ -79,7 +79,7 @@ pub tagged-again : (file block : List ℕ) (allowed : ℕ) (s : SurveyFields)
 tagged-again file block allowed s e clean is =
     let parts = survey_fields-parts e in
     subst (HasNewTag file block) parts.2
-    (has-new file allowed parts.0 parts.1 (no_junk-start file parts.0 parts.2 clean) block is)
+    (has-new parts.1 (no_junk-start file parts.0 parts.2 clean) block is)
 
 -- ---- bytes
 
@@ -88,7 +88,7 @@ bytes_from : {file : List ℕ} (bytes : List ℕ) {allowed : ℕ} {start : Start
     → AreTaggedBytes file bytes (told_from file start)
 bytes_from {file} bytes {allowed} {start} read no_junk =
     let s = told_from file start in
-    let within = room file allowed start read no_junk [] (inl refl) in
+    let within = room read no_junk (inl refl) in
     record { long = new-length bytes file s within; all = new-bytes bytes file s within }
 
 -- the bytes of a file with another tag are those before

@@ -96,9 +96,9 @@ own_again steps file allowed {s} is = by_place (stands_somewhere steps allowed i
     by_place : IsInFront s ⊎ IsAmong s
         → file_with_tag (own_tag_bytes file s) (edited_survey steps s) (edited_file steps file s)
         ≡ edited_file steps file s
-    by_place (inl at) = let parted = parted_front steps file allowed s is at in
+    by_place (inl at) = let parted = parted_front steps file allowed is at in
         parted.tagged (own_tag_bytes file s) ∙ sym parted.own
-    by_place (inr at) = let parted = parted_among steps file allowed s is at in
+    by_place (inr at) = let parted = parted_among steps file allowed is at in
         parted.tagged (own_tag_bytes file s) ∙ sym parted.own
 
 -- ---- the stream
@@ -138,13 +138,13 @@ still_holds steps none o tags file allowed {s} are is =
     let change : FileChange = record { steps = constant_steps steps; tag = o } in
     let same : stream_of_survey (file_with_change change file s) (changed_survey change s)
     ≡ stream_of file =
-    stream-file_with_change file allowed s are is change tags
+    stream-file_with_change file allowed are is change tags
     ∙ constant_steps-stream steps file s
     ∙ stream_still steps none file allowed are is
     ∙ sym (survey_fields-stream file allowed s is).stream_is in
     subst (HoldsStream (file_with_change change file s)) same
     (survey_fields-stream (file_with_change change file s) allowed (changed_survey change s)
-    (survey_fields-file_with_change file allowed s are is change tags))
+    (survey_fields-file_with_change file allowed are is change tags))
 
 -- ---- the steps
 
@@ -210,7 +210,7 @@ plain-file_with_change steps file s = refl
 
 -- ---- the file back
 
-module _ (one two : ℕ → Steps) (file : List ℕ) (s : SurveyFields)
+module _ (one two : ℕ → Steps) (file : List ℕ) {s : SurveyFields}
     (sum : AllTogether one two (constant_steps still) (λ x. x - junk_length s) s.frames)
     (are : AreBytes file)
     (short : survey_of file most_frames ≡ Ok s) where
@@ -328,18 +328,18 @@ edited_file-back shift file {s} are short apart free =
     let moved = edited_file first file s in
     let m = edited_survey first s in
     let range : range_fault second m.frames ≡ None =
-    ap (range_fault second) (new_frames first second file s both are short)
+    ap (range_fault second) (new_frames first second file both are short)
     ∙ range_back first second file nearer s.frames
     (constant_steps-opposite (record {
       wraps = refl;
       left = left_back shift.channels shift.steps;
       right = right_back shift.channels shift.steps;
     }) nearer s.frames)
-    (frames first second file s both are short) free in
+    (frames first second file both are short) free in
     file_with_change-ok (gain_change (opposite_shift shift) false)
-    (new_survey first second file s both are short)
+    (new_survey first second file both are short)
     (plain-ok (opposite_shift shift) moved m (channel_back shift s apart) range)
-    ∙ ap Ok (plain-file_with_change second moved m ∙ bytes_again first second file s both are short)
+    ∙ ap Ok (plain-file_with_change second moved m ∙ bytes_again first second file both are short)
 
 -- after a change without a note the opposite change makes the file again, except its junk
 pub steps_back : OppositeGivesBack

@@ -97,23 +97,30 @@ moved_or_lost : (lost : Bool) (two one : Steps) (s : Side)
     ≡ cond lost None (side_out_of_range two (moved_side one s))
 moved_or_lost lost two one s = grind arith
 
+-- the gains of frames of a file stay in their range by one change, and then by the other
+pub record AreInRange (one two : Steps) (file : List ℕ) (to : ℕ → ℕ) (rows : List Row) : Type 0
+  where
+    pub frames : AreFramesOf file rows
+    pub first : range_fault (constant_steps one) rows ≡ None
+    pub second : range_fault (constant_steps two) (map (stood to (constant_steps one)) rows) ≡ None
+
 -- if no gain leaves its range by the first change, and then none by the second, none does by both
 -- together
 pub range_both : {one two all : Steps} → all.wrap ≡ one.wrap || two.wrap → AreTogether one two all
-    → (file : List ℕ) (to : ℕ → ℕ) (rows : List Row) → AreFramesOf file rows
-    → range_fault (constant_steps one) rows ≡ None
-    → range_fault (constant_steps two) (map (stood to (constant_steps one)) rows)
-    ≡ None → range_fault (constant_steps all) rows ≡ None
-range_both wraps sum file to [] frames first second = grind (arith, first-nil)
-range_both {one} {two} {all} wraps sum file to (row ∷ rows) frames first second =
-    let f = frame-none (constant_steps one) row rows first in
+    → {file : List ℕ} {to : ℕ → ℕ} (rows : List Row) → AreInRange one two file to rows
+    → range_fault (constant_steps all) rows ≡ None
+range_both wraps sum [] are = grind (arith, first-nil)
+range_both {one} {two} {all} wraps sum {file} {to} (row ∷ rows) are =
+    let f = frame-none (constant_steps one) row rows are.first in
     let t =
     frame-none (constant_steps two) (stood to (constant_steps one) row)
-    (map (stood to (constant_steps one)) rows) second in
+    (map (stood to (constant_steps one)) rows) are.second in
+    let rest : AreInRange one two file to rows =
+    record { frames = are.frames.1; first = f.1; second = t.1 } in
     none-frame (constant_steps all) row rows
-    (unless_both row.lost (side_both (row_shaped frames.0) wraps sum)
+    (unless_both row.lost (side_both (row_shaped are.frames.0) wraps sum)
     f.0 (sym (moved_or_lost row.lost two one row.side) ∙ t.0))
-    (range_both wraps sum file to rows frames.1 f.1 t.1)
+    (range_both wraps sum rows rest)
 
 -- these steps and then those are no step at all for a frame, and both changes wrap or neither does
 pub record AreOpposite (one two : Steps) : Type 0 where

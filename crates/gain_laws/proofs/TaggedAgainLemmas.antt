@@ -29,7 +29,7 @@ use Rattle.tag_blocks.specs.declared.block.Kind.TheVariants.{Ape}
 
 -- ---- changed again
 
-module _ (one : ℕ → Steps) (file : List ℕ) (allowed : ℕ) (s : SurveyFields) (are : AreBytes file)
+module _ (one : ℕ → Steps) (file : List ℕ) (allowed : ℕ) {s : SurveyFields} (are : AreBytes file)
     (is : survey_fields file allowed ≡ Ok s) (block : List ℕ)
     (front : block_front block ≡ Some (record { kind = Ape; length = length block })) where
   abbrev m : SurveyFields
@@ -119,7 +119,7 @@ module _ (one : ℕ → Steps) (file : List ℕ) (allowed : ℕ) (s : SurveyFiel
   whole = (stands_somewhere one allowed new_is).size
 
   -- its tag is after the same bytes, and before the same
-  module _ (before behind : List ℕ) (parted : IsParted one file s before behind) where
+  module _ {before behind : List ℕ} (parted : IsParted one file s before behind) where
     before_long : length before ≡ tag_offset new_survey
     before_long = sym (has_block.place ∙ parted.place)
 
@@ -206,13 +206,13 @@ module _ (one : ℕ → Steps) (file : List ℕ) (allowed : ℕ) (s : SurveyFiel
         let between = bytes_between file (a + old) s.junk in
         let rows = moved_to one file s.first (length file) s.frames in
         let within : s.junk ≤ length file = omega (arith, here.size, here.junk, here.first) in
-        let parted = parted_front one file allowed s is at in
+        let parted = parted_front one file allowed is at in
         let at_new : IsInFront n = grind (arith, some, new_size, place, new_junk) in
         let between_long : length between ≡ s.junk - (a + old) = length-take-le (s.junk - (a + old))
         (drop (a + old) file) (omega (arith, length-drop (a + old) file, at.before, within)) in
-        let before_same = before_there (take a file) (between ++ rows) parted in
+        let before_same = before_there parted in
         let next : tag_offset n + tag_length n ≡ a + size = ap₂ (λ j k. j + k) place new_size in
-        let behind = behind_there (take a file) (between ++ rows) parted in
+        let behind = behind_there parted in
         let between_same : bytes_between new (tag_offset n + tag_length n) n.junk ≡ between =
         grind (arith, take_at, new_junk) in
         let far : n.first ≡ (tag_offset n + tag_length n) + (s.junk - (a + old)) =
@@ -252,10 +252,10 @@ module _ (one : ℕ → Steps) (file : List ℕ) (allowed : ℕ) (s : SurveyFiel
         ≡ moved_to all file s.first (length file) s.frames =
         ap₂ (λ k (l : List Row). moved_to two new n.first k l) (sym end) new_frames
         ∙ moved_again s.frames again in
-        (parted_front two new allowed n new_is at_new).tagged bytes
+        (parted_front two new allowed new_is at_new).tagged bytes
         ∙ ap₂ (λ (j k : List ℕ). j ++ (bytes ++ k)) before_same
         (ap₂ (λ (j k : List ℕ). j ++ k) between_same rows_same)
-        ∙ sym ((parted_front all file allowed s is at).tagged bytes)
+        ∙ sym ((parted_front all file allowed is at).tagged bytes)
 
     -- it is after some frames and before the others
     module _ (at : IsAmong s) where
@@ -275,7 +275,7 @@ module _ (one : ℕ → Steps) (file : List ℕ) (allowed : ℕ) (s : SurveyFiel
       up = omega (arith, here.size, at.up)
 
       parted : IsParted one file s (junk ++ before) behind
-      parted = parted_among one file allowed s is at
+      parted = parted_among one file allowed is at
 
       stands : new ≡ (junk ++ before) ++ (block ++ behind)
       stands = parted.tagged block
@@ -318,7 +318,7 @@ module _ (one : ℕ → Steps) (file : List ℕ) (allowed : ℕ) (s : SurveyFiel
           ∙ moved_again at.before before_stand
 
       behind_stands : drop after new ≡ behind ++ []
-      behind_stands = behind_there (junk ++ before) behind parted ∙ sym (append-nil behind)
+      behind_stands = behind_there parted ∙ sym (append-nil behind)
 
       behind_stand : StandAgain one two all file new to (a + old) (length file) after at.behind []
       behind_stand = record {
@@ -340,10 +340,10 @@ module _ (one : ℕ → Steps) (file : List ℕ) (allowed : ℕ) (s : SurveyFiel
           → file_with_tag bytes (edited_survey two n) (edited_file two new n)
           ≡ file_with_tag bytes (edited_survey all s) (edited_file all file s)
       among_again bytes =
-          (parted_among two new allowed n new_is (new_among at)).tagged bytes
+          (parted_among two new allowed new_is (new_among at)).tagged bytes
           ∙ ap₂ (λ (j k : List ℕ). j ++ (bytes ++ k))
           (ap₂ (λ (j k : List ℕ). j ++ k) junk_again before_again) behind_again
-          ∙ sym ((parted_among all file allowed s is at).tagged bytes)
+          ∙ sym ((parted_among all file allowed is at).tagged bytes)
 
     -- the changed file, changed again, is the file changed
     -- once by both steps together, with the last tag

@@ -83,7 +83,7 @@ fade-ok sheet back s {curve} is free =
 
 -- ---- the file back
 
-module _ (curve : List CurvePoint) (back : Bool) (file : List ℕ) (s : SurveyFields)
+module _ (curve : List CurvePoint) (back : Bool) (file : List ℕ) {s : SurveyFields}
     (are : AreBytes file) (short : survey_of file most_frames ≡ Ok s) where
   abbrev one : ℕ → Steps
   one = steps_at_offset (Along curve back) s.frames
@@ -151,12 +151,12 @@ module _ (curve : List CurvePoint) (back : Bool) (file : List ℕ) (s : SurveyFi
   faded_back sheet by free =
       let range : range_fault two m.frames ≡ None =
       ap (range_fault two) moved_frames ∙ range_back one two file nearer s.frames opposites
-      (frames one two file s sum are short) free in
+      (frames one two file sum are short) free in
       file_with_change-ok (fade_change sheet (not back))
-      (new_survey one two file s sum are short)
+      (new_survey one two file sum are short)
       (fade-ok sheet (not back) m
       (ap (then_made (sheet_in sheet)) (λ i bytes. same_curve bytes i) ∙ by) range)
-      ∙ ap Ok (plain-file_with_change two moved m ∙ bytes_again one two file s sum are short)
+      ∙ ap Ok (plain-file_with_change two moved m ∙ bytes_again one two file sum are short)
 
 -- a fade and the fade the other way with the same sheet give back all bytes except the junk
 pub back_again : FadeGivesBack
@@ -170,7 +170,7 @@ back_again sheet back file new s are short e =
     ∙ ap (λ (c : FileChange). file_with_change c file s) parts.made ∙ made.bytes in
     let again : change_result (fade_change sheet (not back)) new ≡ Ok (file_without_junk s file) =
     ap (change_result (fade_change sheet (not back))) (sym there)
-    ∙ faded_back parts.curve back file s are short sheet parts.is parts.free in
+    ∙ faded_back parts.curve back file are short sheet parts.is parts.free in
     let kept : file_with_change (record { steps = constant_steps still; tag = None }) file s
     ≡ file_without_junk s file =
     plain-file_with_change (constant_steps still) file s

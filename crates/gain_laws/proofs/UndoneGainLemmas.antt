@@ -19,8 +19,8 @@ use Rattle.gain_edits.specs.UndoItem.{tag_with_undo, tag_without_undo, undo_faul
 use Rattle.gain_laws.proofs.MovedAgainLemmas.{even_together, stood}
 use Rattle.gain_laws.proofs.MovedTwiceLemmas.{AreTogether, sum_of}
 use Rattle.gain_laws.proofs.OppositeStepLemmas.{edited_file-still, own_again, still_holds}
-use Rattle.gain_laws.proofs.RangeAgainLemmas.{constant_steps-opposite, range_back, range_both}
-use Rattle.gain_laws.proofs.RangeAgainLemmas.{still}
+use Rattle.gain_laws.proofs.RangeAgainLemmas.{AreInRange, constant_steps-opposite, range_back}
+use Rattle.gain_laws.proofs.RangeAgainLemmas.{range_both, still}
 use Rattle.gain_laws.proofs.TaggedAgainLemmas.{changed_again, clean_survey, has_block, new}
 use Rattle.gain_laws.proofs.TaggedAgainLemmas.{new_frames, new_is, new_long, new_survey, to}
 use Rattle.gain_laws.proofs.WholeFrameLemmas.{AreFramesOf, frames_there}
@@ -197,7 +197,7 @@ undo_made file s {tag} {undo} read item free =
       tag = Some (bytes_unless_empty (tag_without_undo tag));
     })) free
 
-module _ (file : List ℕ) (s : SurveyFields) (tag : TagFields) (are : AreBytes file)
+module _ (file : List ℕ) {s : SurveyFields} (tag : TagFields) (are : AreBytes file)
     (is : survey_fields file most_frames ≡ Ok s) where
   frames : AreFramesOf file s.frames
   frames = frames_there file most_frames are is
@@ -212,8 +212,8 @@ module _ (file : List ℕ) (s : SurveyFields) (tag : TagFields) (are : AreBytes 
       survey_fields-length (file_with_tag block (edited_survey (constant_steps steps) s)
       (edited_file (constant_steps steps) file s))
       most_frames
-      (new_is (constant_steps steps) file most_frames s are is block front)
-      ∙ new_long (constant_steps steps) file most_frames s are is block front
+      (new_is (constant_steps steps) file most_frames are is block front)
+      ∙ new_long (constant_steps steps) file most_frames are is block front
       ∙ ap (λ k. s.length - junk_length s - k + length block)
       (length_moved (constant_steps steps) s)
 
@@ -258,7 +258,7 @@ module _ (file : List ℕ) (s : SurveyFields) (tag : TagFields) (are : AreBytes 
 
   -- ---- a file that gains have changed
 
-  module _ (last : List ℕ) (g : IsGained file s tag last) where
+  module _ {last : List ℕ} (g : IsGained file s tag last) where
     abbrev block : List ℕ
     block = tag_bytes g.noted
 
@@ -266,10 +266,10 @@ module _ (file : List ℕ) (s : SurveyFields) (tag : TagFields) (are : AreBytes 
     front = block_front-tag_bytes g.are
 
     abbrev here : List ℕ
-    here = new (constant_steps g.steps) file most_frames s are is block front
+    here = new (constant_steps g.steps) file most_frames are is block front
 
     abbrev n : SurveyFields
-    n = new_survey (constant_steps g.steps) file most_frames s are is block front
+    n = new_survey (constant_steps g.steps) file most_frames are is block front
 
     here_survey : survey_of here most_frames ≡ Ok n
     here_survey = grind (arith, survey_of-short, new_is, are, is, front)
@@ -278,10 +278,10 @@ module _ (file : List ℕ) (s : SurveyFields) (tag : TagFields) (are : AreBytes 
     here_read = grind (arith, has_block, are, is, front, block_read)
 
     abbrev by : ℕ → ℕ
-    by = to (constant_steps g.steps) file most_frames s are is block front
+    by = to (constant_steps g.steps) file most_frames are is block front
 
     here_frames : n.frames ≡ map (stood by (constant_steps g.steps)) s.frames
-    here_frames = new_frames (constant_steps g.steps) file most_frames s are is block front
+    here_frames = new_frames (constant_steps g.steps) file most_frames are is block front
 
     -- after one more noted change it is still such a file
     pub further_gain : (shift : Shift) {more : List ℕ}
@@ -303,10 +303,16 @@ module _ (file : List ℕ) (s : SurveyFields) (tag : TagFields) (are : AreBytes 
         sym made.bytes
         ∙ ap (λ (c : FileChange). file_with_change c here n) (sym noted.is)
         ∙ file_with_change-with step (tag_bytes new_tag) here n
-        ∙ changed_again (constant_steps g.steps) file most_frames s are is block front
+        ∙ changed_again (constant_steps g.steps) file most_frames are is block front
         (constant_steps step)
         (constant_steps steps) (even_together together by s.frames)
         (tag_bytes new_tag) in
+        let in_range : AreInRange g.steps step file by s.frames =
+        record {
+          frames = frames;
+          first = g.free;
+          second = sym (ap (range_fault (constant_steps step)) here_frames) ∙ noted.free;
+        } in
         record {
           steps = steps;
           noted = new_tag;
@@ -319,18 +325,17 @@ module _ (file : List ℕ) (s : SurveyFields) (tag : TagFields) (are : AreBytes 
           left = sum_again g.steps.left step.left g.undo.left ∙ g.left;
           right = sum_again g.steps.right step.right g.undo.right ∙ g.right;
           wraps = ap (λ (b : Bool). b || shift.wrap) g.wraps;
-          free = range_both refl together file by s.frames frames
-              g.free (sym (ap (range_fault (constant_steps step)) here_frames) ∙ noted.free);
+          free = range_both refl together s.frames in_range;
           few =
               omega (
                 arith,
                 ap length there,
                 new_length steps (tag_bytes new_tag) (block_front-tag_bytes new_own),
                 noted.few,
-                new_long (constant_steps g.steps) file most_frames s are is block front,
+                new_long (constant_steps g.steps) file most_frames are is block front,
                 length_moved (constant_steps g.steps) s,
-                (has_block (constant_steps g.steps) file most_frames s are is block front).size,
-                clean_survey (constant_steps g.steps) file most_frames s are is block front,
+                (has_block (constant_steps g.steps) file most_frames are is block front).size,
+                clean_survey (constant_steps g.steps) file most_frames are is block front,
               );
         }
 
@@ -354,7 +359,7 @@ module _ (file : List ℕ) (s : SurveyFields) (tag : TagFields) (are : AreBytes 
         ∙ file_with_change-ok undo_change here_survey made
         ∙ ap Ok
         (file_with_change-with back bytes here n
-        ∙ changed_again (constant_steps g.steps) file most_frames s are is block front
+        ∙ changed_again (constant_steps g.steps) file most_frames are is block front
         (constant_steps back)
         (constant_steps still) (even_together together by s.frames) bytes
         ∙ ap (λ (t : TagFields). file_with_tag (bytes_unless_empty t)
@@ -371,7 +376,7 @@ module _ (file : List ℕ) (s : SurveyFields) (tag : TagFields) (are : AreBytes 
   gained_then (shift ∷ shifts) {last} {more} g e =
       let parts =
       then_ok e in
-      gained_then shifts (further_gain last g shift parts.1) parts.2
+      gained_then shifts (further_gain g shift parts.1) parts.2
 
   -- ---- what undo gives
 
@@ -430,6 +435,6 @@ gains_undone shift shifts file last s tag are short read none e =
     let own = file_tag-is file most_frames are is read in
     let parts =
     then_ok e in
-    let g = gained_then file s tag are is shifts
-    (first_gain file s tag are is short own read none shift parts.1) parts.2 in
-    given_back file s tag are is own read none g
+    let g = gained_then file tag are is shifts
+    (first_gain file tag are is short own read none shift parts.1) parts.2 in
+    given_back file tag are is own read none g

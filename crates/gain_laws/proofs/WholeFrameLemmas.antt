@@ -80,8 +80,8 @@ frames_there file allowed {s} all e =
     from start read =
         subst (AreFramesOf file) (sym (told_rows file start))
         (each_there (λ at. at - gap_of start) no_steps (lost_from file start) file
-        (new_file no_steps file allowed start all read) (frames_from file start) all
-        (frames-moved no_steps file allowed start all read)
+        (new_file no_steps all read) (frames_from file start) all
+        (frames-moved no_steps all read)
         (λ i r is. (all_faults-none_sound file (head_of file start.first) (class_from start) allowed
         (rows_of file (frames_from file start)) read.frames i r is).word))
 

@@ -73,8 +73,14 @@ first-of test (suc n) from =
       ],
     )
 
-module _ (window : ℕ) (class : ClassFields) (menu : List SlotFields) (needs : List Need)
-    (same : AreNeedsOfClass class needs) (ascend : HasAscendingAreas class menu) where
+-- frames of one class, and a menu whose slots have greater areas in this class one after another
+record IsOrderedMenu (class : ClassFields) (menu : List SlotFields)
+    (needs : List Need) : Type 0 where
+  same : AreNeedsOfClass class needs
+  ascend : HasAscendingAreas class menu
+
+module _ (window : ℕ) {class : ClassFields} {menu : List SlotFields} {needs : List Need}
+    (ordered : IsOrderedMenu class menu needs) where
   lead-by : (lead_in : Bool) {placed : List Placed}
       → (lead_in ≡ false) ↔ CanBeLaidFromMenu window false menu needs
       → IsPlanFor window (menu_items lead_in menu needs) placed
@@ -216,19 +222,32 @@ module _ (window : ℕ) (class : ClassFields) (menu : List SlotFields) (needs : 
 
 -- a plan from a menu, or the first unfit frame, is what the first of all lists gives
 pub least_menu_plan-is : LeastMenuPlanIsThePlan
-least_menu_plan-is = search (arith, plan-least, least-plan, unfit-least, least-unfit)
+least_menu_plan-is window class menu needs same some ascend listed =
+    let ordered : IsOrderedMenu class menu needs = record { same = same; ascend = ascend } in (
+      λ placed. (plan-least window ordered, least-plan window ordered),
+      λ i. (unfit-least window ordered, least-unfit window ordered some),
+    )
+
+-- a menu of frames ascends in the class of the first
+menu-ascends : {class : ClassFields} (menu : List SlotFields) (needs : List Need) (d : Need)
+    → class ≡ class_of (get_or needs 0 d).header → 1 ≤ length needs → IsMenu menu needs
+    → HasAscendingAreas class menu
+menu-ascends menu [] d same some ascend = absurd (omega (arith, some))
+menu-ascends menu (first ∷ needs) d same some ascend =
+    subst (λ c. HasAscendingAreas c menu) (sym same) ascend
 
 -- what the planner returns, whose class is the class of the first frame
-module _ (class : ClassFields) (menu : List SlotFields) (needs : List Need) (d : Need)
+module _ {class : ClassFields} (menu : List SlotFields) (needs : List Need) (d : Need)
     (all : AreNeedsOfOneClass needs) (some : 1 ≤ length needs)
     (is : class ≡ class_of (get_or needs 0 d).header) (is_menu : IsMenu menu needs) where
   window-is : window_of class.version ≡ window_in needs
   window-is = window-first needs d all some is refl
 
-  ascends : (needs : List Need) → class ≡ class_of (get_or needs 0 d).header → 1 ≤ length needs
-      → IsMenu menu needs → HasAscendingAreas class menu
-  ascends [] same some ascend = absurd (omega (arith, some))
-  ascends (first ∷ needs) same some ascend = subst (λ c. HasAscendingAreas c menu) (sym same) ascend
+  ordered-first : IsOrderedMenu class menu needs
+  ordered-first = record {
+    same = one-class needs d all is;
+    ascend = menu-ascends menu needs d is some is_menu;
+  }
 
   -- a plan is what the first of all lists gives
   pub plan-answered : {placed : List Placed}
@@ -236,13 +255,11 @@ module _ (class : ClassFields) (menu : List SlotFields) (needs : List Need) (d :
       → least_menu_plan (window_in needs) menu needs ≡ Ok placed
   plan-answered {placed} plan =
       subst (λ w. least_menu_plan w menu needs ≡ Ok placed) window-is
-      (plan-least (window_of class.version) class menu needs (one-class needs d all is)
-      (ascends needs is some is_menu) plan)
+      (plan-least (window_of class.version) ordered-first plan)
 
   -- if there is no list, the value is the first unfit frame
   pub unfit-answered : {i : ℕ} → IsFirstUnfitFrame (window_of class.version) menu needs i
       → least_menu_plan (window_in needs) menu needs ≡ Err i
   unfit-answered {i} unfit =
       subst (λ w. least_menu_plan w menu needs ≡ Err i) window-is
-      (unfit-least (window_of class.version) class menu needs (one-class needs d all is)
-      (ascends needs is some is_menu) unfit)
+      (unfit-least (window_of class.version) ordered-first unfit)

@@ -37,27 +37,36 @@ back-decides {front} {back} name prefix tail {r} front_is back_is same is =
 
 -- ---- a name in many parts, read one text at a time
 
-module _ {X : Type 0} (f : X → List ℕ) (xs : List X) (i : ℕ) (d : X) (within : i < length xs)
-    (text rest : List ℕ)
-    (is : text ≡ f (get_or xs i d)) (was : Bool)
-    (before : was ≡ bytes_eq rest (flat_map f (drop i xs))) where
+-- Up to part `i` the joined name and the name that is read are the same, and `rest` of it is left:
+-- `was` says whether it is the rest of the joined name, which goes on with `text`.
+pub record IsReadTo {X : Type 0} (f : X → List ℕ) (xs : List X) (i : ℕ) (text rest : List ℕ)
+    (was : Bool) : Type 0 where
+  pub default : X
+  pub within : i < length xs
+  pub is : text ≡ f (get_or xs i default)
+  pub before : was ≡ bytes_eq rest (flat_map f (drop i xs))
+
+module _ {X : Type 0} {f : X → List ℕ} {xs : List X} {i : ℕ} {text rest : List ℕ} {was : Bool}
+    (read : IsReadTo f xs i text rest was) where
   abbrev more : List ℕ
   more = flat_map f (drop (i + 1) xs)
 
   left : flat_map f (drop i xs) ≡ text ++ more
-  left = ap (flat_map f) (drop_more xs i d within) ∙ ap (λ (l : List ℕ). l ++ more) (sym is)
+  left =
+      ap (flat_map f) (drop_more xs i read.default read.within)
+      ∙ ap (λ (l : List ℕ). l ++ more) (sym read.is)
 
   -- if the rest of the name doesn't begin with the next text, the name isn't the joined one
   pub joined-other : bytes_eq (take (length text) rest) text ≡ false → false ≡ was
   joined-other differ =
       front-is_other rest text more refl differ
-      ∙ ap (bytes_eq rest) (sym left) ∙ sym before
+      ∙ ap (bytes_eq rest) (sym left) ∙ sym read.before
 
   -- if it does, what is after that text decides
   pub joined-more : {behind : List ℕ} → bytes_eq (take (length text) rest) text ≡ true
       → behind ≡ drop (length text) rest → was ≡ bytes_eq behind (flat_map f (drop (i + 1) xs))
   joined-more {behind} same behind_is =
-      before
+      read.before
       ∙ ap (bytes_eq rest) left
       ∙ sym (back-decides rest text more refl behind_is same refl)
 

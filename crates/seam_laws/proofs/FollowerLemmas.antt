@@ -69,7 +69,7 @@ record IsShared (class : ClassFields) (rest start frames : ℕ) (overlap : Overl
   early : overlap.first_alike ≤ start / samples_in class
   within : overlap.first_alike ≤ overlap.frames
 
-module _ (class : ClassFields) (rest start frames : ℕ) (overlap : Overlap) where
+module _ (class : ClassFields) (rest start frames : ℕ) where
   abbrev samples : ℕ
   samples = samples_in class
 
@@ -79,12 +79,13 @@ module _ (class : ClassFields) (rest start frames : ℕ) (overlap : Overlap) whe
   abbrev made : Overlap
   made = record { frames = whole_frames; first_alike = min (start / samples) (whole_frames - 1) }
 
-  shared-test : {b : Bool} → (eqb ((start + rest) % samples) 0 && nat_le whole_frames frames) ≡ b
+  shared-test : {overlap : Overlap} {b : Bool}
+      → (eqb ((start + rest) % samples) 0 && nat_le whole_frames frames) ≡ b
       → (if b then Some made else None) ≡ Some overlap
       → IsShared class rest start frames overlap
   shared-test test none = grind arith
 
-  is-shared : shared_overlap class rest start frames ≡ Some overlap
+  is-shared : {overlap : Overlap} → shared_overlap class rest start frames ≡ Some overlap
       → IsShared class rest start frames overlap
   unfolding shared_overlap
   is-shared is = grind (arith, shared-test, frames, is)
@@ -114,167 +115,191 @@ module _ (class : ClassFields) (splice : List SpliceFrame) (before input : Broug
   joined_by overlap =
       joining_frames (window_of class.version) splice (drop overlap.frames input.frames)
 
-  module _ (joint : JointFrames) where
-    by_joined : (overlap : Overlap) {o : Option (List SpliceFrame)} → joined_by overlap ≡ o
-        → option_map (joint_with (Follows overlap.frames)) o ≡ Some joint
-        → (joined_by overlap ≡ Some joint.frames) × (joint.seam ≡ Follows overlap.frames)
-    by_joined overlap found none = grind arith
+-- the overlap of an input that is played with the one before it
+record IsOverlap (class : ClassFields) (before input : Brought) (p q : Played) (overlap : Overlap)
+    : Type 0 where
+  ended_is : before.played ≡ Some p
+  played_is : input.played ≡ Some q
+  is : shared_overlap class (rest_of class (length before.frames) p) q.start (length input.frames)
+      ≡ Some overlap
 
-    by_alike : {p q : Played} {overlap : Overlap} (b : Bool) → before.played ≡ Some p
-        → input.played ≡ Some q → shared_by p q ≡ Some overlap
-        → ends_alike splice (compared_frames overlap input) ≡ b
-        → (if b then option_map (joint_with (Follows overlap.frames)) (joined_by overlap) else None)
+by_joined : (out : ℕ) (o : Option (List SpliceFrame)) {joint : JointFrames}
+    → option_map (joint_with (Follows out)) o ≡ Some joint
+    → (o ≡ Some joint.frames) × (joint.seam ≡ Follows out)
+by_joined out o some = grind arith
+
+module _ {class : ClassFields} {splice : List SpliceFrame} {before input : Brought}
+    {joint : JointFrames}
+  where
+    by_alike : {p q : Played} {overlap : Overlap} → IsOverlap class before input p q overlap
+        → (b : Bool) → ends_alike splice (compared_frames overlap input) ≡ b
+        → (if b then option_map (joint_with (Follows overlap.frames))
+        (joined_by class splice before input overlap) else None)
         ≡ Some joint
         → IsFollowing class splice before input joint
-    by_alike false ended_is played_is shared test none = absurd cc
-    by_alike {p} {q} {overlap} true ended_is played_is shared test some =
-        let joined = by_joined overlap refl some in
+    by_alike shared false test none = absurd cc
+    by_alike {p} {q} {overlap} shared true test some =
+        let joined = by_joined overlap.frames (joined_by class splice before input overlap) some in
         record {
           ended = p;
           played = q;
-          ended_is = ended_is;
-          played_is = played_is;
+          ended_is = shared.ended_is;
+          played_is = shared.played_is;
           overlap = overlap;
           shared = is-shared class (rest_of class (length before.frames) p) q.start
-              (length input.frames) overlap shared;
+              (length input.frames) shared.is;
           alike = test;
           frames = joined.0;
           seam = joined.1;
         }
 
-    by_shared : {p q : Played} {o : Option Overlap} → before.played ≡ Some p → input.played ≡ Some q
-        → shared_by p q ≡ o
+    by_shared : {p q : Played} (o : Option Overlap) → before.played ≡ Some p → input.played ≡ Some q
+        → shared_by class splice before input p q ≡ o
         → option_and_then (overlap_joint class splice input) o ≡ Some joint
         → IsFollowing class splice before input joint
-    by_shared ended_is played_is shared none = grind (arith, by_alike)
+    by_shared None ended_is played_is shared none = absurd cc
+    by_shared {p} {q} (Some overlap) ended_is played_is shared some =
+        let here : IsOverlap class before input p q overlap =
+        record { ended_is = ended_is; played_is = played_is; is = shared } in
+        by_alike here (ends_alike splice (compared_frames overlap input)) refl some
 
-    by_played : {p : Played} {o : Option Played} → before.played ≡ Some p → input.played ≡ o
-        → option_and_then (overlap_joint class splice input) (option_and_then (shared_by p) o)
-        ≡ Some joint → IsFollowing class splice before input joint
-    by_played ended_is played_is none = grind (arith, by_shared)
-
-    by_ended : {o : Option Played} → before.played ≡ o
+    by_played : {p : Played} (o : Option Played) → before.played ≡ Some p → input.played ≡ o
         → option_and_then (overlap_joint class splice input)
-        (option_and_then (λ p. option_and_then (shared_by p) input.played) o)
+        (option_and_then (shared_by class splice before input p) o)
+        ≡ Some joint → IsFollowing class splice before input joint
+    by_played None ended_is played_is none = absurd cc
+    by_played {p} (Some q) ended_is played_is some =
+        by_shared (shared_by class splice before input p q) ended_is played_is refl some
+
+    by_ended : (o : Option Played) → before.played ≡ o
+        → option_and_then (overlap_joint class splice input)
+        (option_and_then
+        (λ p. option_and_then (shared_by class splice before input p) input.played) o)
         ≡ Some joint
         → IsFollowing class splice before input joint
-    by_ended ended_is none = grind (arith, by_played)
+    by_ended None ended_is none = absurd cc
+    by_ended (Some p) ended_is some = by_played input.played ended_is refl some
 
     following_joint-is : following_joint class splice before input ≡ Some joint
         → IsFollowing class splice before input joint
     unfolding following_joint
-    following_joint-is is = by_ended refl is
+    following_joint-is is = by_ended before.played refl is
 
-  -- what becomes of an input that follows is the joint with which it can follow
-  joint-follows : {out : ℕ} → (joint_of class splice before input).seam ≡ Follows out
-      → following_joint class splice before input ≡ Some (joint_of class splice before input)
-  joint-follows {out} is =
-      at (following_joint class splice before input)
-      (joint_without_lead_in class splice input) (without-led class splice input) is
-    where
-      at : (x y : Option JointFrames) → IfWithout (window_of class.version) input y
-          → (unwrap_or (option_or x y) (whole_joint input)).seam ≡ Follows out
-          → x ≡ Some (unwrap_or (option_or x y) (whole_joint input))
-      at (Some joint) y without seam = refl
-      at None (Some joint) without seam = let never : LeadIn ≡ Follows out = grind (arith, seam) in
-          absurd cc
-      at None None without seam = absurd cc
+follows-first : (window : ℕ) (input : Brought) (x y : Option JointFrames) {out : ℕ}
+    → IfWithout window input y
+    → (unwrap_or (option_or x y) (whole_joint input)).seam ≡ Follows out
+    → x ≡ Some (unwrap_or (option_or x y) (whole_joint input))
+follows-first window input (Some joint) y without seam = refl
+follows-first window input None (Some joint) {out} without seam =
+    let never : LeadIn ≡ Follows out = grind (arith, seam) in
+    absurd cc
+follows-first window input None None without seam = absurd cc
 
-  -- ---- the frames of the splice
+-- what becomes of an input that follows is the joint with which it can follow
+joint-follows : (class : ClassFields) (splice : List SpliceFrame) (before input : Brought) {out : ℕ}
+    → (joint_of class splice before input).seam ≡ Follows out
+    → following_joint class splice before input ≡ Some (joint_of class splice before input)
+joint-follows class splice before input is =
+    follows-first (window_of class.version) input (following_joint class splice before input)
+    (joint_without_lead_in class splice input) (without-led class splice input) is
 
-  module _ (joint : JointFrames) (is : IsFollowing class splice before input joint) where
-    abbrev shared : ℕ
-    shared = is.overlap.frames
+-- ---- the frames of the splice
 
-    abbrev first : ℕ
-    first = is.overlap.first_alike
+module _ {class : ClassFields} {splice : List SpliceFrame} {before input : Brought}
+    {joint : JointFrames}
+    (is : IsFollowing class splice before input joint) where
+  abbrev shared : ℕ
+  shared = is.overlap.frames
 
-    abbrev from_end : ℕ
-    from_end = length splice - (shared - first)
+  abbrev first : ℕ
+  first = is.overlap.first_alike
 
-    abbrev new : List SpliceFrame
-    new = splice ++ joint.frames
+  abbrev from_end : ℕ
+  from_end = length splice - (shared - first)
 
-    length-compared_frames : length (compared_frames is.overlap input) ≡ shared - first
-    length-compared_frames = grind (arith, length-take-le, shared, length-drop)
+  abbrev new : List SpliceFrame
+  new = splice ++ joint.frames
 
-    enough : shared - first ≤ length splice
-    enough = grind (arith, length-compared_frames, leb-true)
+  length-compared_frames : length (compared_frames is.overlap input) ≡ shared - first
+  length-compared_frames = grind (arith, length-take-le, shared, length-drop)
 
-    last-sounds : sounds (drop from_end splice) ≡ sounds (compared_frames is.overlap input)
-    last-sounds = grind (arith, length-compared_frames, alike-sounds)
+  enough : shared - first ≤ length splice
+  enough = grind (arith, length-compared_frames, leb-true)
 
-    added-sounds : sounds joint.frames ≡ sounds (drop shared input.frames)
-    added-sounds = grind (arith, joining_frames-sounds, shared)
+  last-sounds : sounds (drop from_end splice) ≡ sounds (compared_frames is.overlap input)
+  last-sounds = grind (arith, length-compared_frames, alike-sounds)
 
-    -- the frames that are alike and the added ones are the input's from the first of these on
-    input-parts : compared_frames is.overlap input ++ drop shared input.frames
-        ≡ drop first input.frames
-    input-parts =
-        let at : first + (shared - first) ≡ shared = omega (arith, is.shared.within) in
-        ap (compared_frames is.overlap input ++◌)
-        (ap (λ n. drop n input.frames) (sym at)
-        ∙ sym (drop-drop (shared - first) first input.frames))
-        ∙ take-append-drop (shared - first) (drop first input.frames)
+  added-sounds : sounds joint.frames ≡ sounds (drop shared input.frames)
+  added-sounds = grind (arith, joining_frames-sounds, shared)
 
-    new-sounds : sounds (drop from_end new) ≡ sounds (drop first input.frames)
-    new-sounds =
-        grind (arith, drop-append-le, map-append, last-sounds, added-sounds, shared, input-parts)
+  -- the frames that are alike and the added ones are the input's from the first of these on
+  input-parts : compared_frames is.overlap input ++ drop shared input.frames
+      ≡ drop first input.frames
+  input-parts =
+      let at : first + (shared - first) ≡ shared = omega (arith, is.shared.within) in
+      ap (compared_frames is.overlap input ++◌)
+      (ap (λ n. drop n input.frames) (sym at)
+      ∙ sym (drop-drop (shared - first) first input.frames))
+      ∙ take-append-drop (shared - first) (drop first input.frames)
 
-    added-length : length joint.frames ≡ length input.frames - shared
-    added-length = grind (arith, length-map, added-sounds, shared, length-drop)
+  new-sounds : sounds (drop from_end new) ≡ sounds (drop first input.frames)
+  new-sounds =
+      grind (arith, drop-append-le, map-append, last-sounds, added-sounds, shared, input-parts)
 
-    new-length : length new + shared ≡ length splice + length input.frames
-    new-length = omega (arith, length-append splice joint.frames, added-length, is.shared.there)
+  added-length : length joint.frames ≡ length input.frames - shared
+  added-length = grind (arith, length-map, added-sounds, shared, length-drop)
 
-    abbrev from : ℕ
-    from = is.played.start / samples_in class
+  new-length : length new + shared ≡ length splice + length input.frames
+  new-length = omega (arith, length-append splice joint.frames, added-length, is.shared.there)
 
-    alike-at : (i : ℕ) (f : SpliceFrame) → from ≤ i → slice_get input.frames i ≡ Some f
-        → (g : SpliceFrame) × (slice_get new (i + length new - length input.frames) ≡ Some g)
-        × (g.sound ≡ f.sound)
-    alike-at i f late found =
-        let in_input : first + (i - first) ≡ i = omega (arith, late, is.shared.early) in
-        let in_splice : from_end + (i - first) ≡ i + length new - length input.frames =
-        omega (
-          arith,
-          late,
-          is.shared.early,
-          is.shared.within,
-          is.shared.there,
-          new-length,
-          enough,
-        ) in
-        let own : slice_get (sounds (drop first input.frames)) (i - first) ≡ Some f.sound =
-        grind (arith, slice_get-map, get-drop, found) in
-        let there =
-        sound-of (drop from_end new) (i - first)
-        (ap (λ l. slice_get l (i - first)) new-sounds ∙ own) in (
-          there.frame,
-          sym (get-drop from_end new (i - first) ∙ ap (slice_get new) in_splice)
-              ∙ there.found,
-          there.is,
-        )
+  abbrev from : ℕ
+  from = is.played.start / samples_in class
 
-    goes-on : (out : ℕ) → joint.seam ≡ Follows out → InputGoesOn class before input splice new out
-    goes-on out seam =
-        let both = sym is.seam ∙ seam in
-        let same : shared ≡ out = cc in
-        subst (InputGoesOn class before input splice new) same
-        (record {
-          ended = is.ended;
-          played = is.played;
-          ended_is = is.ended_is;
-          played_is = is.played_is;
-          meets = is.shared.whole;
-          has = is.shared.there;
-          longer = new-length;
-          alike = record {
-            within = omega
-                (arith, is.shared.early, is.shared.within, is.shared.there, new-length, enough);
-            alike = alike-at;
-          };
-        })
+  alike-at : (i : ℕ) (f : SpliceFrame) → from ≤ i → slice_get input.frames i ≡ Some f
+      → (g : SpliceFrame) × (slice_get new (i + length new - length input.frames) ≡ Some g)
+      × (g.sound ≡ f.sound)
+  alike-at i f late found =
+      let in_input : first + (i - first) ≡ i = omega (arith, late, is.shared.early) in
+      let in_splice : from_end + (i - first) ≡ i + length new - length input.frames =
+      omega (
+        arith,
+        late,
+        is.shared.early,
+        is.shared.within,
+        is.shared.there,
+        new-length,
+        enough,
+      ) in
+      let own : slice_get (sounds (drop first input.frames)) (i - first) ≡ Some f.sound =
+      grind (arith, slice_get-map, get-drop, found) in
+      let there =
+      sound-of (drop from_end new) (i - first)
+      (ap (λ l. slice_get l (i - first)) new-sounds ∙ own) in (
+        there.frame,
+        sym (get-drop from_end new (i - first) ∙ ap (slice_get new) in_splice)
+            ∙ there.found,
+        there.is,
+      )
+
+  goes-on : (out : ℕ) → joint.seam ≡ Follows out → InputGoesOn class before input splice new out
+  goes-on out seam =
+      let both = sym is.seam ∙ seam in
+      let same : shared ≡ out = cc in
+      subst (InputGoesOn class before input splice new) same
+      (record {
+        ended = is.ended;
+        played = is.played;
+        ended_is = is.ended_is;
+        played_is = is.played_is;
+        meets = is.shared.whole;
+        has = is.shared.there;
+        longer = new-length;
+        alike = record {
+          within = omega
+              (arith, is.shared.early, is.shared.within, is.shared.there, new-length, enough);
+          alike = alike-at;
+        };
+      })
 
 -- ---- the joints of a splice
 
@@ -284,21 +309,33 @@ added-next [] n is = absurd cc
 added-next (j ∷ joints) zero is = grind (arith, append-nil)
 added-next (j ∷ joints) (suc n) {joint} is = grind (arith, is, append_assoc, added-next joints n is)
 
-joint-at : (class : ClassFields) (splice : List SpliceFrame) (first : Brought)
-    (inputs : List Brought)
+-- the joint of an input after the one before it
+record IsJointAt (class : ClassFields) (splice : List SpliceFrame) (first : Brought)
+    (inputs : List Brought) (n : ℕ) (before input : Brought) (joint : JointFrames) : Type 0 where
+  before_at : slice_get (first ∷ inputs) n ≡ Some before
+  own_at : slice_get inputs n ≡ Some input
+  joint_at : slice_get (joints_from class splice first inputs) n ≡ Some joint
+
+joint-at : {class : ClassFields} (inputs : List Brought) {splice : List SpliceFrame}
+    {first : Brought}
     (n : ℕ) {before input : Brought} {joint : JointFrames}
-    → slice_get (first ∷ inputs) n ≡ Some before → slice_get inputs n ≡ Some input
-    → slice_get (joints_from class splice first inputs) n ≡ Some joint → joint
+    → IsJointAt class splice first inputs n before input joint → joint
     ≡ joint_of class (splice ++ added (take n (joints_from class splice first inputs))) before
     input
 unfolding joints_from
-joint-at class splice first [] n is_before is_input is_joint = absurd cc
-joint-at class splice first (i ∷ inputs) zero is_before is_input is_joint =
+joint-at [] n at =
+    let own = at.own_at in
+    absurd cc
+joint-at (i ∷ inputs) zero at =
+    let is_before = at.before_at in
+    let is_input = at.own_at in
+    let is_joint = at.joint_at in
     grind (arith, append-nil)
-joint-at class splice first (i ∷ inputs) (suc n)
-    {before} {input} {joint} is_before is_input is_joint =
+joint-at {class} (i ∷ inputs) {splice} {first} (suc n) {before} {input} {joint} at =
     let here = joint_of class splice first i in
-    joint-at class (splice ++ here.frames) i inputs n is_before is_input is_joint
+    let next : IsJointAt class (splice ++ here.frames) i inputs n before input joint =
+    record { before_at = at.before_at; own_at = at.own_at; joint_at = at.joint_at } in
+    joint-at inputs n next
     ∙ ap (λ l. joint_of class l before input)
     (append_assoc splice here.frames
     (added (take n (joints_from class (splice ++ here.frames) i inputs))))
@@ -308,13 +345,15 @@ pub followers-on : FollowersGoOn
 followers-on class first inputs number before input joint out is_before is_input is_joint seam =
     let joints = joints_of class first inputs in
     let splice = splice_after first joints number in
-    let here : joint ≡ joint_of class splice before input = grind (arith, joint-at) in
+    let at : IsJointAt class first.frames first inputs number before input joint =
+    record { before_at = is_before; own_at = is_input; joint_at = is_joint } in
+    let here : joint ≡ joint_of class splice before input = joint-at inputs number at in
     let follows =
     joint-follows class splice before input (sym (ap (λ (j : JointFrames). j.seam) here) ∙ seam) in
-    let is = following_joint-is class splice before input joint
-    (follows ∙ ap (λ j. Some j) (sym here)) in
+    let is : IsFollowing class splice before input joint =
+    following_joint-is (follows ∙ ap (λ j. Some j) (sym here)) in
     let next : number + 1 ≡ suc number = omega arith in
     let after : splice ++ joint.frames ≡ splice_after first joints (number + 1) =
     grind (arith, append_assoc, added-next) in
     subst (λ l. InputGoesOn class before input splice l out) after
-    (goes-on class splice before input joint is out seam)
+    (goes-on is out seam)

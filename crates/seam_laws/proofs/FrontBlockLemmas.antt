@@ -146,7 +146,7 @@ filter-append : (t : SurveyFields) (xs ys : List Piece)
 filter-append t [] ys = refl
 filter-append t (x ∷ xs) ys = grind (arith, filter-append t xs ys)
 
-module _ (file : List ℕ) (s : SurveyFields) (allowed : ℕ) (e : survey_fields file allowed ≡ Ok s)
+module _ (file : List ℕ) {s : SurveyFields} (allowed : ℕ) (e : survey_fields file allowed ≡ Ok s)
     (first : HeaderFields) (info : Info)
     (frames : List Frame) (back : List (List ℕ)) where
   abbrev front : List (List ℕ)

@@ -376,7 +376,7 @@ module _ {first : FilePart} {parts : List FilePart}
   stream-is =
       let leads = splice-leads are in
       let laid =
-      splice-laid first parts (input-whole are.head) (inputs-whole c parts are.others) in
+      splice-laid parts (input-whole are.head) (inputs-whole c parts are.others) in
       grind (arith, length-map, laid.stream_is, leads.is, length-append, leads.leads, leads-many)
 
   -- the join has the lead-ins of the splice, and all of it but for what leaves it
@@ -484,7 +484,7 @@ module _ {first : FilePart} {parts : List FilePart}
   follows-by rises zero same seam = absurd cc
   follows-by {out} rises (suc m) same seam =
       let there = subst (λ k. slice_get (first ∷ parts) k ≡ Some last) same (last-at first parts) in
-      let goes = (follower-at are m last there seam).1 in
+      let goes = (follower-at are m there seam).1 in
       let played =
       (counted-played (part_head last) last.survey.class n goes.played_is).0 in
       let next : m + 1 ≡ length parts = omega (arith, same) in
@@ -515,7 +515,7 @@ module _ {first : FilePart} {parts : List FilePart}
   -- ---- where it is played
 
   module _ (few : frames_in (first ∷ parts) ≤ most_frames) (octets : AreOctets last.file)
-      (delay : ℕ) (delay_is : delay_of_splice first parts ≡ Some delay) where
+      {delay : ℕ} (delay_is : delay_of_splice first parts ≡ Some delay) where
     padding-most : seamless_padding first parts < 4096
     padding-most =
         omega (
@@ -547,7 +547,7 @@ module _ {first : FilePart} {parts : List FilePart}
           end = frames * samples_in c + decoder_delay - seamless_padding first parts;
         }
     read-is allowed s e =
-        read-played are delay_is allowed s e
+        read-played are delay_is allowed e
         ∙ played-by c read
         (read-count are delay_is refl (frames-small few)) frames-some
         padding-least
@@ -596,5 +596,5 @@ module _ {first : FilePart} {parts : List FilePart}
 pub ends-kept : JoinsKeepTheirEnds
 ends-kept files inputs first parts delay allowed s taken delay_is octets e =
     ends-read (inputs-are files inputs taken)
-    (parts-few files 0 None inputs taken) octets delay delay_is allowed
+    (parts-few files 0 None inputs taken) octets delay_is allowed
     s e

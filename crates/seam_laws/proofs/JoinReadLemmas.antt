@@ -76,7 +76,7 @@ module _ {first : FilePart} {parts : List FilePart}
   file-is =
       let row = inputs.head.has.placed (join_of_parts first parts).front front-row.0 front-row.1 in
       let are =
-      splice-laid first parts (input-whole inputs.head) (inputs-whole c parts inputs.others) in
+      splice-laid parts (input-whole inputs.head) (inputs-whole c parts inputs.others) in
       record {
         blocks_before = (blocks-kept first.file first.survey inputs.head.has).0;
         header = row.known;
@@ -101,22 +101,21 @@ module _ {first : FilePart} {parts : List FilePart}
   -- the head has the number of frames that the Info frame has
   pub read-count : {n : ℕ} → written_info.frames ≡ Some n → n < 256 ^ 4
       → read_info.frames ≡ Some n
-  read-count {n} is small =
-      laid-count header written_info file-is.header whole blocks frames [] is small
+  read-count {n} is small = laid-count file-is.header whole blocks frames [] is small
 
   -- the head says the numbers that the Info frame says
   pub read-says : {d p : ℕ} → SaysNumbers d p written_info.extension
       → SaysNumbers d p read_info.extension
   read-says {d} {p} says =
       subst (SaysNumbers d p)
-      (sym (laid-extension header written_info file-is.header whole blocks frames [])) says
+      (sym (laid-extension file-is.header whole blocks frames [])) says
 
   -- the Info frame says the numbers of the extension
   pub written-says : {d p : ℕ} → SaysNumbers d p (splice_extension delay first parts)
       → SaysNumbers d p written_info.extension
   written-says {d} {p} says = (frames-sealed header unsealed-whole).says d p says
 
-  module _ (allowed : ℕ) (j : SurveyFields)
+  module _ (allowed : ℕ) {j : SurveyFields}
       (e : survey_of (seamless_file (first ∷ parts)) allowed ≡ Ok j) where
     told : laid_fields blocks header written_info frames [] ≡ j
     told =

@@ -289,14 +289,14 @@ module _ {laid : LaidPart} {file : List ℕ} {s : SurveyFields} {c : ClassFields
             laid.placed input.fitting.fits (omega (arith, needs-many, input.some)),
         length-map frames slot_in,
         ap length
-            (laid-slots laid file s input.has input.some input.within input.fitting),
+            (laid-slots laid input.has input.some input.within input.fitting),
         length-map laid.placed (λ (p : Placed). p.slot),
       )
 
   -- the frames can be laid, and are the frames of their stream with the lead-ins of the plan
   pub laid-as : AreFramesOfStream s.class frames (stream_with_lead_ins laid.placed own)
   laid-as =
-      let are = fitting-laid s.class part laid.placed part-is input.fitting in
+      let are = fitting-laid part-is input.fitting in
       record {
         some = frames-some;
         entries = are.entries;
@@ -419,7 +419,7 @@ module _ {laid : LaidPart} {file : List ℕ} {s : SurveyFields} {c : ClassFields
       ∙ ap (λ front.
       front_blocks (laid_file front input.made.row.header info frames input.made.back)
       (laid_fields front input.made.row.header info frames input.made.back)) (sym same)
-      ∙ front-stays file t many e input.made.row.header info frames input.made.back
+      ∙ front-stays file many e input.made.row.header info frames input.made.back
       ∙ same
 
   own-splice-needs : needs_of own_splice ≡ needs

@@ -87,7 +87,7 @@ silent-first file s {r} {rows} are none same =
           ∙ ap (λ g. silent_frame (record g { slot = no_slot })) same),
     )
 
-module _ (c : ClassFields) (p : FilePart) (is : IsInput c p)
+module _ {c : ClassFields} {p : FilePart} (is : IsInput c p)
     (blank : begins_blank p.survey.frames ≡ true) where
   begin : (q : Row) × (rows : List Row) × (p.survey.frames ≡ q ∷ rows)
   begin = at p.survey.frames is.some
@@ -267,7 +267,7 @@ module _ {first : FilePart} {parts : List FilePart}
       ∙ joints-many c begins.frames begins others ∙ length-map parts part_brought
 
   -- an input without its first k frames, and these
-  module _ (p : FilePart) (is : IsInput c p) (k : ℕ) where
+  module _ {p : FilePart} (is : IsInput c p) (k : ℕ) where
     abbrev left : List StreamFrame
     left = take k (whole_stream is)
 
@@ -286,7 +286,7 @@ module _ {first : FilePart} {parts : List FilePart}
       (and_parts (part_brought p).blank
       (leads_others (window_of c.version) (needs_of (part_brought p).frames)) has).0 in
       subst (λ d. IsEmptyFront d p.file (take 1 (whole_stream is)))
-      (sym is.of_class) (empty-front c p is blank)
+      (sym is.of_class) (empty-front is blank)
 
   first-written : IsInputWritten first parts 0 first
   first-written =
@@ -296,8 +296,8 @@ module _ {first : FilePart} {parts : List FilePart}
             record {
               part = part_from joined.front first;
               is = refl;
-              left_out = left first are.head joined.front;
-              all = both first are.head joined.front;
+              left_out = left are.head joined.front;
+              all = both are.head joined.front;
               may = inr
                   (subst (λ n. IsEmptyFront c first.file (take n (whole_stream are.head)))
                   (sym one) (led-front are.head (front-parts are out).0));
@@ -307,13 +307,13 @@ module _ {first : FilePart} {parts : List FilePart}
             record {
               part = part_from joined.front first;
               is = refl;
-              left_out = left first are.head joined.front;
-              all = both first are.head joined.front;
+              left_out = left are.head joined.front;
+              all = both are.head joined.front;
               may = inl (ap (λ n. take n (whole_stream are.head)) zero_is);
             }
       ]
 
-  module _ (n : ℕ) (p : FilePart) (found : slice_get parts n ≡ Some p) where
+  module _ (n : ℕ) {p : FilePart} (found : slice_get parts n ≡ Some p) where
     is : IsInput c p
     is = input-at parts n are.others found
 
@@ -371,10 +371,10 @@ module _ {first : FilePart} {parts : List FilePart}
     later-written = record {
       part = part_from (left_out_count later.joint.seam) p;
       is = later.written;
-      left_out = left p is (left_out_count later.joint.seam);
-      all = both p is (left_out_count later.joint.seam);
+      left_out = left is (left_out_count later.joint.seam);
+      all = both is (left_out_count later.joint.seam);
       may = subst (λ o. MayBeLeftOut o p.survey.class p.file
-          (left p is (left_out_count later.joint.seam)))
+          (left is (left_out_count later.joint.seam)))
           (sym (ap (option_map (λ (j : JointFrames). j.seam)) later.found))
           (may later.joint.seam refl);
     }
@@ -385,7 +385,7 @@ module _ {first : FilePart} {parts : List FilePart}
   written-at zero {input} found =
       let same : first ≡ input = cc in
       subst (IsInputWritten first parts 0) same first-written
-  written-at (suc n) {input} found = later-written n input found
+  written-at (suc n) {input} found = later-written n found
 
 -- what is left out of an input that doesn't follow is empty
 pub left-out-empty : LeftOutIsEmpty

@@ -30,7 +30,7 @@ flags-by : (vbr : Bool) (rest : List ℕ)
     → take 4 (drop 4 (vbr_text vbr ++ (big_bytes 4 15 ++ rest))) ≡ big_bytes 4 15
 flags-by vbr rest = grind arith
 
-module _ (first : HeaderFields) (info : Info) (known : IsHeader first)
+module _ {first : HeaderFields} {info : Info} (known : IsHeader first)
     (whole : AreInfoFields info) where
   abbrev c : ClassFields
   c = class_of first

@@ -187,11 +187,25 @@ module _ {P : Type 0} (cuts : Cuts P) (file : List ℕ) (t : SurveyFields) where
   pieces-join {c} pieces =
       let are = pieces-inputs pieces in record { head = are.0; others = are.1 }
 
+  -- pieces in order, joined again, are what is cut from
+  -- the first place to the last, which can be laid
+  pub record IsCutAgain (from to : P) (parts : List FilePart) : Type 0 where
+    pub there : cuts.IsThere from to
+    pub right : IsRight (cuts.chosen from to) t
+    pub joins : seamless_file parts ≡ cut_between from to
+
+  abbrev pub AreCutAgain : Type 0
+  AreCutAgain =
+      (from to : P) (tos : List P) (first : FilePart) (parts : List FilePart)
+      → AreAt t.class from (to ∷ tos) (first ∷ parts)
+      → IsCutAgain from (last_place to tos) (first ∷ parts)
+
+module _ {P : Type 0} {cuts : Cuts P} {file : List ℕ} {t : SurveyFields} where
   -- the same files are the same pieces
   same-pieces : {c : ClassFields} {from : P} {tos : List P} {xs : List FilePart}
-      → AreAt c from tos xs → (ys : List FilePart)
+      → AreAt cuts file t c from tos xs → (ys : List FilePart)
       → files_of xs ≡ files_of ys
-      → AreInputs c ys → AreAt c from tos ys
+      → AreInputs c ys → AreAt cuts file t c from tos ys
   same-pieces no_pieces [] same inputs = no_pieces
   same-pieces no_pieces (y ∷ ys) same inputs = absurd cc
   same-pieces (piece_then here more) [] same inputs = absurd cc
@@ -214,27 +228,17 @@ module _ {P : Type 0} (cuts : Cuts P) (file : List ℕ) (t : SurveyFields) where
 
   -- ---- in two steps
 
-  -- pieces in order, joined again, are what is cut from
-  -- the first place to the last, which can be laid
-  pub record IsCutAgain (from to : P) (parts : List FilePart) : Type 0 where
-    pub there : cuts.IsThere from to
-    pub right : IsRight (cuts.chosen from to) t
-    pub joins : seamless_file parts ≡ cut_between from to
-
-  abbrev pub AreCutAgain : Type 0
-  AreCutAgain =
-      (from to : P) (tos : List P) (first : FilePart) (parts : List FilePart)
-      → AreAt t.class from (to ∷ tos) (first ∷ parts)
-      → IsCutAgain from (last_place to tos) (first ∷ parts)
-
-  -- then they can be joined in two steps, since the file of the first step is a piece too
-  pub two-steps : CanBeRelaid file t → AreCutAgain → {from to : P} {tos : List P} {first : FilePart}
-      {parts others : List FilePart} → AreAt t.class from (to ∷ tos) (first ∷ (parts ++ others))
+  -- pieces that are cut again by a join can be joined in two
+  -- steps, since the file of the first step is a piece too
+  pub two-steps : CanBeRelaid file t → AreCutAgain cuts file t
+      → {from to : P} {tos : List P} {first : FilePart}
+      {parts others : List FilePart}
+      → AreAt cuts file t t.class from (to ∷ tos) (first ∷ (parts ++ others))
       → (steps : IsJoinedInSteps first parts others)
       → seamless_file (steps.joined ∷ steps.more) ≡ seamless_file (first ∷ (parts ++ others))
   two-steps has again {from} {to} {tos} {first} {parts}
       {others} pieces steps =
-      let cut = cut-pieces (IsAt t.class) to parts (later-at pieces) in
+      let cut = cut-pieces (IsAt cuts file t t.class) to parts (later-at pieces) in
       let mid = last_place to cut.first in
       let front = again from to cut.first first parts
       (piece_then (first-at pieces) cut.pieces) in
@@ -249,22 +253,27 @@ module _ {P : Type 0} (cuts : Cuts P) (file : List ℕ) (t : SurveyFields) where
       record { has = has; right = right; made = made; is = inputs.head } in
       let all =
       subst (λ d. Joins d steps.joined steps.more) (class-same (laid-input joined)) inputs in
-      let begin : IsAt t.class from mid steps.joined =
+      let begin : IsAt cuts file t t.class from mid steps.joined =
       record {
         there = front.there;
         piece = record { has = has; right = right; made = made; is = all.head };
       } in
       (again from mid cut.second steps.joined steps.more
       (piece_then begin (same-pieces cut.pieces_on steps.more stepped.1 all.others))).joins
-      ∙ ap (cut_between from) cut.last
+      ∙ ap (cut_between cuts file t from) cut.last
       ∙ sym (again from to tos first (parts ++ others) pieces).joins
 
 -- ---- what a split lays
 
-module _ {P : Type 0} (cut : Cutting P) (cuts : Cuts P) (file : List ℕ) (s : SurveyFields)
-    (has : CanBeRelaid file (cut.survey s))
-    (lays : (from to : P) (l : LaidPart) → cut.between from to file s ≡ Ok l
-    → IsLaidAs cuts file (cut.survey s) from to l) where
+-- The file can be laid anew, and what is laid between two places is the piece between them.
+pub record LaysPieces {P : Type 0} (cut : Cutting P) (cuts : Cuts P) (file : List ℕ)
+    (s : SurveyFields) : Type 0 where
+  pub has : CanBeRelaid file (cut.survey s)
+  pub lays : (from to : P) (l : LaidPart) → cut.between from to file s ≡ Ok l
+      → IsLaidAs cuts file (cut.survey s) from to l
+
+module _ {P : Type 0} {cut : Cutting P} {cuts : Cuts P} {file : List ℕ} {s : SurveyFields}
+    (by : LaysPieces cut cuts file s) where
   abbrev t : SurveyFields
   t = cut.survey s
 
@@ -285,7 +294,7 @@ module _ {P : Type 0} (cut : Cutting P) (cuts : Cuts P) (file : List ℕ) (s : S
       record {
         first = one.0;
         more = more.0;
-        how = lays from to one.0 one.1;
+        how = by.lays from to one.0 one.1;
         later = more.1;
         are = more.2;
       }
@@ -297,76 +306,95 @@ module _ {P : Type 0} (cut : Cutting P) (cuts : Cuts P) (file : List ℕ) (s : S
       let both = and_parts (not (is_look_alike l p)) (has_no_look_alike laid parts) none in
       (not-true both.0, both.1)
 
-  module _ (c : ClassFields) (NoneAlike : Type 0) where
-    piece-at : {from to : P} {l : LaidPart} {p : FilePart} → IsLaidAs cuts file t from to l
-        → IsInput c p → p.file ≡ file_laid l file t → (NoneAlike → is_look_alike l p ≡ false)
-        → IsPlainAt cuts file t c NoneAlike from to p
-    piece-at {from} {to} {l} {p} how is same none =
-        let laid = laid_piece (cuts.led from to) (cuts.chosen from to) t in
-        let piece : IsPiece (cuts.led from to) (cuts.chosen from to) file t c p =
-        record {
-          has = has;
-          right = how.right;
-          made =
-              subst (IsFileOf laid file t)
-              (sym (same ∙ ap (λ l. file_laid l file t) how.is))
-              (laid-whole laid has (omega (arith, how.right.some, how.right.within)));
-          is = is;
-        } in (
-          record { there = how.there; piece = piece },
-          λ n. plain-by piece (ap (λ l. is_look_alike l p) (sym how.is) ∙ none n),
-        )
+  piece-at : {c : ClassFields} {NoneAlike : Type 0} {from to : P} {l : LaidPart} {p : FilePart}
+      → IsLaidAs cuts file t from to l → IsInput c p → p.file ≡ file_laid l file t
+      → (NoneAlike → is_look_alike l p ≡ false) → IsPlainAt cuts file t c NoneAlike from to p
+  piece-at {c} {from = from} {to = to} {l = l} {p = p} how is same none =
+      let laid = laid_piece (cuts.led from to) (cuts.chosen from to) t in
+      let piece : IsPiece (cuts.led from to) (cuts.chosen from to) file t c p =
+      record {
+        has = by.has;
+        right = how.right;
+        made =
+            subst (IsFileOf laid file t)
+            (sym (same ∙ ap (λ l. file_laid l file t) how.is))
+            (laid-whole laid by.has (omega (arith, how.right.some, how.right.within)));
+        is = is;
+      } in (
+        record { there = how.there; piece = piece },
+        λ n. plain-by piece (ap (λ l. is_look_alike l p) (sym how.is) ∙ none n),
+      )
 
-    abbrev files : List LaidPart → List (Option (List ℕ))
-    files laid = map (λ l. Some (file_laid l file t)) laid
+  abbrev files : List LaidPart → List (Option (List ℕ))
+  files laid = map (λ l. Some (file_laid l file t)) laid
 
-    pieces-from : (from : P) (tos : List P) (laid : List LaidPart) (parts : List FilePart)
-        → piece_parts_from cut file s from tos ≡ Ok laid → AreInputs c parts
-        → files_of parts ≡ files laid
-        → (NoneAlike → has_no_look_alike laid parts ≡ true)
-        → ArePieces (IsPlainAt cuts file t c NoneAlike) from tos parts
-    pieces-from from [] [] [] e inputs same none = no_pieces
-    pieces-from from [] [] (p ∷ parts) e inputs same none = absurd cc
-    pieces-from from [] (l ∷ laid) parts e inputs same none = absurd cc
-    pieces-from from (to ∷ tos) laid [] e inputs same none =
-        let first = laid-first e in
-        let never = same ∙ ap files (sym first.are) in
-        absurd cc
-    pieces-from from (to ∷ tos) laid (p ∷ parts) e inputs same none =
-        let first = laid-first e in
-        let l = first.first in
-        let all = same ∙ ap files (sym first.are) in
-        let here : p.file ≡ file_laid l file t = cc in
-        let more : files_of parts ≡ files first.more = cc in
-        let tests : NoneAlike
-        → (is_look_alike l p ≡ false) × (has_no_look_alike first.more parts ≡ true) =
-        λ n.
-        alike-first l first.more p parts
-        (ap (λ ls. has_no_look_alike ls (p ∷ parts)) first.are ∙ none n) in
-        piece_then
-        (piece-at first.how inputs.0 here (λ n. (tests n).0))
-        (pieces-from to tos first.more parts first.later inputs.1 more (λ n. (tests n).1))
+  -- These inputs are the files that are laid from one place to the first of others, and from each
+  -- of these to the next. In that case none of them begins with a look-alike.
+  record AreLaid (c : ClassFields) (NoneAlike : Type 0) (from : P) (tos : List P)
+      (laid : List LaidPart) (parts : List FilePart) : Type 0 where
+    is : piece_parts_from cut file s from tos ≡ Ok laid
+    inputs : AreInputs c parts
+    same : files_of parts ≡ files laid
+    none : NoneAlike → has_no_look_alike laid parts ≡ true
 
-  module _ (from to : P) (tos : List P) (laid : List LaidPart) (first : FilePart)
-      (parts : List FilePart) (e : piece_parts cut file s (from ∷ to ∷ tos) ≡ Ok laid) where
+  pieces-from : {c : ClassFields} {NoneAlike : Type 0} (from : P) (tos : List P)
+      (laid : List LaidPart) (parts : List FilePart) → AreLaid c NoneAlike from tos laid parts
+      → ArePieces (IsPlainAt cuts file t c NoneAlike) from tos parts
+  pieces-from from [] [] [] are = no_pieces
+  pieces-from from [] [] (p ∷ parts) are = let same = are.same in absurd cc
+  pieces-from from [] (l ∷ laid) parts are = let e = are.is in absurd cc
+  pieces-from from (to ∷ tos) laid [] are =
+      let first = laid-first are.is in
+      let never = are.same ∙ ap files (sym first.are) in
+      absurd cc
+  pieces-from {c} {NoneAlike} from (to ∷ tos) laid (p ∷ parts) are =
+      let first = laid-first are.is in
+      let l = first.first in
+      let all = are.same ∙ ap files (sym first.are) in
+      let here : p.file ≡ file_laid l file t = cc in
+      let more : files_of parts ≡ files first.more = cc in
+      let tests : NoneAlike
+      → (is_look_alike l p ≡ false) × (has_no_look_alike first.more parts ≡ true) =
+      λ n.
+      alike-first l first.more p parts
+      (ap (λ ls. has_no_look_alike ls (p ∷ parts)) first.are ∙ are.none n) in
+      let rest : AreLaid c NoneAlike to tos first.more parts =
+      record {
+        is = first.later;
+        inputs = are.inputs.1;
+        same = more;
+        none = λ n. (tests n).1;
+      } in
+      piece_then
+      (piece-at first.how are.inputs.0 here (λ n. (tests n).0))
+      (pieces-from to tos first.more parts rest)
+
+  module _ {from to : P} (tos : List P) {laid : List LaidPart}
+      (e : piece_parts cut file s (from ∷ to ∷ tos) ≡ Ok laid) where
     -- the files that a split lays, as the inputs of a join, are the pieces between its places
-    pub laid-pieces : (NoneAlike : Type 0) → ArePieceInputs laid file t first parts
+    pub laid-pieces : {first : FilePart} {parts : List FilePart} (NoneAlike : Type 0)
+        → ArePieceInputs laid file t first parts
         → (NoneAlike → has_no_look_alike laid (first ∷ parts) ≡ true)
         → ArePieces (IsPlainAt cuts file t t.class NoneAlike) from (to ∷ tos) (first ∷ parts)
-    laid-pieces NoneAlike inputs none =
+    laid-pieces {first} {parts} NoneAlike inputs none =
         let c = first.survey.class in
         let are = inputs-are inputs.files inputs.inputs inputs.taken in
-        let pieces =
-        pieces-from c NoneAlike from (to ∷ tos) laid (first ∷ parts) e (are.head, are.others)
-        (sym (parts-files inputs.files 0 None most_frames inputs.inputs
-        inputs.taken)
-        ∙ inputs.are) none in
+        let here : AreLaid c NoneAlike from (to ∷ tos) laid (first ∷ parts) =
+        record {
+          is = e;
+          inputs = (are.head, are.others);
+          same =
+              sym (parts-files inputs.files 0 None most_frames inputs.inputs inputs.taken)
+              ∙ inputs.are;
+          none = none;
+        } in
+        let pieces = pieces-from from (to ∷ tos) laid (first ∷ parts) here in
         subst (λ d. ArePieces (IsPlainAt cuts file t d NoneAlike) from (to ∷ tos) (first ∷ parts))
         (class-same (laid-input (first-at pieces).0.piece))
         pieces
 
     -- the first of them doesn't begin with a look-alike, if that is tested alone
-    pub first-plain : has_no_look_alike laid (first ∷ []) ≡ true
+    pub first-plain : {first : FilePart} → has_no_look_alike laid (first ∷ []) ≡ true
         → (piece : IsPiece (cuts.led from to) (cuts.chosen from to) file t t.class first)
         → IsPlain piece
     first-plain none piece = grind (arith, laid-first, plain-by, alike-first)

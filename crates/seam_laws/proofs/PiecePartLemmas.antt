@@ -128,7 +128,7 @@ module _ {led : Bool} {chosen : Chosen} {file : List ℕ} {s : SurveyFields} {c 
   laid-ways false true test =
       inl (
         (lead-where-wanted window needs (placed_if false)
-            (the-plan chosen s piece.has.placed piece.right.some piece.right.within own_choice
+            (the-plan chosen s piece.has.placed piece.right.some piece.right.within
             (inl refl))).0
             ((fits-tested window 0 needs).0 test),
         refl,
@@ -137,7 +137,7 @@ module _ {led : Bool} {chosen : Chosen} {file : List ℕ} {s : SurveyFields} {c 
   laid-ways false false test =
       inr (
         (lead-where-wanted window needs (placed_if false)
-            (the-plan chosen s piece.has.placed piece.right.some piece.right.within own_choice
+            (the-plan chosen s piece.has.placed piece.right.some piece.right.within
             (inl refl))).1
             (λ fits. both_ways (fits_behind window 0 needs) test
             ((fits-tested window 0 needs).1 fits)),
@@ -235,19 +235,19 @@ module _ {led : Bool} {chosen : Chosen} {file : List ℕ} {s : SurveyFields} {c 
   pub read-extension : read.extension ≡ chosen.extension
   read-extension =
       ap (λ l. (head_info l (Some at)).extension) piece.made.file_is
-      ∙ laid-extension piece.made.row.header info known whole (front_blocks file s) frames
+      ∙ laid-extension known whole (front_blocks file s) frames
       piece.made.back
 
   -- the number of frames is read as it was laid
   pub read-count : {n : ℕ} → info.frames ≡ Some n → n < 256 ^ 4 → read.frames ≡ Some n
   read-count {n} is small =
       ap (λ l. (head_info l (Some at)).frames) piece.made.file_is
-      ∙ laid-count piece.made.row.header info known whole (front_blocks file s) frames
+      ∙ laid-count known whole (front_blocks file s) frames
       piece.made.back is small
 
   -- the quality is read as it was written
   pub read-quality : read.quality ≡ Some (number_or_zero chosen.quality % 256 ^ 4)
   read-quality =
       ap (λ l. (head_info l (Some at)).quality) piece.made.file_is
-      ∙ laid-quality piece.made.row.header info known whole (front_blocks file s) frames
+      ∙ laid-quality known whole (front_blocks file s) frames
       piece.made.back

@@ -189,7 +189,7 @@ silent-sound : (c : ClassFields) (f : StreamFrame)
 silent-sound c f = grind (arith, no-parts)
 
 -- an input that begins with side information that is all 0
-module _ (c : ClassFields) (p : FilePart) (is : IsInput c p)
+module _ {c : ClassFields} {p : FilePart} (is : IsInput c p)
     (blank : begins_blank p.survey.frames ≡ true) where
   -- when the head is set apart, the first frame of
   -- the input has side information with nothing in it
@@ -230,7 +230,7 @@ module _ {c : ClassFields} {first : FilePart} {parts : List FilePart} (are : Joi
 
   first-none : row_side two.first ≡ no_side
   first-none =
-      blank-side c first are.head leads.0
+      blank-side are.head leads.0
       (ap (λ l. slice_get l 0) two.are)
 
   -- the first two frames of the first input
@@ -260,7 +260,7 @@ module _ {c : ClassFields} {first : FilePart} {parts : List FilePart} (are : Joi
       let others_sounds =
       sounds_left (joints_of c (brought are) (others are))
       (others are) in
-      let sounding = splice-sounds c (brought are) (others are) (brought-fit are.head)
+      let sounding = splice-sounds c (others are) (brought-fit are.head)
       (inputs-fit c parts are.others)
       ∙ ap (λ l. l ++ others_sounds)
       (brought-sounds are.head ∙ ap (map (sound_of c)) begins-two.2) in

@@ -193,7 +193,7 @@ module _ {class : ClassFields} {p : FilePart} (is : IsInput class p) where
 
   -- the frames that it brings need what the rows do
   pub brought-needs : needs_of (part_brought p).frames ≡ map need_of survey.frames
-  brought-needs = needs-are class p (input-whole is)
+  brought-needs = needs-are (input-whole is)
 
   -- the frames that it brings sound as the stream does
   pub brought-sounds : sounds (part_brought p).frames ≡ map (sound_of class) whole_stream
@@ -201,7 +201,7 @@ module _ {class : ClassFields} {p : FilePart} (is : IsInput class p) where
 
   -- the input brings as many frames as the survey has
   pub brought-many : length (part_brought p).frames ≡ length p.survey.frames
-  brought-many = file-many class p (input-whole is)
+  brought-many = file-many (input-whole is)
 
   -- the frames that it brings are of the class and fit with no free bytes before them
   pub brought-fit : IsFit class (part_brought p)
@@ -212,7 +212,7 @@ module _ {class : ClassFields} {p : FilePart} (is : IsInput class p) where
       record {
         same = subst (λ c. AreNeedsOfClass c (needs_of (part_brought p).frames)) is.of_class
             (subst (AreNeedsOfClass p.survey.class) (sym brought-needs) same);
-        fits = brought-alone class p (input-whole is);
+        fits = brought-alone (input-whole is);
       }
 
   -- no played position is after the last frame

@@ -91,13 +91,24 @@ placed-by _ {x} {n} {front} {leads} {ends} enough = record {
   offset = omega arith;
 }
 
+-- The first played position of a file of n frames has this place. The positions before it and those
+-- behind the end of what a file of m frames plays are `out` whole frames, which both files share.
+record IsNext (v : Version) (place start end n m front leads old new out : ℕ) : Type 0 where
+  at : place + (n + front) * samples_of v ≡ start + (leads + new) * samples_of v
+  meets : start + (m * samples_of v - end) ≡ out * samples_of v
+  within : end ≤ m * samples_of v
+  longer : new + out ≡ old + n
+
 -- the positions of the next file begin where the positions of one file end
-meets-at : (v : Version) (place start : ℕ) {end : ℕ} (n m front leads old new out : ℕ)
-    → place + (n + front) * samples_of v ≡ start + (leads + new) * samples_of v
-    → start + (m * samples_of v - end) ≡ out * samples_of v → end ≤ m * samples_of v
-    → new + out ≡ old + n
+meets-at : {v : Version} {place start end n m front leads old new out : ℕ}
+    → IsNext v place start end n m front leads old new out
     → place + (m + front) * samples_of v ≡ end + (leads + old) * samples_of v
-meets-at v place start n m front leads old new out at meets within longer = grind arith
+meets-at next =
+    let at = next.at in
+    let meets = next.meets in
+    let within = next.within in
+    let longer = next.longer in
+    grind arith
 
 later-frame : (v : Version) {x y : ℕ} → x ≤ y → x / samples_of v ≤ y / samples_of v
 later-frame v less = grind arith
@@ -115,6 +126,15 @@ input-at [] i are is = absurd cc
 input-at {class} (q ∷ parts) zero {p} are is = let same : q ≡ p = cc in
     subst (IsInput class) same are.0
 input-at {class} (q ∷ parts) (suc i) {p} are is = input-at parts i are.1 is
+
+-- An input of a join follows the one before it, at this joint: it leaves out `out` frames, which
+-- both share.
+record IsFollower (first : FilePart) (parts : List FilePart) (number out : ℕ)
+    (before input : FilePart) (joint : JointFrames) : Type 0 where
+  before_at : slice_get (first ∷ parts) number ≡ Some before
+  own_at : slice_get parts number ≡ Some input
+  joint_at : slice_get (join_of_parts first parts).joints number ≡ Some joint
+  seam : joint.seam ≡ Follows out
 
 module _ {first : FilePart} {parts : List FilePart}
     (are : Joins first.survey.class first parts)
@@ -202,16 +222,13 @@ module _ {first : FilePart} {parts : List FilePart}
         (drop number joints))
         ∙ ap added (take-append-drop number joints))
 
-    module _ (number out : ℕ) (before input : FilePart) (joint : JointFrames)
-        (is_before : slice_get (first ∷ parts) number ≡ Some before)
-        (is_input : slice_get parts number ≡ Some input)
-        (is_joint : slice_get (join_of_parts first parts).joints number ≡ Some joint)
-        (seam : joint.seam ≡ Follows out) where
+    module _ {number out : ℕ} {before input : FilePart} {joint : JointFrames}
+        (follower : IsFollower first parts number out before input joint) where
       before_is : IsInput c before
-      before_is = input-at (first ∷ parts) number (are.head, are.others) is_before
+      before_is = input-at (first ∷ parts) number (are.head, are.others) follower.before_at
 
       input_is : IsInput c input
-      input_is = input-at parts number are.others is_input
+      input_is = input-at parts number are.others follower.own_at
 
       abbrev old_splice : List SpliceFrame
       old_splice = splice_after begin (joints_of c begin more) number
@@ -223,10 +240,10 @@ module _ {first : FilePart} {parts : List FilePart}
       goes =
           followers-on c begin more number (part_brought before) (part_brought input) joint out
           (slice_get-map part_brought (first ∷ parts) number
-          ∙ ap (option_map part_brought) is_before)
-          (slice_get-map part_brought parts number ∙ ap (option_map part_brought) is_input)
+          ∙ ap (option_map part_brought) follower.before_at)
+          (slice_get-map part_brought parts number ∙ ap (option_map part_brought) follower.own_at)
           (ap (λ js. slice_get js number) (sym (joints-are are))
-          ∙ is_joint) seam
+          ∙ follower.joint_at) follower.seam
 
       abbrev n : ℕ
       n = length input.survey.frames
@@ -268,7 +285,7 @@ module _ {first : FilePart} {parts : List FilePart}
 
       -- ---- one of its samples
 
-      module _ (x : ℕ) (late : goes.played.start ≤ x) (early : x < goes.played.end) where
+      module _ {x : ℕ} (late : goes.played.start ≤ x) (early : x < goes.played.end) where
         placed : IsPlaced c.version x n front (splice_lead_ins first parts)
             (splice_end first parts (number + 1))
         placed = place-of late
@@ -351,26 +368,31 @@ module _ {first : FilePart} {parts : List FilePart}
       comes-behind : ComesBehind first parts number before input
       comes-behind =
           let place = place-of (omega arith) in
+          let next : IsNext c.version place.place goes.played.start goes.ended.end n
+          (length before.survey.frames) front (splice_lead_ins first parts)
+          (splice_end first parts number) (splice_end first parts (number + 1)) out =
+          record {
+            at = place.at;
+            meets =
+                ap (λ m. goes.played.start + rest_of c m goes.ended)
+                (sym (brought-many before_is)) ∙ goes.meets;
+            within = played-end before_is goes.ended_is;
+            longer = omega (arith, goes.longer, ends-new, ends-old, many);
+          } in
           record {
             ended = goes.ended;
             played = goes.played;
             ended_is = goes.ended_is;
             played_is = goes.played_is;
             seam = place.place;
-            ends =
-                meets-at c.version place.place goes.played.start n
-                (length before.survey.frames) front (splice_lead_ins first parts)
-                (splice_end first parts number) (splice_end first parts (number + 1)) out place.at
-                (ap (λ m. goes.played.start + rest_of c m goes.ended)
-                (sym (brought-many before_is)) ∙ goes.meets)
-                (played-end before_is goes.ended_is)
-                (omega (arith, goes.longer, ends-new, ends-old, many));
+            ends = meets-at next;
             starts = place.at;
-            samples = keeps;
+            samples = λ x late early. keeps late early;
           }
 
 -- an input that follows comes right after the one before it
 pub following : FollowingSamplesStay
 following files inputs first parts number before input joint out taken old new at seam =
-    comes-behind (inputs-are files inputs taken) number out before input
-    joint old new at seam
+    let follower : IsFollower first parts number out before input joint =
+    record { before_at = old; own_at = new; joint_at = at; seam = seam } in
+    comes-behind (inputs-are files inputs taken) follower

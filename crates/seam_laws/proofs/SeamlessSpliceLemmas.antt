@@ -204,7 +204,7 @@ module _ {class : ClassFields} {first : FilePart} {parts : List FilePart}
       (omega
       (arith, front-few, first-many, length-map brought.frames (λ (f : SpliceFrame). f.sound))))
       ∙ ap (drop k)
-      (sym (splice-sounds class brought others (brought-fit are.head)
+      (sym (splice-sounds class others (brought-fit are.head)
       (inputs-fit class parts are.others)))
       ∙ drop-map (λ (f : SpliceFrame). f.sound) k all
       ∙ ap sounds (sym splice-is)

@@ -122,10 +122,10 @@ module _ {c : ClassFields} (known : IsClass c) {first : FilePart} {parts : List 
   front-row =
       let own = own-class are in
       first-there first.survey.frames (join_of_parts first parts).front
-      (front-within first parts (input-whole own.head)
+      (front-within parts (input-whole own.head)
       (inputs-whole first.survey.class parts own.others))
 
-  module _ (whole : LaidPart) (file : List ℕ) (s : SurveyFields) (row : Row)
+  module _ (whole : LaidPart) (file : List ℕ) (s : SurveyFields) {row : Row}
       (row_is : slice_get s.frames whole.from ≡ Some row) where
     -- the join is the file of the whole without the blocks after its frames, if its frames, its
     -- Info frame and the blocks before it are those of the whole
@@ -182,6 +182,6 @@ module _ {file : List ℕ} {s : SurveyFields} (r : Recording file s) {from to : 
   -- the join of the pieces is the file of the whole without the blocks after its frames
   pub seamless-file : seamless_file (first ∷ parts) ≡ bare_file cut file s
   seamless-file =
-      file-same r.known inputs cut file s one.made.row one.made.row_is frames-are
+      file-same r.known inputs cut file s one.made.row_is frames-are
       (λ row. infos-are {row = row})
       (front-same (laid-input one) most_frames {t = s} r.told refl)

@@ -58,7 +58,7 @@ module _ (c : ClassFields) (known : IsClass c) where
 
   -- ---- one input
 
-  module _ (p : FilePart) (is : IsInput c p) where
+  module _ {p : FilePart} (is : IsInput c p) where
     -- the first frame of an input that begins blank is empty
     pub first-empty : {f : StreamFrame} {fs : List StreamFrame}
         → begins_blank p.survey.frames ≡ true
@@ -85,7 +85,7 @@ module _ (c : ClassFields) (known : IsClass c) where
             (survey_without_head p.survey).head (survey_without_head p.survey).frames q.0 q.1 in
             let streams = sym (ap (λ l. map g (enumerate_from 0 l)) are) ∙ begins in
             let same : g (0, r) ≡ f = cc in
-            let none = blank-side c p is blank (ap (λ l. slice_get l 0) are) in
+            let none = blank-side is blank (ap (λ l. slice_get l 0) are) in
             grind (arith, same, none, none-zero)
 
     drop-full : {stream : List StreamFrame} → whole_stream is ≡ stream
@@ -154,7 +154,7 @@ module _ {file : List ℕ} {s : SurveyFields} (r : Recording file s) where
       full-append s.class r.known (part_stream (part_from (left_out_count joint.seam) p))
       (flat_map part_stream later)
       ∙ ap₂ ◌++◌
-      (joint-full s.class r.known p here.piece.is splice before (uncounted here.piece refl)
+      (joint-full s.class r.known here.piece.is splice before (uncounted here.piece refl)
       ∙ piece-full here.piece)
       (pieces-full (splice ++ joint.frames) (part_brought p) more)
       ∙ sym (full-append s.class r.known (slice_range all a b) (slice_range all b end))
@@ -182,11 +182,11 @@ module _ {file : List ℕ} {s : SurveyFields} (r : Recording file s) where
           | inl out ↦
               let one : front ≡ 1 = omega (arith, out, front-few inputs) in
               ap (λ n. filled (part_stream (part_from n first))) one
-              ∙ without-full s.class r.known first begin.piece.is (front-parts inputs out).0
+              ∙ without-full s.class r.known begin.piece.is (front-parts inputs out).0
           | inr none ↦
               let zero_is : front ≡ 0 = omega (arith, none) in
               ap (λ n. filled (part_stream (part_from n first))) zero_is
-              ∙ whole-full s.class r.known first begin.piece.is
+              ∙ whole-full s.class r.known begin.piece.is
         ]
 
     joints-full : filled

@@ -2,7 +2,7 @@
 use Rattle.std.proofs.Common.{ap, false, slice_range, sym, true, ◌∙◌, ◌∷◌, ◌≡◌}
 use Rattle.chosen_streams.proofs.CaseLemmas.{stream-is}
 use Rattle.frame_header.specs.Limits.{most_frames}
-use Rattle.seam_laws.proofs.PieceListLemmas.{laid-pieces, map-pieces, recording}
+use Rattle.seam_laws.proofs.PieceListLemmas.{laid-pieces, LaysPieces, map-pieces, recording}
 use Rattle.seam_laws.proofs.{PiecePartLemmas.laid_piece, SplitFileLemmas.seamless-file}
 use Rattle.seam_laws.proofs.SplitFullLemmas.{all-full}
 use Rattle.seam_laws.proofs.SplitJoinLemmas.{chosen_between, number, seamless-stream, whole-cut}
@@ -17,10 +17,9 @@ split-joins points file s place next places laid first parts read e inputs =
     let r = recording read in
     let last = last_place next places in
     let NoneAlike = has_no_look_alike laid (first ∷ parts) ≡ true in
-    let pieces =
-    laid-pieces (cutting_of points)
-    (whole_cuts s) file s r.has (whole-laid file s) place next places laid
-    first parts e NoneAlike inputs (λ n. n) in
+    let by : LaysPieces (cutting_of points) (whole_cuts s) file s =
+    record { has = r.has; lays = whole-laid file s } in
+    let pieces = laid-pieces by places e NoneAlike inputs (λ n. n) in
     let whole = map-pieces (λ a b p at. at.0) pieces in
     let right = whole-right r whole in
     record {

@@ -1,14 +1,15 @@
 -- The pieces of a split, joined in two steps, are joined as in one.
 use Rattle.std.proofs.Common.{ap, arith, Bool, cond, drop, false, filter, inl, inr, length, List}
-use Rattle.std.proofs.Common.{not, refl, Some, subst, suc, sym, take, true, zero, ℕ, [], ◌++◌, ◌+◌}
-use Rattle.std.proofs.{Common.{◌-◌, ◌<◌, ◌∙◌, ◌∷◌, ◌≡◌, ◌≤◌}, lemmas.Bool.and_parts}
-use Rattle.std.{proofs.lemmas.List.length-map, specs.Prelude.{slice_get, slice_range}}
+use Rattle.std.proofs.Common.{not, refl, Some, subst, suc, sym, take, true, zero, ℕ, [], ◌+◌, ◌-◌}
+use Rattle.std.proofs.{Common.{◌<◌, ◌∙◌, ◌∷◌, ◌≡◌, ◌≤◌}, lemmas.{Bool.and_parts, List.length-map}}
+use Rattle.std.specs.Prelude.{slice_get, slice_range}
 use Rattle.chosen_streams.proofs.CaseLemmas.{stream-is}
 use Rattle.cut_edits.specs.Chosen.{Chosen}
 use Rattle.frame_header.specs.{Fields.{ClassFields, IsClass}, Limits.most_frames, Tables.window_of}
 use Rattle.laying.specs.{Needs.need_of, Relaid.FilePart}
 use Rattle.seam_laws.proofs.{FollowerLemmas.get-drop, FrameRangeLemmas.{all_stream, same-many}}
-use Rattle.seam_laws.proofs.PieceListLemmas.{laid-pieces, map-pieces, recording, two-steps}
+use Rattle.seam_laws.proofs.PieceListLemmas.{laid-pieces, LaysPieces, map-pieces, recording}
+use Rattle.seam_laws.proofs.PieceListLemmas.{two-steps}
 use Rattle.seam_laws.proofs.PiecePartLemmas.{IsPiece, IsPlain, leads, own_stream, piece-many, ways}
 use Rattle.seam_laws.proofs.{SeamlessInputLemmas.whole_stream, SplitFileLemmas.seamless-file}
 use Rattle.seam_laws.proofs.SplitFullLemmas.{first-empty}
@@ -102,7 +103,7 @@ module _ {led : Bool} {chosen : Chosen} {file : List ℕ} {s : SurveyFields} {p 
   by-stream (f ∷ fs) is whole alike =
       none-empty s.class (all_stream file s) from filled
       (first-of-range (all_stream file s) piece.right.some is)
-      (first-empty s.class known p piece.is (blank-first alike) (whole ∙ is))
+      (first-empty s.class known piece.is (blank-first alike) (whole ∙ is))
 
   alike-never : leads piece ≡ 0 → has_one ≡ true → ⊥
   alike-never none alike =
@@ -126,11 +127,10 @@ pub in-steps : StepsJoinTheSame
 in-steps points file s place next places laid first parts others read e inputs filled steps =
     let r = recording read in
     let full = subst (λ l. full_frames s.class l ≡ l) (stream-is file most_frames read) filled in
-    let pieces =
-    laid-pieces (cutting_of points)
-    (whole_cuts s) file s r.has (whole-laid file s) place next places laid
-    first (parts ++ others) e ⊥ inputs (λ never. absurd never) in
-    two-steps (whole_cuts s) file s r.has
+    let by : LaysPieces (cutting_of points) (whole_cuts s) file s =
+    record { has = r.has; lays = whole-laid file s } in
+    let pieces = laid-pieces by places e ⊥ inputs (λ never. absurd never) in
+    two-steps {cuts = whole_cuts s} r.has
     (λ a b bs p ps are. record {
       there = tt;
       right = whole-right r are;

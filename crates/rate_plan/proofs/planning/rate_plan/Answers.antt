@@ -21,7 +21,7 @@ pub returns-in-Some : goal.returns-in-Some
 returns-in-Some c = record {
   plan = tt;
   refusal = search rules;
-  least = unfit-answered c.class-class.result c.args.menu.now c.args.needs.now
+  least = unfit-answered c.args.menu.now c.args.needs.now
       c.index-needs-0.result c.requires.class c.requires.some c.class-class.ensures
       c.requires.ascending c.in-Some.ensures;
 }
@@ -30,7 +30,7 @@ pub returns : goal.returns
 returns c = record {
   plan = search rules;
   refusal = tt;
-  least = plan-answered c.class-class.result c.args.menu.now c.args.needs.now c.index-needs-0.result
+  least = plan-answered c.args.menu.now c.args.needs.now c.index-needs-0.result
       c.requires.class c.requires.some c.class-class.ensures c.requires.ascending
       c.in_ok-fit_plan.ensures;
 }

@@ -5,14 +5,22 @@ use Rattle.requests.proofs.names.is_joined.Goals as goal
 
 pub returns-in-None : goal.returns-in-None
 returns-in-None c =
-    joined-other (λ part. part.now) c.args.parts.now c.loop-part.part-index
-    (record { ref_ptr = (0, 0); now = [] }) c.loop-part-test.true
-    c.as_bytes.result.now c.loop-part.rest.now c.as_bytes.ensures.value _
-    c.loop-part.invariant c.in-None.ensures.cases
+    joined-other
+    (record {
+      default = record { ref_ptr = (0, 0); now = [] };
+      within = c.loop-part-test.true;
+      is = c.as_bytes.ensures.value;
+      before = c.loop-part.invariant;
+    })
+    c.in-None.ensures.cases
 
 pub loop-part-preserved : goal.loop-part-preserved
 loop-part-preserved c =
-    joined-more (λ part. part.now) c.args.parts.now c.loop-part.part-index
-    (record { ref_ptr = (0, 0); now = [] }) c.loop-part-test.true
-    c.as_bytes.result.now c.loop-part.rest.now c.as_bytes.ensures.value _
-    c.loop-part.invariant c.in-Some.ensures.cases.0 c.in-Some.ensures.cases.1
+    joined-more
+    (record {
+      default = record { ref_ptr = (0, 0); now = [] };
+      within = c.loop-part-test.true;
+      is = c.as_bytes.ensures.value;
+      before = c.loop-part.invariant;
+    })
+    c.in-Some.ensures.cases.0 c.in-Some.ensures.cases.1
