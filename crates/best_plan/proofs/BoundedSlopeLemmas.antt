@@ -17,7 +17,7 @@ near-more zero near from within = grind arith
 near-more {sums} {least} {free} (suc more) near from within =
     grind (arith, near-more more near from (omega (arith, within)))
 
-module _ (window free bytes least place cost : ℕ) (areas later : List ℕ)
+module _ (window free : ℕ) {bytes least place cost : ℕ} (areas : List ℕ) {later : List ℕ}
     (width : length later ≡ window + 1) (near : HasSlopeAtMostOne later least)
     (ascend : Ascend areas)
     (small : (k : ℕ) → k < place → free + get_or areas k 0 < bytes + least)
@@ -73,41 +73,40 @@ pub record IsBeforeSlope (window bytes least wanted : ℕ) (areas later : List �
   pub most : wanted ≤ bytes + least
   pub whole : wanted < nothing → wanted ≡ bytes + least
 
--- `wanted` is what the area and the least free bytes need, as far as a sum can hold it
-pub before-slope : {window bytes least wanted : ℕ} {areas later : List ℕ}
-    → AreAreasAndSums window areas later → HasSlopeAtMostOne later least
-    → wanted ≡ min (bytes + least) (2 ^ 32 - 1)
-    → IsBeforeSlope window bytes least wanted areas later
-before-slope rows near is = record {
-  rows = rows;
-  near = near;
-  most = omega (arith, is);
-  whole = λ less. omega (arith, is, less);
-}
+module _ {window bytes least wanted : ℕ} {areas later : List ℕ} where
+  -- `wanted` is what the area and the least free bytes need, as far as a sum can hold it
+  pub before-slope : AreAreasAndSums window areas later → HasSlopeAtMostOne later least
+      → wanted ≡ min (bytes + least) (2 ^ 32 - 1)
+      → IsBeforeSlope window bytes least wanted areas later
+  before-slope rows near is = record {
+    rows = rows;
+    near = near;
+    most = omega (arith, is);
+    whole = λ less. omega (arith, is, less);
+  }
 
--- the first area that leaves enough, at `place`, has the least sum; without one there is none
-near-one : {window bytes least wanted : ℕ} {areas later : List ℕ}
-    → IsBeforeSlope window bytes least wanted areas later → {free : ℕ} → free ≤ window
-    → {place : ℕ} → ((k : ℕ) → k < place → free + get_or areas k 0 < wanted)
-    → (place < length areas → wanted ≤ free + get_or areas place 0) → {cost : ℕ} → cost ≤ nothing
-    → (place < length areas → IsSum window free bytes (get_or areas place 0) later cost) → {at : ℕ}
-    → (place < length areas → at ≡ place) → (length areas ≤ place → cost ≡ nothing)
-    → IsAreaChoice window free bytes areas later cost at
-near-one {window} {bytes} {least} {wanted} {areas} {later} is {free} within {place}
-    small large {cost} low sum {at} here none =
-    let before : (k : ℕ) → k < place → free + get_or areas k 0 < bytes + least =
-    grind (arith, is.most) in
-    elim (cases_lt place (length areas))
-    as (λ _. IsAreaChoice window free bytes areas later cost at) [
-      | inl some ↦
-          let fits = large some in
-          let exact : wanted ≡ bytes + least =
-          grind (arith, is.rows, is.whole) in
-          near-at window free bytes least place cost areas later
-          is.rows.width is.near is.rows.choices.ascending before
-          low some (omega (arith, exact, fits)) (sum some) (here some)
-      | inr past ↦ grind (arith, no-choice, is.rows, is.near)
-    ]
+  -- the first area that leaves enough, at `place`, has the least sum; without one there is none
+  near-one : IsBeforeSlope window bytes least wanted areas later → {free : ℕ} → free ≤ window
+      → {place : ℕ} → ((k : ℕ) → k < place → free + get_or areas k 0 < wanted)
+      → (place < length areas → wanted ≤ free + get_or areas place 0) → {cost : ℕ} → cost ≤ nothing
+      → (place < length areas → IsSum window free bytes (get_or areas place 0) later cost)
+      → {at : ℕ} → (place < length areas → at ≡ place) → (length areas ≤ place → cost ≡ nothing)
+      → IsAreaChoice window free bytes areas later cost at
+  near-one is {free} within {place}
+      small large {cost} low sum {at} here none =
+      let before : (k : ℕ) → k < place → free + get_or areas k 0 < bytes + least =
+      grind (arith, is.most) in
+      elim (cases_lt place (length areas))
+      as (λ _. IsAreaChoice window free bytes areas later cost at) [
+        | inl some ↦
+            let fits = large some in
+            let exact : wanted ≡ bytes + least =
+            grind (arith, is.rows, is.whole) in
+            near-at window free areas
+            is.rows.width is.near is.rows.choices.ascending before
+            low some (omega (arith, exact, fits)) (sum some) (here some)
+        | inr past ↦ grind (arith, no-choice, is.rows, is.near)
+      ]
 
 -- what was written back to a whole list is what the list has
 pub wrote-back : {n : ℕ} {new : List ℕ} (old : List ℕ) → length new ≡ length old → n ≡ length old

@@ -107,8 +107,8 @@ with-lead-in : (choices : HeaderFields → List SlotFields) (needs : List Need) 
 unfolding items_with_lead_in
 with-lead-in choices needs d some = grind arith
 
-module _ (window : ℕ) (choices : HeaderFields → List SlotFields) (needs : List Need) (d : Need)
-    (class : ClassFields) (sums places : List ℕ) (lead : Placed) (free : ℕ)
+module _ {window : ℕ} (choices : HeaderFields → List SlotFields) (needs : List Need) (d : Need)
+    {class : ClassFields} {sums : List ℕ} (places : List ℕ) {lead : Placed} {free : ℕ}
     (some : 0 < length needs) (is : class ≡ class_of (get_or needs 0 d).header)
     (table : IsTable window choices needs sums places)
     (by : IsLeadInOfSums window class sums lead)

@@ -102,8 +102,8 @@ place-before : (ns : List ℕ) {j k : ℕ} → Ascend ns → j < length ns → k
     → get_or ns j 0 < get_or ns k 0 → j < k
 place-before ns ascend within here less = grind (arith, cases_lt)
 
-module _ (window free : ℕ) (o : OpenFrame) (opens : List OpenFrame) (later : List ℕ)
-    (cost place : ℕ) (is : IsAreaChoice window free o.bytes o.areas later cost place)
+module _ {window free : ℕ} (o : OpenFrame) {opens : List OpenFrame} {later : List ℕ}
+    {cost place : ℕ} (is : IsAreaChoice window free o.bytes o.areas later cost place)
     (behind : (left : ℕ) → left ≤ window → IsLeastSum window left opens (get_or later left 0)) where
   least-more : (others : List ℕ) → AreChosenAreas (o ∷ opens) others
       → AllFit window free (frames_with_areas (o ∷ opens) others) → cost ≤ sum others
@@ -137,7 +137,7 @@ module _ (window free : ℕ) (o : OpenFrame) (opens : List OpenFrame) (later : L
         );
   }
 
-  module _ (area : ℕ) (ascend : Ascend o.areas) (some : cost < nothing)
+  module _ {area : ℕ} (ascend : Ascend o.areas) (some : cost < nothing)
       (at : get_or o.areas place 0 ≡ area) where
     -- no other list of that sum begins with a smaller area
     not-before : {other : ℕ} (others : List ℕ) → Contains o.areas other → o.bytes ≤ free + other
@@ -211,8 +211,7 @@ pub table-sums : (window : ℕ) (choices : HeaderFields → List SlotFields) (ne
 unfolding IsTable
 table-sums window choices [] sums places table left within = grind (arith, no-sum)
 table-sums window choices (need ∷ needs) sums places table left within =
-    more-sums window left (open_frame (need_item choices need)) (open_frames choices needs)
-    table.later (get_or sums left 0) (get_or table.cells left 0) (table.row.each left within)
+    more-sums (open_frame (need_item choices need)) (table.row.each left within)
     (table-sums window choices needs table.later table.before table.behind)
 
 -- no list has more than 1,441 bytes for each frame

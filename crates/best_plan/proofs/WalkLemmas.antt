@@ -84,8 +84,8 @@ walked-more {window} {free} {item} {items} {p} {placed} {later} {cost} {place} a
     behind area chosen lead
     begin rest = record {
       slots = (lead, chosen, rest.slots);
-      list = first-more window free (open_frame item) (map open_frame items) later cost place
-          choice behind (item_area item p.slot) ascend some (sym area)
+      list = first-more (open_frame item)
+          choice behind ascend some (sym area)
           rest.list;
       begins = ap₂ (λ n (l : List ℕ). n ∷ l) begin rest.begins;
     }
@@ -241,7 +241,7 @@ goes-all {window} {choices} {free} {after} {needs} {i} within all so_far =
 -- ---- the place that is read, and the area there
 module _ {window : ℕ} {choices : HeaderFields → List SlotFields} {free : ℕ} {need : Need}
     {rest : List Need} {places : List ℕ} (front : IsOpen window choices free need rest places)
-    (within : free ≤ window) (count value : ℕ)
+    (within : free ≤ window) {count value : ℕ}
     (all : count ≡ length places)
     (is : value ≡ get_or places (count - (window + 1) + free) value) where
   -- the place that is read is the place that the table has for the free bytes

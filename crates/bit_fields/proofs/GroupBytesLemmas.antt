@@ -34,7 +34,7 @@ pub write_none : (xs : List ℕ) (window : ℕ)
 unfolding bits_of
 write_none xs window = grind (arith, drop_all, bits-nil)
 
-module _ (xs : List ℕ) (i window rest : ℕ) (within : i < length xs) where
+module _ (xs : List ℕ) {i : ℕ} (window rest : ℕ) (within : i < length xs) where
   -- after the lowest byte of what is left is written at place i, all bytes from there on are
   -- written
   pub write_more : bits (drop (i + 1) xs) ≡ bits_of (8 * (length xs - (i + 1))) window
@@ -71,7 +71,8 @@ read_group xs {from} width {first} {last} h l ordered within e =
     ∙ sym (group-bits_part width first (last - first) xs h (omega arith))
 
 -- ---- a number with another group
-module _ (total window n low value : ℕ) (small : window < 2 ^ total) (room : n + low ≤ total)
+module _ {total window : ℕ} (n low : ℕ) {value : ℕ} (small : window < 2 ^ total)
+    (room : n + low ≤ total)
     (fits : value < 2 ^ n) where
   above_small : window / 2 ^ (n + low) < 2 ^ (total - (n + low))
   above_small = grind (arith, shr_below)
@@ -159,7 +160,8 @@ put_in_part bs start {size} offset n vs h l =
     (take offset (take size (drop start bs))) vs) ∙ ap (λ cs. cs ++ vs) front)
 
 -- the bytes that a group is in, written again
-module _ (xs ys : List ℕ) (from n first last window value : ℕ) (low : 8 * first ≤ from)
+module _ (xs ys : List ℕ) {from : ℕ} (n : ℕ) {first last : ℕ} (window : ℕ) {value : ℕ}
+    (low : 8 * first ≤ from)
     (high : from + n ≤ 8 * last) (ordered : first ≤ last) (within : last ≤ length xs)
     (fits : value < 2 ^ n) where
   -- there are as many bytes as the group is in

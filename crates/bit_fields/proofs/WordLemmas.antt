@@ -46,7 +46,8 @@ bits-set xs {place} word within =
     )
 
 -- ---- the lowest bits of one number, and after them the highest of another
-module _ (above kept below left : ℕ) (few : kept < 64) (fits : below < 2 ^ (64 - kept + left)) where
+module _ (above : ℕ) {kept below : ℕ} (left : ℕ) (few : kept < 64)
+    (fits : below < 2 ^ (64 - kept + left)) where
   upper : above * 2 ^ (64 - kept) % 2 ^ 64 ≡ above % 2 ^ kept * 2 ^ (64 - kept)
   upper =
       grind (

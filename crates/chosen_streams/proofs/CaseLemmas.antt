@@ -19,7 +19,7 @@ use Rattle.sync_survey.specs.{MainData.StreamFrame, Survey.survey_of}
 
 -- ---- frames of a file with a survey, whether or not it is without fault
 
-module _ (chosen : Chosen) (file : List ℕ) (s : SurveyFields) (has : CanBeRelaid file s)
+module _ (chosen : Chosen) {file : List ℕ} {s : SurveyFields} (has : CanBeRelaid file s)
     (some : chosen.from < chosen.to) (within : chosen.to ≤ length s.frames) where
   abbrev part : FilePart
   part = chosen_file_part chosen file s
@@ -28,13 +28,13 @@ module _ (chosen : Chosen) (file : List ℕ) (s : SurveyFields) (has : CanBeRela
   pub had-part : IsPart s.class part
   had-part = record { has = has; class = refl; some = some; within = within }
 
-  module _ (choices : HeaderFields → List SlotFields) (usual : AreUsualChoices choices) where
+  module _ {choices : HeaderFields → List SlotFields} (usual : AreUsualChoices choices) where
     abbrev first : List Placed
     first = first_plan choices s.class (chosen_needs chosen s)
 
     -- the first of all lists with a layout is their plan
     pub had-plan : IsPlan (window_of s.class.version) choices (chosen_needs chosen s ∷ []) first
-    had-plan = the-plan chosen s has.placed some within choices usual
+    had-plan = the-plan chosen s has.placed some within usual
 
     -- the stream laid by that plan is exactly the frames, after at most one lead-in
     pub had-exact : IsExactly (part_stream part ∷ [])
@@ -53,14 +53,14 @@ pub stream-is : (file : List ℕ) (allowed : ℕ) {s : SurveyFields} → survey_
 stream-is file allowed {s} is =
     (survey_fields-stream file allowed s (survey_of-parts file allowed is).1).stream_is
 
-module _ (chosen : Chosen) (file : List ℕ) (s : SurveyFields) (is : survey_of file most_frames
+module _ (chosen : Chosen) (file : List ℕ) {s : SurveyFields} (is : survey_of file most_frames
     ≡ Ok s) (some : chosen.from < chosen.to) (within : chosen.to ≤ length s.frames) where
   abbrev had : CanBeRelaid file s
   had = survey-had most_frames is
 
   -- the chosen frames are a part by any survey without fault
   pub chosen-part : IsPart s.class (chosen_file_part chosen file s)
-  chosen-part = had-part chosen file s had some within
+  chosen-part = had-part chosen had some within
 
   -- the chosen frames are the stream of the part
   pub own-stream : slice_range (stream_of file) chosen.from chosen.to
@@ -76,14 +76,14 @@ module _ (chosen : Chosen) (file : List ℕ) (s : SurveyFields) (is : survey_of 
       subst (λ (l : List StreamFrame). IsExactly (l ∷ []) (stream_with_lead_ins
       (first_plan choices s.class (chosen_needs chosen s))
       (part_stream (chosen_file_part chosen file s))))
-      (sym own-stream) (had-exact chosen file s had some within choices usual)
+      (sym own-stream) (had-exact chosen had some within usual)
 
 -- the stream of chosen frames is exactly these, after at most one lead-in
 pub chosen-exact : ChosenStreamsAreExact
-chosen-exact = λ choices chosen file s usual is some within. chosen-exact_is chosen file s is some
+chosen-exact = λ choices chosen file s usual is some within. chosen-exact_is chosen file is some
     within usual
 
 -- their plan is the first of all lists with a layout
 pub plans-first : ChosenPlansAreFirst
-plans-first = λ choices chosen file s usual is some within. had-plan chosen file s
-    (survey-had most_frames is) some within choices usual
+plans-first = λ choices chosen file s usual is some within. had-plan chosen
+    (survey-had most_frames is) some within usual

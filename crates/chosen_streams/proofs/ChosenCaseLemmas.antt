@@ -48,7 +48,7 @@ unfolding stream_of_survey stream_frames
 numbers file s placed some place many = rows-number (main_bytes file s.head s.frames)
     s.head s.frames s.frames place some (λ r found. (placed 0 r found).class_is) many
 
-module _ (file : List ℕ) (s : SurveyFields) (is : survey_of file most_frames ≡ Ok s) where
+module _ (file : List ℕ) {s : SurveyFields} (is : survey_of file most_frames ≡ Ok s) where
   abbrev at : Place → ℕ
   at = frame_at s.class (length s.frames)
 
@@ -122,7 +122,7 @@ pub frames-are : (files : Contents) {input file : List ℕ} → Reads files inpu
 frames-are files there = ap (λ (o : Option (List ℕ)). stream_of (unwrap_or o [])) there
 
 -- frames that are chosen by their survey, and laid by a plan
-module _ (choose : Choosing) (plan : Planning) (refuses : Refusal → Bool)
+module _ {choose : Choosing} (plan : Planning) (refuses : Refusal → Bool)
     (frames : List StreamFrame → List StreamFrame)
     (exact : (file : List ℕ) (s : SurveyFields) (chosen : Chosen) (placed : List Placed)
     → survey_of file most_frames ≡ Ok s → choose file s ≡ Ok chosen
@@ -153,8 +153,8 @@ cut-holds from to least input output files made e =
     let plan = first_planning (slot_choices least) in
     let bytes =
     makes-parts (laying_task (cut_choice from to) plan cut_refuses input) output e in (
-      laid-holds (cut_choice from to) plan cut_refuses (λ l. frames_between l from to)
-          (λ file s chosen placed is. cut-exact file s is from to least) files input bytes.2,
+      laid-holds plan cut_refuses (λ l. frames_between l from to)
+          (λ file s chosen placed is. cut-exact file is from to least) files input bytes.2,
       tt,
     )
 
@@ -170,7 +170,7 @@ pack-holds mode input output files made e =
     let plan = mode_planning mode in
     let bytes = makes-parts (pack_task mode input) output e in
     let free = packed-made mode (files input) bytes.2 in (
-      laid-holds all_choice plan (mode_refuses mode) (λ l. l) (λ file s chosen placed is.
-          packed-is file s is mode) files input free,
+      laid-holds plan (mode_refuses mode) (λ l. l) (λ file s chosen placed is.
+          packed-is file is mode) files input free,
       tt,
     )

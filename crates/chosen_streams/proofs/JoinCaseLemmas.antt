@@ -33,7 +33,7 @@ needs-each : (parts : List FilePart)
 needs-each [] = refl
 needs-each (p ∷ parts) = ap (λ (l : List (List Need)). part_needs p ∷ l) (needs-each parts)
 
-module _ (first : FilePart) (parts : List FilePart)
+module _ {first : FilePart} (parts : List FilePart)
     (are : AreParts first.survey.class (first ∷ parts)) where
   abbrev all : List FilePart
   all = first ∷ parts
@@ -61,11 +61,11 @@ module _ (first : FilePart) (parts : List FilePart)
 
 -- the stream of a join is exactly the frames of its inputs, each input after at most one lead-in
 pub joined-exact : JoinedStreamsAreExact
-joined-exact = join-exact
+joined-exact = (λ first parts are. join-exact parts are)
 
 -- its plan is the first of all lists with a layout
 pub joined-first : JoinedPlansAreFirst
-joined-first = join-plan
+joined-first = (λ first parts are. join-plan parts are)
 
 -- ---- the command
 

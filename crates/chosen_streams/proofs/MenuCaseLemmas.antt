@@ -62,13 +62,13 @@ behind-exact true (first ∷ needs) {fs} placed sized for_items =
     led-exact any_choice (first ∷ needs)
     (lead_in_item (class_of first.header) all_slots) refl fs placed sized for_items
 
-module _ (chosen : Chosen) (file : List ℕ) (s : SurveyFields) (is : survey_of file most_frames
+module _ (chosen : Chosen) (file : List ℕ) {s : SurveyFields} (is : survey_of file most_frames
     ≡ Ok s) (some : chosen.from < chosen.to) (within : chosen.to ≤ length s.frames) where
   abbrev placed_rows : IsPlacedSurvey s
   placed_rows = survey_fields-placed file most_frames (survey_of-parts file most_frames is).1
 
   sized : IsSized (chosen_needs chosen s) (part_stream (chosen_file_part chosen file s))
-  sized = part-sized (chosen-part chosen file s is some within)
+  sized = part-sized (chosen-part chosen file is some within)
 
   abbrev fs : List StreamFrame
   fs = part_stream (chosen_file_part chosen file s)
@@ -96,5 +96,5 @@ module _ (chosen : Chosen) (file : List ℕ) (s : SurveyFields) (is : survey_of 
 pub packed-exact : PackedStreamsAreExact
 packed-exact mode chosen file s placed is some within planned =
     subst (λ (l : List StreamFrame). IsExactly (l ∷ []) (stream_with_lead_ins placed l))
-    (sym (own-stream chosen file s is some within))
-    (mode-exact chosen file s is some within mode planned)
+    (sym (own-stream chosen file is some within))
+    (mode-exact chosen file is some within mode planned)

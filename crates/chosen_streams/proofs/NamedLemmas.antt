@@ -103,7 +103,7 @@ module _ {P : Type 0} (cut : Cutting P) (file : List ℕ) (s : SurveyFields) whe
   at-few [] e most = grind arith
   at-few (place ∷ places) {all} e most = omega (arith, from-few place places e, most)
 
-module _ {P : Type 0} (cut : Cutting P) (input prefix : List ℕ) (f : Contents)
+module _ {P : Type 0} (cut : Cutting P) (input prefix : List ℕ) {f : Contents}
     (few : (places : List P) → cut.places f ≡ Ok places → length places ≤ 100) where
   -- the outputs of a split have the names that the prefix gives
   pub split-named : (made : Made) → (split_command cut input prefix).makes f ≡ Ok made
@@ -177,17 +177,17 @@ outputs-named (CutExact input from to output) sound f made e =
 outputs-named (Pack mode input output) sound f made e =
     one-named (pack_task mode input) output f made e
 outputs-named (SplitAt input prefix places) sound f made e =
-    split-named (given_cutting places) input prefix f
+    split-named (given_cutting places) input prefix {f = f}
     (λ found is. let same : places ≡ found = cc in
     subst (λ (l : List Place). length l ≤ 100) same sound.2.few) made e
 outputs-named (SplitExact input prefix places) sound f made e =
-    split-named (given_exact_cutting places) input prefix f
+    split-named (given_exact_cutting places) input prefix {f = f}
     (λ found is. let same : places ≡ found = cc in
     subst (λ (l : List ExactPlace). length l ≤ 100) same sound.2.few) made e
 outputs-named (SplitBy false input prefix sheet) sound f made e =
-    split-named (sheet_cutting sheet) input prefix f (told-few (f sheet)) made e
+    split-named (sheet_cutting sheet) input prefix {f = f} (told-few (f sheet)) made e
 outputs-named (SplitBy true input prefix sheet) sound f made e =
-    split-named (sheet_exact_cutting sheet) input prefix f (exact-few (f sheet)) made e
+    split-named (sheet_exact_cutting sheet) input prefix {f = f} (exact-few (f sheet)) made e
 outputs-named (Join false output inputs) sound f made e =
     one-named (join_task inputs) output f made e
 outputs-named (Join true output inputs) sound f made e =

@@ -220,11 +220,11 @@ items-placed (item ∷ items) (p ∷ placed) own same =
 places-marked : {s : SurveyFields} {parts : List Part} → ArePartsLeft s parts → (led : Bool)
     × (marks (removal_plan s parts) ≡ lead_marks led ++ item_marks (items_left s parts))
 places-marked {s} {parts} can =
-    let shape = items-shape s parts can in
+    let shape = items-shape can in
     let lead = front-marks shape.lead in
     let placed = item_places (items_left s parts) shape.frames in (
       lead.0,
-      ap marks (removal-places s parts can)
+      ap marks (removal-places can)
           ∙ map-append (λ (p : Placed). p.lead_in) shape.front placed
           ∙ ap₂ (λ (x y : List Bool). x ++ y) lead.1
           (items-placed (items_left s parts) shape.frames shape.plain shape.count),
@@ -238,7 +238,7 @@ have-frames : (c : ClassFields) (parts : List FilePart) → AreParts c parts
 have-frames c [] are = tt
 have-frames c (p ∷ parts) are = ((part-sized are.0).some, have-frames c parts are.1)
 
-module _ (file : List ℕ) (s : SurveyFields) (parts : List Part) (has : CanBeRelaid file s)
+module _ {file : List ℕ} {s : SurveyFields} {parts : List Part} (has : CanBeRelaid file s)
     (can : ArePartsLeft s parts) where
   abbrev filed : List FilePart
   filed = file_parts file s parts
@@ -269,8 +269,8 @@ ranges-are file s (part ∷ parts) =
     ap (λ (l : List (List StreamFrame)).
     slice_range (stream_of_survey file s) part.from part.to ∷ l) (ranges-are file s parts)
 
-module _ (stretches : List (ExactPlace × ExactPlace)) (file : List ℕ) (s : SurveyFields)
-    (surveyed : survey_of file most_frames ≡ Ok s) (parts : List Part)
+module _ (stretches : List (ExactPlace × ExactPlace)) (file : List ℕ) {s : SurveyFields}
+    (surveyed : survey_of file most_frames ≡ Ok s) {parts : List Part}
     (left : parts_left stretches s ≡ Ok parts) where
   -- the survey with the head set apart
   abbrev own : SurveyFields
@@ -294,7 +294,7 @@ module _ (stretches : List (ExactPlace × ExactPlace)) (file : List ℕ) (s : Su
   left-exact : IsExactly (staying_frames stretches file) (remove_stream stretches file)
   left-exact =
       rw (chosen-are, stream-is)
-      (removal-exact file own parts (survey_without_head-relaid surveyed)
+      (removal-exact (survey_without_head-relaid surveyed)
       (left-parts stretches file surveyed left))
 
 -- a removal holds the frames that stay
@@ -310,7 +310,7 @@ remove-holds stretches input output files made e =
     {make = λ parts. Ok (removal_file parts head is.file (survey_without_head is.survey))} {b =
     is.bytes}
     is.made in
-    let exact = left-exact stretches is.file is.survey is.surveyed left.0 left.1 in
+    let exact = left-exact stretches is.file is.surveyed left.1 in
     let same : is.file ≡ file_bytes_of files input = grind (arith, is.there) in (
       subst (λ (file : List ℕ). IsExactly (staying_frames stretches file)
           (remove_stream stretches file)) same exact,

@@ -23,7 +23,7 @@ use Rattle.sync_survey.specs.{Faults.{stream_of_survey, SurveyFields}, HeadApart
 use Rattle.sync_survey.specs.MainData.{main_bytes, stream_frame, stream_frames, StreamFrame}
 use Rattle.sync_survey.specs.{Row.Row, declared.places.Head.Head}
 
-module _ (file : List ℕ) (d : DamagedFields) (read : damaged_of file ≡ Ok d) where
+module _ (file : List ℕ) {d : DamagedFields} (read : damaged_of file ≡ Ok d) where
   abbrev own : SurveyFields
   own = emptied_survey d.survey
 
@@ -39,7 +39,7 @@ module _ (file : List ℕ) (d : DamagedFields) (read : damaged_of file ≡ Ok d)
 
   -- something is left
   pub left-some : 0 < length own.frames
-  left-some = (survey-mended d laid).some
+  left-some = (survey-mended laid).some
 
   -- ---- its frames, and their plan
 
@@ -47,15 +47,15 @@ module _ (file : List ℕ) (d : DamagedFields) (read : damaged_of file ≡ Ok d)
   unfolding left_stream
   left-exact =
       subst (λ (l : List StreamFrame). IsExactly (l ∷ [])
-      (stream_with_lead_ins (own_slots_plan (all_chosen own) own) l)) (laid-left file d whole laid)
-      (had-exact (all_chosen own) file own left-had left-some (omega arith) own_choice (inl refl))
+      (stream_with_lead_ins (own_slots_plan (all_chosen own) own) l)) (laid-left file whole laid)
+      (had-exact (all_chosen own) left-had left-some (omega arith) (inl refl))
 
   left-plan : IsPlan (window_of d.survey.class.version) own_choice (map need_of own.frames ∷ [])
       (own_slots_plan (all_chosen own) own)
   left-plan =
       subst (λ (rows : List Row). IsPlan (window_of own.class.version) own_choice
       (map need_of rows ∷ []) (own_slots_plan (all_chosen own) own)) (range-whole own.frames)
-      (had-plan (all_chosen own) file own left-had left-some (omega arith) own_choice (inl refl))
+      (had-plan (all_chosen own) left-had left-some (omega arith) (inl refl))
 
 -- the stream of a salvage is exactly what is left, after at most one lead-in
 pub salvaged-exact : SalvagedStreamsAreExact

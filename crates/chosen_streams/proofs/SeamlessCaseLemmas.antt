@@ -23,8 +23,8 @@ use Rattle.sync_survey.specs.MainData.{StreamFrame}
 
 -- ---- one part, in other slots than its frames have
 
-module _ (window : ℕ) (choices : HeaderFields → List SlotFields) (needs : List Need)
-    (fs : List StreamFrame) (placed : List Placed) (sized : IsSized needs fs) where
+module _ (window : ℕ) (choices : HeaderFields → List SlotFields) {needs : List Need}
+    {fs : List StreamFrame} (placed : List Placed) (sized : IsSized needs fs) where
   exact-by : (lead_ins : List (Option SlotFields)) → AreLeadIns window choices (needs ∷ []) lead_ins
       → AreItemSlots (all_items choices (needs ∷ []) lead_ins) placed
       → IsExactly (fs ∷ []) (stream_with_lead_ins placed fs)

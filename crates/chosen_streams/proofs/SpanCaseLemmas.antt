@@ -43,7 +43,7 @@ led-frames (first ∷ needs) {fs} placed sized for_items = led-exact own_choice 
 abbrev frames_chosen : Span → Chosen
 frames_chosen span = record { from = span.first; to = span.last; quality = None; extension = [] }
 
-module _ (span : Span) (file : List ℕ) (s : SurveyFields) (had : CanBeRelaid file s)
+module _ {span : Span} {file : List ℕ} {s : SurveyFields} (had : CanBeRelaid file s)
     (there : IsSpanIn s span) where
   abbrev chosen : Chosen
   chosen = frames_chosen span
@@ -53,12 +53,12 @@ module _ (span : Span) (file : List ℕ) (s : SurveyFields) (had : CanBeRelaid f
 
   span-exact : (led : Bool)
       → IsExactly (fs ∷ []) (stream_with_lead_ins (span_plan led s.class (span_needs span s)) fs)
-  span-exact false = had-exact chosen file s had there.some there.within own_choice (inl refl)
+  span-exact false = had-exact chosen had there.some there.within (inl refl)
   span-exact true =
       let needs = chosen_needs chosen s in
       let plan = led_plan (window_of s.class.version) own_choice needs in
       led-frames needs plan (part-sized
-      (had-part chosen file s had there.some there.within))
+      (had-part chosen had there.some there.within))
       ((led-is chosen s had.placed there.some there.within plan).1 refl).slots
 
   -- music length and tag CRC leave the stream as it is
@@ -116,7 +116,7 @@ exact-holds input from to output files made e =
     span-survey_without_head {s = is.survey} {span = by.span}
     (span-there from to head {s = is.survey} {span = by.span} by.span_is) in
     let exact =
-    piece-exact by.span is.file own
+    piece-exact
     (survey_without_head-relaid {file = is.file} {s = is.survey} is.surveyed) there head in
     let stream : (exact_task from to input).stream files
     ≡ stream_laid (span_piece head by.span is.file own) is.file own = grind arith in

@@ -29,7 +29,7 @@ use Rattle.sync_survey.specs.{Faults.SurveyFields, MainData.StreamFrame, Survey.
 
 -- ---- whatever is cut
 
-module _ {P : Type 0} (cut : Cutting P) (file : List ℕ) (s : SurveyFields)
+module _ {P : Type 0} (cut : Cutting P) {file : List ℕ} {s : SurveyFields}
     (frames : P → P → List StreamFrame)
     (exact : (from to : P) (laid : LaidPart) → cut.between from to file s ≡ Ok laid
     → IsExactly (frames from to ∷ []) (stream_laid laid file (cut.survey s))) where
@@ -54,7 +54,7 @@ module _ {P : Type 0} (cut : Cutting P) (file : List ℕ) (s : SurveyFields)
       subst (λ (l : List LaidPart). AllConsistOf [] (map stream l)) none tt
   pieces-consist (place ∷ places) {all} e = from-consist place places e
 
-module _ {P : Type 0} (cut : Cutting P) (files : Contents) (input : List ℕ)
+module _ {P : Type 0} {cut : Cutting P} {files : Contents} {input : List ℕ}
     (is : IsSplit cut files input) where
   streams-are : input_streams cut (cut.places files) (files input)
       ≡ map (λ (l : LaidPart). stream_laid l is.file (cut.survey is.survey)) is.laid
@@ -73,7 +73,7 @@ module _ {P : Type 0} (cut : Cutting P) (files : Contents) (input : List ℕ)
       (sym streams-are)
       (subst (λ (ps : List P). AllConsistOf (piece_frames frames ps)
       (map (λ (l : LaidPart). stream_laid l is.file (cut.survey is.survey)) is.laid)) found
-      (pieces-consist cut is.file is.survey frames exact is.found is.picked))
+      (pieces-consist cut frames exact is.found is.picked))
 
 -- ---- one piece
 
@@ -81,7 +81,7 @@ bytes-are : (files : Contents) {input file : List ℕ} → files input ≡ Some 
     → file_bytes_of files input ≡ file
 bytes-are files there = ap (λ (o : Option (List ℕ)). unwrap_or o []) there
 
-module _ (files : Contents) (input file : List ℕ) (s : SurveyFields)
+module _ (files : Contents) {input file : List ℕ} {s : SurveyFields}
     (there : files input ≡ Some file) (surveyed : survey_of file most_frames ≡ Ok s) where
   range-exact : (from to : Place) {laid : LaidPart} → cut_part from to file s ≡ Ok laid
       → IsExactly (frames_between (named_frames files input) from to ∷ [])
@@ -95,7 +95,7 @@ module _ (files : Contents) (input file : List ℕ) (s : SurveyFields)
       (stream_laid l file s)) same
       (subst (λ (l : List StreamFrame). IsExactly (frames_between l from to ∷ [])
       (stream_laid (own_slots_part one.0 s) file s)) (sym (frames-are files there))
-      (cut-exact file s surveyed from to false one.1 refl))
+      (cut-exact file surveyed from to false one.1 refl))
 
   samples-exact : (from to : ExactPlace) {laid : LaidPart} → exact_part from to file s ≡ Ok laid
       → IsExactly (frames_needed_between (file_bytes_of files input) from to ∷ [])
@@ -114,7 +114,7 @@ module _ (files : Contents) (input file : List ℕ) (s : SurveyFields)
       (subst (λ (l : List StreamFrame). IsExactly (l ∷ [])
       (stream_laid (span_piece head one.0 file (survey_without_head s)) file
       (survey_without_head s))) (sym frames)
-      (piece-exact one.0 file (survey_without_head s) (survey_without_head-relaid surveyed)
+      (piece-exact (survey_without_head-relaid surveyed)
       (span-survey_without_head (span-there from to head one.1)) head))
 
 -- ---- the commands
@@ -139,16 +139,16 @@ pub split_at-holds : (input prefix : List ℕ) (places : List Place)
     → HoldsChosen (SplitAt input prefix places)
 split_at-holds input prefix places files made e =
     let is = (split-parts (given_cutting places) files prefix input e).1.0 in
-    pieces-hold (given_cutting places) files input is (frames_between (named_frames files input))
-    (range-exact files input is.file is.survey is.there is.surveyed)
+    pieces-hold is (frames_between (named_frames files input))
+    (range-exact files is.there is.surveyed)
     (sym (same-places is.placed))
 
 -- the pieces at the positions of a sheet hold the frames between these
 pub split_by-holds : (input prefix sheet : List ℕ) → HoldsChosen (SplitBy false input prefix sheet)
 split_by-holds input prefix sheet files made e =
     let is = (split-parts (sheet_cutting sheet) files prefix input e).1.0 in
-    pieces-hold (sheet_cutting sheet) files input is (frames_between (named_frames files input))
-    (range-exact files input is.file is.survey is.there is.surveyed)
+    pieces-hold is (frames_between (named_frames files input))
+    (range-exact files is.there is.surveyed)
     (sheet-positions files sheet is.placed)
 
 -- exact pieces hold the frames of their spans
@@ -156,9 +156,9 @@ pub split_exact-holds : (input prefix : List ℕ) (places : List ExactPlace)
     → HoldsChosen (SplitExact input prefix places)
 split_exact-holds input prefix places files made e =
     let is = (split-parts (given_exact_cutting places) files prefix input e).1.0 in
-    pieces-hold (given_exact_cutting places) files input is
+    pieces-hold is
     (frames_needed_between (file_bytes_of files input))
-    (samples-exact files input is.file is.survey is.there is.surveyed)
+    (samples-exact files is.there is.surveyed)
     (sym (same-places is.placed))
 
 -- exact pieces at the places of a sheet hold the frames of their spans
@@ -167,8 +167,8 @@ pub split_exact_by-holds : (input prefix sheet : List ℕ)
 split_exact_by-holds input prefix sheet files made e =
     let is = (split-parts (sheet_exact_cutting sheet) files prefix input e).1.0 in
     let one = then_ok is.placed in
-    pieces-hold (sheet_exact_cutting sheet) files input is
+    pieces-hold is
     (frames_needed_between (file_bytes_of files input))
-    (samples-exact files input is.file is.survey is.there is.surveyed)
+    (samples-exact files is.there is.surveyed)
     (sym (same-places one.2)
     ∙ ap (map Position) (sheet-positions files sheet one.1))

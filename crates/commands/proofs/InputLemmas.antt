@@ -144,7 +144,7 @@ pub of_bytes_behind : (fault : SurveyFault) → IsOfBytes fault
     → is_before_memory (Input 0 fault) ≡ false
 of_bytes_behind fault is = grind arith
 
-module _ (make : Making) (stream : List ℕ → List StreamFrame)
+module _ {make : Making} {stream : List ℕ → List StreamFrame}
     (proper : IsProperMaking make stream) where
   survey_late : (bytes : List ℕ) {r : Result SurveyFields SurveyFault}
       → ((fault : SurveyFault) → r ≡ Err fault → IsOfBytes fault)

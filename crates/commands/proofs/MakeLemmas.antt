@@ -339,7 +339,7 @@ module _ (task : Task) (output : List ℕ) where
         (early_left task output free late old new fault early) numbers
         (none_fell_by_reads reads)
 
-    module _ (file : List ℕ → List ℕ) (making : IsMaking task file old.files) where
+    module _ {file : List ℕ → List ℕ} (making : IsMaking task file old.files) where
       -- a call that wrote what the task makes, or a part of it
       pub one_run : first_input task.inputs ≡ task.source
           → OnOk r (HoldsStreams (one_command task output) old.files)

@@ -7,7 +7,7 @@ use Rattle.commands.specs.{SingleOutput.ReadsNothing, declared.fault.EditFault.E
 use Rattle.commands.specs.declared.fault.EditFault.TheVariants.{Input}
 use Rattle.outside.specs.{Counts.HappenedTo, Seen.Seen}
 
-module _ (inputs : List (List ℕ)) (number : ℕ) {name : List ℕ}
+module _ (inputs : List (List ℕ)) {number : ℕ} {name : List ℕ}
     (named : name ≡ slice_index_or inputs number []) {old new : Seen} {fault : EditFault} where
   -- a call that missed a file counts a miss of the input that the fault names
   pub missed_name : MissesAt number name old new fault

@@ -18,8 +18,8 @@ not_begun made input output (Told f) {new} failed file holds = inl (fails_told o
 not_begun made input output (Untold touched) failed file holds = absurd holds
 
 -- the output was created, and then written
-module _ (made : List ℕ → List ℕ) (input output : List ℕ) (apart : input ≢ output)
-    (old mid new : Files) (created : mid ≡ with_empty_file old output) where
+module _ (made : List ℕ → List ℕ) {input output : List ℕ} (apart : input ≢ output)
+    (old : Files) {mid : Files} (new : Files) (created : mid ≡ with_empty_file old output) where
   held_mid : (file : List ℕ) → Holds old input file → Holds mid input file
   held_mid file holds = rw created (emptied_holds_other old file apart holds)
 

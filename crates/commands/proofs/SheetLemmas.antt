@@ -28,7 +28,8 @@ pub sheet-late : (sheet : Option (List ℕ)) → IfErr (sheet_in sheet) IsLateFa
 sheet-late sheet = sheet-all IsLateFault refl (λ size. refl) sheet
 
 -- a sheet that was found, and whose bytes aren't read
-module _ (sheet : List ℕ) (files mid last : Files) (before between after : Counts) (size : ℕ)
+module _ (sheet : List ℕ) {files mid last : Files} {before between : Counts} (after : Counts)
+    (size : ℕ)
     (found : mid ≡ files) (stays : last ≡ mid) (same : between ≡ before) where
   read-fault : (fault : ReadFault) → HasReadCause sheet size mid between after fault
       → IsSheetFault sheet (seen_folder files before) (seen_folder last after)

@@ -70,17 +70,17 @@ module _ {command : Command} {input : List ℕ} (begins : BeginsWithSurvey comma
         };
         missing = λ m. record {
           defined = rw m.is (refused_absent old.files m.missing);
-          rose = missed_name command.inputs 0 named m;
+          rose = missed_name command.inputs named m;
           files = m.files;
         };
         unread = λ u. record {
           names = begins.names;
           before = before_first old.files command.makes u.is;
-          rose = unread_name command.inputs 0 named u;
+          rose = unread_name command.inputs named u;
           files = inl u.files;
         };
         shorter = λ l. record {
-          ended = lost_name command.inputs 0 named l;
+          ended = lost_name command.inputs named l;
           touches = rw l.files (touches_none command.outputs old.files);
         };
         unwritten = λ k w. absurd w;

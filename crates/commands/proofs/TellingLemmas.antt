@@ -66,7 +66,7 @@ module _ (text : Contents → List ℕ) (command : Command) where
 
 -- ---- a text that is sent
 
-module _ (command : Command) (files : Files) (old new : Heard) (text : List ℕ)
+module _ {command : Command} {files : Files} (old new : Heard) {text : List ℕ}
     (same : (all : List ℕ) → IsCommandText command files all → text ≡ all) where
   -- with all of its text sent, the command said all
   pub says-all : new.sent ≡ sent_and_more old.sent text → new.faults ≡ old.faults

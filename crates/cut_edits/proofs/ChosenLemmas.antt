@@ -28,7 +28,7 @@ use Rattle.laying.proofs.{PartsLemmas.{one-part-fits, parts-plan}, PlacesLemmas.
 use Rattle.laying.proofs.{PlannedFrameLemmas.slot_among, SurveyFrameLemmas.survey-had}
 use Rattle.laying.specs.{Fits.IsFittingPlan, Laid.{file_laid, LaidPart, stream_laid}}
 use Rattle.laying.specs.Needs.{need_of, plan_input, PlanInput}
-use Rattle.laying.specs.{NeedsFit.{IsFitPlanInput, IsPlacedSurvey, own_choice}, Relaid.AreSlots}
+use Rattle.laying.specs.{NeedsFit.{IsFitPlanInput, IsPlacedSurvey}, Relaid.AreSlots}
 use Rattle.laying.specs.{Surveys.CanBeRelaid, Written.head_info}
 use Rattle.outside.specs.Files.{Files, Holds, IsFileThere}
 use Rattle.slot_plan.{proofs.AreaLemmas.only_one, specs.Laws.PartsChooseInOrder}
@@ -81,7 +81,7 @@ module _ (chosen : Chosen) (s : SurveyFields) (placed : IsPlacedSurvey s)
   pub rows-fit : IsFitPlanInput s.class asked
   rows-fit = one-part-fits s placed some within
 
-  module _ (choices : HeaderFields → List SlotFields) (usual : AreUsualChoices choices) where
+  module _ {choices : HeaderFields → List SlotFields} (usual : AreUsualChoices choices) where
     one_plan : (ps : List Placed)
         → IsPlan (window_of s.class.version) choices (map need_of part_rows ∷ []) ps
         ↔ (ps ≡ first_plan choices s.class (chosen_needs chosen s))
@@ -115,14 +115,14 @@ module _ (chosen : Chosen) (s : SurveyFields) (placed : IsPlacedSurvey s)
     plan-few = grind (arith, plan-length, chosen, length-append)
 
 -- the file of chosen frames in their own slots
-module _ (chosen : Chosen) (file : List ℕ) (s : SurveyFields) (is : CanBeRelaid file s)
+module _ (chosen : Chosen) {file : List ℕ} {s : SurveyFields} (is : CanBeRelaid file s)
     (some : chosen.from < chosen.to) (within : chosen.to ≤ length s.frames) where
   -- the file of the chosen frames holds their stream
   pub chosen-holds : length chosen.extension ≡ 36
       → HoldsStream (chosen_file chosen file s) (chosen_stream chosen file s)
   unfolding chosen_file chosen_stream
-  chosen-holds extension = laid-holds (own_slots_part chosen s) file s is some within
-      (plan-fitting chosen s is.placed some within own_choice (inl refl)) extension
+  chosen-holds extension = laid-holds (own_slots_part chosen s) is some within
+      (plan-fitting chosen s is.placed some within (inl refl)) extension
 
 -- ---- a command that lays chosen frames in the slots of a plan
 
@@ -141,7 +141,7 @@ first_is_planning {choices} usual = record {
   fitting = λ chosen s well some within placed planned.
       let same : first_plan choices s.class (chosen_needs chosen s) ≡ placed = cc in
       subst (IsFittingPlan (window_of s.class.version) (chosen_needs chosen s)) same
-      (plan-fitting chosen s well some within choices usual);
+      (plan-fitting chosen s well some within usual);
 }
 
 -- the command refuses only after memory was taken, and what it chooses is right
@@ -239,7 +239,7 @@ module _ (choose : Choosing) (plan : Planning) where
         subst (λ (r : Result LaidPart EditFault). HoldsStream made (laid_stream_or_none file s r))
         (sym by.laid)
         (subst (λ (n : List ℕ). HoldsStream n (stream_laid laid file s))
-        by.is (laid-holds laid file s had right.some right.within fitting right.extension))
+        by.is (laid-holds laid had right.some right.within fitting right.extension))
 
     laying_proper : IsProperMaking (laying_making choose plan) (laying_stream choose plan)
     laying_proper = record {

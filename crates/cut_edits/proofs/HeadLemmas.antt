@@ -65,7 +65,7 @@ survey_without_head-length s =
 -- the main data of its frames are still well placed
 pub survey_without_head-placed : (s : SurveyFields) → AreWellPlaced s.head s.class s.frames
     → AreWellPlaced s.head s.class (survey_without_head s).frames
-survey_without_head-placed s placed = placed-emptied s.head s.class (rows_set_apart s.head s.frames)
+survey_without_head-placed s placed = placed-emptied s.head
     (placed-apart s.head placed)
 
 -- a file can be relaid by the survey whose head is set apart, if the main data are well placed

@@ -38,7 +38,7 @@ file-is file s own = ap (λ l. file_laid l file s) own
 
 -- ---- the work
 
-module _ (survey : Survey) (selected : Selected) (work : LaidWork)
+module _ {survey : Survey} {selected : Selected} {work : LaidWork}
     (of : IsWorkOf survey selected work) where
   -- the work is prepared for the pass over the file that was read
   pub work_layable : {input : List ℕ} {files : Files} → IsFileThere files input

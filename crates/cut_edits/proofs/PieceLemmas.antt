@@ -104,7 +104,7 @@ survey_without_head-relaid {file} {s} is = let had = survey-had most_frames is i
 
 -- what is laid of a span holds its stream
 module _ (head : Option Info) (long : IfSome head (λ (i : Info). length i.extension ≡ 36))
-    (span : Span) (file : List ℕ) (s : SurveyFields) (is : CanBeRelaid file s)
+    {span : Span} {file : List ℕ} {s : SurveyFields} (is : CanBeRelaid file s)
     (there : IsSpanIn s span) where
   abbrev plain : LaidPart
   plain = span_part head span s
@@ -137,7 +137,7 @@ module _ (head : Option Info) (long : IfSome head (λ (i : Info). length i.exten
   pub piece-holds : HoldsStream (file_laid (span_piece head span file s) file s)
       (stream_laid (span_piece head span file s) file s)
   piece-holds = piece_all (λ l. HoldsStream (file_laid l file s) (stream_laid l file s))
-      (λ first. laid-holds (row_sealed_part (Some first) plain file s) file s is
+      (λ first. laid-holds (row_sealed_part (Some first) plain file s) is
       there.some there.within piece_fits (sealed_long first))
 
 -- ---- the command
@@ -208,7 +208,7 @@ module _ (from to : ExactPlace) where
       subst (λ (r : Result LaidPart EditFault). HoldsStream made (exact_stream_or_none file s r))
       (sym by.laid)
       (subst (λ (n : List ℕ). HoldsStream n (stream_laid piece file (survey_without_head s))) by.is
-      (piece-holds head (head_long file s.head) by.span file (survey_without_head s) had
+      (piece-holds head (head_long file s.head) had
       (span-survey_without_head (span-there from to head by.span_is))))
 
   proper : IsProperMaking (exact_making from to) (exact_stream from to)

@@ -36,9 +36,9 @@ IsInfoFor s from placed quality extension bytes =
     → map slot_in frames ≡ map (λ (p : Placed). p.slot) placed
     → bytes ≡ info_frame first.header (info_for s.class frames quality extension)
 
-module _ (s : SurveyFields) (well : IsPlacedSurvey s) (from : ℕ) (inside : from < length s.frames)
+module _ (s : SurveyFields) (well : IsPlacedSurvey s) {from : ℕ} (inside : from < length s.frames)
     (placed : List Placed) (quality : Option ℕ) (extension : List ℕ) (long : length extension ≡ 36)
-    (old : List ℕ) (is : IsInfoFor s from placed quality extension old) where
+    {old : List ℕ} (is : IsInfoFor s from placed quality extension old) where
   class_is : {first : Row} → slice_get s.frames from ≡ Some first → class_of first.header ≡ s.class
   class_is {first} found = (well from first found).class_is
 
@@ -66,7 +66,7 @@ module _ (s : SurveyFields) (well : IsPlacedSurvey s) (from : ℕ) (inside : fro
   info-room =
       room-with (λ h frames. info_for s.class frames quality extension) old (λ h. whole-for) is
 
-  module _ (new : List ℕ) (seals : new ≡ sealed_frame s.class old) where
+  module _ {new : List ℕ} (seals : new ≡ sealed_frame s.class old) where
     -- the sealed frame is the Info frame of the sealed fields
     pub sealed-is : (first : Row) (frames : List Frame) → slice_get s.frames from ≡ Some first
         → map slot_in frames ≡ map (λ (p : Placed). p.slot) placed → new ≡ info_frame first.header

@@ -126,7 +126,7 @@ module _ (chosen : Chosen) (s : SurveyFields) (placed : IsPlacedSurvey s)
   -- the frames can be laid by either plan
   pub with-fitting : (led : Bool)
       → IsFittingPlan (window_of s.class.version) needs (span_plan led s.class needs)
-  with-fitting false = plan-fitting chosen s placed some within own_choice (by_usual false)
+  with-fitting false = plan-fitting chosen s placed some within (by_usual false)
   with-fitting true =
       grind (
         arith,

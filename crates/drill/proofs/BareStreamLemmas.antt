@@ -54,7 +54,7 @@ bare_fields f more = record {
   length = length (bytes_of_frames (f ∷ more));
 }
 
-module _ (c : ClassFields) (f : Frame) (more : List Frame) (is : IsBare c f more) where
+module _ {c : ClassFields} {f : Frame} {more : List Frame} (is : IsBare c f more) where
   abbrev frames : List Frame
   frames = f ∷ more
 
@@ -99,7 +99,7 @@ module _ (c : ClassFields) (f : Frame) (more : List Frame) (is : IsBare c f more
   first_item : item_at file 0 ≡ FrameItem f.kept.header
   first_item =
       item_at-known file 0 0 (own ++ rest) (FrameItem f.kept.header) refl file-is
-      ((entry_item f.kept.header f.kept.side (take (frame_area f.kept) area_data)
+      ((entry_item (take (frame_area f.kept) area_data)
       is.entries.0.header (shaped is.entries.0.pairs) long_area).known rest)
 
   front_chain : item_chain Front file 0 ≡ record { items = []; stop = 0 }

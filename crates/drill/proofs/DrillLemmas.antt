@@ -355,7 +355,7 @@ streams-hold seed zero some = absurd (omega (arith, some))
 streams-hold seed (suc count) some =
     transport (λ i. HoldsStream (sym (stream-first seed count) i)
     (map stream_entry (sym (frames-first seed count) i)))
-    (bare-holds (class_of drill_header) (drill_frame_at seed 0) (from_on seed 1 count)
+    (bare-holds
     (is_bare seed count))
 
 fields-first : (seed count : ℕ)
@@ -378,7 +378,7 @@ streams-surveyed seed (suc count) allowed some few within =
     let more = from_on seed 1 count in
     survey_of-short (drill_stream seed (suc count)) allowed (omega (arith, size, few))
     ∙ ap (λ (file : List ℕ). survey_fields file allowed) (stream-first seed count)
-    ∙ bare-survey (class_of drill_header) (drill_frame_at seed 0) more (is_bare seed count)
+    ∙ bare-survey (is_bare seed count)
     (omega (
       arith,
       within,

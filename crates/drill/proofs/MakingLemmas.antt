@@ -77,7 +77,7 @@ reach-frame : (begin state : ℕ)
     ≡ min 511 (begin + 381 - length (drawn_frame begin state).payload)
 reach-frame begin state = grind (arith, drawn_side-begin, area-is)
 
-module _ (seed i : ℕ) (old : DrillWriter) (is : IsBeforeFrame seed i old) where
+module _ {seed i : ℕ} {old : DrillWriter} (is : IsBeforeFrame seed i old) where
   abbrev b : DrillState
   b = drill_state_at seed i
 
@@ -155,7 +155,7 @@ module _ (name : List ℕ) where
       → HasMade name (drill_writing making) (drill_frames seed 0) files files
   made-none seed making there new none = grind (arith, appended_nothing, frames-none)
 
-  module _ (seed i : ℕ) (old : DrillWriter) (is : IsBeforeFrame seed i old) (before mid : Files)
+  module _ {seed i : ℕ} {old : DrillWriter} (is : IsBeforeFrame seed i old) {before mid : Files}
       (made : HasMade name (drill_writing old) (drill_frames seed i) before mid) where
     -- with one more frame the stream is one frame longer
     pub made-more : {new : Writing} {after : Files}
@@ -174,7 +174,7 @@ module _ (name : List ℕ) where
         let given : drill_frames seed i ++ next_frame old ∷ [] ≡ drill_frames seed (suc i) =
         grind (arith, frame-is, frames-more) in
         let left = frames_behind seed (suc i) (count - suc i) in
-        let next = reach-next seed i old is held reach in
+        let next = reach-next is held reach in
         let begins : BeginsWithin held.waiting.free (all_frame_data left) =
         begins-behind seed (suc i) (count - suc i) (omega (arith, next)) in
         let later = later-frames left are.written begins in

@@ -92,7 +92,7 @@ outputs_in (Err fault) = []
 
 -- ---- the packed file
 
-module _ (seed count : ℕ) (some : 0 < count) (few : count ≤ 20000) where
+module _ (seed : ℕ) {count : ℕ} (some : 0 < count) (few : count ≤ 20000) where
   abbrev file : List ℕ
   file = drill_stream seed count
 
@@ -167,7 +167,7 @@ module _ (seed count : ℕ) (some : 0 < count) (few : count ≤ 20000) where
       subst (λ (rows : List Row). IsPlan (window_of drill_header.version) any_choice
       (map need_of rows ∷ [])
       (least_plan (window_of drill_header.version) any_choice (map need_of rows ∷ []))) rows-whole
-      (the-plan all told placed right.some right.within any_choice (inr refl))
+      (the-plan all told placed right.some right.within (inr refl))
 
   -- no place of the plan is a lead-in
   pub none-led : All (λ p. p.lead_in ≡ false) (packed_plan seed count)
@@ -186,7 +186,7 @@ module _ (seed count : ℕ) (some : 0 < count) (few : count ≤ 20000) where
   part-stream = grind (arith, rows-many, drawn-many, slice_range, stream-is, range-whole)
 
   fitting : IsFittingPlan (window_of told.class.version) (chosen_needs all told) plan_all
-  fitting = plan-fitting all told placed right.some right.within any_choice (inr refl)
+  fitting = plan-fitting all told placed right.some right.within (inr refl)
 
   packed-stream : stream_laid laid file told ≡ drawn
   packed-stream =
@@ -203,7 +203,7 @@ module _ (seed count : ℕ) (some : 0 < count) (few : count ≤ 20000) where
     made = made-is ∙ ap Ok (sym packed-is);
     holds = subst (λ (l : List ℕ). HoldsStream l drawn) (sym packed-is)
         (subst (HoldsStream (file_laid laid file told)) packed-stream
-        (laid-holds laid file told (survey-had most_frames is-surveyed)
+        (laid-holds laid (survey-had most_frames is-surveyed)
         right.some right.within fitting right.extension));
   }
 
@@ -271,13 +271,13 @@ module _ (seed count : ℕ) (files : Files) (old new : Heard) where
   -- if all of the line was sent, the command sent its text
   pub told-all : new.sent ≡ sent_and_more old.sent (drill_text seed count) → new.faults ≡ old.faults
       → SaysAll (drill_command seed count) files old new
-  told-all = says-all (drill_command seed count) files old new (drill_text seed count)
+  told-all = says-all old new
       (λ text. text-is {text = text})
 
   -- if a prefix of the line was sent, the command sent a prefix of its text
   pub told-part : SentPrefix (drill_text seed count) old.sent new.sent → Rose old.faults new.faults
       → SaysPrefix (drill_command seed count) files old new
-  told-part = says-prefix (drill_command seed count) files old new (drill_text seed count)
+  told-part = says-prefix old new
       (λ text. text-is {text = text})
 
 behind-some : (front rest : List ℕ) (x : ℕ) → Some (front ++ x ∷ rest) ≢ Some []

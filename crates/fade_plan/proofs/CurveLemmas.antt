@@ -122,7 +122,7 @@ empty_find p (x ∷ xs) none = absurd (omega (arith, none))
 no_last : (p : Point → Bool) (xs : List Point) → length xs ≡ 0 → find p (reverse xs) ≡ None
 no_last p xs none = empty_find p (reverse xs) (length-reverse xs ∙ none)
 
-module _ (frame : ℕ) (points xs ys : List Point) (q : Point)
+module _ {frame : ℕ} {points xs ys : List Point} (q : Point)
     (parted : AreParted frame points xs ys) where
   first_is : first_there ys q → find (behind frame) ys ≡ Some q
   first_is there = grind (arith, first_passes, is_behind)
@@ -165,8 +165,7 @@ module _ (frame : ℕ) (points xs ys : List Point) (p : Point) where
         steps_of parted,
         option_map,
         last_is parted last,
-        first_is
-            frame points xs ys q parted first,
+        first_is q parted first,
       )
 
   -- after the last point, the steps are its steps

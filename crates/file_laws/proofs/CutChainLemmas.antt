@@ -22,16 +22,16 @@ use Rattle.sync_survey.specs.declared.{items.Item.TheVariants.Zero, places.Start
 use Rattle.sync_survey.specs.declared.survey_fault.SurveyFault.{SurveyFault}
 use Rattle.sync_survey.specs.declared.survey_fault.SurveyFault.TheVariants.{NoFrame, Truncated}
 
-module _ (file : List ℕ) (n : ℕ) (within : n ≤ length file) where
+module _ (file : List ℕ) {n : ℕ} (within : n ≤ length file) where
   abbrev now : List ℕ
-  now = cut file n within
+  now = cut file within
 
   -- ---- a chain
 
   -- where the chain stops now: where it did, or at an item that was cut through
   abbrev pub IsStop : Region → ℕ → ℕ → List PlacedItem → Type 0
   IsStop part to stop rest =
-      ((stop ≡ to) × (rest ≡ [])) ⊎ ((item : Item) × IsCutThrough file n within part stop item)
+      ((stop ≡ to) × (rest ≡ [])) ⊎ ((item : Item) × IsCutThrough file within part stop item)
 
   -- the items that are still whole, end to end, and where and why the chain stops
   pub record IsCutChain (part : Region) (from : ℕ) (ps : List PlacedItem) (to : ℕ) : Type 0 where
@@ -64,7 +64,7 @@ module _ (file : List ℕ) (n : ℕ) (within : n ≤ length file) where
         rest = behind.rest;
         stop = behind.stop;
         split = ap (λ (qs : List PlacedItem). p ∷ qs) behind.split;
-        ends = (ends.0, item-kept file n within part p.offset ends.1 kept, behind.ends);
+        ends = (ends.0, item-kept file within part p.offset ends.1 kept, behind.ends);
         low = behind.low;
         last = behind.last;
       }
@@ -96,7 +96,7 @@ module _ (file : List ℕ) (n : ℕ) (within : n ≤ length file) where
   fault_cases at is h = grind arith
 
   -- where the stream stops now
-  pub stop-fault : {at : ℕ} {item : Item} → IsCutThrough file n within Stream at item
+  pub stop-fault : {at : ℕ} {item : Item} → IsCutThrough file within Stream at item
       → MayBeCut (fault_at at (item_at now at))
   stop-fault through = grind (arith, whole_item_at-is, fault_cases, item-cut)
 
@@ -115,13 +115,13 @@ module _ (file : List ℕ) (n : ℕ) (within : n ≤ length file) where
       ((start_of now ≡ Ok start) × (start.first.offset + size_of (Frame start.first.header) ≤ n))
       ⊎ ((fault : SurveyFault) × (start_of now ≡ Err fault) × IsCutFault fault)
 
-  none_starts : {at : ℕ} {item : Item} → IsCutThrough file n within Stream at item → {x end : Item}
+  none_starts : {at : ℕ} {item : Item} → IsCutThrough file within Stream at item → {x end : Item}
       → item_at now at ≡ x → x ≡ end → belongs Stream end ≡ false
       → start_at now at end ≡ start_at now at End
       → (fault : SurveyFault) × (start_at now at x ≡ Err fault) × IsCutFault fault
   none_starts {at} {item} through is same apart ends = (
     NoFrame at,
-    ap (start_at now at) same ∙ ends ∙ no-start file n within through (λ e. false≢true (
+    ap (start_at now at) same ∙ ends ∙ no-start file within through (λ e. false≢true (
         sym apart ∙ ap (belongs Stream) (sym same ∙ sym is ∙ e)
         ∙ (whole_item_at-is Stream file at item through.is).belongs
         )),
@@ -129,7 +129,7 @@ module _ (file : List ℕ) (n : ℕ) (within : n ≤ length file) where
   )
 
   -- no start, if the item at which the front ends was cut through
-  no_start : {at : ℕ} {item : Item} → IsCutThrough file n within Stream at item → {x : Item}
+  no_start : {at : ℕ} {item : Item} → IsCutThrough file within Stream at item → {x : Item}
       → item_at now at ≡ x → IsCutItem x item
       → (fault : SurveyFault) × (start_at now at x ≡ Err fault) × IsCutFault fault
   no_start {at} {item} through {x} is (inl same) =
@@ -142,7 +142,7 @@ module _ (file : List ℕ) (n : ℕ) (within : n ≤ length file) where
           rw not refl
 
       whole_start : (item : Item) → x ≡ item → belongs Stream item ≡ true
-          → IsCutThrough file n within Stream at item
+          → IsCutThrough file within Stream at item
           → (fault : SurveyFault) × (start_at now at x ≡ Err fault) × IsCutFault fault
       whole_start (Frame h) same is through =
           (Truncated at, ap (start_at now at) same ∙ unfit h through.over, tt)
@@ -150,15 +150,15 @@ module _ (file : List ℕ) (n : ℕ) (within : n ≤ length file) where
       whole_start (Block b) same is through = (Truncated at, ap (start_at now at) same, tt)
       whole_start Zero same zero through =
           let none : End ≡ item_at now at = stands-only_at now at End
-          (drop_all at now (omega (arith, length-cut file n within, through.over))) in
+          (drop_all at now (omega (arith, length-cut file within, through.over))) in
           let no : End ≡ Zero = none ∙ is ∙ same in absurd cc
       whole_start End same is through = absurd (false≢true is)
       whole_start Nothing same is through = absurd (false≢true is)
   no_start {at} {item} through {x} is (inr (inl same)) = none_starts through is same refl refl
   no_start {at} {item} through {x} is (inr (inr same)) = none_starts through is same refl refl
 
-  in_stream : {part : Region} {at : ℕ} {item : Item} → IsCutThrough file n within part at item
-      → IsCutThrough file n within Stream at item
+  in_stream : {part : Region} {at : ℕ} {item : Item} → IsCutThrough file within part at item
+      → IsCutThrough file within Stream at item
   in_stream {part} {at} {item} through =
       let here = whole_item_at-is part file at item through.is in
       record {
@@ -172,7 +172,7 @@ module _ (file : List ℕ) (n : ℕ) (within : n ≤ length file) where
       → whole_item_at Front now stop ≡ None → stop ≡ front_end_of now
   front-now front ends none = grind (arith, item_chain-only, ends, front_end-is)
 
-  module _ (start : Start) (is : start_of file ≡ Ok start)
+  module _ {start : Start} (is : start_of file ≡ Ok start)
       (no_junk : start.first.offset ≡ start.front_end) where
     abbrev at : ℕ
     at = start.first.offset
@@ -187,10 +187,10 @@ module _ (file : List ℕ) (n : ℕ) (within : n ≤ length file) where
     at_front = no_junk ∙ start-front file is
 
     -- the first frame isn't whole
-    cut_through : {stop : ℕ} {item : Item} → IsCutThrough file n within Stream stop item
+    cut_through : {stop : ℕ} {item : Item} → IsCutThrough file within Stream stop item
         → stop ≡ front_end_of now → IsCutStart start
     cut_through {stop} {item} through front =
-        let cut_item = item-cut file n within
+        let cut_item = item-cut file within
         through.low (whole_item_at-is Stream file stop item through.is).is in
         let none = no_start through refl cut_item in
         inr (none.0, start_is now stop (item_at now stop) front refl ∙ none.1, none.2)
@@ -200,7 +200,7 @@ module _ (file : List ℕ) (n : ℕ) (within : n ≤ length file) where
     still_there kept front =
         let there = whole_item_at-whole Stream file at (Frame h) frame.is refl frame.within in
         let here = whole_item_at-is Stream now at (Frame h)
-        (item-kept file n within Stream at there kept) in
+        (item-kept file within Stream at there kept) in
         let fit : item_fits now at (Frame h) ≡ true = grind (arith, le-leb, length-cut) in
         let same : Ok (record { front_end = at; first = start.first }) ≡ Ok start = grind arith in
         inl (start_is now at (Frame h) front here.is ∙ rw fit refl ∙ same, kept)
@@ -213,7 +213,7 @@ module _ (file : List ℕ) (n : ℕ) (within : n ≤ length file) where
         let none : whole_item_at Front now r.stop ≡ None =
         subst (λ k. whole_item_at Front now k ≡ None) (sym stop)
         (not-in-front at refl (front-item
-        (item-cut file n within (omega (arith, stop, r.low)) frame.is))) in
+        (item-cut file within (omega (arith, stop, r.low)) frame.is))) in
         let front : at ≡ front_end_of now = sym stop ∙ front-now r.front r.ends none in
         elim (cases_lt n (at + size_of (Frame h))) as (λ _. IsCutStart start) [
           | inl over ↦ cut_through (record {
@@ -225,7 +225,7 @@ module _ (file : List ℕ) (n : ℕ) (within : n ≤ length file) where
         ]
     by_front r (inr found) =
         cut_through (in_stream found.1)
-        (front-now r.front r.ends (cut-none file n within found.1))
+        (front-now r.front r.ends (cut-none file within found.1))
 
     -- the start is the same and its frame still whole, or there is none, with a fault of a cut file
     pub cut-start : IsCutStart start

@@ -41,9 +41,9 @@ numbered_frames-append head p xs ys = grind arith
 
 -- ---- frames within the first bytes
 
-module _ (file : List ℕ) (n : ℕ) (within : n ≤ length file) where
+module _ (file : List ℕ) {n : ℕ} (within : n ≤ length file) where
   abbrev now : List ℕ
-  now = cut file n within
+  now = cut file within
 
   -- a frame with this header is whole within them
   pub record IsIn (at : ℕ) (h : HeaderFields) : Type 0 where
@@ -61,7 +61,7 @@ module _ (file : List ℕ) (n : ℕ) (within : n ≤ length file) where
       let here = whole_item_at-is Stream now at (Frame h) is in (
         record {
           header = header_front-in_range (drop at now) (stands-at now at (Frame h) here.is);
-          high = omega (arith, here.within, length-cut file n within);
+          high = omega (arith, here.within, length-cut file within);
         },
         are,
       )
@@ -90,7 +90,7 @@ module _ (file : List ℕ) (n : ℕ) (within : n ≤ length file) where
     row-same : row_of now p ≡ row_of file p
     row-same =
         ap (λ (s : Side). record { offset = p.offset; header = p.header; side = s; lost = false })
-        (ap (side_in p.header) (drop-cut file n within low)
+        (ap (side_in p.header) (drop-cut file within low)
         ∙ side_in-take p.header (drop p.offset file) least)
 
     -- the check word of a frame that is still whole is the same
@@ -140,12 +140,12 @@ module _ (file : List ℕ) (n : ℕ) (within : n ≤ length file) where
 
 -- ---- the stream
 
-module _ (file : List ℕ) (n : ℕ) (within : n ≤ length file) (start : Start)
-    (start_now : start_of (cut file n within) ≡ Ok start)
-    (kept : start.first.offset + size_of (Frame start.first.header) ≤ n) (allowed : ℕ)
+module _ {file : List ℕ} {n : ℕ} (within : n ≤ length file) {start : Start}
+    (start_now : start_of (cut file within) ≡ Ok start)
+    (kept : start.first.offset + size_of (Frame start.first.header) ≤ n) {allowed : ℕ}
     (read : IsRead file allowed start) where
   abbrev front : List ℕ
-  front = cut file n within
+  front = cut file within
 
   abbrev at : ℕ
   at = start.first.offset
@@ -163,10 +163,10 @@ module _ (file : List ℕ) (n : ℕ) (within : n ≤ length file) (start : Start
   whole = whole_item_at-whole Stream file at (Frame h) frame.is refl frame.within
 
   whole_now : whole_item_at Stream front at ≡ Some (Frame h)
-  whole_now = item-kept file n within Stream at whole kept
+  whole_now = item-kept file within Stream at whole kept
 
   -- the first frame is still whole
-  pub first_in : IsIn file n within start.first.offset start.first.header
+  pub first_in : IsIn file within start.first.offset start.first.header
   first_in = record {
     header = header_front-in_range (drop at file) (stands-at file at (Frame h) frame.is);
     high = kept;
@@ -176,7 +176,7 @@ module _ (file : List ℕ) (n : ℕ) (within : n ≤ length file) (start : Start
   later = item_chain Stream file behind
 
   -- the items after the first frame are the items that are still whole
-  pub r : IsCutChain file n within Stream behind later.items later.stop
+  pub r : IsCutChain file within Stream behind later.items later.stop
   r = grind (arith, cut-chain, item_chain-ends)
 
   chain-on : stream_chain file start
@@ -194,11 +194,11 @@ module _ (file : List ℕ) (n : ℕ) (within : n ≤ length file) (start : Start
         length-drop (stream_chain file start).stop file,
       )
 
-  stopped_by : IsStop file n within Stream later.stop r.stop r.rest
+  stopped_by : IsStop file within Stream later.stop r.stop r.rest
       → whole_item_at Stream front r.stop ≡ None
   unfolding r
   stopped_by (inl end) = grind (arith, whole_item_at-past, to_end, length-cut)
-  stopped_by (inr found) = cut-none file n within found.1
+  stopped_by (inr found) = cut-none file within found.1
 
   stopped : whole_item_at Stream front r.stop ≡ None
   stopped = stopped_by r.last
@@ -221,7 +221,7 @@ module _ (file : List ℕ) (n : ℕ) (within : n ≤ length file) (start : Start
   -- the head is the same
   pub head-same : head_of front start.first ≡ head
   unfolding head_of
-  head-same = ap (head_in_bytes start.first) (bytes-same file n within start.first first_in)
+  head-same = ap (head_in_bytes start.first) (bytes-same file within start.first first_in)
 
   abbrev pub frames : List PlacedFrame
   frames = numbered_frames head (record { offset = at; header = h } ∷ frames_of r.front)
@@ -242,13 +242,13 @@ module _ (file : List ℕ) (n : ℕ) (within : n ≤ length file) (start : Start
       (ap frames_of (sym r.split) ∙ frames-append r.front r.rest)
       ∙ numbered_frames-append head (record { offset = at; header = h }) (frames_of r.front) gone
 
-  numbered_frames-in : (o : Option Head) → AreIn file n within
+  numbered_frames-in : (o : Option Head) → AreIn file within
       (rows_of file (numbered_frames o (record { offset = at; header = h } ∷ frames_of r.front)))
-  numbered_frames-in None = (first_in, frames-in file n within behind r.front r.stop r.ends)
-  numbered_frames-in (Some o) = frames-in file n within behind r.front r.stop r.ends
+  numbered_frames-in None = (first_in, frames-in file within behind r.front r.stop r.ends)
+  numbered_frames-in (Some o) = frames-in file within behind r.front r.stop r.ends
 
   -- they are within the first bytes
-  pub are-in : AreIn file n within (rows_of file frames)
+  pub are-in : AreIn file within (rows_of file frames)
   are-in = numbered_frames-in head
 
   abbrev pub rows : List Row
@@ -263,7 +263,7 @@ module _ (file : List ℕ) (n : ℕ) (within : n ≤ length file) (start : Start
 
   -- the rows are the same in the cut file
   pub rows-now : rows_of front frames ≡ rows
-  rows-now = rows-same file n within frames are-in
+  rows-now = rows-same file within frames are-in
 
   -- ---- their faults
 
@@ -278,24 +278,24 @@ module _ (file : List ℕ) (n : ℕ) (within : n ≤ length file) (start : Start
   no-faults {many} few =
       ap (all_faults front head (class_from start) many) rows-now
       ∙ sound-no_all_faults front head (class_from start) many rows
-      (sound-now file n within head frames more are-in sound-were few)
+      (sound-now file within head frames more are-in sound-were few)
 
   -- ---- where the stream stops
 
-  fault_now : IsStop file n within Stream later.stop r.stop r.rest
-      → MayBeCut file n within (fault_at r.stop (item_at front r.stop))
+  fault_now : IsStop file within Stream later.stop r.stop r.rest
+      → MayBeCut file within (fault_at r.stop (item_at front r.stop))
   unfolding r
   fault_now (inl end) =
       inl (ap (fault_at r.stop) (sym (stands-only_at front r.stop End
-      (drop_all r.stop front (omega (arith, end.0, to_end, within, length-cut file n within))))))
-  fault_now (inr found) = stop-fault file n within found.1
+      (drop_all r.stop front (omega (arith, end.0, to_end, within, length-cut file within))))))
+  fault_now (inr found) = stop-fault file within found.1
 
-  end_cases : (ps : List PlacedFrame) {o : Option SurveyFault} → MayBeCut file n within o
-      → MayBeCut file n within (end_fault front ps o)
+  end_cases : (ps : List PlacedFrame) {o : Option SurveyFault} → MayBeCut file within o
+      → MayBeCut file within (end_fault front ps o)
   end_cases ps h = grind arith
 
   -- the fault at the end is one of a file that was cut short
-  pub end-now : MayBeCut file n within
+  pub end-now : MayBeCut file within
       (end_fault front frames (fault_at r.stop (item_at front r.stop)))
   end-now = end_cases frames (fault_now r.last)
 

@@ -79,7 +79,7 @@ cut-item k bytes = cut_by k bytes (item_front (take k bytes)) (stands (take k by
 
 -- ---- a file that was cut
 
-module _ (file : List ℕ) (n : ℕ) (within : n ≤ length file) where
+module _ (file : List ℕ) {n : ℕ} (within : n ≤ length file) where
   abbrev pub cut : List ℕ
   cut = take n file
 

@@ -24,10 +24,10 @@ fault_answer : (file front : List ℕ) {answer : Result SurveyFields SurveyFault
     {fault : SurveyFault} → answer ≡ Err fault → IsCutFault fault → IsCutAnswer file front answer
 fault_answer file front is kind = subst (IsCutAnswer file front) (sym is) kind
 
-module _ (file : List ℕ) (n : ℕ) (within : n ≤ length file) (allowed : ℕ) (start : Start)
+module _ {file : List ℕ} {n : ℕ} (within : n ≤ length file) {allowed : ℕ} {start : Start}
     (read : IsRead file allowed start) (no_junk : start.first.offset ≡ start.front_end) where
   abbrev front : List ℕ
-  front = cut file n within
+  front = cut file within
 
   abbrev s : SurveyFields
   s = told_from file start
@@ -35,24 +35,24 @@ module _ (file : List ℕ) (n : ℕ) (within : n ≤ length file) (allowed : ℕ
   module _ (start_now : start_of front ≡ Ok start)
       (kept : start.first.offset + size_of (Frame start.first.header) ≤ n) where
     abbrev own : List Row
-    own = rows file n within start start_now kept allowed read
+    own = rows within start_now kept read
 
     abbrev left : List Row
-    left = more file n within start start_now kept allowed read
+    left = more within start_now kept read
 
     abbrev t : SurveyFields
-    t = told_by front start (head file n within start start_now kept allowed read) (rows_of front
-        (frames file n within start start_now kept allowed read)) (all_blocks front start)
+    t = told_by front start (head within start_now kept read) (rows_of front
+        (frames within start_now kept read)) (all_blocks front start)
 
     were : s.frames ≡ marked_rows s.head (own ++ left)
-    were = ap (marked_rows s.head) (rows-were file n within start start_now kept allowed read)
+    were = ap (marked_rows s.head) (rows-were within start_now kept read)
 
     few : length own ≤ length s.frames
     few = grind (arith, were, length-marked_rows, length-append)
 
-    whole : end_fault front (frames file n within start start_now kept allowed read)
-        (fault_at (r file n within start start_now kept allowed read).stop (item_at front
-        (r file n within start start_now kept allowed read).stop)) ≡ None
+    whole : end_fault front (frames within start_now kept read)
+        (fault_at (r within start_now kept read).stop (item_at front
+        (r within start_now kept read).stop)) ≡ None
         → survey_fields front (length s.frames) ≡ Ok t
     whole none = grind (arith, survey-whole, frames, r, found-now, no-faults, few)
 
@@ -60,16 +60,16 @@ module _ (file : List ℕ) (n : ℕ) (within : n ≤ length file) (allowed : ℕ
         → IsStreamPrefix (stream_of_survey front t) (stream_of_survey file s)
     unfolding stream_of_survey
     stream-were allowed_now is =
-        let now_rows = rows-now file n within start start_now kept allowed read in
-        let all = head file n within start start_now kept allowed read in
+        let now_rows = rows-now within start_now kept read in
+        let all = head within start_now kept read in
         let placed =
         subst (λ (rs : List Row). AreWellPlaced all t.class (marked_rows all rs)) now_rows
         (survey_fields-placed front allowed_now is) in
         let found =
-        marked_rows-front file n within
-        start.first (first_in file n within start start_now kept allowed read)
-        (frames file n within start start_now kept allowed read) left
-        (are-in file n within start start_now kept allowed read) placed in (
+        marked_rows-front file within
+        start.first (first_in within start_now kept read)
+        (frames within start_now kept read) left
+        (are-in within start_now kept read) placed in (
           found.0,
           ap (λ (rs : List Row). stream_frames (main_bytes front all (marked_rows all rs)) all
               (marked_rows all rs) ++ found.0) now_rows
@@ -77,18 +77,16 @@ module _ (file : List ℕ) (n : ℕ) (within : n ≤ length file) (allowed : ℕ
               ∙ ap (λ (rs : List Row). stream_frames (main_bytes file all rs) all rs) (sym were),
         )
 
-    answer : MayBeCut file n within (end_fault front (frames file n within start start_now kept
-        allowed read) (fault_at (r file n within start start_now kept allowed read).stop
-        (item_at front (r file n within start start_now kept allowed read).stop)))
+    answer : MayBeCut file within (end_fault front (frames within start_now kept read)
+        (fault_at (r within start_now kept read).stop
+        (item_at front (r within start_now kept read).stop)))
         → survey_fields file allowed ≡ Ok s
         → IsCutAnswer file front (survey_fields front (length s.frames))
     answer (inr found) is =
         fault_answer file front
-        (survey-stopped front (length s.frames) start (head file n within start start_now kept
-        allowed read) (frames file n within start start_now kept allowed read)
-        (all_blocks front start) (r file n within start start_now kept allowed read).stop
-        (found-now file n within start start_now kept allowed read) found.0 (ap first_of
-        (no-faults file n within start start_now kept allowed read few)) found.1)
+        (survey-stopped (length s.frames)
+        (found-now within start_now kept read) found.0 (ap first_of
+        (no-faults within start_now kept read few)) found.1)
         found.2
     answer (inl none) is =
         let now_is = whole none in
@@ -104,16 +102,15 @@ module _ (file : List ℕ) (n : ℕ) (within : n ≤ length file) (allowed : ℕ
           ),
         )
 
-  by_start : IsCutStart file n within start → survey_fields file allowed ≡ Ok s
+  by_start : IsCutStart file within start → survey_fields file allowed ≡ Ok s
       → IsCutAnswer file front (survey_fields front (length s.frames))
-  by_start (inl there) is =
-      answer there.0 there.1 (end-now file n within start there.0 there.1 allowed read) is
+  by_start (inl there) is = answer there.0 there.1 (end-now within there.0 there.1 read) is
   by_start (inr found) is = grind (arith, fault_answer, survey_fields-by)
 
   -- the survey returns what it should for a file that was cut short
   pub cut-answer : survey_fields file allowed ≡ Ok s
       → IsCutAnswer file front (survey_fields front (length s.frames))
-  cut-answer is = by_start (cut-start file n within start read.start_is no_junk) is
+  cut-answer is = by_start (cut-start file within read.start_is no_junk) is
 
 -- the first bytes of a file without fault and junk have the fault that the definition names
 pub prefix-fault : PrefixFault

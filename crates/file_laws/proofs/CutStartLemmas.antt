@@ -38,9 +38,9 @@ text-low within = grind arith
 few-known : {kind : Kind} {k : ℕ} → 25 ≤ k → k < known_by kind → (kind ≡ Ape) × (k < 32)
 few-known many few = grind arith
 
-module _ (file : List ℕ) (n : ℕ) (within : n ≤ length file) where
+module _ (file : List ℕ) {n : ℕ} (within : n ≤ length file) where
   abbrev now : List ℕ
-  now = cut file n within
+  now = cut file within
 
   -- the frame at a later offset that would be whole
   record IsLater (at : ℕ) (h : HeaderFields) (offset : ℕ) : Type 0 where
@@ -52,7 +52,7 @@ module _ (file : List ℕ) (n : ℕ) (within : n ≤ length file) where
       → item_at now at ≡ Frame h
   header-kept at {h} here high =
       sym (stands-only_at now at (Frame h)
-      (ap header_front (drop-cut file n within (omega (arith, high)))
+      (ap header_front (drop-cut file within (omega (arith, high)))
       ∙ header_front-four (take (n - at) (drop at file)) (drop at file)
       (take-take 4 (n - at) (drop at file) (omega (arith, high)))
       ∙ here))
@@ -63,7 +63,7 @@ module _ (file : List ℕ) (n : ℕ) (within : n ≤ length file) where
       let bytes = drop at file in
       let k = n - at in
       sym (stands-only_at now at (Block b)
-      (ap block_front (drop-cut file n within (omega (arith, high)))
+      (ap block_front (drop-cut file within (omega (arith, high)))
       ∙ block_front-any b.kind (take k bytes)
       (block_of_kind-take b.kind bytes (omega (arith, high)) ∙ block_front-own bytes here)))
 
@@ -111,7 +111,7 @@ module _ (file : List ℕ) (n : ℕ) (within : n ≤ length file) where
   no-placed not = grind arith
 
   -- no frame is anchored after an item that was cut through
-  pub no-anchor : {at : ℕ} {item : Item} → IsCutThrough file n within Stream at item
+  pub no-anchor : {at : ℕ} {item : Item} → IsCutThrough file within Stream at item
       → (item_at now at ≡ item → ⊥) → {offset : ℕ} → at < offset → anchored_frame now offset ≡ None
   no-anchor {at} {item} through unknown {offset} behind =
       no-placed (λ p is.
@@ -125,11 +125,11 @@ module _ (file : List ℕ) (n : ℕ) (within : n ≤ length file) where
       (record {
         low = omega (arith, behind, anchored.offset);
         here = header;
-        high = omega (arith, size, anchored.frame.within, length-cut file n within);
+        high = omega (arith, size, anchored.frame.within, length-cut file within);
       }))
 
   -- there is no frame
-  pub no-start : {at : ℕ} {item : Item} → IsCutThrough file n within Stream at item
+  pub no-start : {at : ℕ} {item : Item} → IsCutThrough file within Stream at item
       → (item_at now at ≡ item → ⊥)
       → start_after_junk at (first_anchored longest_junk now (at + 1)) ≡ Err (NoFrame at)
   no-start through unknown = grind (arith, first_anchored-none, no-anchor)

@@ -65,11 +65,11 @@ no-bits = refl
 
 -- ---- areas
 
-module _ (file : List ℕ) (n : ℕ) (within : n ≤ length file) where
+module _ (file : List ℕ) {n : ℕ} (within : n ≤ length file) where
   abbrev now : List ℕ
-  now = cut file n within
+  now = cut file within
 
-  module _ (at : ℕ) (h : HeaderFields) (is : IsHeader h)
+  module _ (at : ℕ) {h : HeaderFields} (is : IsHeader h)
       (high : at + length_of (class_of h) h.slot ≤ n) where
     abbrev over : ℕ
     over = overhead_of (class_of h) h.protected
@@ -82,7 +82,7 @@ module _ (file : List ℕ) (n : ℕ) (within : n ≤ length file) where
         let left = n - at in
         let split : left ≡ over + (left - over) = omega (arith, parts, high) in
         ap (λ (xs : List ℕ). take (own_area h) (drop over xs))
-        (drop-cut file n within (omega (arith, high)) ∙ ap (λ k. take k (drop at file)) split)
+        (drop-cut file within (omega (arith, high)) ∙ ap (λ k. take k (drop at file)) split)
         ∙ ap (take (own_area h)) (drop-take over (left - over) (drop at file))
         ∙ take-take (own_area h) (left - over) (drop over (drop at file))
         (omega (arith, parts, high))
@@ -91,13 +91,13 @@ module _ (file : List ℕ) (n : ℕ) (within : n ≤ length file) where
     area-long = grind (arith, length-take-le, parts, length-drop, length-cut)
 
   marks-in : (head : Option Head) (all : List Row) (k : ℕ) (rows : List Row)
-      → AreIn file n within rows → AreIn file n within
+      → AreIn file within rows → AreIn file within
       (map (λ (p : ℕ × Row). marked_row head all p.0 p.1) (enumerate_from k rows))
   marks-in head all k [] are = tt
   marks-in head all k (r ∷ rows) are = (are.0, marks-in head all (k + 1) rows are.1)
 
-  marked_rows-in : (head : Option Head) (rows : List Row) → AreIn file n within rows
-      → AreIn file n within (marked_rows head rows)
+  marked_rows-in : (head : Option Head) (rows : List Row) → AreIn file within rows
+      → AreIn file within (marked_rows head rows)
   unfolding marked_rows
   marked_rows-in head rows are = marks-in head rows 0 rows are
 
@@ -107,17 +107,17 @@ module _ (file : List ℕ) (n : ℕ) (within : n ≤ length file) where
   abbrev all_own : List Row → ℕ
   all_own rows = sum_by (λ (r : Row). own_area r.header) rows
 
-  areas-same : (rows : List Row) → AreIn file n within rows → areas now rows ≡ areas file rows
+  areas-same : (rows : List Row) → AreIn file within rows → areas now rows ≡ areas file rows
   areas-same [] are = refl
   areas-same (r ∷ rows) are = grind (arith, area-same, areas-same rows are.1)
 
-  areas-long : (rows : List Row) → AreIn file n within rows → length (areas now rows) ≡ all_own rows
+  areas-long : (rows : List Row) → AreIn file within rows → length (areas now rows) ≡ all_own rows
   areas-long [] are = refl
   areas-long (r ∷ rows) are =
       omega (
         arith,
         length-append (area_bytes now r.offset r.header) (areas now rows),
-        area-long r.offset r.header are.0.header are.0.high,
+        area-long r.offset are.0.header are.0.high,
         areas-long rows are.1,
         sum_by-cons (λ (q : Row). own_area q.header) r rows,
       )
@@ -140,7 +140,7 @@ module _ (file : List ℕ) (n : ℕ) (within : n ≤ length file) where
 
   -- ---- the head
 
-  module _ (p : PlacedFrame) (is : IsIn file n within p.offset p.header) where
+  module _ (p : PlacedFrame) (is : IsIn file within p.offset p.header) where
     abbrev head_with : Option ℕ → Option Head
     head_with o =
         option_map (λ text. record { offset = p.offset; header = p.header; text_at = text }) o
@@ -159,7 +159,7 @@ module _ (file : List ℕ) (n : ℕ) (within : n ≤ length file) where
 
     -- ---- the main data
 
-    main-front : (rows more : List Row) → AreIn file n within rows
+    main-front : (rows more : List Row) → AreIn file within rows
         → (rest : List ℕ) × (main_bytes file head (rows ++ more) ≡ main_bytes now head rows ++ rest)
     unfolding main_bytes
     main-front rows more are = (
@@ -170,7 +170,7 @@ module _ (file : List ℕ) (n : ℕ) (within : n ≤ length file) where
           ∙ sym (append_assoc (head_bytes now head) (areas now rows) (areas file more)),
     )
 
-    main-long : (rows : List Row) → AreIn file n within rows
+    main-long : (rows : List Row) → AreIn file within rows
         → length (main_bytes now head rows) ≡ head_area head + all_own rows
     unfolding main_bytes
     main-long rows are = omega (
@@ -180,14 +180,15 @@ module _ (file : List ℕ) (n : ℕ) (within : n ≤ length file) where
       areas-long rows are,
     )
 
-    place-within : (rows : List Row) (i : ℕ) {r : Row} → AreIn file n within rows → slice_get rows i
+    place-within : (rows : List Row) (i : ℕ) {r : Row} → AreIn file within rows → slice_get rows i
         ≡ Some r → place head rows i + own_area r.header ≤ length (main_bytes now head rows)
     unfolding place
     place-within rows i {r} are found = omega (arith, main-long rows are, own-within rows i found)
 
     -- ---- the frames of the stream
 
-    module _ (class : ClassFields) (rows more : List Row) (are : AreIn file n within rows)
+    module _ {class : ClassFields} {rows : List Row} (more : List Row)
+        (are : AreIn file within rows)
         (placed : AreWellPlaced head class rows) where
       abbrev main : List ℕ
       main = main_bytes now head rows
@@ -246,7 +247,7 @@ module _ (file : List ℕ) (n : ℕ) (within : n ≤ length file) where
 
     -- with the rows marked, the stream of the first frames begins the stream of all frames too
     pub marked_rows-front : {class : ClassFields} (ps : List PlacedFrame) (gone : List Row)
-        → AreIn file n within (rows_of file ps)
+        → AreIn file within (rows_of file ps)
         → AreWellPlaced head class (marked_rows head (rows_of file ps))
         → (rest : List StreamFrame) × (stream_frames (main_bytes now head
         (marked_rows head (rows_of file ps))) head (marked_rows head (rows_of file ps)) ++ rest
@@ -257,7 +258,7 @@ module _ (file : List ℕ) (n : ℕ) (within : n ≤ length file) where
         let later = map (λ (p : ℕ × Row). marked_row head (rows ++ gone) p.0 p.1)
         (enumerate_from (length rows) gone) in
         let found =
-        stream-front class (marked_rows head rows) later (marked_rows-in head rows are) placed in (
+        stream-front later (marked_rows-in head rows are) placed in (
           found.0,
           found.1 ∙ ap (λ (rs : List Row). stream_frames (main_bytes file head rs) head rs)
               (sym (marks-front head rows gone)),

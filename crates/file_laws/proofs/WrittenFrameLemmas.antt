@@ -21,9 +21,8 @@ use Rattle.cut_edits.proofs.PieceLemmas.{head_long, piece-parts, plain-long}
 use Rattle.cut_edits.proofs.PieceLemmas.{span-survey_without_head, span-there, span_chosen}
 use Rattle.cut_edits.proofs.{PieceLemmas.survey_without_head-relaid, SealedLemmas.for-whole}
 use Rattle.cut_edits.proofs.SpanLemmas.{with-fitting}
-use Rattle.cut_edits.specs.Chosen.{all_choice, Choosing, chosen_file, cut_choice, cut_command}
-use Rattle.cut_edits.specs.Chosen.{first_planning, laying_making, own_slots_part, placed_part}
-use Rattle.cut_edits.specs.Chosen.{Planning}
+use Rattle.cut_edits.specs.Chosen.{Choosing, chosen_file, cut_command, laying_making}
+use Rattle.cut_edits.specs.Chosen.{own_slots_part, placed_part, Planning}
 use Rattle.cut_edits.specs.Exact.{exact_command, exact_making, exact_part, file_span}
 use Rattle.cut_edits.specs.Exact.{row_sealed_part, span_part, span_piece, survey_without_head}
 use Rattle.exact_span.proofs.SealLemmas.{sealed-whole}
@@ -44,9 +43,8 @@ use Rattle.laying.proofs.{LaidFileLemmas.laid-frames-stay, LaidLemmas.{first-the
 use Rattle.laying.{proofs.SurveyFrameLemmas.survey-had, specs.Fits.{FitsFromReach, IsFittingPlan}}
 use Rattle.laying.specs.KeptFields.{fields_of_head}
 use Rattle.laying.specs.Laid.{file_laid, file_with_first, frames_laid, info_laid, LaidPart}
-use Rattle.laying.specs.{Laid.{needs_laid, source_part}, LaidFiles.HasInfoSizes}
-use Rattle.laying.specs.{LaidLaws.LosesNoFrame, NeedsFit.own_choice, Relaid.{AreParts, FilePart}}
-use Rattle.laying.specs.Surveys.{CanBeRelaid}
+use Rattle.laying.specs.{Laid.needs_laid, LaidFiles.HasInfoSizes, LaidLaws.LosesNoFrame}
+use Rattle.laying.specs.{NeedsFit.own_choice, Relaid.{AreParts, FilePart}, Surveys.CanBeRelaid}
 use Rattle.laying.specs.Written.{back_blocks, front_blocks, plain_info, slot_in}
 use Rattle.laying.specs.declared.info.Kept.{Kept}
 use Rattle.outside.specs.Files.{Contents}
@@ -97,7 +95,7 @@ placed-some : (window reach : ℕ) (needs : List Need) (placed : List Placed)
 unfolding FitsFromReach
 placed-some window reach needs placed fits some = grind arith
 
-module _ (laid : LaidPart) (file : List ℕ) (s : SurveyFields) (has : CanBeRelaid file s)
+module _ (laid : LaidPart) {file : List ℕ} {s : SurveyFields} (has : CanBeRelaid file s)
     (some : laid.from < laid.to) (within : laid.to ≤ length s.frames)
     (fitting : IsFittingPlan (window_of s.class.version) (needs_laid laid s) laid.placed)
     (long : length laid.extension ≡ 36) where
@@ -111,7 +109,7 @@ module _ (laid : LaidPart) (file : List ℕ) (s : SurveyFields) (has : CanBeRela
         placed-some (window_of s.class.version) 0 (needs_laid laid s) laid.placed fitting.fits
             (omega (arith, needs-many, some)),
         length-map (frames_laid laid file s) slot_in,
-        ap (λ (l : List SlotFields). length l) (laid-slots laid file s has some within fitting),
+        ap (λ (l : List SlotFields). length l) (laid-slots laid has some within fitting),
         length-map laid.placed (λ (p : Placed). p.slot),
       )
 
@@ -123,7 +121,7 @@ module _ (laid : LaidPart) (file : List ℕ) (s : SurveyFields) (has : CanBeRela
       let blocks = blocks-kept file s has in
       let sizes =
       for-whole s.class (frames_laid laid file s) laid.quality long in
-      let are = fitting-laid s.class (source_part laid file s) laid.placed
+      let are = fitting-laid
       (record { has = has; class = refl; some = some; within = within }) fitting in
       subst (λ (o : Option Row). IsCountedFile (file_with_first o laid file s)) (sym first.1)
       (record {
@@ -150,7 +148,7 @@ module _ (laid : LaidPart) (file : List ℕ) (s : SurveyFields) (has : CanBeRela
 
 -- ---- frames that are chosen from one file, in the slots of a plan
 
-module _ (choose : Choosing) (plan : Planning) (choosing : IsChoosing choose)
+module _ {choose : Choosing} {plan : Planning} (choosing : IsChoosing choose)
     (planned : IsPlanning plan) where
   chosen-stay : (file : List ℕ) {s : SurveyFields} {made : List ℕ} → survey_of file most_frames
       ≡ Ok s → laying_making choose plan file s ≡ Ok made → IsCountedFile made
@@ -160,7 +158,7 @@ module _ (choose : Choosing) (plan : Planning) (choosing : IsChoosing choose)
       let had = survey-had most_frames surveyed in
       let fitting =
       planned.fitting by.chosen s had.placed right.some right.within by.placed by.planned in
-      subst IsCountedFile by.is (laid-counted (placed_part by.chosen by.placed) file s had
+      subst IsCountedFile by.is (laid-counted (placed_part by.chosen by.placed) had
       right.some right.within fitting right.extension)
 
   where-stay : (o : Option (List ℕ)) {made : List ℕ}
@@ -180,12 +178,12 @@ pack-stay : (mode : PackMode) (input output : List ℕ)
 pack-stay mode input output =
     let plan = mode_planning mode in
     one_writes (pack_task mode input) output
-    (λ files bytes e. where-stay all_choice plan all_choosing (planning mode) (files input)
+    (λ files bytes e. where-stay all_choosing (planning mode) (files input)
     (packed-made mode (files input) e))
 
 -- ---- the frames that a decoder needs for some samples
 
-module _ (from to : ExactPlace) (file : List ℕ) (s : SurveyFields)
+module _ (from to : ExactPlace) (file : List ℕ) {s : SurveyFields}
     (surveyed : survey_of file most_frames ≡ Ok s) where
   span-stays : {span : Span} → file_span from to (fields_of_head file s.head) s ≡ Ok span
       → IsCountedFile
@@ -201,12 +199,12 @@ module _ (from to : ExactPlace) (file : List ℕ) (s : SurveyFields)
       let first = first-there own.frames span.first (omega (arith, inside.some, inside.within)) in
       let whole =
       for-whole own.class (frames_laid plain file own) plain.quality
-      (plain-long head (head_long file s.head) span file own has inside) in
+      (plain-long head (head_long file s.head) has inside) in
       let sealed = sealed-whole first.0.header whole in
       subst
       (λ (o : Option Row). IsCountedFile (file_laid (row_sealed_part o plain file own) file own))
       (sym first.1)
-      (laid-counted (row_sealed_part (Some first.0) plain file own) file own has inside.some
+      (laid-counted (row_sealed_part (Some first.0) plain file own) has inside.some
       inside.within
       (with-fitting (span_chosen head span) own has.placed inside.some inside.within span.led)
       sealed.extension)
@@ -223,7 +221,7 @@ exact-stays from to None e = absurd cc
 exact-stays from to (Some file) {made} e =
     let parts = made_parts (exact_making from to) e in
     let by = piece-parts from to parts.2 in
-    subst IsCountedFile by.is (span-stays from to file parts.0 parts.1 by.span_is)
+    subst IsCountedFile by.is (span-stays from to file parts.1 by.span_is)
 
 exact-stay : (input : List ℕ) (from to : ExactPlace) (output : List ℕ)
     → WritesOnly IsCountedFile (exact_command from to input output)
@@ -236,7 +234,7 @@ range-stays : (from to : Place) (file : List ℕ) {s : SurveyFields}
     → survey_of file most_frames ≡ Ok s → {laid : LaidPart} → cut_part from to file s ≡ Ok laid
     → IsCountedFile (file_laid laid file s)
 range-stays from to file {s} surveyed {laid} e =
-    chosen-stay (cut_choice from to) (first_planning own_choice) (cut_choosing from to)
+    chosen-stay (cut_choosing from to)
     (first_is_planning (inl refl)) file surveyed
     (ap (λ (r : Result LaidPart EditFault). then_made r (λ laid. Ok (file_laid laid file s))) e)
 
@@ -244,7 +242,7 @@ module _ {P : Type 0} (cut : Cutting P) (prefix : List ℕ)
     (stays : (from to : P) (file : List ℕ) (s : SurveyFields) → survey_of file most_frames ≡ Ok s
     → (laid : LaidPart) → cut.between from to file s ≡ Ok laid
     → IsCountedFile (file_laid laid file (cut.survey s))) where
-  module _ (file : List ℕ) (s : SurveyFields) (surveyed : survey_of file most_frames ≡ Ok s) where
+  module _ (file : List ℕ) {s : SurveyFields} (surveyed : survey_of file most_frames ≡ Ok s) where
     abbrev AllStay : ℕ → List LaidPart → Type 0
     AllStay k all = AllOutputs IsCountedFile (pieces_from prefix k file (cut.survey s) all)
 
@@ -266,7 +264,7 @@ module _ {P : Type 0} (cut : Cutting P) (prefix : List ℕ)
 
 -- ---- all frames of several files
 
-module _ (first : FilePart) (more : List FilePart)
+module _ {first : FilePart} (more : List FilePart)
     (are : AreParts first.survey.class (first ∷ more)) where
   abbrev class : ClassFields
   class = first.survey.class
@@ -286,7 +284,7 @@ module _ (first : FilePart) (more : List FilePart)
       let row = part.has.placed 0 found.0 found.1 in
       let hold =
       entries-hold class own_choice (first ∷ more) plan (omega arith) are
-      (usual_slots (inl refl)) (join-plan first more are) in
+      (usual_slots (inl refl)) (join-plan more are) in
       subst (λ (o : Option Row). IsCountedFile (joined_row_file o first (first ∷ more)))
       (sym found.1)
       (record {
@@ -327,10 +325,10 @@ left-stays : (file : List ℕ) {d : DamagedFields} → damaged_of file ≡ Ok d
 unfolding salvaged_file chosen_file
 left-stays file {d} read =
     let own = emptied_survey d.survey in
-    let had = left-had file d read in
-    let some = left-some file d read in
-    laid-counted (own_slots_part (all_chosen own) own) file own had some (omega arith)
-    (plan-fitting (all_chosen own) own had.placed some (omega arith) own_choice (inl refl)) refl
+    let had = left-had file read in
+    let some = left-some file read in
+    laid-counted (own_slots_part (all_chosen own) own) had some (omega arith)
+    (plan-fitting (all_chosen own) own had.placed some (omega arith) (inl refl)) refl
 
 read-stays : (o : Option (List ℕ)) (bytes : List ℕ) → input_salvaged o ≡ Ok bytes
     → IsCountedFile bytes
@@ -415,7 +413,7 @@ ranges-stay : {s : SurveyFields} {parts : List Part} (can : ArePartsLeft s parts
     → IfSome head (λ (i : Info). length i.extension ≡ 36)
     → IsCountedFile (removal_file parts head file s)
 ranges-stay {s} {parts} can {file} has head long =
-    let first : HeaderFields = (first-left s parts can file has).0.header in
+    let first : HeaderFields = (first-left can has).0.header in
     let frames = removal_frames parts file s in
     let kept = removal_kept head s parts in
     record {
@@ -425,8 +423,8 @@ ranges-stay {s} {parts} can {file} has head long =
       info = info_kept kept first s.class frames;
       frames = frames;
       back = back_blocks file s;
-      is = removal-is s parts can file has head long;
-      laid = removal-laid-file s parts can file has head long;
+      is = removal-is can has head long;
+      laid = removal-laid-file can has head long;
       frames_are = kept-frames kept first s.class frames;
       bytes_are = kept-bytes kept first s.class frames;
     }
@@ -492,7 +490,7 @@ files-counted (Salvage input output) moved some = salvage-stay input output
 
 -- ---- what holds of such files
 
-module _ (P : List ℕ → Type 0) (each : (bytes : List ℕ) → IsCountedFile bytes → P bytes) where
+module _ {P : List ℕ → Type 0} (each : (bytes : List ℕ) → IsCountedFile bytes → P bytes) where
   all-outputs : (outputs : List Output) → AllOutputs IsCountedFile outputs → AllOutputs P outputs
   all-outputs [] all = tt
   all-outputs (output ∷ outputs) all = (each output.bytes all.0, all-outputs outputs all.1)
@@ -511,4 +509,4 @@ counted-loses-none is =
 
 -- no frame of a written file is lost
 pub frames-stay : WrittenFramesStay
-frames-stay = all-written LosesNoFrame (λ bytes. counted-loses-none {bytes = bytes})
+frames-stay = all-written (λ bytes. counted-loses-none {bytes = bytes})

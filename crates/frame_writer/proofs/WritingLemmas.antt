@@ -55,8 +55,8 @@ pub handed-then : {old mid new : WaitingFrames} → ForwardsFrames old mid → F
 handed-then {old} {mid} {new} p q =
     grind (arith, append_assoc p.moved q.moved (held_bytes new), append_assoc)
 
-module _ (old : WaitingFrames) (c : ClassFields) (k : FrameFields) (ks left : List FrameFields)
-    (waiting less : WaitingAreas)
+module _ {old : WaitingFrames} {c : ClassFields} {k : FrameFields} {ks left : List FrameFields}
+    {waiting less : WaitingAreas}
     (view : record { class = c; kept = ks; waiting = waiting } ≡ old) (is : ks ≡ k ∷ drop 1 ks)
     (rest : left ≡ drop 1 ks) (drops : less.bytes ≡ drop (frame_area k) waiting.bytes)
     (step : (given : List ℕ) (ps : List FrameData) → AreAreasLaid given waiting ps
@@ -173,7 +173,7 @@ module _ {name bytes : List ℕ} {f g h : Files} (new : Writing)
       passed_then_prefix p
       (prefix-piece [] new.unsent (held_bytes new.held) refl part)
 
-module _ {name : List ℕ} {fr : Frame} {old : Writing} {f g h : Files} (new : Writing)
+module _ {name : List ℕ} {fr : Frame} {old : Writing} {f g h : Files} {new : Writing}
     (on : AcceptsFrame name fr old new f g) where
   -- a frame was given, and then the buffer was written
   pub writes-sent : h ≡ with_appended_bytes g name new.unsent

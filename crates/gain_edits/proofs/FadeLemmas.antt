@@ -209,16 +209,16 @@ module _ (sheet : List ℕ) (back : Bool) where
     };
     missing = λ m. record {
       defined = refuses_by fault source (without_sheet s old.files m.missing m.is);
-      rose = missed_name (fade_task sheet back input).inputs 1 refl m;
+      rose = missed_name (fade_task sheet back input).inputs refl m;
       files = m.files;
     };
     unread = λ u. record {
       before = sheet_before source u.is;
-      rose = unread_name (fade_task sheet back input).inputs 1 refl u;
+      rose = unread_name (fade_task sheet back input).inputs refl u;
       files = u.files;
     };
     shorter = λ l. record {
-      ended = lost_name (fade_task sheet back input).inputs 1 refl l;
+      ended = lost_name (fade_task sheet back input).inputs refl l;
       files = l.files;
     };
     unwritten = λ k w. absurd w;

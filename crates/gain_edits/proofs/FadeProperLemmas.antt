@@ -144,10 +144,10 @@ pub fade_proper : (sheet : List ℕ) (back : Bool) (input : List ℕ)
 fade_proper sheet back input = record {
   some = omega arith;
   first = refl;
-  late = λ f bytes held few. (file_proper (change_making (fade_change (f sheet) back))
-      (faded_stream (f sheet) back) (fade_making (f sheet) back) fade_refuses input).late f bytes
+  late =
+      λ f bytes held few. (file_proper (fade_making (f sheet) back) fade_refuses input).late f bytes
       held few;
-  streams = λ f bytes new held octets is. (file_proper (change_making (fade_change (f sheet) back))
-      (faded_stream (f sheet) back) (fade_making (f sheet) back) fade_refuses input).streams f bytes
+  streams = λ f bytes new held octets is.
+      (file_proper (fade_making (f sheet) back) fade_refuses input).streams f bytes
       new held octets is;
 }

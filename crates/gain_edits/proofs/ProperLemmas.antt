@@ -105,7 +105,7 @@ no_junk : (steps : ℕ → Steps) (s : SurveyFields)
 unfolding edited_survey
 no_junk steps s = refl
 
-module _ (file : List ℕ) (allowed : ℕ) (s : SurveyFields) (all : AreBytes file)
+module _ (file : List ℕ) (allowed : ℕ) {s : SurveyFields} (all : AreBytes file)
     (is : survey_fields file allowed ≡ Ok s) where
   edited_file-survey : (steps : ℕ → Steps)
       → survey_fields (edited_file steps file s) allowed ≡ Ok (edited_survey steps s)
@@ -331,6 +331,5 @@ edit_makes changes {input} {s} {files = files} there survey_fields octets change
 -- a command that changes gains is proper
 pub edit_proper : (changes : Changes) (input : List ℕ)
     → IsProperTask (task_of_changes changes input)
-edit_proper changes input = file_proper (change_making (changing_of changes))
-    (moved_file_stream (steps_of_changes changes)) (proper changes)
+edit_proper changes input = file_proper (proper changes)
     (refuses_of_changes changes) input

@@ -110,7 +110,7 @@ few-bytes c (f ∷ fs) entries =
 agree-by : {o : Option ℕ} {n m : ℕ} → o ≡ Some n → m ≡ n → agrees o m ≡ true
 agree-by {n = n} {m = m} is same = ap (λ x. agrees x m) is ∙ eq-eqb n m (sym same)
 
-module _ (file : List ℕ) (is : IsCountedFile file) where
+module _ {file : List ℕ} (is : IsCountedFile file) where
   abbrev laid : List ℕ
   laid = laid_file is.front is.first is.info is.frames is.back
 
@@ -120,7 +120,7 @@ module _ (file : List ℕ) (is : IsCountedFile file) where
   whole : AreInfoFields is.info
   whole = record { table = is.laid.sizes.table; extension = is.laid.sizes.extension }
 
-  module _ (s : SurveyFields) (e : survey_of laid most_frames ≡ Ok s) where
+  module _ {s : SurveyFields} (e : survey_of laid most_frames ≡ Ok s) where
     survey-is : survey_fields laid most_frames ≡ Ok s
     survey-is = (survey_of-parts laid most_frames e).1
 
@@ -175,22 +175,22 @@ module _ (file : List ℕ) (is : IsCountedFile file) where
         ap (λ h. is_as_said h (length s.frames) (stream_length s)) head-is
         ∙ and_from (agrees read.frames (length s.frames)) (agrees read.bytes (stream_length s))
         (agree-by
-        (laid-count is.first is.info is.laid.header whole
+        (laid-count is.laid.header whole
         is.front is.frames is.back is.frames_are
         (omega (arith, few)))
         many)
         (agree-by
-        (laid-bytes is.first is.info is.laid.header whole
+        (laid-bytes is.laid.header whole
         is.front is.frames is.back is.bytes_are few-all)
         long)
 
   laid-agrees : NeverSaysOther laid
-  laid-agrees s e = says-no-other (said s e)
+  laid-agrees s e = says-no-other (said e)
 
 -- the text of a file of frames behind an Info frame that gives their numbers says nothing else
 pub counted-agree : CountedTextsAgree
-counted-agree file is = subst NeverSaysOther (sym is.is) (laid-agrees file is)
+counted-agree file is = subst NeverSaysOther (sym is.is) (laid-agrees is)
 
 -- neither does that of a file that a command writes
 pub written-agree : WrittenTextsAgree
-written-agree = all-written NeverSaysOther counted-agree
+written-agree = all-written counted-agree

@@ -14,4 +14,4 @@ pieces-agree from to file s laid t read e told =
     let piece : List ℕ = file_laid laid file (survey_without_head s) in
     subst (SaysSamples piece t)
     (exact-pieces-play.cut from to file s laid read e most_frames t told).length
-    (counted-agree piece (samples-stay from to file s read e) t told).plays
+    (counted-agree piece (samples-stay from to file read e) t told).plays

@@ -26,7 +26,7 @@ one-by : {at ended : ℕ} {r : Row} {silent lost : Bool} → (silent ≡ true �
     × (cond (silent || lost) ended (end_of_data at r) ≤ at + own_area r.header)
 one-by none well before = grind arith
 
-module _ (head : Option Head) (class : ClassFields) (rows : List Row)
+module _ {head : Option Head} {class : ClassFields} {rows : List Row}
     (placed : AreWellPlaced head class rows) where
   abbrev at : ℕ → ℕ
   at i = place head rows i
@@ -86,4 +86,4 @@ module _ (head : Option Head) (class : ClassFields) (rows : List Row)
 
 -- the main data are at most as long as the areas
 pub data-fit : MainDataFit
-data-fit file allowed s e = all-fit s.head s.class s.frames (survey_fields-placed file allowed e)
+data-fit file allowed s e = all-fit (survey_fields-placed file allowed e)

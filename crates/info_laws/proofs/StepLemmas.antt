@@ -84,7 +84,7 @@ both-text : (g : Option Gains) → both_text g ≡ range_ending (range_of g)
 both-text None = refl
 both-text (Some g) = refl
 
-module _ (file : List ℕ) (s : SurveyFields) (channels : Channels) (gains : Option Gains)
+module _ {file : List ℕ} {s : SurveyFields} {channels : Channels} (gains : Option Gains)
     (none : is_none gains ≡ lack_channels channels s.frames)
     (stays : (steps : ℤ)
     → is_some_out_of_range (constant_steps (steps_of (strict_shift channels steps))) s.frames
@@ -135,7 +135,7 @@ lines-are head s = lines-by _ _ _ _ _ _ _ _
 
 -- ---- a file
 
-module _ (file : List ℕ) (s : SurveyFields) (is : survey_of file most_frames ≡ Ok s) where
+module _ (file : List ℕ) {s : SurveyFields} (is : survey_of file most_frames ≡ Ok s) where
   placed : AreWellPlaced s.head s.class s.frames
   placed = survey_fields-placed file most_frames (survey_of-parts file most_frames is).1
 
@@ -156,7 +156,7 @@ module _ (file : List ℕ) (s : SurveyFields) (is : survey_of file most_frames �
       (codes "left: " ++ gains_text (extremes_of 0 s.frames))
   left-says =
       let gains = extremes_of 0 s.frames in
-      says file s Left gains (channel-none 0 s.frames) law.left (λ steps may. exact.left may steps)
+      says gains (channel-none 0 s.frames) law.left (λ steps may. exact.left may steps)
       (said_of gains)
       (ap (λ (l : List ℕ). codes "left: " ++ l) (gains-text gains))
 
@@ -164,7 +164,7 @@ module _ (file : List ℕ) (s : SurveyFields) (is : survey_of file most_frames �
       (codes "right: " ++ gains_text (extremes_of 1 s.frames))
   right-says =
       let gains = extremes_of 1 s.frames in
-      says file s Right gains
+      says gains
       (channel-none 1 s.frames) law.right (λ steps may. exact.right may steps) (said_of gains)
       (ap (λ (l : List ℕ). codes "right: " ++ l) (gains-text gains))
 
@@ -172,7 +172,7 @@ module _ (file : List ℕ) (s : SurveyFields) (is : survey_of file most_frames �
       (codes "both: " ++ both_text (extremes_of_both s.frames))
   both-says =
       let gains = extremes_of_both s.frames in
-      says file s Both gains (both-none s.frames) law.both (λ steps may. exact.both steps) []
+      says gains (both-none s.frames) law.both (λ steps may. exact.both steps) []
       (ap (λ (l : List ℕ). codes "both: " ++ l) (both-text gains))
 
   mono-says : s.class.channels ≡ 1 → SaysSteps file s (codes "mono: ") Both
@@ -180,7 +180,7 @@ module _ (file : List ℕ) (s : SurveyFields) (is : survey_of file most_frames �
   mono-says one =
       let gains = extremes_of 0 s.frames in
       let same : extremes_of_both s.frames ≡ gains = exact.mono one in
-      says file s Both gains (ap is_none (sym same) ∙ both-none s.frames)
+      says gains (ap is_none (sym same) ∙ both-none s.frames)
       (λ steps. law.both steps ∙ ap (λ g. not (takes_steps g steps)) same)
       (λ steps may. subst
       (λ g. IsMadeIfTaken (takes_steps g steps) (gain_result (strict_shift Both steps) false file))
@@ -211,4 +211,4 @@ module _ (file : List ℕ) (s : SurveyFields) (is : survey_of file most_frames �
 
 -- the text gives exactly the steps that are taken
 pub says-steps : InfoSaysTheSteps
-says-steps file s is = ends file s is
+says-steps file s is = ends file is

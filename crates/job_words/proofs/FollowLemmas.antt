@@ -38,7 +38,7 @@ no_words (kind ∷ kinds) = refl
 
 -- what the code has read so far, and what is left
 module _ {K W : Type 0} (kind_of : K → Kind) (word_of : W → List ℕ) (kinds : List K)
-    (words : List W) (so_far : List Said) (i : ℕ)
+    (words : List W) (so_far : List Said) {i : ℕ}
     (before : so_far ++ values_of (drop i (map kind_of kinds)) (drop i (map word_of words))
     ≡ values_of (map kind_of kinds) (map word_of words)) where
   -- the word at i says what its kind reads from it

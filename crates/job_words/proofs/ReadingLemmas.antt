@@ -105,8 +105,8 @@ pub record Found (form : Form) (words : List (List ℕ)) (given : List Flag) (fr
   pub kinds-is : kinds ≡ front_kinds form.command given ++ form_kinds form (length words - front)
   pub values-is : values ≡ values_of kinds words
 
-module _ (form : Form) (readable : IsReadable form) (words : List (List ℕ)) (given : List Flag)
-    (front : ℕ) (kinds : List Kind) (values : List Said)
+module _ {form : Form} (readable : IsReadable form) {words : List (List ℕ)} {given : List Flag}
+    {front : ℕ} {kinds : List Kind} {values : List Said}
     (f : Found form words given front kinds values) where
   kinds-are : kinds ≡ shape_kinds words (best_of form words)
   kinds-are = f.kinds-is ∙ rw (f.front-is, f.given-is) refl
@@ -164,7 +164,7 @@ table_reading-append : (xs ys : List Shape) (words : List (List ℕ))
 table_reading-append xs ys words = grind (arith, find-append, map-append, greatest_append)
 
 -- the reading by the forms up to the one at i, where the forms before it don't take the words
-module _ (table : List Form) (words : List (List ℕ)) (i : ℕ) (d : Form) (place : ℕ)
+module _ (table : List Form) (words : List (List ℕ)) {i : ℕ} (d : Form) {place : ℕ}
     (lt : i < length table) (before : table_reading (shapes (take i table)) words ≡ Err place) where
   -- one more form is tried after those before it
   pub table_reading-more : {here : Result Request ℕ}

@@ -68,7 +68,7 @@ module _ (class : ClassFields) (output : List ℕ) (f : Contents) where
 own_slots : AreSlots own_choice
 own_slots h slot is has = rw (← (only_one has)) is.slot
 
-module _ (output : List ℕ) (f : Contents) (i : InputFields) (later : List InputFields)
+module _ {output : List ℕ} {f : Contents} {i : InputFields} {later : List InputFields}
     (can : CanInputsBeJoined (i ∷ later))
     (whole : AreJoinInputs None most_frames (Told f) (i ∷ later))
     (are : AreSources i.survey.class output (Told f) (i ∷ later)) where
@@ -90,8 +90,7 @@ module _ (output : List ℕ) (f : Contents) (i : InputFields) (later : List Inpu
 
   is-plan : IsPlan (window_of s.class.version) own_choice (map part_needs parts)
       (joined_plan s.class parts)
-  is-plan =
-      rw (parts-rows s.class output f None most_frames (i ∷ later) whole) (the-plan (i ∷ later) can)
+  is-plan = rw (parts-rows s.class output f None most_frames (i ∷ later) whole) (the-plan can)
 
   are-parts : AreParts s.class parts
   are-parts = sources-parts s.class output f None most_frames (i ∷ later) whole alike are
@@ -165,7 +164,7 @@ whole-is output (Told f) (i ∷ later) {work} some apart are ready file holds =
     let alike = alike-first ready.joined in
     let sources = sources-inputs i.survey.class output 0 None most_frames (Told f) (i ∷ later)
     apart alike are in
-    let told = joined-told output f i later ready.joined are sources ready.plan.plan ready.info in
+    let told = joined-told ready.joined are sources ready.plan.plan ready.info in
     let frames = relaid_frames (flat_map part_frames (map (part_in f) (i ∷ later)))
     (entries work.plan) in
     rw (← (ap (λ (o : Option (List ℕ)). unwrap_or o []) holds)) told
@@ -197,6 +196,6 @@ joined-hold output files {inputs} apart can are =
     at (Untold touched) is apart can are = tt
     at (Told f) [] apart can are = let first = can.first in absurd cc
     at (Told f) (i ∷ later) apart can are =
-        joined-holds output f i later can are
+        joined-holds can are
         (sources-inputs i.survey.class output 0 None most_frames
         (Told f) (i ∷ later) apart (alike-first can) are)

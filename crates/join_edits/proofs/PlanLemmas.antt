@@ -65,7 +65,7 @@ alike-parts {class} (i ∷ inputs) are =
     })
     (alike-parts inputs are.3)
 
-module _ (inputs : List InputFields) (can : CanInputsBeJoined inputs) where
+module _ {inputs : List InputFields} (can : CanInputsBeJoined inputs) where
   abbrev parts : List (List Need)
   parts = map (map need_of) (survey_rows inputs)
 

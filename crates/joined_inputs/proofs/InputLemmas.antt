@@ -132,7 +132,7 @@ parts-all number first allowed f (i ∷ inputs) are =
 
 -- what holds of the parts from an input on holds of all parts, if those before it have their
 -- surveys
-module _ (Q : Result (List FilePart) EditFault → Type 0)
+module _ {Q : Result (List FilePart) EditFault → Type 0}
     (more : (p : FilePart) (r : Result (List FilePart) EditFault) → Q r
     → Q (then_made r (λ parts. Ok (p ∷ parts)))) (f : Contents) (after : List (List ℕ)) where
   parts-behind : (number : ℕ) (first : Option ClassFields) (allowed : ℕ) (before : List InputFields)
@@ -161,7 +161,7 @@ module _ (P : EditFault → Type 0) where
   by-all number first file (Ok s) faults differ = grind arith
 
   -- refusals of the inputs from one on
-  module _ (from : ℕ) (faults : (at : ℕ) (fault : SurveyFault) → from ≤ at → P (Input at fault))
+  module _ {from : ℕ} (faults : (at : ℕ) (fault : SurveyFault) → from ≤ at → P (Input at fault))
       (differ : (at : ℕ) → from ≤ at → P (Refused (Differ at))) where
     part-all : {at : ℕ} (first : Option ClassFields) (allowed : ℕ) (o : Option (List ℕ)) → from ≤ at
         → IfErr (join_part at first allowed o) P
@@ -197,8 +197,8 @@ join-late file (name ∷ rest) f bytes held few =
     (λ fault is. of_bytes_behind fault
     (survey_fields-of_bytes bytes most_frames {fault = fault} is)) refl)
     (λ p. then_all IsLateFault (join_parts_from (0 + 1) _ _ f rest) (λ parts. Ok (p ∷ parts))
-    (from-all IsLateFault
-    1 later-late (λ at behind. refl) (0 + 1) _ _ f rest (omega arith)) (λ parts. tt)))
+    (from-all IsLateFault later-late (λ at behind. refl) (0 + 1) _ _ f rest (omega arith))
+    (λ parts. tt)))
     (λ parts. tt))
 
 -- the first input is there with a length that it may have
@@ -236,7 +236,7 @@ module _ (file : List FilePart → List ℕ) (stream : List FilePart → List St
       let here : 0 + length before ≡ length before = omega arith in
       rw (← b.is)
       (ap (λ (r : Result (List FilePart) EditFault). then_made r (λ parts. Ok (file parts)))
-      (parts-behind (λ r. r ≡ Err fault)
+      (parts-behind {Q = λ r. r ≡ Err fault}
       (λ p r e. ap (λ (q : Result (List FilePart) EditFault). then_made q (λ parts. Ok (p ∷ parts)))
       e)
       f (name ∷ b.after) 0 None most_frames before b.are (rw (here, is) refl)))
@@ -249,9 +249,9 @@ module _ (file : List FilePart → List ℕ) (stream : List FilePart → List St
       let P = IsNotBefore (Input (length before) Read) in
       rw (← b.is)
       (then_all P (join_parts f (input_names before ++ name ∷ b.after)) (λ parts. Ok (file parts))
-      (parts-behind (λ r. IfErr r P) (λ p r h. then_all P r (λ parts. Ok (p ∷ parts)) h
+      (parts-behind (λ p r h. then_all P r (λ parts. Ok (p ∷ parts)) h
       (λ parts. tt)) f (name ∷ b.after) 0 None most_frames before b.are
-      (from-all P (length before) (λ at fault behind. behind) (λ at behind. behind)
+      (from-all P (λ at fault behind. behind) (λ at behind. behind)
       (0 + length before) (class_after None before) (most_frames - frames_together before) f
       (name ∷ b.after) (omega arith)))
       (λ parts. tt))
@@ -275,16 +275,16 @@ module _ {before : List InputFields} {name : List ℕ} {names : List (List ℕ)}
         record { defined = refuses-by file stream old.files fault b r.0; stays = r.1 };
     missing = λ m. record {
       defined = refuses-by file stream old.files fault b m.0;
-      rose = missed_name names (length before) (named b) m.1;
+      rose = missed_name names (named b) m.1;
       files = m.1.files;
     };
     unread = λ u. record {
       before = rw u.is (unread-by file stream old.files b);
-      rose = unread_name names (length before) (named b) u;
+      rose = unread_name names (named b) u;
       files = u.files;
     };
     shorter = λ l.
-        record { ended = lost_name names (length before) (named b) l; files = l.files };
+        record { ended = lost_name names (named b) l; files = l.files };
     unwritten = λ k w. absurd w;
     unsent = λ w. absurd w;
     no_memory = needs-first;

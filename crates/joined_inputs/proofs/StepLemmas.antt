@@ -152,9 +152,7 @@ pub laid-all : {class : ClassFields} {key output : List ℕ} {whole : List ℕ �
     → ranges ≡ [] → IsLaidTo class key output whole begun now first files ranges placed
     → LaysFrames key output whole begun now first files
 laid-all {class} {key} {output} {whole} {begun} {now} {first} {files} {ranges} {placed} none laid =
-    lays-all key output whole
-    (λ _. relaid_frames (told_ranges first ranges) placed) begun now
-    first files laid.lays (λ file holds. rw none (told-none first placed))
+    lays-all laid.lays (λ file holds. rw none (told-none first placed))
 
 -- the next range, in the first of the places that are left
 module _ {class : ClassFields} {key output : List ℕ} {whole : List ℕ → List Frame}
@@ -233,7 +231,7 @@ module _ {class : ClassFields} {key output : List ℕ} {whole : List ℕ → Lis
           unsettled = unsettled;
           lays = record {
             made = λ file. here.lays.made file ++ own file;
-            lays = lays_then key output here.lays.made own begun now first files apart
+            lays = lays_then key output own apart
                 here.lays.lays (record {
                   frames = lays.frames;
                   is = λ file holds. lays.is bytes (told file holds);
@@ -266,7 +264,7 @@ module _ {class : ClassFields} {key output : List ℕ} {whole : List ℕ → Lis
               (sources-needs class output first key file later holds here.sources.1)
               both-fit.1 begins)
               split
-              (part_then key output here.lays.made own begun now first files apart here.lays.lays
+              (part_then key output own apart here.lays.lays
               {reach = reach} {after = after} (record {
                 settled = part.settled;
                 prefix = part.prefix;

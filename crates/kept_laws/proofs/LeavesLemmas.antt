@@ -27,7 +27,7 @@ not-here true place e = absurd cc
 not-here false place e = (refl, e)
 
 -- a name that is there, and the bytes that it has
-module _ (f : Contents) (name bytes : List ℕ) (held : f name ≡ Some bytes) where
+module _ (f : Contents) {name bytes : List ℕ} (held : f name ≡ Some bytes) where
   other : {output : List ℕ} → is_some (f output) ≡ false → name ≢ output
   other {output} missing same =
       let here : is_some (f output) ≡ true = ap (λ n. is_some (f n)) (sym same) ∙ ap is_some held in
@@ -52,6 +52,6 @@ leave_all command = record {
       ap (unless_there files) is ∙ ap (λ o. exists_or o made) found;
   twice = λ files. kept-twice files (command.makes files);
   leaves =
-      λ files made is name bytes held. written-leaves files name bytes held made.outputs 0 files
+      λ files made is name bytes held. written-leaves files held made.outputs 0 files
       held (kept_done-free command files is);
 }

@@ -26,9 +26,9 @@ lays-passed : {input output : List ℕ} {made : List ℕ → List Frame} {base :
 lays-passed {base = base} none lays =
     grind (arith, lays.writer base [] [] none, lays.passed, laid-steps, append_assoc, lays.files)
 
-module _ (pass : Pass) (made : List ℕ → List Frame) (base : List ℕ) (old : Writing) (before : Files)
+module _ (pass : Pass) (made : List ℕ → List Frame) {base : List ℕ} {old : Writing} (before : Files)
     (none : IsWriterOf base [] old []) where
-  module _ (new : Writing) (now : Files)
+  module _ {new : Writing} {now : Files}
       (lays : LaysFrames pass.input.now pass.output.now made old new before now) where
     -- all frames were laid, and what waited of them was passed on
     pub lays-written : {after : List ℕ} {end : Files}

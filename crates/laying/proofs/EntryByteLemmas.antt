@@ -71,7 +71,7 @@ front_header : {h : HeaderFields} (s : Side) (rest : List ℕ) → IsHeader h
 unfolding frame_front_bytes
 front_header s rest is = grind (arith, append_assoc, header_front-is)
 
-module _ (h : HeaderFields) (s : Side) (rest : List ℕ) (is : IsHeader h) (pairs : IsShaped s) where
+module _ {h : HeaderFields} {s : Side} (rest : List ℕ) (is : IsHeader h) (pairs : IsShaped s) where
   -- putting the side information into the frame again changes nothing
   put_again : frame_with_side h s (frame_front_bytes h s ++ rest) ≡ frame_front_bytes h s ++ rest
   unfolding frame_with_side frame_front_bytes
@@ -91,7 +91,7 @@ module _ (h : HeaderFields) (s : Side) (rest : List ℕ) (is : IsHeader h) (pair
 
 -- ---- the frame
 
-module _ (h : HeaderFields) (s : Side) (area : List ℕ) (is : IsHeader h) (pairs : IsShaped s)
+module _ {h : HeaderFields} {s : Side} (area : List ℕ) (is : IsHeader h) (pairs : IsShaped s)
     (many : length area ≡ area_of (class_of h) h.slot h.protected) where
   -- with its area the frame is as long as its header says
   pub length-entry : length (frame_front_bytes h s ++ area) ≡ length_of (class_of h) h.slot

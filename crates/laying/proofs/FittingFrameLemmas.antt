@@ -76,7 +76,7 @@ laid-fitting {c} (need ∷ needs) (f ∷ fs) (p ∷ placed)
     (g ∷ relaid_frames (rest_behind p.lead_in f fs) placed) l)
     (sym (stream-cons p placed (stream_entry f) (map stream_entry fs)))
     (laid_more
-    (one-entry c p f slots.0 (omega (arith, fits.0, near)) are.0 p.lead_in)
+    (one-entry p slots.0 (omega (arith, fits.0, near)) are.0 p.lead_in)
     (one-stream p.lead_in p f) piece.0 piece.2 (omega (arith, begins, fits.0, room))
     (omega (arith, begins, fits.0, fits.1, room)) there))
 laid-fitting _ _ placed are needs_are slots fits near room = absurd needs_are
@@ -111,9 +111,9 @@ pub fitting-slots : FittingSlots
 fitting-slots c part placed is fitting = search (arith, slots-by, part-needs)
 
 -- frames that can be laid, in a file
-module _ (c : ClassFields) (frames : List Frame) (stream : List StreamFrame)
-    (hold : AreFramesOfStream c frames stream) (front : List (List ℕ)) (first : HeaderFields)
-    (info : Info)
+module _ {c : ClassFields} {frames : List Frame} {stream : List StreamFrame}
+    (hold : AreFramesOfStream c frames stream) (front : List (List ℕ)) {first : HeaderFields}
+    {info : Info}
     (back : List (List ℕ))
     (before : AreBlocks front) (header : IsHeader first) (class : class_of first ≡ c)
     (sizes : HasInfoSizes info) (behind : AreBlocks back) where
@@ -126,7 +126,7 @@ module _ (c : ClassFields) (frames : List Frame) (stream : List StreamFrame)
   file-loses-none : LosesNoFrame (laid_file front first info frames back)
   file-loses-none = laid-frames-stay c front first info frames back file_is
 
-module _ (c : ClassFields) (part : FilePart) (placed : List Placed) (is : IsPart c part)
+module _ {c : ClassFields} {part : FilePart} {placed : List Placed} (is : IsPart c part)
     (fitting : IsFittingPlan (window_of c.version) (part_needs part) placed) where
   -- the frames of a part can be laid, and their stream is the part's with the lead-ins of the plan
   pub fitting-laid : AreLaidFrom c 0 0 (relaid_frames (part_frames part) placed)
@@ -155,7 +155,7 @@ fitting-files-hold c part placed is fitting = search (arith, file-holds, fitting
 
 -- ---- the frames of parts
 
-module _ (c : ClassFields) (parts : List FilePart) (placed : List Placed)
+module _ (c : ClassFields) (parts : List FilePart) {placed : List Placed}
     (some : 1 ≤ length parts) (are : AreParts c parts)
     (fitting : IsFittingPlan (window_of c.version)
     (flat_map (λ (part : List Need). part) (map part_needs parts)) placed) where
@@ -185,7 +185,7 @@ module _ (c : ClassFields) (parts : List FilePart) (placed : List Placed)
 -- frames in the places of their plan can be laid, and are otherwise unchanged
 pub entries-hold : EntriesHold
 entries-hold c choices parts placed some are slots plan =
-    parts-laid c parts placed some are
+    parts-laid c parts some are
     (parts-fitting (window_of c.version) choices slots
     (parts-headers c parts are) plan)
 
@@ -196,9 +196,7 @@ files-hold c choices parts placed some are slots plan = search (arith, file-hold
 -- no frame of the file of them is lost
 pub planned-frames-stay : PlannedFramesStay
 planned-frames-stay c choices parts placed some are slots plan =
-    file-loses-none c (relaid_frames (flat_map part_frames parts) placed)
-    (stream_with_lead_ins placed
-    (flat_map part_stream parts)) (entries-hold c choices parts placed some are slots plan)
+    file-loses-none (entries-hold c choices parts placed some are slots plan)
 
 -- frames laid by a plan have the slots of the plan
 pub slots-planned : SlotsArePlanned

@@ -73,7 +73,7 @@ head_text-low h frame is = rw is refl
 
 -- ---- its bytes
 
-module _ (first : HeaderFields) (info : Info) (header : IsHeader first)
+module _ {first : HeaderFields} {info : Info} (header : IsHeader first)
     (sizes : HasInfoSizes info) where
   abbrev c : ClassFields
   c = class_of first

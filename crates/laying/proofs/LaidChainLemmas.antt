@@ -57,8 +57,8 @@ pub some_frames : (file : List ℕ) (at : ℕ) (fs : List Frame) → 0 < length 
 some_frames file at [] some = absurd (omega (arith, some))
 some_frames file at (f ∷ fs) some = refl
 
-module _ (c : ClassFields) (front : List (List ℕ)) (first : HeaderFields) (info : Info)
-    (frames : List Frame) (back : List (List ℕ))
+module _ {c : ClassFields} {front : List (List ℕ)} {first : HeaderFields} {info : Info}
+    {frames : List Frame} {back : List (List ℕ)}
     (is : IsLaidFile c front first info frames back) where
   abbrev pub file : List ℕ
   file = laid_file front first info frames back
@@ -90,7 +90,7 @@ module _ (c : ClassFields) (front : List (List ℕ)) (first : HeaderFields) (inf
   -- ---- the bytes
 
   long_own : length own ≡ head_size
-  long_own = length-info_frame first info is.header is.sizes
+  long_own = length-info_frame is.header is.sizes
 
   -- the areas have as many bytes as were laid
   pub many : areas_length (fields_of_frames frames) ≡ length area_data
@@ -122,7 +122,7 @@ module _ (c : ClassFields) (front : List (List ℕ)) (first : HeaderFields) (inf
 
   first_item : item_at file from ≡ FrameItem h
   first_item = item_at-known file from from (own ++ after) (FrameItem h) refl stands
-      ((info_item first info is.header is.sizes).known after)
+      ((info_item is.header is.sizes).known after)
 
   front_chain : item_chain Front file 0
       ≡ record { items = placed 0 (block_items front is.blocks_before); stop = from }
@@ -150,7 +150,7 @@ module _ (c : ClassFields) (front : List (List ℕ)) (first : HeaderFields) (inf
   unfolding stop
   stream =
       items-item_chain Stream file (FrameItem h ∷ later_items) (own ++ after) []
-      (own, after, refl, info_item first info is.header is.sizes, refl, later_are)
+      (own, after, refl, info_item is.header is.sizes, refl, later_are)
       (omega (arith, long_file))
       (stands ∙ sym (append-nil (own ++ after)))
       (whole_item_at-past Stream file (from + length (own ++ after)) stop-past)
@@ -170,9 +170,9 @@ module _ (c : ClassFields) (front : List (List ℕ)) (first : HeaderFields) (inf
       ≡ head_area (Some (head_at from first))
   head_area-is =
       ap length
-      (area-frame file start.first (overhead-within (info_header first info is.header is.sizes))
+      (area-frame file start.first (overhead-within (info_header is.header is.sizes))
       ∙ ap (drop (overhead_of (class_of h) h.protected)) own_bytes)
-      ∙ length-info_area first info is.header is.sizes
+      ∙ length-info_area is.header is.sizes
 
   -- ---- frames and blocks
 

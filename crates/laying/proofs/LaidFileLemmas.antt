@@ -93,14 +93,14 @@ entries_by main head at fs has = search (arith, frames_by, zero-add, onward-all)
 
 -- ---- the file
 
-module _ (c : ClassFields) (front : List (List ℕ)) (first : HeaderFields) (info : Info)
-    (frames : List Frame) (back : List (List ℕ))
+module _ {c : ClassFields} {front : List (List ℕ)} {first : HeaderFields} {info : Info}
+    {frames : List Frame} {back : List (List ℕ)}
     (is : IsLaidFile c front first info frames back) where
   abbrev file : List ℕ
   file = laid_file front first info frames back
 
   abbrev begin : Start
-  begin = start c front first info frames back is
+  begin = start is
 
   abbrev at : ℕ
   at = frames_offset front first info
@@ -115,7 +115,7 @@ module _ (c : ClassFields) (front : List (List ℕ)) (first : HeaderFields) (inf
   area_data = laid_data (all_frame_data frames)
 
   stand : StandFrom file at frames area_data
-  stand = frames-stand c front first info frames back is
+  stand = frames-stand is
 
   rows-are : rows_of file (frames_from file begin) ≡ rows
   rows-are = grind (arith, frames-are, rows-there, stand)
@@ -124,7 +124,7 @@ module _ (c : ClassFields) (front : List (List ℕ)) (first : HeaderFields) (inf
       (class_of begin.first.header) allowed (rows_of file (frames_from file begin)) ≡ []
   no_faults allowed few =
       ap₂ (λ (o : Option Head) (rs : List Row). all_faults file o (class_of first) allowed rs)
-      (head-is c front first info frames back is) rows-are
+      (head-is is) rows-are
       ∙ ap (λ d. all_faults file head d allowed rows) is.class
       ∙ sound-no_all_faults file head c allowed rows
       (laid-sound file c head at frames area_data is.entries stand is.laid allowed few)
@@ -165,7 +165,7 @@ module _ (c : ClassFields) (front : List (List ℕ)) (first : HeaderFields) (inf
       (start_of_data (place head rows i) (row_at offset f)) begins f.kept.side main-is
       (starts.2 ∙ ap₂
       (λ n g. n + frame_data_start (areas_end 0 (take i (all_frame_data frames))) (frame_data g))
-      (sym (head_area-is c front first info frames back is)) same)
+      (sym (head_area-is is)) same)
       (ap (λ n. drop n area_data) none ∙ laid_at.1) (entry_get c frames i f is.entries found).size
 
   stream-is : stream_of_survey file (laid_fields front first info frames back)
@@ -206,11 +206,11 @@ module _ (c : ClassFields) (front : List (List ℕ)) (first : HeaderFields) (inf
 
 -- no frame of a laid file is lost
 pub laid-frames-stay : LaidFramesStay
-laid-frames-stay = loses-none
+laid-frames-stay = (λ c front first info frames back is. loses-none is)
 
 -- a laid file holds the stream of its frames
 pub laid-stream : LaidStream
-laid-stream = holds
+laid-stream = (λ c front first info frames back is. holds is)
 
 -- the survey of a laid file finds what was put into it
 pub laid-survey : LaidSurvey

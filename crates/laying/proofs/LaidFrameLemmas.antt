@@ -45,7 +45,7 @@ framed_bytes-items c (f ∷ fs) bytes entries many =
       front ++ take n bytes,
       more,
       sym (append_assoc front (take n bytes) more),
-      entry_item k.header k.side (take n bytes) entries.0.header (shaped entries.0.pairs)
+      entry_item (take n bytes) entries.0.header (shaped entries.0.pairs)
           (length-take-le n bytes (omega (arith, many))),
       refl,
       framed_bytes-items c fs (drop n bytes) entries.1 (omega (arith, many, length-drop n bytes)),
@@ -76,7 +76,7 @@ blocks-behind c at (f ∷ fs) bytes blocks are entries many =
     let n = frame_area k in
     let front = frame_front_bytes k.header k.side in
     let more = framed_bytes (fields_of_frames fs) (drop n bytes) in
-    let long = length-entry k.header k.side (take n bytes) entries.0.header
+    let long = length-entry (take n bytes) entries.0.header
     (shaped entries.0.pairs) (length-take-le n bytes (omega (arith, many))) in
     let place : at + frame_length f + length more ≡ at + length (front ++ (take n bytes ++ more)) =
     omega (
@@ -120,7 +120,7 @@ framed_bytes-stand c file at (f ∷ fs) bytes behind entries many is =
     let rest = more ++ behind in
     let stands : drop at file ≡ front ++ (area ++ rest) =
     grind (arith, append_assoc) in
-    let long = length-entry k.header k.side area entries.0.header (shaped entries.0.pairs)
+    let long = length-entry area entries.0.header (shaped entries.0.pairs)
     (length-take-le n bytes (omega (arith, many))) in
     let next : drop (at + frame_length f) file ≡ rest =
     sym (drop-drop (frame_length f) at file)

@@ -42,7 +42,7 @@ written-is {s} {selected} {file} writable is =
     selected.info.items (frames ++ concat (back_blocks file s))
     ∙ rw (writable.info file is found.0 found.1, found.1) refl
 
-module _ (laid : LaidPart) (file : List ℕ) (s : SurveyFields) (is : CanBeRelaid file s)
+module _ (laid : LaidPart) {file : List ℕ} {s : SurveyFields} (is : CanBeRelaid file s)
     (some : laid.from < laid.to) (within : laid.to ≤ length s.frames)
     (fitting : IsFittingPlan (window_of s.class.version) (needs_laid laid s) laid.placed) where
   -- the chosen frames are a part
@@ -57,7 +57,7 @@ module _ (laid : LaidPart) (file : List ℕ) (s : SurveyFields) (is : CanBeRelai
   pub sizes : length laid.extension ≡ 36 → HasInfoSizes (info_laid laid file s)
   sizes extension = grind (arith, length-map, length-range_with_len)
 
-  module _ (first : Row) (found : slice_get s.frames laid.from ≡ Some first) where
+  module _ {first : Row} (found : slice_get s.frames laid.from ≡ Some first) where
     rows_are : slice_range s.frames laid.from laid.to
         ≡ first ∷ slice_range s.frames (laid.from + 1) laid.to
     rows_are = range-next s.frames found some
@@ -79,7 +79,7 @@ module _ (laid : LaidPart) (file : List ℕ) (s : SurveyFields) (is : CanBeRelai
   of_each P each extension =
       let found = first-there s.frames laid.from (omega (arith, some, within)) in
       subst (λ (o : Option Row). P (file_with_first o laid file s)) (sym found.1)
-      (first-file found.0 found.1 P each extension)
+      (first-file found.1 P each extension)
 
   -- the file is well-formed, and that is its stream
   pub laid-holds : length laid.extension ≡ 36
@@ -90,7 +90,7 @@ module _ (laid : LaidPart) (file : List ℕ) (s : SurveyFields) (is : CanBeRelai
   -- no frame of the file is lost
   pub laid-loses-none : length laid.extension ≡ 36 → LosesNoFrame (file_laid laid file s)
   laid-loses-none = of_each LosesNoFrame
-      (fitting-loses-none s.class (source_part laid file s) laid.placed part_is fitting)
+      (fitting-loses-none part_is fitting)
 
 -- no chosen frame is lost
 pub chosen-frames-stay : ChosenFramesStay

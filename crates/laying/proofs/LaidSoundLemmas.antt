@@ -26,7 +26,8 @@ either_most b first second = grind arith
 
 -- the place of the own area is after the areas of the head and of the
 -- frames before it; main data were laid from the end of the head's area on
-module _ (file : List ℕ) (c : ClassFields) (head : ℕ) (end area_start : ℕ) (f : Frame) (r : Row)
+module _ {file : List ℕ} {c : ClassFields} (head : ℕ) (end : ℕ) {area_start : ℕ} {f : Frame}
+    {r : Row}
     (row : IsRowOf file c f r)
     (begins : end + f.kept.side.main_data_begin ≤ area_start)
     (ends : frame_data_end area_start (frame_data f) ≤ area_start + (frame_data f).area) where
@@ -119,7 +120,7 @@ module _ (file : List ℕ) (c : ClassFields) (head : Option Head) (at : ℕ) (fs
   behind_by i None is before = grind (arith, take-last, piece_none)
   behind_by i (Some r) is before =
       let here = is_at is in
-      let most = behind-most file c (head_area head) (end i) (area_start i) here.frame r
+      let most = behind-most (head_area head) (end i)
       here.row here.laid.begins here.laid.ends before in
       omega (
         arith,
@@ -143,7 +144,7 @@ module _ (file : List ℕ) (c : ClassFields) (head : Option Head) (at : ℕ) (fs
       subst (λ n. IsSound (stored_crc (drop r.offset file)) c allowed n
       (data_end_before head rows i) i r)
       (sym (place-there i))
-      (sound-there file c (head_area head) (end i) (area_start i) here.frame r here.row
+      (sound-there (head_area head) (end i) here.row
       here.laid.begins here.laid.ends (ended-most i) within)
 
   none_lost : (i : ℕ) {r : Row} → slice_get rows i ≡ Some r → is_lost head rows i r ≡ r.lost

@@ -81,7 +81,7 @@ known-drop : (n : ℕ) (rows : List Row) → AreKnown rows → AreKnown (drop n 
 known-drop (suc n) (r ∷ rows) all = known-drop n rows all.1
 known-drop _ _ all = all
 
-module _ (head : Option Head) (class : ClassFields) (rows : List Row)
+module _ {head : Option Head} {class : ClassFields} {rows : List Row}
     (placed : AreWellPlaced head class rows) where
   classes_from : (n : ℕ) (xs : List Row) → AreOnward rows n xs
       → AreNeedsOfClass class (map need_of xs)
@@ -133,7 +133,7 @@ pub rows-alone : {class : ClassFields} {rows : List Row} → AreWellPlaced None 
 unfolding data_end_before place
 rows-alone {class} {rows} placed =
     within-fit (map own_frame (map need_of rows)) (omega arith)
-    (fit_from None class rows placed 0 rows (onward-all rows) (omega arith)
+    (fit_from placed 0 rows (onward-all rows) (omega arith)
     (omega arith))
 
 -- ---- a part of them
@@ -182,13 +182,13 @@ part_of s from to classes fit =
 
 -- every part of a placed survey fits in its own slots after a whole window
 pub part-fits : (s : SurveyFields) (from to : ℕ) → IsPlacedSurvey s → Fits s from to
-part-fits s from to placed = part_of s from to (classes_from s.head s.class s.frames placed 0
+part-fits s from to placed = part_of s from to (classes_from placed 0
     s.frames (onward-all s.frames))
-    (fit_all s.head s.class s.frames placed)
+    (fit_all placed)
 
 -- the frames of every part of a placed survey have headers of the standard
 pub part-known : (s : SurveyFields) (from to : ℕ) → IsPlacedSurvey s
     → AreKnown (slice_range s.frames from to)
 part-known s from to placed =
-    known-take (to - from) (drop from s.frames) (known-drop from s.frames (known_from s.head s.class
-    s.frames placed 0 s.frames (onward-all s.frames)))
+    known-take (to - from) (drop from s.frames)
+    (known-drop from s.frames (known_from placed 0 s.frames (onward-all s.frames)))

@@ -169,7 +169,7 @@ may_any r known =
       own = Contains-all_slots r.header.slot known.slot;
     }
 
-module _ (choices : HeaderFields → List SlotFields)
+module _ {choices : HeaderFields → List SlotFields}
     (each : (r : Row) → IsHeader r.header → ChoosesInOrder choices (need_of r)) where
   rows_choose : (rows : List Row) → AreKnown rows → All (ChoosesInOrder choices) (map need_of rows)
   rows_choose [] known = λ k d lt. absurd (omega (arith, lt))
@@ -199,9 +199,9 @@ planned {class} (rows ∷ parts) some all =
       each = subst (All (λ part. AreNeedsOfClass class part)) (sym (parts_are [] whole refl))
           (each_class class whole all);
       kept = subst (PartsChooseInOrder own_choice) (sym (parts_are [] whole refl))
-          (parts_choose own_choice keeps class whole all);
+          (parts_choose keeps class whole all);
       least = subst (PartsChooseInOrder any_choice) (sym (parts_are [] whole refl))
-          (parts_choose any_choice may_any class whole all);
+          (parts_choose may_any class whole all);
       window = window;
       planned = record {
         class = one_class class needs classes;

@@ -122,7 +122,8 @@ module _ (input output : List ℕ) where
     is = λ file holds more within. (made file ++ more, refl, begins file holds more within);
   }
 
-  module _ (made next : List ℕ → List Frame) (old mid : Writing) (before now : Files)
+  module _ {made : List ℕ → List Frame} (next : List ℕ → List Frame) {old mid : Writing}
+      {before now : Files}
       (apart : input ≢ output) (lays : LaysFrames input output made old mid before now) where
     -- two steps lay what they made, concatenated
     pub lays_then : {new : Writing} {after : Files} → LaysFrames input output next mid new now after
@@ -154,7 +155,7 @@ module _ (input output : List ℕ) where
       held = part.held;
       writer = grind (arith, append_assoc);
       is = λ file holds more begins.
-          let found = part.is file (input_holds before now input output lays.passed file apart
+          let found = part.is file (input_holds before lays.passed file apart
           lays.files holds) more begins in (
             found.0,
             append_assoc lays.frames part.done found.0

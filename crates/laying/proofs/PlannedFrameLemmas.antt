@@ -67,7 +67,7 @@ nothing_filled : {n m : ℕ} → n ≡ 0 → m ≡ 0 → drop n (bits []) ≡ ze
 unfolding bits
 nothing_filled none few = grind arith
 
-module _ (c : ClassFields) (p : Placed) (f : Frame) (slot : IsSlot p.slot)
+module _ {c : ClassFields} (p : Placed) {f : Frame} (slot : IsSlot p.slot)
     (near : p.begin ≤ window_of c.version) (is : IsStreamEntry c f) where
   header-there : (guarded : Bool)
       → IsHeader (record f.kept.header { protected = guarded; slot = p.slot })

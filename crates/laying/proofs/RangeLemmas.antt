@@ -21,7 +21,7 @@ range-many : {X : Type 0} (xs : List X) (from : ℕ) {to : ℕ} → to ≤ lengt
     → length (slice_range xs from to) ≡ to - from
 range-many xs from within = grind (arith, length-take-le, length-drop)
 
-module _ (s : SurveyFields) (from to : ℕ) (within : to ≤ length s.frames) where
+module _ (s : SurveyFields) (from : ℕ) {to : ℕ} (within : to ≤ length s.frames) where
   -- a file has all frames of its survey between two numbers
   pub frames-many : (file : List ℕ) → length (slice_range (all_frames file s) from to) ≡ to - from
   frames-many file = grind (arith, range-many, all-length)
@@ -71,7 +71,7 @@ module _ (s : SurveyFields) (from to : ℕ) (within : to ≤ length s.frames) wh
 
   -- ---- the same, by the number of places
 
-  module _ (placed : List Placed) (k : ℕ) (own : k ≡ places_for (to - from) placed) where
+  module _ (placed : List Placed) {k : ℕ} (own : k ≡ places_for (to - from) placed) where
     taken : take k placed ≡ own_places (to - from) placed
     taken = ap (λ m. take m placed) own
 
@@ -94,7 +94,7 @@ module _ (s : SurveyFields) (from to : ℕ) (within : to ≤ length s.frames) wh
     pub reach-is : (reach : ℕ) → last reach ≡ reached reach placed
     reach-is reach = grind (arith, taken, reach-own)
 
-    module _ (input output : List ℕ) (old : Writing) (first before after : Files)
+    module _ (input output : List ℕ) (old : Writing) {first before : Files} (after : Files)
         (same : before ≡ first) where
       -- laying these frames is laying those of the range
       pub lays-range : {new : Writing} → LaysFrames input output made old new before after

@@ -81,7 +81,8 @@ pub holds-given : {window last input : List ℕ} {files : Files} {s : SurveyFiel
     → HoldsLastWithBytes window last input files s i
 holds-given over given = grind arith
 
-module _ (before after last input : List ℕ) (files : Files) (s : SurveyFields) (i : ℕ)
+module _ {before : List ℕ} (after : List ℕ) {last input : List ℕ} {files : Files} {s : SurveyFields}
+    {i : ℕ}
     (over : HoldsLastWithBytes before last input files s i) where
   -- the last 2,048 bytes of a list that ends all areas before frame i are the last of these
   holds_by : (front kept : List ℕ) → front ++ kept ≡ over.passed ++ (before ++ last)
@@ -112,7 +113,7 @@ module _ (before after last input : List ℕ) (files : Files) (s : SurveyFields)
   holds-pushed within is = grind (arith, holds_by, length-append, append-nil)
 
   -- when the area of frame i was read
-  module _ (own : List ℕ) (r : Row) (found : slice_get s.frames i ≡ Some r)
+  module _ {own : List ℕ} {r : Row} (found : slice_get s.frames i ≡ Some r)
       (has : IsAreaOf own input files r) where
     holds_on : (front kept : List ℕ) → front ++ kept ≡ over.passed ++ (before ++ last)
         → IsWindowOver after kept

@@ -27,7 +27,7 @@ pub range-next : {X : Type 0} (xs : List X) {i to : ℕ} {x : X} → slice_get x
     → slice_range xs i to ≡ x ∷ slice_range xs (i + 1) to
 range-next xs is within = grind (arith, drop-next)
 
-module _ {X : Type 0} (xs : List X) (i : ℕ) (x : X) (within : i < length xs)
+module _ {X : Type 0} (xs : List X) {i : ℕ} {x : X} (within : i < length xs)
     (is : x ≡ get_or xs i x) where
   -- the item at a place of a list is found there
   pub found-at : slice_get xs i ≡ Some x
@@ -85,7 +85,7 @@ all-get file s i {r} is = grind (arith, each-get (survey_frame file s) 0 s.frame
 
 -- ---- one place of a plan
 
-module _ (s : SurveyFields) (i to next : ℕ) (row : Row) (p : Placed) (placed : List Placed)
+module _ (s : SurveyFields) {i to next : ℕ} {row : Row} (p : Placed) (placed : List Placed)
     (found : slice_get s.frames i ≡ Some row) (within : i < to)
     (next_is : next ≡ i + cond p.lead_in 0 1) where
   needs-next : map need_of (slice_range s.frames i to)
@@ -207,8 +207,8 @@ pub record LaysUpTo (input output : List ℕ) (whole rest : List ℕ → List Fr
 pub step-most : (b : Bool) → cond b 0 1 ≤ 1
 step-most b = grind arith
 
-module _ (input output : List ℕ) (whole rest : List ℕ → List Frame) (old new : Writing)
-    (before after : Files) (sofar : LaysUpTo input output whole rest old new before after) where
+module _ {input output : List ℕ} {whole rest : List ℕ → List Frame} {old new : Writing}
+    {before after : Files} (sofar : LaysUpTo input output whole rest old new before after) where
   -- if nothing is left to lay, all frames were laid
   pub lays-all : ((file : List ℕ) → Holds before input file → rest file ≡ [])
       → LaysFrames input output whole old new before after

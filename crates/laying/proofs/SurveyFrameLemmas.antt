@@ -218,13 +218,13 @@ data-ends : {head : Option Head} {c : ClassFields} {rows : List Row} {i : ℕ} {
 data-ends is true lost = omega (arith, no_bytes)
 data-ends {rows = rows} is false lost = grind (arith, data-none_well, rows, ltb-false)
 
-module _ (file : List ℕ) (head : Option Head) (c : ClassFields) (rows : List Row)
+module _ (file : List ℕ) {head : Option Head} {c : ClassFields} {rows : List Row}
     (front : HasWholeHead file head) (are : AreWholeRows file rows)
     (placed : AreWellPlaced head c rows) where
   abbrev main : List ℕ
   main = main_bytes file head rows
 
-  module _ (i : ℕ) (r : Row) (found : slice_get rows i ≡ Some r) (row : IsWholeRow file r) where
+  module _ (i : ℕ) {r : Row} (found : slice_get rows i ≡ Some r) (row : IsWholeRow file r) where
     abbrev own_bits : List ℕ
     own_bits = payload_at main (start_of_data (place head rows i) r) (row_side r)
 
@@ -289,7 +289,7 @@ module _ (file : List ℕ) (head : Option Head) (c : ClassFields) (rows : List R
       → AreStreamEntries c (map each (enumerate_from n more))
   each-entries n [] whole_rows at = tt
   each-entries n (r ∷ more) whole_rows at = (
-    own-entry n r (onward-first rows n more at) whole_rows.0,
+    own-entry n (onward-first rows n more at) whole_rows.0,
     each-entries (n + 1) more whole_rows.1 (onward-rest rows n more refl at),
   )
 
@@ -299,7 +299,7 @@ module _ (file : List ℕ) (head : Option Head) (c : ClassFields) (rows : List R
   each-stream n [] whole_rows at = refl
   each-stream n (r ∷ more) whole_rows at =
       ap₂ (λ (x : StreamFrame) (xs : List StreamFrame). x ∷ xs)
-      (own-stream n r (onward-first rows n more at) whole_rows.0)
+      (own-stream n (onward-first rows n more at) whole_rows.0)
       (each-stream (n + 1) more whole_rows.1 (onward-rest rows n more refl at))
 
 -- ---- the frames of a survey
@@ -313,9 +313,9 @@ pub record AreFramesOf (file : List ℕ) (s : SurveyFields) : Type 0 where
 pub frames-of : {file : List ℕ} {s : SurveyFields} → CanBeRelaid file s → AreFramesOf file s
 unfolding all_frames stream_of_survey stream_frames
 frames-of {file} {s} has = record {
-  entries = each-entries file s.head s.class s.frames has.head has.rows has.placed 0
+  entries = each-entries file has.head has.rows has.placed 0
       s.frames has.rows (onward-all s.frames);
-  stream_is = each-stream file s.head s.class s.frames has.head has.rows has.placed 0
+  stream_is = each-stream file has.head has.rows has.placed 0
       s.frames has.rows (onward-all s.frames);
 }
 

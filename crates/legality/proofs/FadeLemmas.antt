@@ -88,7 +88,7 @@ module _ (class : ClassFields) (frames : ℕ) where
 
 -- ---- the fade
 
-module _ (sheet : List ℕ) (back : Bool) (files : Contents) (file : List ℕ) (s : SurveyFields)
+module _ (sheet : List ℕ) (back : Bool) (files : Contents) (file : List ℕ) {s : SurveyFields}
     (surveyed : survey_of file most_frames ≡ Ok s) where
   abbrev input : FileInput
   input = record { bytes = file; survey = s }

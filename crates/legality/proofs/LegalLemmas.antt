@@ -2,10 +2,9 @@
 use Rattle.std.proofs.Common.{ap, append-nil, arith, Bool, Err, false, List, map, None, Ok, Option}
 use Rattle.std.proofs.Common.{refl, Result, Some, subst, sym, true, ℕ, [], ◌++◌, ◌+◌, ◌↔◌, ◌∙◌, ◌∷◌}
 use Rattle.std.proofs.{Common.{◌≡◌, ◌≤◌}, lemmas.List.Elements.All-cons}
-use Rattle.command_table.specs.Choices.{ArePieceRanges, AreSamplePieces, IsLegalExactSheet}
-use Rattle.command_table.specs.Choices.{IsLegalFade, IsLegalGain, IsLegalPack, IsLegalRemoval}
-use Rattle.command_table.specs.Choices.{IsLegalSheet, IsLegalUndo, IsRange, IsSampleRange}
-use Rattle.command_table.specs.Choices.{IsSheetWith}
+use Rattle.command_table.specs.Choices.{ArePieceRanges, AreSamplePieces, IsLegalFade, IsLegalGain}
+use Rattle.command_table.specs.Choices.{IsLegalPack, IsLegalRemoval, IsLegalUndo, IsRange}
+use Rattle.command_table.specs.Choices.{IsSampleRange, IsSheetWith}
 use Rattle.command_table.specs.Inputs.{AreInputs, AreNamesApart, FileInput, HoldsOfEachNext}
 use Rattle.command_table.specs.{Inputs.input_frames, Table.{entry_of, outputs_of, sources_of}}
 use Rattle.commands.proofs.MadeLemmas.{made-of, makes-parts, of-made, parts-make}
@@ -40,7 +39,7 @@ use Rattle.legality.proofs.PackLemmas.{constant-legal, floor-legal, legal-consta
 use Rattle.legality.proofs.{PackLemmas.planned-made, RemoveLemmas.{legal-removed, removed-legal}}
 use Rattle.legality.proofs.{SalvageLemmas.salvage-law, SampleLemmas.{range-span, span-range}}
 use Rattle.legality.proofs.SplitLemmas.{cut-range, frames-right, FramesFollow, range-cut}
-use Rattle.legality.proofs.SplitLemmas.{samples-right, SamplesFollow, split-law}
+use Rattle.legality.proofs.SplitLemmas.{samples-right, split-law}
 use Rattle.legality.specs.{Laws.{AcceptsFiles, LegalIsAccepted}, Legal.IsLegalFor}
 use Rattle.list_edits.specs.{InfoText.info_text, Listing.listing}
 use Rattle.list_edits.specs.TextCommand.{input_text, surveyed_text, text_command}
@@ -54,9 +53,8 @@ use Rattle.requests.specs.{Shifts.steps_of, declared.mode.PackMode.PackMode}
 use Rattle.requests.specs.declared.mode.PackMode.TheVariants.{Best, Constant, Floor, Least}
 use Rattle.seamless_edits.specs.Seamless.{seamless_file, seamless_task, seamless_text_or_none}
 use Rattle.split_edits.proofs.PartsLemmas.{cue-parts, parts-cue}
-use Rattle.split_edits.specs.Split.{cue_sheet_places, exact_places_result, given_cutting}
-use Rattle.split_edits.specs.Split.{given_exact_cutting, sheet_cut_refuses, sheet_cutting}
-use Rattle.split_edits.specs.Split.{sheet_exact_cutting, sheet_exact_refuses}
+use Rattle.split_edits.specs.Split.{cue_sheet_places, exact_places_result, sheet_cut_refuses}
+use Rattle.split_edits.specs.Split.{sheet_exact_refuses}
 use Rattle.sync_survey.specs.{Faults.SurveyFields, Survey.survey_of}
 use Rattle.sync_survey.specs.declared.survey_fault.SurveyFault.{SurveyFault}
 
@@ -72,7 +70,7 @@ few-one few = omega (arith, few)
 
 -- a command that reads one stream is legal exactly if no input's name is
 -- an output's, and the stream is an input that its choices are legal for
-module _ (asked : Request) (files : Contents) (input : List ℕ)
+module _ (asked : Request) (files : Contents) {input : List ℕ}
     (reads : sources_of asked ≡ input ∷ []) where
   abbrev ChoiceOf : FileInput → Type 0
   ChoiceOf one = (entry_of asked).legal files (one ∷ [])
@@ -166,8 +164,8 @@ one-made make Choice where_made files input = (
 
 -- the command succeeds exactly with one input that the
 -- choice is legal for, where no output is one of its inputs
-module _ (files : Contents) (input : List ℕ) (others : List (List ℕ)) (output : List ℕ) (most : ℕ)
-    (Choice : FileInput → Type 0) (task : Task) (names : task.inputs ≡ input ∷ others)
+module _ {files : Contents} {input : List ℕ} {others : List (List ℕ)} (output : List ℕ) {most : ℕ}
+    {Choice : FileInput → Type 0} (task : Task) (names : task.inputs ≡ input ∷ others)
     (makes : IsOne Choice files input most ↔ IsMade (task.makes files)) where
   abbrev IsLegalOne : Type 0
   IsLegalOne = AreNamesApart (input ∷ others) (output ∷ []) × IsOne Choice files input most
@@ -221,10 +219,10 @@ pack-choice mode file surveyed e = grind (arith, constant-legal, floor-legal)
 choice-pack : (mode : PackMode) (file : List ℕ) {s : SurveyFields}
     → survey_of file most_frames ≡ Ok s → LegalIn mode (record { bytes = file; survey = s })
     → (bytes : List ℕ) × (making_in mode file s ≡ Ok bytes)
-choice-pack Least file {s} surveyed legal = planned-made file s surveyed (mode_planning Least) refl
-choice-pack Best file {s} surveyed legal = planned-made file s surveyed (mode_planning Best) refl
-choice-pack (Constant rate) file {s} surveyed legal = legal-constant file s surveyed legal
-choice-pack (Floor rate) file {s} surveyed legal = legal-floor file s surveyed legal
+choice-pack Least file {s} surveyed legal = planned-made file surveyed (mode_planning Least) refl
+choice-pack Best file {s} surveyed legal = planned-made file surveyed (mode_planning Best) refl
+choice-pack (Constant rate) file {s} surveyed legal = legal-constant file surveyed legal
+choice-pack (Floor rate) file {s} surveyed legal = legal-floor file surveyed legal
 
 -- the packing in the fewest bytes has a limit of its own
 module _ (files : Contents) (input : List ℕ) where
@@ -341,43 +339,43 @@ legal-is-accepted (Drill seed count) files = (
   (λ made. grind (arith, no-names)),
 )
 legal-is-accepted (ListFile input) files =
-    text-law (λ file. listing) files input (one-legal (ListFile input) files input refl)
+    text-law (λ file. listing) files input (one-legal (ListFile input) files refl)
 legal-is-accepted (InfoFile input) files =
     text-law (λ file s. info_text (fields_of_head file s.head) s) files input
-    (one-legal (InfoFile input) files input refl)
+    (one-legal (InfoFile input) files refl)
 legal-is-accepted (Gain shift tags input output) files =
     let change = gain_change shift tags in
     let Choice = IsLegalGain shift tags in
-    one-law files input [] output most_frames Choice
+    one-law output
     (change_task change (λ file. steps_of shift) (gain_refuses tags) input) refl
     (one-made (change_making change) Choice (changed-made change Choice (λ file s surveyed. (
       legal-gain shift file s tags,
       (λ made. gain-legal shift file s tags made.0 made.1),
     ))) files input)
-    (one-legal (Gain shift tags input output) files input refl)
+    (one-legal (Gain shift tags input output) files refl)
 legal-is-accepted (Undo input output) files =
-    one-law files input [] output most_frames IsLegalUndo
+    one-law output
     (change_task undo_change file_undo_steps undo_refuses input) refl
     (one-made (change_making undo_change) IsLegalUndo
     (changed-made undo_change IsLegalUndo (λ file s surveyed. (
       legal-undo file s,
       (λ made. undo-legal file s made.0 made.1),
     ))) files input)
-    (one-legal (Undo input output) files input refl)
+    (one-legal (Undo input output) files refl)
 legal-is-accepted (Fade back input output sheet) files =
     let change = fade_change (files sheet) back in
     let Choice = IsLegalFade sheet back files in
-    one-law files input (sheet ∷ []) output most_frames Choice (fade_task sheet back input) refl
+    one-law output (fade_task sheet back input) refl
     (one-made (change_making change) Choice (changed-made change Choice (λ file s surveyed. (
-      legal-fade sheet back files file s surveyed,
-      (λ made. fade-legal sheet back files file s surveyed made.0 made.1),
+      legal-fade sheet back files file surveyed,
+      (λ made. fade-legal sheet back files file surveyed made.0 made.1),
     ))) files input)
-    (one-legal (Fade back input output sheet) files input refl)
+    (one-legal (Fade back input output sheet) files refl)
 legal-is-accepted (Cut from to least input output) files =
     let choice = cut_choice from to in
     let planning = first_planning (slot_choices least) in
     let Range = λ (i : FileInput). IsRange i.survey from to in
-    one-law files input [] output most_frames Range
+    one-law output
     (laying_task choice planning cut_refuses input) refl
     (one-made (laying_making choice planning) Range (λ file s surveyed. (
       (λ legal.
@@ -391,10 +389,10 @@ legal-is-accepted (Cut from to least input output) files =
           let by = laid-parts choice planning {file = file} {s = s} {made = made.0} made.1 in
           cut-range from to file s by.chosen by.chose),
     )) files input)
-    (one-legal (Cut from to least input output) files input refl)
+    (one-legal (Cut from to least input output) files refl)
 legal-is-accepted (CutExact input from to output) files =
     let Range = IsSampleRange from to in
-    one-law files input [] output most_frames Range (exact_task from to input) refl
+    one-law output (exact_task from to input) refl
     (one-made (exact_making from to) Range (λ file s surveyed. (
       (λ legal.
           let span = range-span from to file s legal in
@@ -403,37 +401,36 @@ legal-is-accepted (CutExact input from to output) files =
           let by = piece-parts from to {file = file} {s = s} {made = made.0} made.1 in
           span-range from to file s by.span by.span_is),
     )) files input)
-    (one-legal (CutExact input from to output) files input refl)
+    (one-legal (CutExact input from to output) files refl)
 legal-is-accepted (Pack mode input output) files =
-    one-law files input [] output (allowed_frames mode) (LegalIn mode) (pack_task mode input) refl
-    (one-packed files input mode) (one-legal (Pack mode input output) files input refl)
+    one-law output (pack_task mode input) refl
+    (one-packed files input mode) (one-legal (Pack mode input output) files refl)
 legal-is-accepted (SplitAt input prefix places) files =
     let Choice = λ (i : FileInput). ArePieceRanges i.survey places in
-    split-law (given_cutting places) FramesFollow
-    (frames-right [] (λ f. Ok places) cut_refuses) files input prefix Choice
+    split-law
+    (frames-right [] (λ f. Ok places) cut_refuses) input prefix
     (λ i each. (places, refl, each))
     (λ i found e each. subst (λ (l : List Place). HoldsOfEachNext l (FramesFollow i))
     (sym (same-places places found e)) each)
-    (one-legal (SplitAt input prefix places) files input refl)
+    (one-legal (SplitAt input prefix places) files refl)
 legal-is-accepted (SplitExact input prefix places) files =
     let Choice = λ (i : FileInput). AreSamplePieces i places in
-    split-law (given_exact_cutting places) SamplesFollow
-    (samples-right [] (λ f. Ok places) exact_refuses) files input prefix Choice
+    split-law
+    (samples-right [] (λ f. Ok places) exact_refuses) input prefix
     (λ i each. (places, refl, each))
     (λ i found e each. subst (AreSamplePieces i) (sym (same-places places found e)) each)
-    (one-legal (SplitExact input prefix places) files input refl)
+    (one-legal (SplitExact input prefix places) files refl)
 legal-is-accepted (SplitBy false input prefix sheet) files =
-    split-law (sheet_cutting sheet) FramesFollow
-    (frames-right (sheet ∷ []) (λ f. cue_sheet_places (f sheet)) sheet_cut_refuses) files input
-    prefix (IsLegalSheet sheet files)
+    split-law
+    (frames-right (sheet ∷ []) (λ f. cue_sheet_places (f sheet)) sheet_cut_refuses) input
+    prefix
     (λ i. sheet-places (ArePieceRanges i.survey) sheet files)
     (λ i. places-sheet (ArePieceRanges i.survey) sheet files)
-    (one-legal (SplitBy false input prefix sheet) files input refl)
+    (one-legal (SplitBy false input prefix sheet) files refl)
 legal-is-accepted (SplitBy true input prefix sheet) files =
     let Pieces = λ (i : FileInput) (places : List Place). AreSamplePieces i (map Position places) in
-    split-law (sheet_exact_cutting sheet) SamplesFollow (samples-right (sheet ∷ [])
-    (λ f. exact_places_result (cue_sheet_places (f sheet))) sheet_exact_refuses) files input prefix
-    (IsLegalExactSheet sheet files)
+    split-law (samples-right (sheet ∷ [])
+    (λ f. exact_places_result (cue_sheet_places (f sheet))) sheet_exact_refuses) input prefix
     (λ i is.
     let read = sheet-places (Pieces i) sheet files is in (
       map Position read.0,
@@ -444,7 +441,7 @@ legal-is-accepted (SplitBy true input prefix sheet) files =
     let read = then_ok {r = cue_sheet_places (files sheet)} {make = exact_list} {b = found} e in
     places-sheet (Pieces i) sheet files read.0 read.1
     (subst (AreSamplePieces i) (sym (same-places (map Position read.0) found read.2)) each))
-    (one-legal (SplitBy true input prefix sheet) files input refl)
+    (one-legal (SplitBy true input prefix sheet) files refl)
 legal-is-accepted (Join false output inputs) files = (
   (λ legal.
       let is = joined-of false files output inputs legal in
@@ -474,10 +471,10 @@ legal-is-accepted (Join true output inputs) files =
     )
 legal-is-accepted (Remove input output stretches) files =
     let Choice = λ (i : FileInput). IsLegalRemoval stretches i.survey in
-    one-law files input [] output most_frames Choice (remove_task stretches input) refl
+    one-law output (remove_task stretches input) refl
     (one-made (remove_making stretches) Choice (λ file s surveyed. (
       legal-removed s stretches file,
       (λ made. removed-legal s stretches file made.0 made.1),
     )) files input)
-    (one-legal (Remove input output stretches) files input refl)
+    (one-legal (Remove input output stretches) files refl)
 legal-is-accepted (Salvage input output) files = salvage-law files input output

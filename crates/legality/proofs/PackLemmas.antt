@@ -99,7 +99,7 @@ both-answers : {a : Chosen} {fault : EditFault} {r : Result Chosen EditFault} �
     → r ≡ Err fault → ⊥
 both-answers e d = absurd cc
 
-module _ (file : List ℕ) (s : SurveyFields) (is : survey_of file most_frames ≡ Ok s) where
+module _ (file : List ℕ) {s : SurveyFields} (is : survey_of file most_frames ≡ Ok s) where
   abbrev chosen : Chosen
   chosen = record {
     from = 0;

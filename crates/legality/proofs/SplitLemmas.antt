@@ -1,13 +1,13 @@
 -- Ranges of frames: a cut; and what is laid from each place to the next: the pieces of a split.
-use Rattle.std.proofs.Common.{ap, ap₂, Bool, cond, Err, length, List, None, Ok, Option, refl}
-use Rattle.std.proofs.Common.{replicate, Result, Some, suc, ℕ, [], ◌&&◌, ◌<◌, ◌↔◌, ◌∙◌, ◌∷◌, ◌≡◌}
-use Rattle.std.proofs.{Common.◌≤◌, lemmas.Bool.{le-leb, lt-ltb}}
+use Rattle.std.proofs.Common.{ap, ap₂, Bool, cond, Err, List, None, Ok, Option, refl, replicate}
+use Rattle.std.proofs.Common.{Result, Some, suc, ℕ, [], ◌&&◌, ◌<◌, ◌↔◌, ◌∙◌, ◌∷◌, ◌≡◌, ◌≤◌}
+use Rattle.std.proofs.lemmas.Bool.{le-leb, lt-ltb}
 use Rattle.command_table.specs.Choices.{IsRange, IsSampleRange}
 use Rattle.command_table.specs.Inputs.{AreNamesApart, FileInput, HoldsOfEachNext}
 use Rattle.commands.{proofs.RefusingLemmas.then_ok, specs.Command.clash_from}
 use Rattle.commands.specs.{Refusing.{refusal_or, then_made}, SingleOutput.most_frames}
 use Rattle.commands.specs.declared.fault.{EditFault.EditFault, Refusal.{Refusal, TheVariants.Range}}
-use Rattle.cue_sheet.specs.{Places.frame_at, declared.place.Place.Place}
+use Rattle.cue_sheet.specs.declared.place.Place.{Place}
 use Rattle.cut_edits.proofs.ChosenLemmas.{chosen-within}
 use Rattle.cut_edits.specs.Chosen.{Chosen, chosen_range, cut_choice, first_planning, laying_part}
 use Rattle.cut_edits.specs.Chosen.{outside_fault, planned_part}
@@ -35,7 +35,7 @@ within-none : {from to frames : ℕ} → AreWithin from to frames → outside_fa
 within-none {from} {to} {frames} are = ap₂ (λ (a b : Bool). cond (a && b) None
     (Some (Range from to frames))) (lt-ltb from to are.0) (le-leb to frames are.1)
 
-module _ (quality : Option ℕ) (extension : List ℕ) (from to frames : ℕ)
+module _ (quality : Option ℕ) (extension : List ℕ) {from to frames : ℕ}
     (are : AreWithin from to frames) where
   -- frames within a file are chosen
   pub within-ok : chosen_range quality extension from to frames
@@ -59,9 +59,7 @@ cut-range from to file s chosen e = chosen-within None (replicate 36 0) e
 pub range-cut : (from to : Place) (file : List ℕ) (s : SurveyFields) → IsRange s from to
     → (chosen : Chosen) × (cut_choice from to file s ≡ Ok chosen)
 unfolding cut_choice
-range-cut from to file s is =
-    within-chosen None (replicate 36 0) (frame_at s.class (length s.frames) from)
-    (frame_at s.class (length s.frames) to) (length s.frames) is
+range-cut from to file s is = within-chosen None (replicate 36 0) is
 
 -- ---- from each place to the next
 
@@ -79,7 +77,7 @@ pub record IsRightOf {P : Type 0} (cut : Cutting P)
       → Right (record { bytes = file; survey = s }) from to
       → (laid : LaidPart) × (cut.between from to file s ≡ Ok laid)
 
-module _ {P : Type 0} (cut : Cutting P) (Right : FileInput → P → P → Type 0)
+module _ {P : Type 0} {cut : Cutting P} {Right : FileInput → P → P → Type 0}
     (right : IsRightOf cut Right) (file : List ℕ) (s : SurveyFields) where
   abbrev Follows : P → P → Type 0
   Follows = Right (record { bytes = file; survey = s })
@@ -178,8 +176,8 @@ samples-right more places refuses =
 
 -- ---- the command
 
-module _ {P : Type 0} (cut : Cutting P) (Right : FileInput → P → P → Type 0) (right : IsRightOf cut
-    Right) (files : Contents) (input prefix : List ℕ) (Choice : FileInput → Type 0)
+module _ {P : Type 0} {cut : Cutting P} {Right : FileInput → P → P → Type 0} (right : IsRightOf cut
+    Right) {files : Contents} (input prefix : List ℕ) {Choice : FileInput → Type 0}
     (found : (i : FileInput) → Choice i
     → (places : List P) × (cut.places files ≡ Ok places) × HoldsOfEachNext places (Right i))
     (chosen : (i : FileInput) (places : List P) → cut.places files ≡ Ok places
@@ -213,7 +211,7 @@ module _ {P : Type 0} (cut : Cutting P) (Right : FileInput → P → P → Type 
         let names_apart = (same.0 legal).0 in
         let one = (same.0 legal).1 in
         let places = found one.input one.choice in
-        let all = pieces-laid cut Right right one.input.bytes one.input.survey places.0 places.2 in
+        let all = pieces-laid right one.input.bytes one.input.survey places.0 places.2 in
         made-split (apart_no-clash (piece_names prefix) (input ∷ cut.more) 0 names_apart)
         (record {
           file = one.input.bytes;
@@ -232,6 +230,6 @@ module _ {P : Type 0} (cut : Cutting P) (Right : FileInput → P → P → Type 
           no-clash_apart (piece_names prefix) (input ∷ cut.more) 0 done.0,
           surveyed-one Choice is.there is.surveyed
               (chosen (record { bytes = is.file; survey = is.survey }) is.found is.placed
-              (laid-pieces cut Right right is.file is.survey is.found is.picked)),
+              (laid-pieces right is.file is.survey is.found is.picked)),
         )),
   )

@@ -36,7 +36,7 @@ module _ (files : Contents) (rate i : ℕ) (input output : List ℕ) where
       let surveyed = whole-survey
       (record { long = is.is.long; well_formed = is.is.well_formed; few = is.few }) in
       let made = of-made make files is.is.there surveyed
-      ∙ unfit-made file s surveyed rate (rate-none s.class is.named) is.unfit in
+      ∙ unfit-made file surveyed rate (rate-none s.class is.named) is.unfit in
       ap₂ (λ (o : Option ℕ) (r : Result (List ℕ) EditFault). command_result output (clash_or o r))
       (apart_no-clash (output ∷ []) (input ∷ []) 0 is.names) made
 
@@ -66,7 +66,7 @@ module _ (files : Contents) (rate i : ℕ) (input output : List ℕ) where
       let free = clash-free (clash_in task output) (task.makes files) e in
       let read = read-unfit (files input) refl free.1 in
       let whole = survey-whole read.3 in
-      let legal = made-unfit read.0 read.1 read.3 read.4 in
+      let legal = made-unfit read.0 read.3 read.4 in
       record {
         names = no-clash_apart (output ∷ []) (input ∷ []) 0 free.0;
         read = record { bytes = read.0; survey = read.1 };

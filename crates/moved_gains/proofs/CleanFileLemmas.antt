@@ -25,7 +25,7 @@ some_frames file o e none = grind arith
 pub blocks-append : (ps qs : List PlacedItem) → blocks_of (ps ++ qs) ≡ blocks_of ps ++ blocks_of qs
 blocks-append ps qs = filter_map-append (λ (p : PlacedItem). block_of_item p.offset p.item) ps qs
 
-module _ (file : List ℕ) (allowed : ℕ) (start : Start) (read : IsRead file allowed start)
+module _ {file : List ℕ} {allowed : ℕ} {start : Start} (read : IsRead file allowed start)
     (no_junk : start.front_end ≡ start.first.offset) where
   abbrev s : SurveyFields
   s = told_from file start

@@ -69,7 +69,7 @@ moved_first steps lost file first ps o = grind (arith, moved-cons, append-nil)
 abbrev pub lost_from : List ℕ → Start → ℕ → Bool
 lost_from file start = is_lost_at (told_from file start).frames
 
-module _ (steps : ℕ → Steps) (file : List ℕ) (allowed : ℕ) (start : Start) (all : AreBytes file)
+module _ (steps : ℕ → Steps) {file : List ℕ} {allowed : ℕ} {start : Start} (all : AreBytes file)
     (read : IsRead file allowed start) where
   abbrev pub new_file : List ℕ
   new_file = edited_file steps file (told_from file start)
@@ -275,8 +275,8 @@ module _ (steps : ℕ → Steps) (file : List ℕ) (allowed : ℕ) (start : Star
   pub new-head_area : head_bytes new_file (option_map (nearer_head gap) head)
       ≡ head_bytes file head
   new-head_area = head_bytes-nearer file new_file gap start.first
-      (area-image (λ at. at - gap) steps (λ at. first_stays lost start.first head) file new_file
-      start.first first_image)
+      (area-image (λ at. at - gap) steps
+      (λ at. first_stays lost start.first head) file new_file first_image)
 
   -- the frames are the file's, nearer by the junk
   pub new-frames : frames_from new_file (moved_start start)

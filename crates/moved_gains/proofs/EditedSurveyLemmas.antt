@@ -36,10 +36,10 @@ behind_first gap above = grind (arith, le-ltb, nearer_piece)
 
 -- ---- the survey
 
-module _ (steps : ℕ → Steps) (file : List ℕ) (allowed : ℕ) (start : Start) (all : AreBytes file)
+module _ (steps : ℕ → Steps) {file : List ℕ} {allowed : ℕ} {start : Start} (all : AreBytes file)
     (read : IsRead file allowed start) where
   abbrev new : List ℕ
-  new = new_file steps file allowed start all read
+  new = new_file steps all read
 
   abbrev gap : ℕ
   gap = gap_of start
@@ -60,12 +60,12 @@ module _ (steps : ℕ → Steps) (file : List ℕ) (allowed : ℕ) (start : Star
   pub edited_image : IsFileImage (λ at. at - gap) steps lost file new start (moved_start start)
   edited_image =
       record {
-        start_is = new-start steps file allowed start all read;
+        start_is = new-start steps all read;
         class = refl;
-        head = new-head steps file allowed start all read;
-        head_area = new-head_area steps file allowed start all read;
-        frames = new-frames steps file allowed start all read;
-        images = frames-moved steps file allowed start all read;
+        head = new-head steps all read;
+        head_area = new-head_area steps all read;
+        frames = new-frames steps all read;
+        images = frames-moved steps all read;
         past = past;
       }
 
@@ -73,7 +73,7 @@ module _ (steps : ℕ → Steps) (file : List ℕ) (allowed : ℕ) (start : Star
   pub new-marked : (told_from new (moved_start start)).frames
       ≡ map (edited_row steps gap) (told_from file start).frames
   new-marked =
-      told-image (λ at. at - gap) steps lost file new start (moved_start start) edited_image
+      told-image edited_image
       (edited_row steps gap)
       (λ i r is. ap (λ b. record r {
         offset = r.offset - gap;
@@ -83,8 +83,7 @@ module _ (steps : ℕ → Steps) (file : List ℕ) (allowed : ℕ) (start : Star
 
   -- nothing is at fault in the edited file
   pub new-read : IsRead new allowed (moved_start start)
-  new-read =
-      read-image (λ at. at - gap) steps lost file new start (moved_start start) edited_image read
+  new-read = read-image edited_image read
 
   blocks_same : all_blocks new (moved_start start)
       ≡ map (edited_block start.first.offset gap) (all_blocks file start)
@@ -110,7 +109,7 @@ module _ (steps : ℕ → Steps) (file : List ℕ) (allowed : ℕ) (start : Star
       stream.stop} (λ b above below. behind_first {first = first} gap {b = b} above)
       (item_chain-ends Stream file first)
       (omega arith) (omega arith) in
-      new-blocks steps file allowed start all read
+      new-blocks steps all read
       ∙ sym (map-append (edited_block first gap) (blocks_of front.items) (blocks_of stream.items)
       ∙ ap₂ (λ (a b : List Piece). a ++ b) front_blocks stream_blocks)
 
@@ -129,4 +128,4 @@ pub survey_fields-edited_file : (steps : ℕ → Steps) (file : List ℕ) (allow
 survey_fields-edited_file steps file allowed {s} all e =
     let parts = survey_fields-parts e in
     subst (λ t. survey_fields (edited_file steps file t) allowed ≡ Ok (edited_survey steps t))
-    parts.2 (survey_fields-from steps file allowed parts.0 all parts.1)
+    parts.2 (survey_fields-from steps all parts.1)

@@ -119,7 +119,7 @@ module _ (to : ℕ → ℕ) (steps : ℕ → Steps) (stays : ℕ → Bool) (file
         area = ap (drop (overhead_of (class_of h) h.protected)) same ∙ moved.same_area;
       }
 
-  module _ (p : PlacedFrame) (image : IsImage p) where
+  module _ {p : PlacedFrame} (image : IsImage p) where
     row-image : row_of new (frame_by to p) ≡ image_row to steps stays (row_of file p)
     row-image =
         ap (λ s. record { offset = to p.offset; header = p.header; side = s; lost = false })
@@ -151,7 +151,7 @@ module _ (to : ℕ → ℕ) (steps : ℕ → Steps) (stays : ℕ → Bool) (file
       → has_wrong_crc (stored_crc (drop (to r.offset) new)) (image_row to steps stays r) ≡ false
   words-image [] are right i is = absurd cc
   words-image (p ∷ ps) are right zero is =
-      grind (arith, word-image p are.0 (right 0 (row_of file p) refl), right 0 (row_of file p) refl)
+      grind (arith, word-image are.0 (right 0 (row_of file p) refl), right 0 (row_of file p) refl)
   words-image (p ∷ ps) are right (suc i) {r} is =
       words-image ps are.1 (λ i r is. right (suc i) r is) i is
 
@@ -229,8 +229,8 @@ pub record IsFileImage (to : ℕ → ℕ) (steps : ℕ → Steps) (stays : ℕ �
   pub images : AreImages to steps stays file new (frames_from file start)
   pub past : length new ≤ (stream_chain new there).stop
 
-module _ (to : ℕ → ℕ) (steps : ℕ → Steps) (stays : ℕ → Bool) (file new : List ℕ)
-    (start there : Start) (image : IsFileImage to steps stays file new start there) where
+module _ {to : ℕ → ℕ} {steps : ℕ → Steps} {stays : ℕ → Bool} {file new : List ℕ}
+    {start there : Start} (image : IsFileImage to steps stays file new start there) where
   abbrev head : Option Head
   head = head_of file start.first
 

@@ -2,7 +2,7 @@
 use Rattle.std.proofs.Common.{ap, ap₂, Bool, cond, drop, false, List, map, Ok, Option, option_map}
 use Rattle.std.proofs.Common.{refl, subst, take, true, ℕ, ◌*◌, ◌-◌, ◌∙◌, ◌≡◌}
 use Rattle.bit_fields.specs.Bits.{AreBytes, bits}
-use Rattle.moved_gains.proofs.EditedChainLemmas.{gap_of, lost_from, moved_start, new_file}
+use Rattle.moved_gains.proofs.EditedChainLemmas.{gap_of, new_file}
 use Rattle.moved_gains.proofs.{EditedSurveyLemmas.edited_image, ImageLemmas.stream-image}
 use Rattle.moved_gains.proofs.MovedGainLemmas.{begin-unless, lengths-moved, payload_bits-moved}
 use Rattle.moved_gains.proofs.MovedRowLemmas.{AreShaped, marked_shaped, place-by, rows_shaped}
@@ -66,10 +66,10 @@ module _ (steps : ℕ → Steps) (gap : ℕ) (main : List ℕ) (o : Option Head)
 
 -- ---- the stream
 
-module _ (steps : ℕ → Steps) (file : List ℕ) (allowed : ℕ) (start : Start) (all : AreBytes file)
+module _ (steps : ℕ → Steps) {file : List ℕ} {allowed : ℕ} {start : Start} (all : AreBytes file)
     (read : IsRead file allowed start) where
   abbrev new : List ℕ
-  new = new_file steps file allowed start all read
+  new = new_file steps all read
 
   abbrev head : Option Head
   head = head_of file start.first
@@ -85,8 +85,7 @@ module _ (steps : ℕ → Steps) (file : List ℕ) (allowed : ℕ) (start : Star
       ≡ moved_stream_of steps file (told_from file start)
   unfolding stream_of_survey edited_survey moved_stream_of
   stream-from =
-      stream-image (λ at. at - gap_of start) steps (lost_from file start) file new start
-      (moved_start start) (edited_image steps file allowed start all read)
+      stream-image (edited_image steps all read)
       (λ r. moved_side_unless_lost r.lost (steps r.offset) r.side)
       (λ r frame. moved_stream_frame (steps r.offset) frame)
       (λ main i r is. frame-moved steps (gap_of start) main head rows i r (shaped i r is))
@@ -99,4 +98,4 @@ pub stream-edited_file : (steps : ℕ → Steps) (file : List ℕ) (allowed : �
 stream-edited_file steps file allowed {s} all e =
     let parts = survey_fields-parts e in
     subst (λ t. stream_of_survey (edited_file steps file t) (edited_survey steps t)
-    ≡ moved_stream_of steps file t) parts.2 (stream-from steps file allowed parts.0 all parts.1)
+    ≡ moved_stream_of steps file t) parts.2 (stream-from steps all parts.1)

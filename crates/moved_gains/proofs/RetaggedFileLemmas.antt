@@ -76,8 +76,8 @@ new_tag {new} {bytes} {at} there (inr is) =
       blocks_are = sym (rw some refl);
     }
 
-module _ (file : List ℕ) (allowed : ℕ) (start : Start) (read : IsRead file allowed start)
-    (no_junk : start.front_end ≡ start.first.offset) (bytes : List ℕ) (are : IsTagBytes bytes) where
+module _ {file : List ℕ} {allowed : ℕ} {start : Start} (read : IsRead file allowed start)
+    (no_junk : start.front_end ≡ start.first.offset) {bytes : List ℕ} (are : IsTagBytes bytes) where
   abbrev s : SurveyFields
   s = told_from file start
 
@@ -100,11 +100,11 @@ module _ (file : List ℕ) (allowed : ℕ) (start : Start) (read : IsRead file a
   head = head_of file start.first
 
   abbrev all : List PlacedFrame
-  all = start.first ∷ rest file allowed start read no_junk
+  all = start.first ∷ rest read no_junk
 
-  abbrev parts : IsSplit file (items file allowed start read no_junk) 0 cut (cut + gone)
+  abbrev parts : IsSplit file (items read no_junk) 0 cut (cut + gone)
       (length file) (option_to_list (tag_block s))
-  parts = split file allowed start read no_junk
+  parts = split read no_junk
 
   -- the tag is within the file
   pub room : cut + gone ≤ length file
@@ -144,7 +144,7 @@ module _ (file : List ℕ) (allowed : ℕ) (start : Start) (read : IsRead file a
       (length new) tag.ends (subst (λ m. AreEndToEnd Stream new (cut + n) behind m) end high.0))
 
   old_frames : frames_of parts.front ++ frames_of parts.rest ≡ all
-  old_frames = sym parts.frames ∙ items-frames file allowed start read no_junk
+  old_frames = sym parts.frames ∙ items-frames read no_junk
 
   new_frames : frames_of new_items ≡ map (frame_by to) all
   new_frames =
@@ -169,7 +169,7 @@ module _ (file : List ℕ) (allowed : ℕ) (start : Start) (read : IsRead file a
 
   old_blocks : s.blocks
       ≡ blocks_of parts.front ++ (option_to_list (tag_block s) ++ blocks_of parts.rest)
-  old_blocks = sym (items-blocks file allowed start read no_junk) ∙ parts.blocks
+  old_blocks = sym (items-blocks read no_junk) ∙ parts.blocks
 
   front_begin : BeginBetween 0 cut (blocks_of parts.front)
   front_begin = items-begin file 0 parts.front cut parts.before
@@ -208,10 +208,10 @@ module _ (file : List ℕ) (allowed : ℕ) (start : Start) (read : IsRead file a
   abbrev new_start : Start
   new_start = start_with first
 
-  new_clean : IsClean new 0 first (map (frame_by to) (rest file allowed start read no_junk))
+  new_clean : IsClean new 0 first (map (frame_by to) (rest read no_junk))
       (blocks_of new_items)
   new_clean = clean new 0 new_items first
-      (map (frame_by to) (rest file allowed start read no_junk)) new_ends new_frames
+      (map (frame_by to) (rest read no_junk)) new_ends new_frames
 
   new_head : head_of new first ≡ option_map (head_by to) head
   new_head = head-by to file new start.first kept.0.bytes
@@ -223,22 +223,22 @@ module _ (file : List ℕ) (allowed : ℕ) (start : Start) (read : IsRead file a
     class = refl;
     head = new_head;
     head_area = head_area-by to file new start.first
-        (area-image to no_steps (λ at. true) file new start.first kept.0);
+        (area-image to no_steps (λ at. true) file new kept.0);
     frames = ap₂ numbered_frames new_head new_clean.frames ∙ numbered_frames-by to head all
-        ∙ ap (map (frame_by to)) (sym (frames-is file allowed start read no_junk));
+        ∙ ap (map (frame_by to)) (sym (frames-is read no_junk));
     images = grind (arith, frames-is, numbered_either, rest, kept);
     past = omega (arith, new_clean.stop);
   }
 
   new_read : IsRead new allowed new_start
-  new_read = read-image to no_steps (λ at. true) file new start new_start new_image read
+  new_read = read-image new_image read
 
   -- ---- what its survey finds
 
   new_told : told_from new new_start ≡ retagged_fields n s
   unfolding retagged_fields
   new_told =
-      let rows = told-image to no_steps (λ at. true) file new start new_start new_image (row_by to)
+      let rows = told-image new_image (row_by to)
       (λ i r is. refl) in
       let blocks : all_blocks new new_start ≡ filter (stands_before s) s.blocks
       ++ (new_blocks n s ++ map (piece_by to) (filter (stands_behind s) s.blocks)) =
@@ -264,7 +264,7 @@ module _ (file : List ℕ) (allowed : ℕ) (start : Start) (read : IsRead file a
   unfolding stream_of_survey retagged_fields stream_frames
   stream-from =
       let side : Row → Side = λ r. r.side in
-      stream-image to no_steps (λ at. true) file new start new_start new_image side
+      stream-image new_image side
       (λ r frame. frame)
       (λ main i r is. ap (λ n. record (stream_frame main head s.frames i r) {
         payload = split_bits (granule_lengths r.header (row_side r))

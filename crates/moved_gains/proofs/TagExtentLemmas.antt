@@ -170,7 +170,7 @@ pub tag_none : (s : SurveyFields) → tag_block s ≡ None
     → (tag_offset s ≡ last_end s.frames) × (tag_length s ≡ 0)
 tag_none s is = (rw is refl, rw is refl)
 
-module _ (steps : ℕ → Steps) (file : List ℕ) (allowed : ℕ) (start : Start)
+module _ (steps : ℕ → Steps) {file : List ℕ} {allowed : ℕ} {start : Start}
     (read : IsRead file allowed start) where
   abbrev s : SurveyFields
   s = told_from file start
@@ -335,7 +335,7 @@ pub stands_somewhere : (steps : ℕ → Steps) {file : List ℕ} (allowed : ℕ)
     → survey_fields file allowed ≡ Ok s → StandsSomewhere steps file s
 stands_somewhere steps {file} allowed {s} e =
     let parts = survey_fields-parts e in
-    subst (StandsSomewhere steps file) parts.2 (stands steps file allowed parts.0 parts.1)
+    subst (StandsSomewhere steps file) parts.2 (stands steps parts.1)
 
 -- in every surveyed file no frame begins where the tag begins
 pub stands_apart : (steps : ℕ → Steps) (file : List ℕ) (allowed : ℕ) {s : SurveyFields}
@@ -343,4 +343,4 @@ pub stands_apart : (steps : ℕ → Steps) (file : List ℕ) (allowed : ℕ) {s 
 stands_apart steps file allowed {s} e =
     let parts = survey_fields-parts e in
     subst (λ (t : SurveyFields). IsInFront t ⊎ IsApart t)
-    parts.2 (apart_place steps file allowed parts.0 parts.1)
+    parts.2 (apart_place steps parts.1)

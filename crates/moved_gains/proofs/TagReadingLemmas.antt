@@ -33,8 +33,8 @@ place-some s some = (rw some refl, rw some refl)
 
 -- ---- a survey of a file of a folder
 
-module _ (name : List ℕ) (files : Files) (s : SurveyFields) (surveyed : (bytes : List ℕ)
-    → Holds files name bytes → IsFileSurvey bytes s) (b : Piece) (tag : tag_block s ≡ Some b) where
+module _ (name : List ℕ) (files : Files) {s : SurveyFields} (surveyed : (bytes : List ℕ)
+    → Holds files name bytes → IsFileSurvey bytes s) {b : Piece} (tag : tag_block s ≡ Some b) where
   -- the block is in the file
   pub told-there : {bytes : List ℕ} → Holds files name bytes → IsTagThere bytes b
   told-there {bytes} holds =
@@ -51,7 +51,7 @@ module _ (name : List ℕ) (files : Files) (s : SurveyFields) (surveyed : (bytes
   too_large-refused large bytes holds =
       grind (arith, told-there holds, lt-ltb, file_tag-some bytes s tag)
 
-  module _ (block : List ℕ) (own : (bytes : List ℕ) → Holds files name bytes → block
+  module _ {block : List ℕ} (own : (bytes : List ℕ) → Holds files name bytes → block
       ≡ take b.block.length (drop b.offset bytes)) (long : length block ≡ b.block.length) where
     front_there : (bytes : List ℕ) → Holds files name bytes
         → block_front block ≡ Some (record { kind = Ape; length = length block })

@@ -155,7 +155,7 @@ parted_by {steps} {file} {s} {before} {behind} place size own =
           ∙ ap₂ (λ (a b : List ℕ). a ++ (bytes ++ b)) front rest;
     }
 
-module _ (steps : ℕ → Steps) (file : List ℕ) (allowed : ℕ) (s : SurveyFields)
+module _ (steps : ℕ → Steps) (file : List ℕ) (allowed : ℕ) {s : SurveyFields}
     (is : survey_fields file allowed ≡ Ok s) where
   known : StandsSomewhere steps file s
   known = stands_somewhere steps allowed is
@@ -222,8 +222,8 @@ module _ (steps : ℕ → Steps) (file : List ℕ) (allowed : ℕ) (s : SurveyFi
 
 -- ---- what is written
 
-module _ (steps : ℕ → Steps) (file : List ℕ) (allowed : ℕ) (s : SurveyFields)
-    (is : survey_fields file allowed ≡ Ok s) (tag : NewTag) (bytes : List ℕ)
+module _ (steps : ℕ → Steps) (file : List ℕ) (allowed : ℕ) {s : SurveyFields}
+    (is : survey_fields file allowed ≡ Ok s) (tag : NewTag) {bytes : List ℕ}
     (new : IsTagOf s (Some bytes) (Some tag)) where
   abbrev at_tag : ℕ
   at_tag = tag_offset s
@@ -255,7 +255,7 @@ module _ (steps : ℕ → Steps) (file : List ℕ) (allowed : ℕ) (s : SurveyFi
       (written-behind steps file tag
       s.first s.frames s.length (omega (arith, new.0, front.some, high, there.junk)) there.ends)
       ∙ append_three (take at_tag file) bytes between rest
-      ∙ sym ((parted_front steps file allowed s is front).tagged bytes)
+      ∙ sym ((parted_front steps file allowed is front).tagged bytes)
 
   among_case : IsAmong s → copied_bytes (Some tag) file 0 s.junk
       ++ bytes_written_from steps (Some tag) file s.first s.frames
@@ -276,7 +276,7 @@ module _ (steps : ℕ → Steps) (file : List ℕ) (allowed : ℕ) (s : SurveyFi
       ++ (tag.bytes.now ++ moved_from steps file k among.behind)) new.0 new.1
       ∙ ap (λ (l : List ℕ). before ++ (l ++ rest)) new.2)
       ∙ sym (append_assoc (take s.junk file) before (bytes ++ rest))
-      ∙ sym ((parted_among steps file allowed s is among).tagged bytes)
+      ∙ sym ((parted_among steps file allowed is among).tagged bytes)
 
   tag_case : copied_bytes (Some tag) file 0 s.junk
       ++ bytes_written_from steps (Some tag) file s.first s.frames
@@ -308,5 +308,5 @@ written-file_with_change change tag file allowed {s} new is = at change.tag tag 
         ap₂ (λ n (l : List ℕ). take n file ++ l) none
         (written-none change.steps file s.first s.frames)
         ∙ written-edited_file change.steps file allowed is
-    at (Some bytes) (Some t) new = tag_case change.steps file allowed s is t bytes new
+    at (Some bytes) (Some t) new = tag_case change.steps file allowed is t new
     at _ _ new = absurd new

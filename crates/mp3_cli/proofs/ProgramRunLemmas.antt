@@ -22,7 +22,7 @@ told-same : {f g : Contents} → Told f ≡ Told g → f ≡ g
 told-same e = cc
 
 -- a run with the words of a command ends as the command does
-module _ (keeps : Bool) (words : List (List ℕ)) (asked : Request) (is : job_of words ≡ Ok asked)
+module _ (keeps : Bool) (words : List (List ℕ)) {asked : Request} (is : job_of words ≡ Ok asked)
     {old new : World} {status : ℕ}
     (all : CommandAnswers (kept_command_of keeps asked) old new status) where
   abbrev command : Command
@@ -34,19 +34,17 @@ module _ (keeps : Bool) (words : List (List ℕ)) (asked : Request) (is : job_of
   command_ran sound streams fell =
       let folder = old.folder in
       let after = new.folder in
-      let done = is_done command folder after old.out new.out old.err new.err status all in
+      let done = is_done all in
       record {
-        statuses = at_most command folder after old.out new.out old.err new.err status all;
+        statuses = at_most all;
         bad_word = subst (λ r. (status ≡ 2) ↔ IsErr r) (sym is) (
           (λ two. absurd
-              (not_two command folder after old.out new.out old.err new.err status all two)),
+              (not_two all two)),
           (λ bad. absurd cc),
         );
         answers = subst (AnswersWords keeps old new status) (sym is) all;
-        defined = is_defined keeps words asked is folder after old.out new.out old.err new.err
-            status all;
-        accepted = λ files told calls found. is_accepted keeps words asked is folder after
-            old.out new.out old.err new.err status all told calls found;
+        defined = is_defined keeps words is all;
+        accepted = λ files told calls found. is_accepted keeps words is all told calls found;
         streams = λ zero_is. written-streams words is sound
             (asked_done (command_of asked) keeps (done zero_is))
             (asked_streams (command_of asked) keeps (done zero_is) (streams zero_is));
@@ -55,24 +53,24 @@ module _ (keeps : Bool) (words : List (List ℕ)) (asked : Request) (is : job_of
         touches = subst (λ r. OnlyTouches (outputs_asked r) folder.files after.files) (sym is)
             (subst (λ names. OnlyTouches names folder.files after.files)
             (asked-outputs keeps (command_of asked))
-            (touched command folder after old.out new.out old.err new.err status all));
-        kept = kept command folder after old.out new.out old.err new.err status all;
-        failed = counts_kept command folder after old.out new.out old.err new.err status all;
-        quiet = quiet command folder after old.out new.out old.err new.err status all;
-        silent = silent command folder after old.out new.out old.err new.err status all;
+            (touched all));
+        kept = kept all;
+        failed = counts_kept all;
+        quiet = quiet all;
+        silent = silent all;
         text = λ zero_is.
             subst (λ r. IfSome (always_of r)
             (λ text. new.out.sent ≡ sent_and_more old.out.sent text)) (sym is)
             (subst (λ o. IfSome o (λ text. new.out.sent ≡ sent_and_more old.out.sent text))
             (asked-always keeps (command_of asked))
-            (says_always command folder after old.out new.out old.err new.err status all zero_is));
+            (says_always all zero_is));
         counts = fell;
         keeps_all = λ keep. keeps-all (command_of asked) folder after all.fault
             (subst
             (λ k. CommandEnds (kept_command_of k asked) folder after old.out new.out all.fault)
             keep all.ends);
         all_or_nothing = λ keep before now told is_now calls.
-            all-or-nothing keeps words asked is folder after old.out new.out old.err new.err status
+            all-or-nothing keeps words is
             all told keep is_now calls;
       }
 

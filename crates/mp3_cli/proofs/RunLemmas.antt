@@ -86,7 +86,7 @@ got_nothing {old} {new} line = at line.got
 
 -- ---- of one command
 
-module _ (command : Command) (old new : Seen) (out_old out_new err_old err_new : Heard) (status : ℕ)
+module _ {command : Command} {old new : Seen} {out_old out_new err_old err_new : Heard} {status : ℕ}
     (all : CommandAnswers command (world old out_old err_old)
     (world new out_new err_new) status) where
   -- what follows if the command succeeded, and what follows if it ended with a fault of this kind
@@ -168,7 +168,7 @@ module _ (command : Command) (old new : Seen) (out_old out_new err_old err_new :
       at (Some text) e = (says_here (done_at zero_is)).text text (inl e)
 
   -- ---- over a folder whose contents are known
-  module _ (f : Contents) (told : old.files ≡ Told f) where
+  module _ {f : Contents} (told : old.files ≡ Told f) where
     gives : {r : Result Made EditFault} → HasAnswer command old.files r → command.makes f ≡ r
     gives {r} h = subst (λ files. HasAnswer command files r) told h
 
@@ -285,8 +285,8 @@ bad_word_defined keeps words old {place} out
       line_is = line;
     }))
 
-module _ (keeps : Bool) (words : List (List ℕ)) (asked : Request) (is : job_of words ≡ Ok asked)
-    (old new : Seen) (out_old out_new err_old err_new : Heard) (status : ℕ)
+module _ (keeps : Bool) (words : List (List ℕ)) {asked : Request} (is : job_of words ≡ Ok asked)
+    {old new : Seen} {out_old out_new err_old err_new : Heard} {status : ℕ}
     (all : CommandAnswers (kept_command_of keeps asked) (world old out_old err_old)
     (world new out_new err_new) status) where
   -- up to status 2 the outcome is what the definition says
@@ -296,8 +296,7 @@ module _ (keeps : Bool) (words : List (List ℕ)) (asked : Request) (is : job_of
       if_told old.files (λ f told.
       subst (λ o. IsOutcome o (world old out_old err_old) (world new out_new err_new) status)
       (sym (outcome-words keeps words f is))
-      (as_defined (kept_command_of keeps asked) old new out_old out_new err_old err_new status all
-      f told low))
+      (as_defined all told low))
 
   -- where no call failed and memory didn't run out, status 0 comes exactly if words and files are
   -- legal, and no output is there where what is there is kept
@@ -309,13 +308,11 @@ module _ (keeps : Bool) (words : List (List ℕ)) (asked : Request) (is : job_of
       let command = command_of asked in
       let takes = kept-accepts keeps command f in (
         (λ zero_is.
-            let kept = takes.1 (made_where_done (kept_command_of keeps asked) old new
-            out_old out_new err_old err_new status all f told zero_is) in record {
+            let kept = takes.1 (made_where_done all told zero_is) in record {
               legal = subst (IsLegalBy f) (sym is) (law.1 kept.0);
               missing = λ keep. subst (OutputsAreMissing f) (sym is) (kept.1 keep);
             }),
-        (λ legal. done_where_made (kept_command_of keeps asked) old new out_old out_new err_old
-            err_new status all f told calls found (takes.0 (
+        (λ legal. done_where_made all told calls found (takes.0 (
               law.0 (subst (IsLegalBy f) is legal.legal),
               λ keep. subst (OutputsAreMissing f) is (legal.missing keep),
             ))),
@@ -329,11 +326,10 @@ module _ (keeps : Bool) (words : List (List ℕ)) (asked : Request) (is : job_of
       → NoCallFailed (world old out_old err_old) (world new out_new err_new)
       → AllOrNothing words before after status
   all-or-nothing {before} told keep {after} now calls =
-      by_case (kept_command_of keeps asked) old new out_old out_new err_old err_new status all
+      by_case all
       (λ zero_is e.
       let made =
-      made_where_done (kept_command_of keeps asked) old new out_old out_new err_old err_new
-      status all before told zero_is in
+      made_where_done all told zero_is in
       let made-kept = (kept-accepts keeps (command_of asked) before).1 made in
       inl (zero_is, subst (OutputsAreMissing before) (sym is) (made-kept.1 keep)))
       (λ fault why e w reason left. nothing-by fault why e reason left)
@@ -347,13 +343,11 @@ module _ (keeps : Bool) (words : List (List ℕ)) (asked : Request) (is : job_of
       nothing-by fault Rejected e reason left = same (ap (λ (s : Seen). s.files) left.stays)
       nothing-by fault Missing e reason left = same left.files
       nothing-by fault Unread e reason left = absurd (calls.0 left.rose.0)
-      nothing-by fault Shorter e reason left = absurd (told_twice (kept_command_of keeps asked) old
-          new out_old out_new err_old err_new status all before told left.ended.untold)
+      nothing-by fault Shorter e reason left = absurd (told_twice all told left.ended.untold)
       nothing-by fault (Unwritten k) e reason left = absurd (calls.1 left.rose.0)
       nothing-by fault Unsent e reason left =
           absurd (calls.2 (sent_rose (kept_command_of keeps asked)
-          old.files out_old out_new fault reason (says_here (kept_command_of keeps asked) old new
-          out_old out_new err_old err_new status all e)))
+          old.files out_old out_new fault reason (says_here all e)))
       nothing-by fault NoMemory e reason left = same (ap (λ (s : Seen). s.files) left.stays)
 
 -- ---- a command that makes no file
@@ -440,7 +434,7 @@ pub record IsSilent (command : Command) : Type 0 where
   pub always : command.always ≡ Some []
   pub silent : (f : Contents) (made : Made) → command.makes f ≡ Ok made → made.text ≡ []
 
-module _ (command : Command) (no_text : IsSilent command) (files : Files) (out : Heard) where
+module _ {command : Command} (no_text : IsSilent command) (files : Files) (out : Heard) where
   text_is : {text : List ℕ} → IsCommandText command files text → text ≡ []
   text_is {text} (inl always) = same_Some text [] (sym always ∙ no_text.always)
   text_is (inr told) = sym told.4 ∙ no_text.silent told.0 told.1 told.3
@@ -495,7 +489,7 @@ pub silent_ends : {T : Type 0} {command : Command} → IsSilent command → {r :
     → CommandEnds command old new out out (answer_fault r)
 silent_ends {command = command} no_text
     {r} {old} {new} out done left numbers names =
-    told_ends r done left (says_nothing command no_text old.files out r numbers) numbers names
+    told_ends r done left (says_nothing no_text old.files out r numbers) numbers names
 
 -- ---- a command that sends a text of one file
 
@@ -537,7 +531,7 @@ split_silent cut prefix input = record {
 
 -- ---- a command that only sends a text
 
-module _ (text : List ℕ) (some : Some text ≢ Some []) (now : Seen) where
+module _ {text : List ℕ} (some : Some text ≢ Some []) (now : Seen) where
   text_made : IfTold now.files (λ f. (made : Made) × ((fixed_text_command text).makes f ≡ Ok made)
       × (now.files ≡ Told (written_files made.outputs f)))
   text_made = if_told now.files (λ f told. (record { outputs = []; text = text }, refl, told))

@@ -24,7 +24,7 @@ pub respelled : {M : Type 1} (𝓤 : Ura M) (P : List Val → SProp 𝓤) {us ws
     → ent 𝓤 (P ws) (P us)
 respelled 𝓤 P {us} {ws} e = subst (λ (xs : List Val). ent 𝓤 (P ws) (P xs)) (sym e) (id⊢ 𝓤 (P ws))
 
-module _ (R Z : RattleType) (L : Laws Z) (g : Ghosts Z.Denot) where
+module _ (R : RattleType) {Z : RattleType} (L : Laws Z) (g : Ghosts Z.Denot) where
   -- A `Loose` of these two types.
   abbrev pub Loose : RattleType
   Loose = loose.the_row R Z g

@@ -95,7 +95,8 @@ touch_there old name keeps added = ap (λ touched. is_touched (touched name)) ad
 
 -- ---- a name that is touched, and whose file is then emptied or made, or not
 
-module _ {T E : Type 0} (old mid new : Touched) (name : List ℕ) (stays : new ≡ mid) where
+module _ {T E : Type 0} (old : Touched) {mid new : Touched} (name : List ℕ)
+    (stays : new ≡ mid) where
   module _ (added : mid ≡ with_touch old name (created_touch false)) where
     -- if a call succeeded that may have emptied the file, the name counts as emptied
     pub touch_emptied : (r : Result T E)

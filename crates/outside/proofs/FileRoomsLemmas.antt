@@ -15,7 +15,7 @@ abbrev pub Sets : FileRooms → FileRooms → List ℕ → FileRoom → Type 0
 Sets old new name slot = UpdatesBy string_cmp
     (λ key. slice_cmp nat_cmp name (string_bytes key)) old.by_name new.by_name (Some slot)
 
-module _ (old new : FileRooms) (name : List ℕ) (slot : FileRoom)
+module _ (old new : FileRooms) (name : List ℕ) {slot : FileRoom}
     (sets : Sets old new name slot) where
   -- the name has the contents of the slot, and all others are unchanged
   pub contents_set : contents_in new ≡ update bytes_eq (contents_in old) name (content_of slot)
@@ -39,7 +39,7 @@ module _ (old new : FileRooms) (name : List ℕ) (slot : FileRoom)
       at false o = refl
 
   -- where the name had a slot before:
-  module _ (before : FileRoom) (was : Some before ≡ get_by_text old.by_name name) where
+  module _ {before : FileRoom} (was : Some before ≡ get_by_text old.by_name name) where
     -- the name had the contents of that slot
     pub content_before : contents_in old name ≡ content_of before
     content_before = sym (ap content_in was)

@@ -24,7 +24,8 @@ pub record WritesUpTo (pass : Pass) (whole rest : List ℕ → List ℕ) (before
 
 -- ---- files after the output got more bytes
 
-module _ (old new : Files) (input output more file : List ℕ) (apart : input ≢ output)
+module _ (old : Files) {new : Files} {input output : List ℕ} (more file : List ℕ)
+    (apart : input ≢ output)
     (is : new ≡ with_appended_bytes old output more) where
   -- the input holds what it held
   pub input_holds : Holds old input file → Holds new input file
@@ -98,7 +99,7 @@ module _ (pass : Pass) where
 
 -- ---- a step after another
 
-module _ (pass : Pass) (apart : pass.input.now ≢ pass.output.now) {made : List ℕ → List ℕ}
+module _ {pass : Pass} (apart : pass.input.now ≢ pass.output.now) {made : List ℕ → List ℕ}
     {before mid : List ℕ} {old now : Files}
     (step : WritesMadeBytes pass made before mid old now) where
   -- the input holds what it held
@@ -145,12 +146,12 @@ module _ (pass : Pass) where
     left = λ file holds. refl;
   }
 
-module _ (pass : Pass) (apart : pass.input.now ≢ pass.output.now) {whole rest : List ℕ → List ℕ}
+module _ {pass : Pass} (apart : pass.input.now ≢ pass.output.now) {whole rest : List ℕ → List ℕ}
     {before mid : List ℕ} {old now : Files}
     (sofar : WritesUpTo pass whole rest before mid old now) where
   -- the input held what it holds
   pub up_to_held : (file : List ℕ) → Holds now pass.input.now file → Holds old pass.input.now file
-  up_to_held file holds = writes_held pass apart sofar.written file holds
+  up_to_held file holds = writes_held apart sofar.written file holds
 
   module _ (next later : List ℕ → List ℕ) (is : (file : List ℕ) → Holds old pass.input.now file
       → rest file ≡ next file ++ later file) where
@@ -163,14 +164,14 @@ module _ (pass : Pass) (apart : pass.input.now ≢ pass.output.now) {whole rest 
         → WritesUpTo pass whole later before after old new
     up_to_more step = record {
       made = λ file. sofar.made file ++ next file;
-      written = writes_then pass apart sofar.written step;
+      written = writes_then apart sofar.written step;
       left = both;
     }
 
     -- if that step failed, a prefix of the bytes was passed on
     pub up_to_prefix : {new : Files} {fault : PassFault} → WritesPrefix pass next mid now new fault
         → WritesPrefix pass whole before old new fault
-    up_to_prefix part = prefix_as pass whole later both (prefix_then pass apart sofar.written part)
+    up_to_prefix part = prefix_as pass whole later both (prefix_then apart sofar.written part)
 
   -- if none are still to come, all of them were passed on
   pub up_to_end : ((file : List ℕ) → Holds old pass.input.now file → rest file ≡ [])
@@ -178,12 +179,12 @@ module _ (pass : Pass) (apart : pass.input.now ≢ pass.output.now) {whole rest 
   up_to_end none = grind (arith, writes_as, append-nil)
 
   -- the last step:
-  module _ (next : List ℕ → List ℕ)
+  module _ {next : List ℕ → List ℕ}
       (is : (file : List ℕ) → Holds old pass.input.now file → rest file ≡ next file) where
     -- with the last step all of them were passed on
     pub up_to_last : {after : List ℕ} {new : Files} → WritesMadeBytes pass next mid after now new
         → WritesMadeBytes pass whole before after old new
-    up_to_last step = grind (arith, writes_as, writes_then pass apart sofar.written step)
+    up_to_last step = grind (arith, writes_as, writes_then apart sofar.written step)
 
     -- if that step failed, a prefix of them was passed on
     pub up_to_last_prefix : {new : Files} {fault : PassFault}
@@ -193,7 +194,7 @@ module _ (pass : Pass) (apart : pass.input.now ≢ pass.output.now) {whole rest 
 
 -- ---- what waits is appended at the end
 
-module _ (pass : Pass) (made : List ℕ → List ℕ) {waiting : List ℕ} {old now new : Files}
+module _ {pass : Pass} {made : List ℕ → List ℕ} {waiting : List ℕ} {old now new : Files}
     (step : WritesMadeBytes pass made [] waiting old now) where
   -- if what waited was appended, all was
   pub writes_all : new ≡ with_appended_bytes now pass.output.now waiting
@@ -248,7 +249,7 @@ causes_later r way old now output more before mid after grown same cause =
 -- after bytes that were passed on:
 module _ {pass : Pass} {made : List ℕ → List ℕ} {before mid : List ℕ} {old now : Files}
     (step : WritesMadeBytes pass made before mid old now) (way : Route)
-    (then between after : Counts)
+    {then between : Counts} (after : Counts)
     (same : between ≡ then) where
   -- the cause of a later fault is a cause of the whole
   pub cause_behind : (fault : PassFault) → HasPassCause way now between after fault
@@ -305,7 +306,7 @@ module _ {pass : Pass} {from at to : ℕ} {before mid after : List ℕ} {fed nex
       → CopiesUpTo pass from (at + n) to before after next old new
   copies_more made = record {
     in_range = within;
-    up_to = up_to_more pass copied.ready.apart copied.up_to (bytes_at at n)
+    up_to = up_to_more copied.ready.apart copied.up_to (bytes_at at n)
         (λ file. bytes_between file (at + n) to)
         (λ file holds. between_split file at n to within) made.written;
     ready = made.ready;
@@ -322,12 +323,11 @@ module _ {pass : Pass} {from at to : ℕ} {before mid after : List ℕ} {fed nex
     written = tt;
     prefix = subst (WritesPrefix pass
         (λ file. bytes_between file from to) before old.files new.files) (sym is)
-        (up_to_prefix pass copied.ready.apart copied.up_to (bytes_at at n)
+        (up_to_prefix copied.ready.apart copied.up_to (bytes_at at n)
         (λ file. bytes_between file (at + n) to)
         (λ file holds. between_split file at n to within) made.prefix);
     done = tt;
     cause = subst (HasPassCause (route_of pass) old.files old.counts new.counts) (sym is)
-        (cause_behind copied.up_to.written (route_of pass)
-        old.counts now.counts new.counts copied.done _ made.cause);
+        (cause_behind copied.up_to.written (route_of pass) new.counts copied.done _ made.cause);
     ready = tt;
   }

@@ -44,7 +44,7 @@ front_kept {m} n xs ys in_range =
     ∙ take-append_seam (take m xs) (ys ++ drop n (drop m xs))
 
 -- a list whose end, from m on, was filled again
-module _ (m n : ℕ) (xs ys : List ℕ) (in_range : m ≤ length xs)
+module _ {m : ℕ} (n : ℕ) (xs ys : List ℕ) (in_range : m ≤ length xs)
     (as_many : length ys ≡ length xs - m) where
   -- it has what it had before m, and then what was filled in
   pub refilled : put_mid m (length xs - m) xs ys ≡ take m xs ++ ys

@@ -84,7 +84,7 @@ module _ (chosen : Chosen) (s : SurveyFields) (placed : IsPlacedSurvey s)
   -- the first of all lists with a layout is the plan of packing with the least slots
   pub plain-plan : IsPlan (window_of s.class.version) any_choice (chosen_needs chosen s ∷ [])
       (first_plan any_choice s.class (chosen_needs chosen s))
-  plain-plan = the-plan chosen s placed some within any_choice (inr refl)
+  plain-plan = the-plan chosen s placed some within (inr refl)
 
   -- the frames have a best plan
   pub best-some : (best : List Placed)

@@ -15,9 +15,9 @@ use Rattle.laying.proofs.{EntryByteLemmas.{length-entry, shaped}, FittingFrameLe
 use Rattle.laying.proofs.{InfoByteLemmas.length-info_frame, LaidFrameLemmas.areas-all}
 use Rattle.laying.proofs.LaidLemmas.{first-header, laid-slots, part_is, sizes}
 use Rattle.laying.specs.Fits.{IsFittingPlan}
-use Rattle.laying.specs.Laid.{file_laid, file_with_first, frames_laid, info_laid, LaidPart}
-use Rattle.laying.specs.{Laid.{needs_laid, source_part}, LaidFiles.{AreStreamEntries, laid_file}}
-use Rattle.laying.specs.{Surveys.CanBeRelaid, Written.{back_blocks, front_blocks, slot_in}}
+use Rattle.laying.specs.Laid.{file_laid, file_with_first, frames_laid, LaidPart, needs_laid}
+use Rattle.laying.specs.{LaidFiles.{AreStreamEntries, laid_file}, Surveys.CanBeRelaid}
+use Rattle.laying.specs.Written.{back_blocks, front_blocks, slot_in}
 use Rattle.side_info.specs.Frame.{frame_front_bytes}
 use Rattle.slot_plan.specs.declared.needs.Placed.{Placed}
 use Rattle.sync_survey.specs.{Faults.SurveyFields, Row.Row}
@@ -47,7 +47,7 @@ length-framed_bytes c (f ∷ fs) bytes entries many =
     let n = frame_area k in
     let front = frame_front_bytes k.header k.side in
     let more = framed_bytes (fields_of_frames fs) (drop n bytes) in
-    let entry = length-entry k.header k.side (take n bytes) entries.0.header
+    let entry = length-entry (take n bytes) entries.0.header
     (shaped entries.0.pairs) (length-take-le n bytes (omega (arith, many))) in
     omega (
       arith,
@@ -94,17 +94,17 @@ others_length first file s =
     length (concat (front_blocks file s))
     + (length_of (class_of h) h.slot + length (concat (back_blocks file s)))
 
-module _ (l : LaidPart) (file : List ℕ) (s : SurveyFields) (is : CanBeRelaid file s)
+module _ (l : LaidPart) {file : List ℕ} {s : SurveyFields} (is : CanBeRelaid file s)
     (some : l.from < l.to) (within : l.to ≤ length s.frames)
     (fitting : IsFittingPlan (window_of s.class.version) (needs_laid l s) l.placed)
     (extension : length l.extension ≡ 36) where
   -- the frames are as long as the slots of the plan
   pub length-laid : length (bytes_of_frames (frames_laid l file s)) ≡ size_of s.class l.placed
   length-laid =
-      let part = part_is l file s is some within fitting in
-      let are = fitting-laid s.class (source_part l file s) l.placed part fitting in
+      let part = part_is l is some within fitting in
+      let are = fitting-laid part fitting in
       length-frames s.class (frames_laid l file s) are.entries are.fit ∙ same-size s.class
-      (frames_laid l file s) l.placed (laid-slots l file s is some within fitting)
+      (frames_laid l file s) l.placed (laid-slots l is some within fitting)
 
   -- the file is as long as these and what comes before and after the frames
   pub length-file : {first : Row} → slice_get s.frames l.from ≡ Some first
@@ -115,18 +115,17 @@ module _ (l : LaidPart) (file : List ℕ) (s : SurveyFields) (is : CanBeRelaid f
       grind (
         arith,
         length-laid,
-        length-info_frame first.header (info_laid l file s) (first-header l
-            file s is some within fitting first found)
-            (sizes l file s is some within fitting extension),
-        first-header l file s is some within fitting first found,
-        sizes l file s is some within
+        length-info_frame (first-header l is some within fitting found)
+            (sizes l is some within fitting extension),
+        first-header l is some within fitting found,
+        sizes l is some within
             fitting extension,
         length-append,
       )
 
 -- ---- two plans
 
-module _ (l : LaidPart) (other : List Placed) (file : List ℕ) (s : SurveyFields)
+module _ (l : LaidPart) {other : List Placed} {file : List ℕ} {s : SurveyFields}
     (is : CanBeRelaid file s)
     (some : l.from < l.to) (within : l.to ≤ length s.frames) (extension : length l.extension ≡ 36)
     (fitting : IsFittingPlan (window_of s.class.version) (needs_laid l s) l.placed)
@@ -141,9 +140,9 @@ module _ (l : LaidPart) (other : List Placed) (file : List ℕ) (s : SurveyField
   from-first (Some first) found =
       grind (
         arith,
-        length-file l file s is some within fitting extension found,
+        length-file l is some within fitting extension found,
         length-file
-            by_other file s is some within fits extension found,
+            by_other is some within fits extension found,
       )
 
   -- of two files of the same frames the one with shorter slots is the shorter

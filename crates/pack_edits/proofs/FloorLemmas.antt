@@ -25,7 +25,7 @@ unfit-menu : {i : ℕ} (r : Result (List Placed) ℕ) → fitted_plan r ≡ unfi
 unfit-menu (Ok placed) e = absurd cc
 unfit-menu (Err k) e = cc
 
-module _ (rate i : ℕ) (file : List ℕ) (s : SurveyFields)
+module _ (rate i : ℕ) (file : List ℕ) {s : SurveyFields}
     (is : survey_of file most_frames ≡ Ok s) where
   unfit-plan : {chosen : Chosen} → all_choice file s ≡ Ok chosen
       → rates_plan (Floor rate) s.class (chosen_needs chosen s) ≡ unfit i → ⊥
@@ -72,4 +72,4 @@ floors-fit rate i file made = at (survey_of file most_frames) refl made
     at : (r : Result SurveyFields SurveyFault) → survey_of file most_frames ≡ r
         → surveyed_result (laying_making all_choice (rates_plan (Floor rate))) file r ≡ unfit i → ⊥
     at (Err fault) is e = absurd cc
-    at (Ok s) is e = unfit-packing rate i file s is e
+    at (Ok s) is e = unfit-packing rate i file is e

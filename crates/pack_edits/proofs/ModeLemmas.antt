@@ -33,8 +33,8 @@ module _ (chosen : Chosen) (s : SurveyFields) (placed : IsPlacedSurvey s)
   least-fitting : IsFittingFew (window_of s.class.version) (chosen_needs chosen s)
       (first_plan any_choice s.class (chosen_needs chosen s))
   least-fitting = record {
-    fitting = plan-fitting chosen s placed some within any_choice (inr refl);
-    few = plan-few chosen s placed some within any_choice (inr refl);
+    fitting = plan-fitting chosen s placed some within (inr refl);
+    few = plan-few chosen s placed some within (inr refl);
   }
 
   -- frames can be laid by the plan of a mode, with at most one lead-in

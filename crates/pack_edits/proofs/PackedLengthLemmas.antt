@@ -80,7 +80,7 @@ module _ (input output : List ℕ) (files : Contents) (made : List ℕ) where
 
 -- ---- the length of what is written
 
-module _ (input output : List ℕ) (files : Contents) (best : List ℕ)
+module _ {input output : List ℕ} {files : Contents} {best : List ℕ}
     (m : IsMadeOf input output files best) where
   right : IsRight m.by.chosen m.survey
   right = all_right m.file m.by.chose
@@ -104,7 +104,7 @@ module _ (input output : List ℕ) (files : Contents) (best : List ℕ)
   by-other other fits more =
       subst (λ (l : List ℕ). length l
       ≤ length (file_laid (placed_part m.by.chosen other) m.file m.survey)) m.by.is
-      (no-longer (placed_part m.by.chosen m.by.placed) other m.file m.survey (survey-had
+      (no-longer (placed_part m.by.chosen m.by.placed) (survey-had
       most_frames m.surveyed) right.some right.within right.extension fitting fits
       (best-least window m.survey.class (chosen_needs m.by.chosen m.survey)
       (rows-sound m.by.chosen m.survey well right.some right.within) (rows-same m.by.chosen m.survey
@@ -153,16 +153,16 @@ module _ (input output : List ℕ) (files : Contents) (best : List ℕ)
 pub longer-never : NeverLonger
 longer-never = λ input output files best e.
     let m = made-of input output files best e in (
-      file_laid (placed_part m.by.chosen (plain input output files best m)) m.file m.survey,
-      plain_made input output files best m,
-      plain-longer input output files best m,
+      file_laid (placed_part m.by.chosen (plain m)) m.file m.survey,
+      plain_made m,
+      plain-longer m,
     )
 
 -- no plan by which the frames can be laid gives a shorter file than `pack --best`
 pub bytes-fewest : FewestBytes
 bytes-fewest = λ input output files best e.
     let m = made-of input output files best e in
-    (m.file, m.there, fewest-is input output files best m)
+    (m.file, m.there, fewest-is m)
 
 -- ---- what is written
 

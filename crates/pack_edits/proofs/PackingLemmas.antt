@@ -20,8 +20,8 @@ pub input_moved : (make : Making) (name : List ℕ) {before old : Seen} (new : S
 input_moved make name new fault same is = subst (λ o. IsInputFault make name o new fault) same is
 
 -- the input was surveyed, its frames were chosen, and they have no plan
-module _ (plan : Planning) (refuses : Refusal → Bool) (name : List ℕ) (old new : Seen)
-    (s : SurveyFields) (chosen : Chosen) (there : IsFileThere old.files name)
+module _ (plan : Planning) (refuses : Refusal → Bool) (name : List ℕ) {old new : Seen}
+    {s : SurveyFields} {chosen : Chosen} (there : IsFileThere old.files name)
     (surveyed : (bytes : List ℕ) → Holds old.files name bytes → survey_of bytes most_frames ≡ Ok s)
     (chose : (bytes : List ℕ) → Holds old.files name bytes → all_choice bytes s ≡ Ok chosen)
     (stays : new ≡ old) where

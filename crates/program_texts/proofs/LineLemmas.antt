@@ -16,7 +16,7 @@ pub got_nothing : (sent : Sent) (faults : ℕ) → GotWhole sent sent faults fau
 got_nothing sent faults = record { sent = sym (sent_nothing sent); done = refl }
 
 -- the texts of the first i items were sent
-module _ {X : Type 0} (f : X → List ℕ) (xs : List X) (i : ℕ) (d : X) (lt : i < length xs)
+module _ {X : Type 0} (f : X → List ℕ) (xs : List X) {i : ℕ} (d : X) (lt : i < length xs)
     {sent_first sent_before sent_after : Sent} {faults_first faults_before faults_after : ℕ}
     (before : GotWhole sent_first sent_before faults_first faults_before
     (flat_map f (take i xs))) where

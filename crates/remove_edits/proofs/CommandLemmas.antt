@@ -89,7 +89,7 @@ module _ (stretches : List (ExactPlace × ExactPlace)) where
       subst (λ (r : Result (List Part) EditFault). HoldsStream made (stream_of_parts file s r))
       (sym by.1)
       (subst (λ (n : List ℕ). HoldsStream n (removal_stream by.0 file (survey_without_head s))) same
-      (removal-holds (survey_without_head s) by.0 (left-parts file is by.1) file
+      (removal-holds (left-parts file is by.1)
       (survey_without_head-relaid is) head (head_long file s.head)))
 
   proper : IsProperMaking (remove_making stretches) (remove_stream stretches)

@@ -95,7 +95,7 @@ file-as : (front info frames back : List ℕ)
 file-as front info frames back =
     append_assoc (front ++ info) frames back ∙ append_assoc front info (frames ++ back)
 
-module _ (s : SurveyFields) (parts : List Part) (head : Option Info) (work : RemovalWork)
+module _ {s : SurveyFields} {parts : List Part} {head : Option Info} {work : RemovalWork}
     (of : IsRemovalPlanned s parts head work) (can : ArePartsLeft s parts) where
   planned-fits : FitsFromReach (window_of s.class.version) 0
       (needs_of_parts (map (part_rows_of s) parts)) (entries work.work.plan)
@@ -104,7 +104,7 @@ module _ (s : SurveyFields) (parts : List Part) (head : Option Info) (work : Rem
       (needs_of_parts (map (part_rows_of s) parts))) (sym of.laid_out.plan)
       (subst (λ (n : List Need). FitsFromReach (window_of s.class.version) 0 n
       (removal_plan s parts))
-      (sym (needs-as s parts)) (removal-fitting s parts can).fits)
+      (sym (needs-as s parts)) (removal-fitting can).fits)
 
   -- the work is prepared for the pass over the file that was read
   pub planned-ready : {input : List ℕ} {files : Files} → IsFileThere files input
@@ -137,7 +137,7 @@ module _ (s : SurveyFields) (parts : List Part) (head : Option Info) (work : Rem
       → removal_work_file work file ≡ removal_file parts head file s
   unfolding laid_file
   planned-file {file} has long =
-      let row = found s parts can file has in
+      let row = found can has in
       ap (λ (t : SurveyFields). parts_file t work.parts.items work.work file) of.survey_is
       ∙ ap (λ (ps : List Part). parts_file s ps work.work file) of.parts_are
       ∙ file-as (concat (front_blocks file s)) work.work.info.items
@@ -149,4 +149,4 @@ module _ (s : SurveyFields) (parts : List Part) (head : Option Info) (work : Rem
       ∙ ap (λ (info : List ℕ). concat (front_blocks file s) ++ (info
       ++ (bytes_of_frames (removal_frames parts file s) ++ concat (back_blocks file s))))
       (of.laid_out.info file has row.0 row.1)
-      ∙ sym (removal-is s parts can file has head long)
+      ∙ sym (removal-is can has head long)

@@ -34,7 +34,7 @@ written-count (p ∷ parts) at items =
 
 -- ---- the part with a number
 
-module _ (s : SurveyFields) (parts : List Part) (number : ℕ) (none : Part)
+module _ {s : SurveyFields} {parts : List Part} {number : ℕ} (none : Part)
     (are : ArePartsLeft s parts) (within : number < length parts) where
   abbrev here : Part
   here = slice_index_or parts number none

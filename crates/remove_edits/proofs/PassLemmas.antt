@@ -47,4 +47,4 @@ pub some-size-behind : {T : Type 0} {pass : Pass} {made : List ℕ → List ℕ}
     → IfErr r (HasSomeCause pass now between after) → IfErr r (HasSomeCause pass old then after)
 some-size-behind {T} {pass} {made} {before} {mid} {old} {now} {then} {between}
     step same after r cause =
-    err_by r (λ fault h. (h.0, cause_behind step _ then between after same fault h.1)) cause
+    err_by r (λ fault h. (h.0, cause_behind step _ after same fault h.1)) cause

@@ -94,7 +94,7 @@ pub record IsSpliceNeeds (class : ClassFields) (needs : List Need) : Type 0 wher
   pub fits : FitsBehind (window_of class.version) (window_of class.version) needs
   pub headers : AreHeaders needs
 
-module _ (class : ClassFields) (needs : List Need) (is : IsSpliceNeeds class needs) where
+module _ {class : ClassFields} {needs : List Need} (is : IsSpliceNeeds class needs) where
   abbrev window : ℕ
   window = window_of class.version
 
@@ -199,7 +199,7 @@ slots-join : (xs ys : List Placed) → AreInSlots xs → AreInSlots ys → AreIn
 slots-join [] ys first second = second
 slots-join (x ∷ xs) ys first second = (first.0, slots-join xs ys first.1 second)
 
-module _ (window : ℕ) (items : List SpliceItem) (needs : List Need) (placed : List Placed)
+module _ {window : ℕ} (items : List SpliceItem) (needs : List Need) {placed : List Placed}
     (own : AreSpliceItemsOf items needs) (some : 0 < length items)
     (shape : HasShape (length items) placed)
     (fitting : IsFittingPlan window (item_needs items) placed) where

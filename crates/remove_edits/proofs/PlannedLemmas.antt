@@ -77,7 +77,7 @@ places-many [] placed = refl
 places-many (i ∷ items) [] = refl
 places-many (i ∷ items) (p ∷ placed) = ap suc (places-many items placed)
 
-module _ (s : SurveyFields) (parts : List Part) (can : CanBeSplice s parts) (d : DecidedSplice)
+module _ {s : SurveyFields} {parts : List Part} (can : CanBeSplice s parts) {d : DecidedSplice}
     (splice : IsSpliceOfParts s parts d) where
   abbrev items : List SpliceItem
   items = items_left s parts
@@ -86,7 +86,7 @@ module _ (s : SurveyFields) (parts : List Part) (can : CanBeSplice s parts) (d :
   plan = plan_of_items s items
 
   shape : HasShape (length items) plan
-  shape = items-shape s parts can.are
+  shape = items-shape can.are
 
   -- there is a need for each item
   pub needs-many : length d.needs.items ≡ length items
@@ -101,7 +101,7 @@ module _ (s : SurveyFields) (parts : List Part) (can : CanBeSplice s parts) (d :
 
   -- they can be planned
   pub needs-splice : IsSpliceNeeds s.class d.needs.items
-  needs-splice = subst (IsSpliceNeeds s.class) (sym splice.needs) (splice-needs s parts can.are)
+  needs-splice = subst (IsSpliceNeeds s.class) (sym splice.needs) (splice-needs can.are)
 
   front-most : {front : List Placed}
       → (front ≡ []) ⊎ ((p : Placed) × (front ≡ p ∷ []) × (p.lead_in ≡ true)) → length front ≤ 1

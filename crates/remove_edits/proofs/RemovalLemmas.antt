@@ -102,7 +102,7 @@ first-within least (p ∷ parts) some order = omega (arith, order.1, order.2)
 
 -- ---- the splice
 
-module _ (s : SurveyFields) (parts : List Part) (can : ArePartsLeft s parts) where
+module _ {s : SurveyFields} {parts : List Part} (can : ArePartsLeft s parts) where
   abbrev window : ℕ
   window = window_of s.class.version
 
@@ -163,24 +163,24 @@ module _ (s : SurveyFields) (parts : List Part) (can : ArePartsLeft s parts) whe
   pub items-shape : HasShape (length items) plan
   items-shape =
       subst (λ n. HasShape n plan) (length-map items (λ (i : SpliceItem). i.need))
-      (plan-shape s.class (item_needs items) splice-needs)
+      (plan-shape splice-needs)
 
   -- the frames of the parts fit in the places of their plan
   pub removal-fitting : IsFittingPlan window (flat_needs s parts) (removal_plan s parts)
   removal-fitting =
-      marked-fitting window items (flat_needs s parts) plan own some-items items-shape
-      (plan-fitting s.class (item_needs items) splice-needs)
+      marked-fitting items (flat_needs s parts) own some-items items-shape
+      (plan-fitting splice-needs)
 
   -- the places of the plan are that of the lead-in before all, and those of the items
   pub removal-places : removal_plan s parts
       ≡ items-shape.front ++ item_places items items-shape.frames
   removal-places =
-      marked-are window items (flat_needs s parts) plan own some-items items-shape
-      (plan-fitting s.class (item_needs items) splice-needs)
+      marked-are items (flat_needs s parts) own some-items items-shape
+      (plan-fitting splice-needs)
 
   -- ---- the file
 
-  module _ (file : List ℕ) (has : CanBeRelaid file s) where
+  module _ {file : List ℕ} (has : CanBeRelaid file s) where
     abbrev filed : List FilePart
     filed = file_parts file s parts
 
@@ -197,14 +197,12 @@ module _ (s : SurveyFields) (parts : List Part) (can : ArePartsLeft s parts) whe
     -- the frames that stay can be laid, and their stream is theirs with the lead-ins of the plan
     pub removal-laid : AreFramesOfStream s.class (removal_frames parts file s)
         (removal_stream parts file s)
-    removal-laid =
-        parts-laid s.class filed (removal_plan s parts) filed-some filed-are filed-fitting
+    removal-laid = parts-laid s.class filed filed-some filed-are filed-fitting
 
     -- they have the slots of the plan
     pub removal-slots : map slot_in (removal_frames parts file s)
         ≡ map (λ (p : Placed). p.slot) (removal_plan s parts)
-    removal-slots =
-        parts-slots s.class filed (removal_plan s parts) filed-some filed-are filed-fitting
+    removal-slots = parts-slots s.class filed filed-some filed-are filed-fitting
 
     kept-sizes : (k : Option Kept) (h : HeaderFields) (frames : List Frame)
         → IfSome k (λ (kept : Kept). length kept.extension ≡ 36)

@@ -98,7 +98,8 @@ module _ (s : SurveyFields) (parts : List Part) (part : Part) (joint : PartJoint
       ≡ item_needs old ++ item_needs more
   needs-next = ap item_needs items-next ∙ needs-append old more
 
-  module _ (before after : DecidedSplice) (splice : IsSpliceOfParts s parts before)
+  module _ {before : DecidedSplice} (after : DecidedSplice)
+      (splice : IsSpliceOfParts s parts before)
       (behind : end_of_parts parts + 1 ≤ part.from) (frames : part.from < part.to)
       (within : part.to ≤ length s.frames) where
     size : length more ≡ lead_in_count more + (part.to - part.from)

@@ -104,8 +104,8 @@ cut-made : (file : List ℕ) (s : SurveyFields) {part : Part} (from to : Place)
 unfolding laying_part
 cut-made file s from to is = rw is refl
 
-module _ (stretches : List (ExactPlace × ExactPlace)) (file : List ℕ) (s : SurveyFields)
-    (part : Part) (left : parts_left stretches s ≡ Ok (part ∷ []))
+module _ (stretches : List (ExactPlace × ExactPlace)) (file : List ℕ) {s : SurveyFields}
+    {part : Part} (left : parts_left stretches s ≡ Ok (part ∷ []))
     (apart : survey_without_head s ≡ s) where
   remove-made : removal_kept (fields_of_head file s.head) s (part ∷ []) ≡ None
       → remove_making stretches file s ≡ Ok (file_laid (own_slots_part (chosen_part part) s) file s)
@@ -130,6 +130,6 @@ remove-is-cut stretches file s part from to is left apart names =
         frames = one-laid s part file;
         stream = one-stream s part file;
       };
-      same = λ none. remove-made stretches file s part left apart none
+      same = λ none. remove-made stretches file left apart none
           ∙ sym (cut-made file s from to chosen);
     }

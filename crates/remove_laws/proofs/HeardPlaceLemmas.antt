@@ -46,7 +46,7 @@ module _ (class : ClassFields) (played : Played) where
   HeardFrom n written (Some heard) =
       (n * samples ≤ heard.first) × IsFirstToLast class played written heard
 
-  module _ (n : ℕ) (w : WrittenFrames) (written : List WrittenFrames) (has : HasSamples samples n w)
+  module _ {n : ℕ} {w : WrittenFrames} (written : List WrittenFrames) (has : HasSamples samples n w)
     where
       abbrev first : ℕ
       first = first_in samples played w
@@ -176,7 +176,7 @@ module _ (class : ClassFields) (played : Played) where
       subst (HeardFrom n []) (sym (heard-nil class played)) (λ position place is. is)
   heard-from n (w ∷ written) from =
       subst (HeardFrom n (w ∷ written)) (sym (heard-cons class played w written))
-      (here-and n w written (samples-are class.version from.0 from.1)
+      (here-and written (samples-are class.version from.0 from.1)
       (heard_of class played written)
       (heard-from (w.at + (w.to - w.from)) written from.2))
 

@@ -55,8 +55,8 @@ begins-frame (n ∷ needs) items some = refl
 
 -- ---- the join
 
-module _ {file : List ℕ} {s : SurveyFields} (r : Recording file s) (part : Part)
-    (parts : List Part) (first : FilePart) (others : List FilePart)
+module _ {file : List ℕ} {s : SurveyFields} (r : Recording file s) {part : Part}
+    (parts : List Part) {first : FilePart} (others : List FilePart)
     (is : IsPartInput file s part first) (are : ArePartInputs file s parts others) where
   abbrev window : ℕ
   window = window_of s.class.version
@@ -107,7 +107,7 @@ module _ {file : List ℕ} {s : SurveyFields} (r : Recording file s) (part : Par
   unfolding seamless_join
   later-is =
       later-streamed r brought.frames (needs_of frames) brought parts others (
-        first-alike s.class r.known frames more brought inputs (part-piece r is)
+        first-alike s.class r.known more inputs (part-piece r is)
             (part-pieces r parts others are),
         (part-piece r is).needs.fits,
       ) are
@@ -116,7 +116,7 @@ module _ {file : List ℕ} {s : SurveyFields} (r : Recording file s) (part : Par
       ≡ part_stream (record { file = file; survey = s; from = part.from; to = part.to })
   begin-is =
       ap (λ n. part_stream (part_from n first))
-      (front-out s.class r.known frames more brought inputs (part-piece r is)
+      (front-out s.class r.known more inputs (part-piece r is)
       (part-pieces r parts others are)
       ∙ leads-are r is)
       ∙ left-own is.piece
@@ -147,23 +147,23 @@ module _ {file : List ℕ} {s : SurveyFields} (r : Recording file s) (part : Par
     stream-is : seamless_stream (first ∷ others) ≡ removal_stream (part ∷ parts) file s
     unfolding seamless_stream
     stream-is =
-        let shape = items-shape s (part ∷ parts) can in
+        let shape = items-shape can in
         ap₂ stream_with_lead_ins (plan-is ∙ shape.are) splice-stream
         ∙ items-streamed items shape.frames shape.plain shape.count stream shape.lead
         begins
-        ∙ ap (λ p. stream_with_lead_ins p stream) (sym (removal-places s (part ∷ parts) can))
+        ∙ ap (λ p. stream_with_lead_ins p stream) (sym (removal-places can))
 
     -- its frames have the same places
     places-are : map place_of (splice_plan first others)
         ≡ map place_of (removal_plan s (part ∷ parts))
     places-are =
-        let shape = items-shape s (part ∷ parts) can in
+        let shape = items-shape can in
         ap (map place_of) (plan-is ∙ shape.are)
         ∙ map-append place_of shape.front shape.frames
         ∙ ap (λ l. map place_of shape.front ++ l)
         (sym (marked-places items shape.frames shape.count))
         ∙ sym (map-append place_of shape.front (item_places items shape.frames))
-        ∙ ap (map place_of) (sym (removal-places s (part ∷ parts) can))
+        ∙ ap (map place_of) (sym (removal-places can))
 
     module _ (joins : Joins s.class first others) where
       laid : AreFramesOfStream s.class (seamless_frames first others)
@@ -174,12 +174,12 @@ module _ {file : List ℕ} {s : SurveyFields} (r : Recording file s) (part : Par
           subst (λ c. AreFramesOfStream c (seamless_frames first others)
           (stream_with_lead_ins (splice_plan first others)
           (flat_map part_stream (splice_parts first others)))) joins.head.of_class
-          (splice-laid first others (input-whole own.head)
+          (splice-laid others (input-whole own.head)
           (inputs-whole first.survey.class others own.others))
 
       left : AreFramesOfStream s.class (removal_frames (part ∷ parts) file s)
           (removal_stream (part ∷ parts) file s)
-      left = removal-laid s (part ∷ parts) can file r.has
+      left = removal-laid can r.has
 
       same-entries : map stream_entry (seamless_frames first others)
           ≡ map stream_entry (removal_frames (part ∷ parts) file s)
@@ -189,7 +189,7 @@ module _ {file : List ℕ} {s : SurveyFields} (r : Recording file s) (part : Par
           ≡ length (removal_plan s (part ∷ parts))
       left-many =
           sym (length-map (removal_frames (part ∷ parts) file s) slot_in)
-          ∙ ap length (removal-slots s (part ∷ parts) can file r.has)
+          ∙ ap length (removal-slots can r.has)
           ∙ length-map (removal_plan s (part ∷ parts)) (λ (p : Placed). p.slot)
 
       laid-many : length (seamless_frames first others) ≡ length (splice_plan first others)
@@ -235,11 +235,11 @@ module _ {file : List ℕ} {s : SurveyFields} (r : Recording file s) (part : Par
           (removal_file (part ∷ parts) (fields_of_head file s.head) file s)
       removed-made = record {
         front = front_blocks file s;
-        header = (found s (part ∷ parts) can file r.has).0.header;
-        info = info s (part ∷ parts) can file r.has (fields_of_head file s.head)
+        header = (found can r.has).0.header;
+        info = info can r.has (fields_of_head file s.head)
             (head_long file s.head);
         back = back_blocks file s;
-        is = removal-is s (part ∷ parts) can file r.has (fields_of_head file s.head)
+        is = removal-is can r.has (fields_of_head file s.head)
             (head_long file s.head);
       }
 
@@ -306,8 +306,8 @@ parts-join stretches file s (part ∷ parts) first others read apart left inputs
     let are = inputs-of r 0 (part ∷ parts) (first ∷ others) can.order (all.head, all.others)
     (same, none) in
     record {
-      stream = stream-is r part parts first others are.0 are.1 can;
-      frames = frames-are r part parts first others are.0 are.1 can all;
-      joined = joined-made r part parts first others are.0 are.1 can all;
-      removed = removed-made r part parts first others are.0 are.1 can all;
+      stream = stream-is r parts others are.0 are.1 can;
+      frames = frames-are r parts others are.0 are.1 can all;
+      joined = joined-made r parts others are.0 are.1 can all;
+      removed = removed-made r parts others are.0 are.1 can all;
     }

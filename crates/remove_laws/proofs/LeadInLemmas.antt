@@ -73,7 +73,7 @@ lead-marked (item ∷ items) (p ∷ placed) (suc n) long lead =
 
 -- ---- the plan
 
-module _ (s : SurveyFields) (first : Part) (later : List Part)
+module _ {s : SurveyFields} {first : Part} {later : List Part}
     (can : ArePartsLeft s (first ∷ later)) where
   abbrev parts : List Part
   parts = first ∷ later
@@ -85,7 +85,7 @@ module _ (s : SurveyFields) (first : Part) (later : List Part)
   plan = plan_of_items s items
 
   has_places : HasPlaces items plan
-  has_places = shape-places (items-shape s parts can)
+  has_places = shape-places (items-shape can)
 
   abbrev before : ℕ
   before = places_before items plan

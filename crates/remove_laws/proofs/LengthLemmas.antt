@@ -53,7 +53,8 @@ module _ (class : ClassFields) (played : Played) where
   HasLengthIf least n many None = many ≡ 0
   HasLengthIf least n many (Some heard) = HasLength least n many heard
 
-  module _ (least many : ℕ) (w : WrittenFrames) (has : HasPositions samples least w.at w) where
+  module _ {least : ℕ} (many : ℕ) {w : WrittenFrames}
+      (has : HasPositions samples least w.at w) where
     abbrev first : ℕ
     first = first_in samples played w
 
@@ -119,7 +120,7 @@ module _ (class : ClassFields) (played : Played) where
       (sym (heard-cons class played w written))
       (subst (λ at. HasLengthIf least at (in_written (w ∷ written))
       (joined_heard (first_to_last (heard_in samples played w)) later)) behind.0
-      (here-and least (in_written written) w
+      (here-and (in_written written)
       (positions-are class.version file.0 file.1 (omega arith)) later
       (subst (λ at. HasLengthIf w.to (at + (w.to - w.from)) (in_written written) later)
       (sym behind.0) rest)))
@@ -180,7 +181,7 @@ counted-within head class frames {played} is =
 
 -- ---- the parts
 
-module _ (s : SurveyFields) (first : Part) (later : List Part)
+module _ {s : SurveyFields} {first : Part} {later : List Part}
     (can : ArePartsLeft s (first ∷ later)) where
   abbrev parts : List Part
   parts = first ∷ later
@@ -191,7 +192,7 @@ module _ (s : SurveyFields) (first : Part) (later : List Part)
   abbrev before : ℕ
   before = places_before items (plan_of_items s items)
 
-  module _ (played : Played) (heard : Heard)
+  module _ (played : Played) {heard : Heard}
       (within : played.end ≤ length s.frames * samples_in s.class)
       (is : heard_of s.class played (all_parts_written s parts) ≡ Some heard)
       (named : decoder_delay ≤ heard.first) (none : HasNoLeadInBehindFirst (removal_plan s parts))
@@ -206,7 +207,7 @@ module _ (s : SurveyFields) (first : Part) (later : List Part)
           (in-parts s.class played before items parts)
           (heard-long s.class played 0 before (all_parts_written s parts)
           (parts-in_file before items (length s.frames) parts (omega arith) can.order)
-          (parts-right_behind before items parts (frames-left s first later can none))))
+          (parts-right_behind before items parts (frames-left can none))))
 
       left : length_of_played (played_as heard) ≡ played_in_parts (samples_in s.class) played parts
       left = omega (arith, named, heard_long.long)
@@ -239,4 +240,4 @@ plays-left stretches file s (first ∷ later) kept allowed o is left keeps e =
     of-played file s (first ∷ later) o PlaysAllThatIsLeft read (λ heard are named none.
     let same : heard ≡ read.heard = (let both = sym are ∙ read.are in cc) in
     subst (λ h. PlaysWhatIsLeft apart (first ∷ later) read.before (played_as h)) same
-    (what-is-left apart first later can read.before heard most are named none))
+    (what-is-left can read.before most are named none))

@@ -7,7 +7,7 @@ use Rattle.std.proofs.lemmas.List.{length-append, length-drop, length-map, lengt
 use Rattle.std.specs.Prelude.{IfSome, nat_le, option_and_then, option_map, ◌&&◌}
 use Rattle.cut_edits.proofs.HeadLemmas.{survey_without_head-length}
 use Rattle.cut_edits.proofs.PieceLemmas.{head_long, survey_without_head-relaid}
-use Rattle.cut_edits.specs.Exact.{quality_of, survey_without_head}
+use Rattle.cut_edits.specs.Exact.{quality_of}
 use Rattle.exact_span.proofs.HeardLemmas.{numbers-end, numbers-first}
 use Rattle.exact_span.specs.Heard.{heard_delay, heard_numbers, heard_of, heard_padding}
 use Rattle.exact_span.specs.Laws.{SaysNumbers}
@@ -145,7 +145,7 @@ shape-places shape =
     front-one front (inl none) = omega (arith, ap (λ (l : List Placed). length l) none)
     front-one front (inr lead) = omega (arith, ap (λ (l : List Placed). length l) lead.1)
 
-module _ (s : SurveyFields) (first : Part) (later : List Part)
+module _ {s : SurveyFields} {first : Part} {later : List Part}
     (can : ArePartsLeft s (first ∷ later)) where
   abbrev parts : List Part
   parts = first ∷ later
@@ -157,13 +157,13 @@ module _ (s : SurveyFields) (first : Part) (later : List Part)
   plan = plan_of_items s items
 
   known : IsClass s.class
-  known = class-known s can.placed (omega (arith, first-there-is s parts can))
+  known = class-known s can.placed (omega (arith, first-there-is can))
 
   all : All (IsPartNeeds s.class) (map (part_needs_of s) parts)
   all = all-needs s can.placed 0 parts can.order
 
   has_places : HasPlaces items plan
-  has_places = shape-places (items-shape s parts can)
+  has_places = shape-places (items-shape can)
 
   places-many : length (removal_plan s parts) ≡ places_before items plan + length items
   places-many =
@@ -192,9 +192,9 @@ module _ (s : SurveyFields) (first : Part) (later : List Part)
 
   -- ---- the file
 
-  module _ (file : List ℕ) (has : CanBeRelaid file s) (head : Option Info)
+  module _ {file : List ℕ} (has : CanBeRelaid file s) (head : Option Info)
       (long : IfSome head (λ (i : Info). length i.extension ≡ 36))
-      (few : length s.frames ≤ most_frames) (kept : Kept)
+      (few : length s.frames ≤ most_frames) {kept : Kept}
       (keeps : removal_kept head s parts ≡ Some kept) where
     abbrev n : ℕ
     n = length (removal_plan s parts)
@@ -211,15 +211,16 @@ module _ (s : SurveyFields) (first : Part) (later : List Part)
     frames-many : length frames ≡ n
     frames-many =
         sym (length-map frames slot_in)
-        ∙ ap length (removal-slots s parts can file has)
+        ∙ ap length (removal-slots can has)
         ∙ length-map (removal_plan s parts) (λ (p : Placed). p.slot)
 
     abbrev header : HeaderFields
-    header = (found s parts can file has).0.header
+    header = (found can has).0.header
 
     abbrev fields : Info
     fields = written_info s.class (front_blocks file s) header frames (back_blocks file s)
-        (quality_of head) head (heard_delay heard) (heard_padding s.class n heard) long
+        (quality_of head) head
+        {delay = heard_delay heard} {padding = heard_padding s.class n heard} long
         (omega (arith, numbers.short)) (omega (arith, numbers.small))
 
     info-is : info_kept (removal_kept head s parts) header s.class frames ≡ fields
@@ -228,13 +229,13 @@ module _ (s : SurveyFields) (first : Part) (later : List Part)
     made-is : removal_file parts head file s
         ≡ laid_file (front_blocks file s) header fields frames (back_blocks file s)
     made-is =
-        removal-is s parts can file has head long
+        removal-is can has head long
         ∙ ap (λ i. laid_file (front_blocks file s) header i frames (back_blocks file s)) info-is
 
     laid-is : IsLaidFile s.class (front_blocks file s) header fields frames (back_blocks file s)
     laid-is =
         subst (λ i. IsLaidFile s.class (front_blocks file s) header i frames (back_blocks file s))
-        info-is (file-is s parts can file has head long)
+        info-is (file-is can has head long)
 
     read : (allowed : ℕ) {o : SurveyFields}
         → survey_of (removal_file parts head file s) allowed ≡ Ok o
@@ -244,7 +245,7 @@ module _ (s : SurveyFields) (first : Part) (later : List Part)
         subst (λ l. IsHeadRead frames (heard_delay heard) (heard_padding s.class n heard) s.class
         l o) (sym made-is)
         (head-read s.class (front_blocks file s) header frames (back_blocks file s)
-        (quality_of head) head (heard_delay heard) (heard_padding s.class n heard) long
+        (quality_of head) head long
         (omega (arith, numbers.short)) (omega (arith, numbers.small)) laid-is
         (omega (arith, frames-many, places-few, few)) allowed
         (subst (λ l. survey_of l allowed ≡ Ok o) made-is e))
@@ -277,7 +278,7 @@ module _ (s : SurveyFields) (first : Part) (later : List Part)
     parts-keep = record {
       heard = heard;
       is = numbers.is;
-      sound = (removal-holds s parts can file has head long).well_formed;
+      sound = (removal-holds can has head long).well_formed;
       frames = λ allowed o e. (read allowed e).frames_are ∙ frames-many;
       counts = λ allowed o e. counts-read (read allowed e);
     }
@@ -288,7 +289,7 @@ keep-numbers stretches file s [] kept is left keeps =
     absurd (omega (arith, (left-parts stretches file is left).some))
 keep-numbers stretches file s (first ∷ later) kept is left keeps =
     let few = frames-few file (survey_of-parts file most_frames is).1 in
-    parts-keep (survey_without_head s) first later
-    (left-parts stretches file is left) file
+    parts-keep
+    (left-parts stretches file is left)
     (survey_without_head-relaid is) (fields_of_head file s.head) (head_long file s.head)
-    (omega (arith, few, survey_without_head-length s)) kept keeps
+    (omega (arith, few, survey_without_head-length s)) keeps

@@ -312,7 +312,7 @@ module _ (class : ClassFields) (known : IsClass class) where
       added.fits are.1)
       ∙ sym (needs-append items later)
 
-  module _ (frames : List SpliceFrame) (more : List (List SpliceFrame)) (first : Brought)
+  module _ {frames : List SpliceFrame} (more : List (List SpliceFrame)) {first : Brought}
       (inputs : List Brought) (piece : IsPartPiece class frames first)
       (are : ArePartPieces class more inputs) where
     abbrev rest : List SpliceFrame
@@ -429,4 +429,4 @@ module _ (class : ClassFields) (known : IsClass class) where
 -- the law of such pieces
 pub pieces-as-parts : PiecesJoinAsParts
 pieces-as-parts class frames more first inputs known piece are =
-    joined-splice class known frames more first inputs piece are
+    joined-splice class known more inputs piece are

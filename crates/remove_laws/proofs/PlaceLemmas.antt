@@ -3,7 +3,6 @@ use Rattle.std.proofs.Common.{ap, arith, Bool, cond, drop, false, inl, inr, leng
 use Rattle.std.proofs.Common.{slice_get, subst, suc, sym, true, zero, ℕ, [], ◌*◌, ◌+◌, ◌-◌, ◌/◌}
 use Rattle.std.proofs.{Common.{◌<◌, ◌∙◌, ◌∷◌, ◌≡◌, ◌≤◌, ◌⊎◌}, lemmas.Bool.{ltb-false, ltb-true}}
 use Rattle.std.specs.Prelude.{nat_lt}
-use Rattle.cut_edits.specs.Exact.{survey_without_head}
 use Rattle.exact_span.specs.{Heard.place_in, PlayedPositions.samples_in}
 use Rattle.exact_span.specs.declared.{played.Played.Played, written.Heard.Heard}
 use Rattle.exact_span.specs.declared.written.WrittenFrames.{WrittenFrames}
@@ -145,7 +144,7 @@ module _ (class : ClassFields) where
     file : AreInFile least written
     own : AreWrittenFrom n written
 
-  module _ (least n : ℕ) (w : WrittenFrames) (written : List WrittenFrames)
+  module _ {least n : ℕ} {w : WrittenFrames} {written : List WrittenFrames}
       (both : AreInBoth least n (w ∷ written)) where
     has : HasPositions samples least n w
     has = positions-are class.version both.file.0 both.file.1 both.own.0
@@ -158,12 +157,12 @@ module _ (class : ClassFields) where
       → (least * samples ≤ position) × (n * samples ≤ place)
   lowest least [] both at = absurd at
   lowest least {n} (w ∷ written) both (inl is) =
-      let has = has least n w written both in
-      (omega (arith, has.late, is.from), omega (arith, has.at, is.is))
+      let seen = has both in
+      (omega (arith, seen.late, is.from), omega (arith, seen.at, is.is))
   lowest least {n} (w ∷ written) both {position} {place} (inr at) =
-      let has = has least n w written both in
-      let rest = lowest w.to written (both-later least n w written both) at in
-      (omega (arith, has.late, has.some, rest.0), omega (arith, has.at, has.next, rest.1))
+      let seen = has both in
+      let rest = lowest w.to written (both-later both) at in
+      (omega (arith, seen.late, seen.some, rest.0), omega (arith, seen.at, seen.next, rest.1))
 
   -- a later place is that of a later position
   rises : (least : ℕ) {n : ℕ} (written : List WrittenFrames) → AreInBoth least n written
@@ -172,16 +171,16 @@ module _ (class : ClassFields) where
   rises least (w ∷ written) both (inl first) (inl second) le =
       omega (arith, first.from, first.is, second.from, second.is, le)
   rises least {n} (w ∷ written) both {q = q} {other = other} (inl first) (inr second) le =
-      let rest = lowest w.to written (both-later least n w written both) second in
+      let rest = lowest w.to written (both-later both) second in
       omega (arith, first.to, rest.0)
   rises least {n} (w ∷ written) both {p} {place = place} (inr first) (inl second) le =
-      let has = has least n w written both in
-      let rest = lowest w.to written (both-later least n w written both) first in
-      absurd (omega (arith, has.next, rest.1, second.from, second.to, second.is, le))
+      let seen = has both in
+      let rest = lowest w.to written (both-later both) first in
+      absurd (omega (arith, seen.next, rest.1, second.from, second.to, second.is, le))
   rises least {n} (w ∷ written) both {p} {q} {place} {other} (inr first)
       (inr second) le =
       rises w.to written
-      (both-later least n w written both)
+      (both-later both)
       first second le
 
   -- a place in a frame of these is that of a position
@@ -190,20 +189,20 @@ module _ (class : ClassFields) where
       → IsFrameOf frame written → (position : ℕ) × IsAt written position place
   place-at [] both frame from to is = absurd is
   place-at {least} {n} (w ∷ written) both frame {place} from to (inl is) =
-      let has = has least n w written both in
+      let seen = has both in
       let low = frame-times class.version {a = w.at} {b = frame} is.0 in
       let high = frame-times class.version {a = frame + 1} {b = w.at + (w.to - w.from)}
       (omega (arith, is.1)) in (
         w.from * samples + (place - w.at * samples),
         inl (record {
           from = omega arith;
-          to = omega (arith, low, high, has.next, has.some, from, to);
+          to = omega (arith, low, high, seen.next, seen.some, from, to);
           is = omega (arith, low, from);
         }),
       )
   place-at {least} {n} (w ∷ written) both frame {place} from to (inr is) =
       let at = place-at {least = w.to} {n = w.at + (w.to - w.from)} written
-      (both-later least n w written both)
+      (both-later both)
       frame {place = place} from to is in
       (at.0, inr at.1)
 
@@ -213,11 +212,11 @@ module _ (class : ClassFields) where
       → IsBeforeEnd frame written
   at-before least [] both frame position from at = absurd at
   at-before least {n} (w ∷ written) both frame position from (inl is) =
-      let has = has least n w written both in
+      let seen = has both in
       inl (times-frame class.version
-      (omega (arith, has.next, is.from, is.to, is.is, from)))
+      (omega (arith, seen.next, is.from, is.to, is.is, from)))
   at-before least {n} (w ∷ written) both frame position {place} from (inr at) =
-      inr (at-before w.to written (both-later least n w written both) frame
+      inr (at-before w.to written (both-later both) frame
       position from at)
 
   -- ---- heard positions
@@ -248,7 +247,7 @@ module _ (class : ClassFields) where
 
 -- ---- the parts
 
-module _ (s : SurveyFields) (first : Part) (later : List Part)
+module _ {s : SurveyFields} {first : Part} {later : List Part}
     (can : ArePartsLeft s (first ∷ later)) where
   abbrev parts : List Part
   parts = first ∷ later
@@ -268,8 +267,8 @@ module _ (s : SurveyFields) (first : Part) (later : List Part)
     own = parts-from parts before items 0 (length s.frames) can.order;
   }
 
-  module _ (played : Played) (heard : Heard) (is : IsFirstToLast s.class played written heard)
-      (place : ℕ) (low : heard.first ≤ place) (high : place < heard.end) where
+  module _ {played : Played} {heard : Heard} (is : IsFirstToLast s.class played written heard)
+      {place : ℕ} (low : heard.first ≤ place) (high : place < heard.end) where
     abbrev IsHeardPlace : Type 0
     IsHeardPlace = (position : ℕ) × IsHeardAt s.class played written position place
 
@@ -313,7 +312,7 @@ module _ (s : SurveyFields) (first : Part) (later : List Part)
     of-lead : IsLeadIn items (frame.0 - before)
         → IsInLeadIn (samples_in s.class) (removal_plan s parts) place
     of-lead lead =
-        let planned = lead-planned s first later can (frame.0 - before) lead in
+        let planned = lead-planned can (frame.0 - before) lead in
         let number : frame.0 ≡ before + (frame.0 - before) = omega (arith, from) in
         record {
           number = frame.0;
@@ -369,6 +368,6 @@ plays-nothing_else stretches file s [] kept allowed o is left keeps e =
 plays-nothing_else stretches file s (first ∷ later) kept allowed o is left keeps e =
     let read = read-as file s (first ∷ later) o stretches allowed is left keeps e in
     of-played file s (first ∷ later) o PlaysNothingElse read (λ place at.
-    nothing-else (survey_without_head s) first later
-    (left-parts stretches file is left) read.before read.heard read.at place
+    nothing-else
+    (left-parts stretches file is left) read.at
     (omega (arith, at.0)) at.1)

@@ -44,7 +44,7 @@ pub record IsHeadRead (frames : List Frame) (delay padding : ℕ) (class : Class
 
 module _ (class : ClassFields) (front : List (List ℕ)) (first : HeaderFields)
     (frames : List Frame) (back : List (List ℕ)) where
-  module _ (quality : Option ℕ) (head : Option Info) (delay padding : ℕ)
+  module _ (quality : Option ℕ) (head : Option Info) {delay padding : ℕ}
       (long : IfSome head (λ (info : Info). length info.extension ≡ 36)) (short : delay < 4096)
       (small : padding < 4096) where
     abbrev unsealed : Info
@@ -73,7 +73,7 @@ module _ (class : ClassFields) (front : List (List ℕ)) (first : HeaderFields)
       read-says : SaysNumbers delay padding read.extension
       read-says =
           subst (SaysNumbers delay padding)
-          (sym (laid-extension first written_info is.header whole front frames back))
+          (sym (laid-extension is.header whole front frames back))
           ((frames-sealed first unsealed-whole).says delay padding
           (made-says head long short small))
 
@@ -95,7 +95,7 @@ module _ (class : ClassFields) (front : List (List ℕ)) (first : HeaderFields)
                 ∙ rows-length (frames_offset front first written_info) frames;
             class_is = ap (λ (t : SurveyFields). t.class) (sym told) ∙ is.class;
             count =
-                laid-count first written_info is.header whole front frames back refl
+                laid-count is.header whole front frames back refl
                 few;
             says = read-says;
           }

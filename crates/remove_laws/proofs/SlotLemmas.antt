@@ -3,7 +3,7 @@ use Rattle.std.proofs.Common.{All, ap, append-nil, append_assoc, ap₂, arith, d
 use Rattle.std.proofs.Common.{map, None, Option, refl, Some, subst, suc, sym, take, true, ℕ, []}
 use Rattle.std.proofs.Common.{◌++◌, ◌-◌, ◌<◌, ◌∙◌, ◌∷◌, ◌≡◌, ◌≤◌, ◌⊎◌}
 use Rattle.std.proofs.lemmas.List.{length-append, length-map, map-append}
-use Rattle.cut_edits.{proofs.SpanLemmas.for_length, specs.Exact.survey_without_head}
+use Rattle.cut_edits.proofs.SpanLemmas.{for_length}
 use Rattle.frame_header.specs.{Fields.{IsClass, SlotFields}, Tables.window_of}
 use Rattle.joined_inputs.proofs.SplicePlanLemmas.{splice-planned}
 use Rattle.laying.specs.NeedsFit.{own_choice}
@@ -144,10 +144,10 @@ module _ (s : SurveyFields) (known : IsClass s.class) where
             (λ k d within. all (suc k) d (omega (arith, within))) two.seconds,
       )
 
-module _ (s : SurveyFields) (first : Part) (later : List Part)
+module _ {s : SurveyFields} {first : Part} {later : List Part}
     (can : ArePartsLeft s (first ∷ later)) where
   known : IsClass s.class
-  known = class-known s can.placed (omega (arith, first-there-is s (first ∷ later) can))
+  known = class-known s can.placed (omega (arith, first-there-is can))
 
   all : All (IsPartNeeds s.class) (map (part_needs_of s) (first ∷ later))
   all = all-needs s can.placed 0 (first ∷ later) can.order
@@ -160,7 +160,7 @@ module _ (s : SurveyFields) (first : Part) (later : List Part)
 
   planned : IsPlan (window_of s.class.version) own_choice (item_needs items ∷ []) plan
   planned =
-      let splice = splice-needs s (first ∷ later) can in
+      let splice = splice-needs can in
       splice-planned s.class (item_needs items) splice.known splice.same splice.some splice.fits
 
   own : HasOwnPlaces (item_needs items) plan (places_before items plan)
@@ -169,7 +169,7 @@ module _ (s : SurveyFields) (first : Part) (later : List Part)
       ap (λ n. length plan - n) (length-map items (λ (i : SpliceItem). i.need)) in
       subst (HasOwnPlaces (item_needs items) plan) long
       (own-places (window_of s.class.version) planned.lead_ins
-      (splice-needs s (first ∷ later) can).some planned.alone planned.whole.slots)
+      (splice-needs can).some planned.alone planned.whole.slots)
 
   abbrev needs : List Need
   needs = part_needs_of s first
@@ -218,5 +218,5 @@ module _ (s : SurveyFields) (first : Part) (later : List Part)
 -- the law of the parts that `remove` leaves
 pub keep-slots : FramesKeepTheirSlots
 keep-slots stretches file s first later is left =
-    parts-keep (survey_without_head s) first later
+    parts-keep
     (left-parts stretches file is left)

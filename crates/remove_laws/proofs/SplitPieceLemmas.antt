@@ -139,7 +139,7 @@ module _ (s : SurveyFields) (frames : ℕ) (all : List (ℕ × ℕ)) where
           ap (λ l. left (laid_at s before l)) (step before frames [] is)
           ∙ sym (ap (all_parts_laid s) (between before frames is))
 
-  module _ (before : ℕ) (st : ℕ × ℕ) (stretches : List (ℕ × ℕ))
+  module _ {before : ℕ} (st : ℕ × ℕ) (stretches : List (ℕ × ℕ))
       (none : disorder_from frames before (st ∷ stretches) ≡ None)
       (alike : StayAlike before (st ∷ stretches)) where
     order : (before ≤ st.0) × (st.0 < st.1) × (st.1 ≤ frames)
@@ -196,9 +196,9 @@ module _ (s : SurveyFields) (frames : ℕ) (all : List (ℕ × ℕ)) where
       → StayAsParts before stretches
   pieces-stay {before} [] none alike = last-stay alike
   pieces-stay {before} (st ∷ stretches) none alike =
-      next-stay before st stretches none alike
-      (pieces-stay stretches (order before st stretches none alike).3
-      (alike-behind before st stretches none alike))
+      next-stay st stretches none alike
+      (pieces-stay stretches (order st stretches none alike).3
+      (alike-behind st stretches none alike))
 
 -- ---- the law
 

@@ -130,7 +130,7 @@ module _ (pair : Neighbours) where
       ap (λ r. then_made r (λ parts. Ok (removal_file parts (fields_of_head file s.head) file
       (survey_without_head s)))) (same-left s touch)
 
-  module _ (input output : List ℕ) (files : Contents)
+  module _ {input : List ℕ} (output : List ℕ) (files : Contents)
       (touch : (file : List ℕ) (s : SurveyFields) → files input ≡ Some file
       → survey_of file most_frames ≡ Ok s → DoTouch s pair) where
     surveyed : (file : List ℕ) (r : Result SurveyFields SurveyFault)
@@ -160,5 +160,5 @@ pub touching-one : TouchingStretchesAreOne
 touching-one pair = record {
   parts = λ s touch. same-left pair s touch;
   accepted = λ s parts meet is. do-touch pair s meet is;
-  commands = λ input output files touch. same-commands pair input output files touch;
+  commands = λ input output files touch. same-commands pair output files touch;
 }

@@ -28,7 +28,7 @@ within_sound is = grind (arith, le-ltb)
 module _ (head : Option Head) where
   kept_ends : IsRuled head kept_end (end_of_kept head)
   unfolding end_of_kept
-  kept_ends = ruled head kept_end (end_of_kept head) (λ rows. refl) (λ rows i. refl)
+  kept_ends = ruled head kept_end (λ rows. refl) (λ rows i. refl)
 
   -- before the first frame none was kept
   pub kept_none : AreKeptTo head [] (record { place = head_area head; ended = 0 })
@@ -54,7 +54,7 @@ module _ (head : Option Head) where
       × (cond (not sound || silent) ended (end_of_data now r) ≤ now + own_area r.header)
   end_by base b r is other at low high = grind arith
 
-  module _ (rows : List Row) (b : ReservoirState) (kept : AreKeptTo head rows b) (r : Row) where
+  module _ {rows : List Row} {b : ReservoirState} (kept : AreKeptTo head rows b) (r : Row) where
     abbrev marked_one : Row
     marked_one = row_judged_in b r
 

@@ -142,7 +142,7 @@ module _ (file : List ℕ) (class : ClassFields) where
               (append_assoc rows (row_judged_in b row ∷ [])
               (rows_left file (state_after_frame b row) ts))
               (order.kept head (rows ++ row_judged_in b row ∷ []) (state_after_frame b row)
-              (kept_frame head rows b kept row));
+              (kept_frame head kept row));
         }
 
     -- an item that is neither a frame nor a block
@@ -311,7 +311,7 @@ front-order file =
     ends-order Front file 0
     (item_chain Front file 0).items (item_chain Front file 0).stop (item_chain-ends Front file 0)
 
-module _ (file : List ℕ) (first : PlacedFrame)
+module _ (file : List ℕ) {first : PlacedFrame}
     (is : first_frame file (front_end_of file) ≡ Some first) where
   next : IsNext file (front_end_of file) first
   next = first_frame-is file (front_end_of file) first is
@@ -370,7 +370,7 @@ pub damaged_fields-laid : (file : List ℕ) {d : DamagedFields} → damaged_fiel
 damaged_fields-laid file {d} e long =
     let is = damaged_fields-from e in
     subst IsDamagedLaidOut is.same
-    (from-laid file is.first is.first_is long
+    (from-laid file is.first_is long
     (subst (λ (c : DamagedFields). 0 < length c.survey.frames) (sym is.same) is.some)
     (subst (λ (c : DamagedFields). length c.survey.frames ≤ most_frames) (sym is.same) is.few))
 

@@ -31,7 +31,7 @@ class_at {class} (q ∷ rows) zero {r} are found = let same : q ≡ r = cc in
     subst (λ (x : Row). IsHeader x.header × (class_of x.header ≡ class)) same (are.0, are.1)
 class_at {class} (q ∷ rows) (suc i) {r} are found = class_at rows i are.2 found
 
-module _ (d : DamagedFields) (laid : IsDamagedLaidOut d) where
+module _ {d : DamagedFields} (laid : IsDamagedLaidOut d) where
   abbrev head : Option Head
   head = d.survey.head
 
@@ -64,7 +64,7 @@ module _ (d : DamagedFields) (laid : IsDamagedLaidOut d) where
     frames = laid_emptied d.survey.first d.survey.length rows laid.frames;
     blocks = laid.blocks;
     few = laid.long;
-    placed = placed-kept head d.survey.class rows (end_of_kept head rows) kept_at;
+    placed = placed-kept head rows kept_at;
   }
 
 -- ---- if none becomes an empty one

@@ -58,16 +58,16 @@ module _ (file : List ℕ) (b : Begun) (old new : DamagedSoFar) where
   rows_shown : (item : Item) {front : List ℕ} {left : ℕ} → Shows file old.at front left
       → item_rows old.before old.at front item ≡ item_rows old.before old.at (drop old.at file) item
   rows_shown (Frame h) {front} {left} shows =
-      ap (λ (r : Row). row_judged_in old.before r ∷ []) (row_shown
-      file old.at front left shows h (omega (arith, overhead-few (class_of h) h.protected)))
+      ap (λ (r : Row). row_judged_in old.before r ∷ [])
+      (row_shown shows h (omega (arith, overhead-few (class_of h) h.protected)))
   rows_shown _ shows = refl
 
   before_shown : (item : Item) {front : List ℕ} {left : ℕ} → Shows file old.at front left
       → state_after_item old.before old.at front item
       ≡ state_after_item old.before old.at (drop old.at file) item
   before_shown (Frame h) {front} {left} shows =
-      ap (state_after_frame old.before) (row_shown file old.at front
-      left shows h (omega (arith, overhead-few (class_of h) h.protected)))
+      ap (state_after_frame old.before)
+      (row_shown shows h (omega (arith, overhead-few (class_of h) h.protected)))
   before_shown _ shows = refl
 
   -- an item that is read is one more thing, whose frame or block is kept
@@ -138,7 +138,7 @@ gaps_later from (q ∷ gaps) {to} {later} laid low =
 same_items : {X : Type 0} (P : List X → Type 0) {old new : List X} → new ≡ old ++ [] → P old → P new
 same_items P {old} same holds = subst P (sym (same ∙ append-nil old)) holds
 
-module _ (b : Begun) (old new : DamagedSoFar) (laid : IsLaidTo b old) where
+module _ {b : Begun} {old : DamagedSoFar} (new : DamagedSoFar) (laid : IsLaidTo b old) where
   -- a gap that is added is after all that was read before it
   pub gap_laid : {to : ℕ} → old.at < to → to ≤ b.size → AddsGap to old new → IsLaidTo b new
   gap_laid {to} some within adds =
@@ -203,7 +203,7 @@ module _ (b : Begun) (old new : DamagedSoFar) (laid : IsLaidTo b old) where
         kept =
             grind (
               arith,
-              kept_frame b.head old.rows.items old.before laid.kept (row_in old.at h
+              kept_frame b.head laid.kept (row_in old.at h
                   front),
             );
       }

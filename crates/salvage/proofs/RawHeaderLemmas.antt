@@ -36,7 +36,7 @@ use Rattle.tag_blocks.specs.declared.block.Kind.{Kind, TheVariants.{Ape, Id3v1, 
 
 -- ---- the first four bytes of a header
 
-module _ (a b c d : ℕ) (a_few : a < 256) (b_few : b < 256) (c_few : c < 256) (d_few : d < 256) where
+module _ {a b c d : ℕ} (a_few : a < 256) (b_few : b < 256) (c_few : c < 256) (d_few : d < 256) where
   abbrev four : List ℕ
   four = a ∷ b ∷ c ∷ d ∷ []
 
@@ -115,8 +115,8 @@ read_at : (four : List ℕ) {fields : HeaderFields} → header_at four ≡ Ok fi
 unfolding header_at
 read_at four {fields} e = read_in e
 
-module _ (a b c d : ℕ) (rest : List ℕ) (a_few : a < 256) (b_few : b < 256) (c_few : c < 256)
-    (d_few : d < 256) (h : HeaderFields) (read : Read (bits (a ∷ b ∷ c ∷ d ∷ [])) h) where
+module _ {a b c d : ℕ} (rest : List ℕ) (a_few : a < 256) (b_few : b < 256) (c_few : c < 256)
+    (d_few : d < 256) {h : HeaderFields} (read : Read (bits (a ∷ b ∷ c ∷ d ∷ [])) h) where
   says_four : Says (a ∷ b ∷ c ∷ d ∷ rest) h
   unfolding is_readable header_fields
   says_four =
@@ -124,13 +124,13 @@ module _ (a b c d : ℕ) (rest : List ℕ) (a_few : a < 256) (b_few : b < 256) (
       let first = and_parts _ _ parts.0 in
       let front = and_parts _ _ first.0 in
       let marks = and_parts _ _ front.0 in
-      let sync = sym (sync_is a b c d a_few b_few c_few d_few) ∙ eqb-true _ _ marks.0 in
-      let version = version_is a b c d a_few b_few c_few d_few in
-      let rate = rate_is a b c d a_few b_few c_few d_few in record {
+      let sync = sym (sync_is a_few b_few c_few d_few) ∙ eqb-true _ _ marks.0 in
+      let version = version_is a_few b_few c_few d_few in
+      let rate = rate_is a_few b_few c_few d_few in record {
         first = omega (arith, sync, a_few, b_few);
         sync = omega (arith, sync, a_few, b_few);
         version_not = λ e. eqb-false _ _ (not-true _ marks.1) (version ∙ e);
-        layer = sym (layer_is a b c d a_few b_few c_few d_few) ∙ eqb-true _ _ front.1;
+        layer = sym (layer_is a_few b_few c_few d_few) ∙ eqb-true _ _ front.1;
         rate_not = λ e. eqb-false _ _ (not-true _ first.1) (rate ∙ e);
         rate_some = λ e. read.some (rate ∙ e);
         version = ap (λ (f : HeaderFields). f.version) (sym read.is) ∙ ap raw_version version;
@@ -151,7 +151,7 @@ few_behind xs k few = λ i. subst (λ n. n < 256) (sym (get_or-drop k xs i 0)) (
 says : (bytes : List ℕ) {h : HeaderFields} → AreFew bytes → 4 ≤ length bytes
     → header_at (take 4 bytes) ≡ Ok h → Says bytes h
 says (a ∷ b ∷ c ∷ d ∷ rest) {h} few many e =
-    says_four a b c d rest (few 0) (few 1) (few 2) (few 3) h (read_at (a ∷ b ∷ c ∷ d ∷ []) e)
+    says_four rest (few 0) (few 1) (few 2) (few 3) (read_at (a ∷ b ∷ c ∷ d ∷ []) e)
 says _ few many e = absurd (omega (arith, many))
 
 header_says : {bytes : List ℕ} {h : HeaderFields} → AreFew bytes → header_front bytes ≡ Ok h
@@ -343,7 +343,7 @@ high_is : {side : ℕ} (h : HeaderFields) → side_size_of (class_of h) ≡ side
 unfolding high_offset
 high_is h same = ap (λ n. 6 + n) same
 
-module _ (own : List ℕ) (few : AreFew own) (side right : ℕ) (side_said_is : side
+module _ (own : List ℕ) (few : AreFew own) {side right : ℕ} (side_said_is : side
     ≡ raw_side_size (get_or own 1 0) (get_or own 3 0)) (even : get_or own 1 0 % 2 ≡ 0)
     (low : may_begin_text (get_or own (4 + side) 0) ≡ false)
     (high : may_begin_text (get_or own (6 + side) 0) ≡ false)
@@ -388,7 +388,7 @@ module _ (own : List ℕ) (few : AreFew own) (side right : ℕ) (side_said_is : 
 
 -- ---- a frame that has no anchor, or isn't usable
 
-module _ (front : List ℕ) (k size : ℕ) (few : AreFew (drop k front))
+module _ (front : List ℕ) (k : ℕ) {size : ℕ} (few : AreFew (drop k front))
     (said : size ≡ raw_frame_length (get_or (drop k front) 1 0) (get_or (drop k front) 2 0))
     (near : k + size ≤ search_reach) where
   here : (h : HeaderFields) → item_front (drop k front) ≡ Frame h

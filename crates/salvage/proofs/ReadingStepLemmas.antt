@@ -87,7 +87,7 @@ module _ {was : Seen} {name : List ℕ} {begun : Begun} {old : DamagedSoFar} {it
             told = λ bytes holds. item_more bytes begun old new
                 (on.reading.told bytes holds) (on.shows bytes holds)
                 (read_there bytes holds) on.passes.zeros on.passes.own adds;
-            laid = item_laid begun old new on.reading.laid item front fewer on.passes.item
+            laid = item_laid new on.reading.laid item front fewer on.passes.item
                 (subst (λ (role : Role). admits_item role old.at item front ≡ true) on.later
                 on.usable)
                 on.passes.least on.within adds;

@@ -75,7 +75,7 @@ unusable : (file : List ℕ) (role : Role) (p : PlacedFrame) (b : Bool)
     → frame_if_usable file role (cond b (Some p) None) ≡ None
 unusable file role p b is = grind arith
 
-module _ (file : List ℕ) (at : ℕ) (front : List ℕ) (left : ℕ)
+module _ {file : List ℕ} {at : ℕ} {front : List ℕ} {left : ℕ}
     (shows : Shows file at front left) where
   no_anchor : (k : ℕ) (h : HeaderFields) → k + length_of (class_of h) h.slot ≤ 4064
       → is_anchor (class_of h) (item_front (drop (k + length_of (class_of h) h.slot) front)) ≡ false
@@ -84,7 +84,7 @@ module _ (file : List ℕ) (at : ℕ) (front : List ℕ) (left : ℕ)
       let size = length_of (class_of h) h.slot in
       let place : at + (k + size) ≡ (at + k) + size = omega arith in
       let behind : item_front (drop (k + size) front) ≡ item_at file ((at + k) + size) =
-      item_at-behind file at front left shows near ∙ ap (item_at file) place in
+      item_at-behind shows near ∙ ap (item_at file) place in
       and_right (item_fits file (at + k) (Frame h)) (is_anchor (class_of h)
       (item_at file ((at + k) + size))) (sym (ap (is_anchor (class_of h)) behind) ∙ none)
 

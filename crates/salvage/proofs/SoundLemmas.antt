@@ -22,7 +22,7 @@ judged_from b (r ∷ rows) = row_judged_in b r ∷ judged_from (state_after_fram
 module _ (head : Option Head) where
   sound_ends : IsRuled head sound_end (end_of_sound head)
   unfolding end_of_sound
-  sound_ends = ruled head sound_end (end_of_sound head) (λ rows. refl) (λ rows i. refl)
+  sound_ends = ruled head sound_end (λ rows. refl) (λ rows i. refl)
 
   -- the main data before the frame after these
   abbrev behind : List Row → ReservoirState

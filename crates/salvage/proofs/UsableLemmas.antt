@@ -68,7 +68,7 @@ usable-take : (role : Role) (p : PlacedFrame) (n : ℕ) (bytes : List ℕ) → 6
     → is_usable role p (take n bytes) ≡ is_usable role p bytes
 usable-take role p n bytes six room few = grind (arith, word-take, head-take)
 
-module _ (file : List ℕ) (at : ℕ) (front : List ℕ) (left : ℕ)
+module _ {file : List ℕ} {at : ℕ} {front : List ℕ} {left : ℕ}
     (shows : Shows file at front left) where
   -- the look shows whether a frame is usable
   pub usable_shown : (role : Role) {p : PlacedFrame} → p.offset ≡ at → item_front front
@@ -143,7 +143,7 @@ module _ (file : List ℕ) (at : ℕ) (front : List ℕ) (left : ℕ)
       < size_of item → size_of item ≤ size → size ≤ left → whole_item_at Stream file at ≡ Some item
   whole_by {item} is here some least within =
       whole_item_at-whole Stream file at item
-      (sym (item_at-shown file at front left shows) ∙ sym is) here
+      (sym (item_at-shown shows) ∙ sym is) here
       (omega (arith, some, least, within, shows.left_is))
 
   step_whole : (item : Item) {size : ℕ} → item ≡ item_front front

@@ -202,12 +202,12 @@ module _ (file : List ℕ) (class : ClassFields) where
   passed_zeros : {at : ℕ} {front : List ℕ} {left : ℕ} {size : ℕ} → Shows file at front left
       → size ≡ prefix_len zero_test front → IsPassed at Zero size
   passed_zeros {at} {front} {left} {size} shows many = record {
-    rows = λ b. zeros_shown file at front left shows (λ n. rows_left file b (things file class n))
+    rows = λ b. zeros_shown shows (λ n. rows_left file b (things file class n))
         size many (λ bytes n zero. ap (rows_left file b) (zero_next zero));
     blocks =
-        zeros_shown file at front left shows (λ n. blocks_of_things (things file class n)) size many
+        zeros_shown shows (λ n. blocks_of_things (things file class n)) size many
         (λ bytes n zero. ap blocks_of_things (zero_next zero));
-    gaps = zeros_shown file at front left shows (λ n. gaps_of (things file class n)) size many
+    gaps = zeros_shown shows (λ n. gaps_of (things file class n)) size many
         (λ bytes n zero. ap gaps_of (zero_next zero));
   }
 

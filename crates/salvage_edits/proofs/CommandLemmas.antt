@@ -92,7 +92,7 @@ made-holds bytes (Err fault) is e = absurd cc
 made-holds bytes {new} (Ok d) is e =
     let made : salvaged_file bytes d ≡ new = cc in
     rw (← made)
-    (salvaged-holds bytes d (damaged_of-is bytes is).1 (read-laid bytes is))
+    (salvaged-holds bytes (damaged_of-is bytes is).1 (read-laid bytes is))
 
 -- the refusals are late, and what is made holds what is left
 pub salvage_proper : (input : List ℕ) → IsProperTask (salvage_task input)
@@ -132,7 +132,7 @@ module _ (input : List ℕ) where
       → TaskRefuses (salvage_task input) files (Input 0 Absent)
   refuses-absent files missing = grind arith
 
-  module _ (files after : Files) (before counts : Counts) (same : after ≡ files) where
+  module _ {files after : Files} (before counts : Counts) (same : after ≡ files) where
     rejected : {fault : SurveyFault} → RefusesDamaged input files before counts fault
         → TaskRefuses (salvage_task input) files (Input 0 fault)
         × (seen_folder after counts ≡ seen_folder files before)
@@ -216,7 +216,7 @@ module _ (input : List ℕ) where
     read = can.is.read;
     laid = can.is.laid;
     layable =
-        work_layable m.survey selected work.laid prepared.made {input = input} {files = files}
+        work_layable prepared.made {input = input} {files = files}
         can.there can.placed (mended-has files m can.is) prepared.own.writable;
     survey = ap survey_view prepared.made.survey_is ∙ can.is.survey;
     selected = rw prepared.made.survey_is (rw prepared.made.selected_is prepared.own);
@@ -224,7 +224,7 @@ module _ (input : List ℕ) where
     reports = prepared.reports can.is.of can.is.emptied can.is.gaps;
   }
 
-  module _ (files : Files) (work : SalvageWork) (ready : IsSalvageReady input files work) where
+  module _ {files : Files} {work : SalvageWork} (ready : IsSalvageReady input files work) where
     abbrev file_of : List ℕ → List ℕ
     file_of = work_file work.laid
 
@@ -293,5 +293,5 @@ pub written_run : {input output : List ℕ} (free : clash_in (salvage_task input
     → NoneFell old.counts new.counts → IsRunOf (one_command (salvage_task input) output) old new r
 written_run {input} {output} free
     {old} {work = work} ready numbers wrote fell =
-    pass_run (salvage_task input) output free (work_file work.laid)
-    (ready-makes input old.files work ready) (salvage_proper input) numbers wrote fell
+    pass_run (salvage_task input) output free
+    (ready-makes input ready) (salvage_proper input) numbers wrote fell

@@ -152,7 +152,7 @@ module _ (file : List ℕ) where
         rows = emptied_whole file rows (rows-whole (class_of first.header) first.offset rows
             (omega arith) laid.class laid.frames
             (islands-paired head (things_from file first)));
-        placed = (survey-mended (damaged_from file front_end first) laid).placed;
+        placed = (survey-mended laid).placed;
         blocks = all-blocks first;
       }
 

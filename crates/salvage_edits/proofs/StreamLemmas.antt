@@ -94,7 +94,7 @@ whole-stream file s =
     ap (λ n. slice_range (stream_of_survey file s) 0 n) (sym (stream-length file s))
     ∙ range-whole (stream_of_survey file s)
 
-module _ (file : List ℕ) (d : DamagedFields) (is : damaged_fields file ≡ Ok d)
+module _ (file : List ℕ) {d : DamagedFields} (is : damaged_fields file ≡ Ok d)
     (laid : IsDamagedLaidOut d) where
   abbrev own : SurveyFields
   own = emptied_survey d.survey
@@ -112,5 +112,5 @@ module _ (file : List ℕ) (d : DamagedFields) (is : damaged_fields file ≡ Ok 
   pub salvaged-holds : HoldsStream (salvaged_file file d) (left_stream file d)
   unfolding salvaged_file
   salvaged-holds =
-      rw left-is (chosen-holds (all_chosen own) file own (damaged_fields-relaid is laid)
-      (survey-mended d laid).some (omega arith) refl)
+      rw left-is (chosen-holds (all_chosen own) (damaged_fields-relaid is laid)
+      (survey-mended laid).some (omega arith) refl)

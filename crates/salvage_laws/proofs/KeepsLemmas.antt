@@ -132,7 +132,7 @@ not_sound : {place ended : ℕ} {r : Row} {lost : Bool} → lacks_data place end
     → (lost ≡ false → StandWell place ended r) → not (is_sound place ended r) ≡ lost
 not_sound is well = grind arith
 
-module _ (file : List ℕ) (head : Option Head) (class : ClassFields) (allowed : ℕ) (rows : List Row)
+module _ (file : List ℕ) (head : Option Head) {class : ClassFields} {allowed : ℕ} (rows : List Row)
     (sound : AreSound file head class allowed rows) where
   one_same : (i : ℕ) {r : Row} → slice_get rows i ≡ Some r
       → not (is_sound (place head rows i) (data_end_before head rows i) r) ≡ is_lost head rows i r
@@ -170,7 +170,7 @@ unfolding judged_rows marked_rows
 judged_rows-marked_rows file head class allowed rows sound =
     each_same (judged_row head rows) (marked_row head rows) 0 rows
     (λ i r is. let same : i ≡ 0 + i = omega arith in subst (λ m. judged_row head rows m r
-    ≡ marked_row head rows m r) same (row_same file head class allowed rows sound i is))
+    ≡ marked_row head rows m r) same (row_same file head rows sound i is))
 
 -- ---- the first frame of the survey is the first that is read
 

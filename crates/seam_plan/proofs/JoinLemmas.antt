@@ -19,7 +19,7 @@ use Rattle.slot_plan.specs.FreeBytes.{FitsBehind, IsJoinSlot, IsMostLeft, JoinsI
 use Rattle.slot_plan.specs.{FreeBytes.needs_with_first_slot, Parts.AreNeedsOfClass}
 use Rattle.slot_plan.specs.declared.needs.Need.{Need}
 
-module _ (window left : ℕ) (splice : List Need) (is : IsMostLeft window window splice left) where
+module _ {window left : ℕ} {splice : List Need} (is : IsMostLeft window window splice left) where
   splice-fits : FitsBehind window window splice
   splice-fits = (leaves-fit splice (omega arith) is.leaves).0
 

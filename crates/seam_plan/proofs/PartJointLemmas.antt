@@ -59,7 +59,7 @@ pub first-known : (class : ClassFields) (first : Need) (needs : List Need)
 unfolding AreNeedsOfClass
 first-known class first needs same known = grind arith
 
-module _ (class : ClassFields) (left : ℕ) (splice : List Need) (known : IsClass class)
+module _ (class : ClassFields) {left : ℕ} {splice : List Need} (known : IsClass class)
     (is : IsMostLeft (window_of class.version) (window_of class.version) splice left) where
   -- a part whose first frame joins in a slot is its frames with the first in this slot
   pub in-slot-items : (needs : List Need) (slot : SlotFields) → AreNeedsOfClass class needs
@@ -71,7 +71,7 @@ module _ (class : ClassFields) (left : ℕ) (splice : List Need) (known : IsClas
       let window : ℕ = window_of class.version in
       splice_part_items-is window splice first needs
       ∙ ap (joined_in window first needs)
-      (join-found window left splice is first needs
+      (join-found is first needs
       (first-known class first needs same known) joins)
 
   -- a part whose frames can't join comes behind its lead-in
@@ -86,7 +86,7 @@ module _ (class : ClassFields) (left : ℕ) (splice : List Need) (known : IsClas
       let first_known = first-known class first needs same known in
       splice_part_items-is window splice first needs
       ∙ ap (joined_in window first needs)
-      (join-none window left splice is first needs first_known none)
+      (join-none is first needs first_known none)
       ∙ ap (λ o. option_to_list (option_map lead_in_splice_item o)
       ++ map frame_item (first ∷ needs))
       (lead-in-is window first needs first_known leads)

@@ -88,8 +88,8 @@ without-led class splice input =
         → IfWithout (window_of class.version) input (without_if class splice input b)
     by_test b has = grind arith
 
-module _ (class : ClassFields) (splice : List SpliceFrame) (input : Input) (brought : Brought)
-    (has : Bool) (is : IsBroughtInput input brought)
+module _ (class : ClassFields) (splice : List SpliceFrame) {input : Input} {brought : Brought}
+    {has : Bool} (is : IsBroughtInput input brought)
     (leads : has ≡ has_lead_in (window_of class.version) brought) where
   -- an input joins without its lead-in if it has one that the others want, and the others can join
   without-by : {alone b : Bool} (result : Option Joint)

@@ -121,7 +121,7 @@ then-alone window first others fits alone = at _ (own-left (omega arith) fits)
     at : (left : ℕ) → IsMostLeft window window first left
         → FitsBehind window window (first ++ others)
     at left is =
-        then-fits window window left first others (omega arith) is
+        then-fits others (omega arith) is
         (more-behind window others (omega arith) alone)
 
 -- ---- an input

@@ -47,10 +47,11 @@ all-free can = grind (arith, fits-window)
 -- ---- a splice with more frames
 
 -- whatever is alike, if these frames are added, the splice continues with them
-module _ (class : ClassFields) (number : ℕ) (frames more : List SpliceFrame)
-    (places : List FramePlace)
-    (before brought : Brought)
-    (input : Input) (old new : Run) (result : Joint) (is : IsSplice class frames places before old)
+module _ {class : ClassFields} (number : ℕ) {frames : List SpliceFrame} (more : List SpliceFrame)
+    {places : List FramePlace}
+    {before brought : Brought}
+    {input : Input} {old : Run} (new : Run) (result : Joint)
+    (is : IsSplice class frames places before old)
     (brings : IsBroughtInput input brought)
     (adds : needs_of more
     ≡ joined_needs result.slot (drop (left_out_count result.seam) input.needs.now)) where

@@ -49,7 +49,7 @@ module _ (class : ClassFields) where
 
   -- ---- the splice
 
-  module _ (first : Brought) (inputs : List Brought) (fit : IsFit class first)
+  module _ {first : Brought} (inputs : List Brought) (fit : IsFit class first)
       (are : AreFit class inputs) where
     abbrev joints : List JointFrames
     joints = joints_of class first inputs

@@ -54,8 +54,8 @@ pub stays-none : (frames : ℕ) (stretches : List (ℕ × ℕ)) → StaysTo fram
 stays-none frames stretches =
     record { within = omega arith; few = omega arith; found = refl; order = refl }
 
-module _ (frames : ℕ) (stretches : List (ℕ × ℕ)) (k before : ℕ) (parts : List Part)
-    (stretch : ℕ × ℕ) (to : StaysTo frames stretches k before parts) (some : k < length stretches)
+module _ {frames : ℕ} {stretches : List (ℕ × ℕ)} {k before : ℕ} {parts : List Part}
+    {stretch : ℕ × ℕ} (to : StaysTo frames stretches k before parts) (some : k < length stretches)
     (is : stretch ≡ slice_index_or stretches k (0, 0)) where
   next : drop k stretches ≡ stretch ∷ drop (k + 1) stretches
   next = search (arith, drop-cons)

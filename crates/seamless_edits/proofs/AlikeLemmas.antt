@@ -24,8 +24,8 @@ HasLast splice count last =
     (class : ClassFields) (frames : List SpliceFrame) (places : List FramePlace) (before : Brought)
     → IsSplice class frames places before splice → count ≤ 7 → last ≡ last_places places count
 
-module _ (inputs : List InputFields) (number : ℕ) (splice : Run) (input : Input)
-    (overlap : Overlap) (finds : Finds splice input overlap) (can : CanFollow input overlap) where
+module _ (inputs : List InputFields) (number : ℕ) {splice : Run} {input : Input}
+    {overlap : Overlap} (finds : Finds splice input overlap) (can : CanFollow input overlap) where
   within-brought : {brought : Brought} → IsBroughtInput input brought
       → overlap.frames ≤ length brought.frames
   within-brought brings = grind (arith, length-map)
@@ -39,7 +39,7 @@ module _ (inputs : List InputFields) (number : ℕ) (splice : Run) (input : Inpu
       → IsSharedOverlap files inputs number splice input None
   none-alike (Untold touched) has none = tt
   none-alike (Told f) has none = λ class frames places before brought is brings sounds there.
-      alike-few class (all_splice_frames f inputs) number frames places before brought overlap
+      alike-few class (all_splice_frames f inputs) number frames places before brought
       is.same (within-brought brings) can.some sounds there
       (finds class frames places before brought is brings)
       (sym none ∙ has class frames places before is few-count)
@@ -52,8 +52,8 @@ module _ (inputs : List InputFields) (number : ℕ) (splice : Run) (input : Inpu
   tested-alike files b has test = grind (arith, alike-tested, within-brought, few-count)
 
 -- one more frame is compared
-module _ (inputs : List InputFields) (number frame : ℕ) (p : FramePlace)
-    (places rest : List FramePlace) (is : places ≡ p ∷ rest) where
+module _ (inputs : List InputFields) (number frame : ℕ) {p : FramePlace}
+    {places rest : List FramePlace} (is : places ≡ p ∷ rest) where
   abbrev Same : Files → Bool → Type 0
   Same files b =
       IfTold files (λ f. b ≡ same_sounds (all_splice_frames f inputs) p (frame_place number frame))

@@ -59,8 +59,8 @@ can-begin-at {files} (j ∷ inputs) {bs} {i} {rest} can e = grind (arith, can-be
 
 -- ---- the first input
 
-module _ (files : Files) (i : InputFields) (inputs : List InputFields)
-    (b : Beginning) (bs : List Beginning) (d : Deciding)
+module _ {files : Files} {i : InputFields} {inputs : List InputFields}
+    {b : Beginning} {bs : List Beginning} {d : Deciding}
     (can : CanBeDecided files (i ∷ inputs) (b ∷ bs)) (begun : HasBegunSplice i.survey b d) where
   abbrev s : SurveyFields
   s = i.survey
@@ -122,11 +122,10 @@ pub begun-decides : (files : Files) {i : InputFields} {inputs : List InputFields
     → CanBeDecided files (i ∷ inputs) (b ∷ bs) → HasBegunSplice i.survey b d
     → IsDecidingTo files (i ∷ inputs) (b ∷ bs) 1 d
 begun-decides (Untold touched) {i} {inputs} {b} {bs} {d} can begun =
-    first-is (Untold touched) i inputs
-    b bs d can begun (brings-silent i.survey b) tt
+    first-is can begun (brings-silent i.survey b) tt
 begun-decides (Told f) {i} {inputs} {b} {bs} {d} can begun =
-    first-is (Told f) i inputs b bs d can begun
-    (brings-told f i b) (first-told (Told f) i inputs b bs d can begun f)
+    first-is can begun
+    (brings-told f i b) (first-told can begun f)
 
 -- the same, with the input and its beginning given by their places
 pub begun-at : {files : Files} (inputs : List InputFields)
@@ -192,8 +191,8 @@ pub record IsFront (s : SurveyFields) (b : Beginning) (needs : List Need) (front
       → needs ≡ needs_of frames → front ≡ front_left_out_count s.class first frames
   pub behind : front < length s.frames
 
-module _ (files : Files) (i : InputFields) (inputs : List InputFields)
-    (b : Beginning) (bs : List Beginning) (d : Deciding)
+module _ {files : Files} {i : InputFields} {inputs : List InputFields}
+    {b : Beginning} {bs : List Beginning} {d : Deciding}
     (can : CanBeDecided files (i ∷ inputs) (b ∷ bs))
     (is : IsDecidingTo files (i ∷ inputs) (b ∷ bs) (length (i ∷ inputs)) d) where
   abbrev own : SurveyFields
@@ -226,7 +225,7 @@ module _ (files : Files) (i : InputFields) (inputs : List InputFields)
   pub front-first : take (length own.frames) d.needs.items ≡ input_needs own
   front-first = is.begins i refl
 
-  module _ (front : ℕ) (known : IsFront own b d.needs.items front) where
+  module _ {front : ℕ} (known : IsFront own b d.needs.items front) where
     abbrev decided : Decided
     decided = record { front = front; joints = d.joints; needs = d.needs }
 
@@ -277,7 +276,7 @@ all-told : {f : Contents} {i : InputFields} {inputs : List InputFields}
     (record { front = front; joints = d.joints; needs = d.needs })
 all-told {f} {i} {inputs} {b} {bs} {d} can is {front} known =
     let all = broughts_in f (i ∷ inputs) (b ∷ bs) in
-    joined-of (Told f) i inputs b bs d can is front known f refl
+    joined-of can is known f refl
     (subst (λ (l : List Brought). IsDecidedTo is.class l
     (all_splice_frames f (i ∷ inputs)) is.frames is.places is.before d.joints.items)
     (take_all (length (i ∷ inputs)) all (broughts-few f (i ∷ inputs) (b ∷ bs))) is.told)
@@ -291,9 +290,9 @@ pub all-decided : (files : Files) (i : InputFields) (inputs : List InputFields)
     (record { front = front; joints = d.joints; needs = d.needs })
 unfolding spliceable
 all-decided (Untold touched) i inputs b bs d can is front known =
-    record { splice = spliceable (Untold touched) i inputs b bs d can is front known; told = tt }
+    record { splice = spliceable can is known; told = tt }
 all-decided (Told f) i inputs b bs d can is front known = record {
-  splice = spliceable (Told f) i inputs b bs d can is front known;
+  splice = spliceable can is known;
   told = all-told can is known;
 }
 
@@ -323,9 +322,9 @@ at-end files {i} {b} d (j ∷ inputs) (c ∷ bs) can e there count all is =
     subst (λ (u : InputFields). AreAllDecided files (j ∷ inputs) (c ∷ bs) u.survey b d) items
     (subst (λ (e : Beginning). AreAllDecided files (j ∷ inputs) (c ∷ bs) j.survey e d) beginnings
     (record {
-      same = front-same files j inputs c bs d can now;
-      fits = front-fits files j inputs c bs d can now;
-      first = front-first files j inputs c bs d can now;
+      same = front-same can now;
+      fits = front-fits can now;
+      first = front-first can now;
       joined = all-decided files j inputs c bs d can now;
     }))
 
@@ -357,10 +356,10 @@ pub input-few : {files : Files} {inputs : List InputFields} {bs : List Beginning
     → length (input_needs i.survey) ≤ most_frames
 input-few n can found = grind (arith, frames-at, length-map)
 
-module _ (files : Files) (inputs : List InputFields) (bs : List Beginning)
-    (number : ℕ) (d : Deciding) (can : CanBeDecided files inputs bs)
-    (is : IsDecidingTo files inputs bs number d) (i : InputFields)
-    (found : slice_get inputs number ≡ Some i) (b : Beginning)
+module _ {files : Files} {inputs : List InputFields} {bs : List Beginning}
+    {number : ℕ} {d : Deciding} (can : CanBeDecided files inputs bs)
+    (is : IsDecidingTo files inputs bs number d) {i : InputFields}
+    (found : slice_get inputs number ≡ Some i) {b : Beginning}
     (begun : slice_get bs number ≡ Some b) (input : Input)
     (needs : input.needs.now ≡ input_needs i.survey) (blank : input.blank ≡ b.blank)
     (played : input.played

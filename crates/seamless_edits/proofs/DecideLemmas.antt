@@ -159,7 +159,7 @@ sounds-alike lists number from {all} (p ∷ ps) (x ∷ xs) has within same =
 
 module _ (class : ClassFields) (lists : List (List SpliceFrame)) (number : ℕ)
     (frames : List SpliceFrame)
-    (places : List FramePlace) (before brought : Brought) (overlap : Overlap)
+    (places : List FramePlace) (before brought : Brought) {overlap : Overlap}
     (same : length places ≡ length frames) (within : overlap.frames ≤ length brought.frames)
     (some : overlap.first_alike < overlap.frames)
     (sounds : map (sound_at lists) places ≡ map (λ (x : SpliceFrame). x.sound) frames)
@@ -201,7 +201,7 @@ module _ (class : ClassFields) (lists : List (List SpliceFrame)) (number : ℕ)
           frames) (compared_frames overlap brought)) (Some overlap) None) fewer
 
   -- the last frames of the splice are compared
-  module _ (last : List FramePlace) (is : Some last ≡ last_places places count) where
+  module _ {last : List FramePlace} (is : Some last ≡ last_places places count) where
     last-sounds : map (sound_at lists) last
         ≡ map (λ (x : SpliceFrame). x.sound) (drop (length frames - count) frames)
     last-sounds = grind (arith, drop-map (sound_at lists) (length places - count) places, drop-map)

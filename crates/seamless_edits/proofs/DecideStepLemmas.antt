@@ -228,9 +228,9 @@ is-brought of brings = record {
   played = of.played ∙ sym brings.played;
 }
 
-module _ (files : Files) (inputs : List InputFields) (bs : List Beginning)
-    (number : ℕ) (input : Input) (alike : Option Overlap) (joint : Joint)
-    (old new : Deciding) (so_far : IsDecidingTo files inputs bs number old)
+module _ {files : Files} {inputs : List InputFields} {bs : List Beginning}
+    {number : ℕ} {input : Input} {alike : Option Overlap} {joint : Joint}
+    {old new : Deciding} (so_far : IsDecidingTo files inputs bs number old)
     (of : IsInputOf inputs bs
     number so_far.class input) (added : IsAdded number input alike joint old new) where
   abbrev out : ℕ
@@ -309,9 +309,9 @@ module _ (files : Files) (inputs : List InputFields) (bs : List Beginning)
   }
 
 -- what is decided about inputs whose contents are known
-module _ (f : Contents) (inputs : List InputFields) (bs : List Beginning)
-    (number : ℕ) (input : Input) (alike : Option Overlap) (joint : Joint)
-    (old new : Deciding) (so_far : IsDecidingTo (Told f) inputs bs number old) (of : IsInputOf
+module _ {f : Contents} {inputs : List InputFields} {bs : List Beginning}
+    {number : ℕ} {input : Input} {alike : Option Overlap} {joint : Joint}
+    {old new : Deciding} (so_far : IsDecidingTo (Told f) inputs bs number old) (of : IsInputOf
     inputs bs number so_far.class input) (added : IsAdded number input alike joint old new)
     (is : IsSharedOverlap (Told f) inputs number old.splice input alike) where
   abbrev next : Brought
@@ -352,7 +352,7 @@ module _ (f : Contents) (inputs : List InputFields) (bs : List Beginning)
       so_far.places (frame_places number (left_out_count joint.seam) (length decided.frames))
       ∙ ap₂ (λ (a b : List (List ℕ)). a ++ b) so_far.told.sounds
       (places-sound lists number (left_out_count joint.seam) (length decided.frames) has
-      (many-more (Told f) inputs bs number input alike joint old new so_far of added
+      (many-more so_far of added
       decided.frames adds ∙ sym next-length)
       ∙ ap (λ n. map-sounds (drop n next.frames)) (ap left_out_count joined.seam)
       ∙ sym (joint-keeps so_far.class so_far.frames so_far.before next))
@@ -384,7 +384,7 @@ module _ (f : Contents) (inputs : List InputFields) (bs : List Beginning)
 
   -- where the contents of the files are known, one more input is decided
   pub told-step : IsDecidingTo (Told f) inputs bs (number + 1) new
-  told-step = build (Told f) inputs bs number input alike joint old new so_far of added
+  told-step = build so_far of added
       decided.frames (brings-told f of.item of.beginning) adds told-next
 
 -- one more input is decided
@@ -397,10 +397,10 @@ pub decided-step : (files : Files) {inputs : List InputFields} {bs : List Beginn
     → IsDecidingTo files inputs bs (number + 1) new
 decided-step (Told f)
     {inputs} {bs} {number} {input} {alike} {joint} {old} {new} so_far of added is =
-    told-step f inputs bs number input alike joint old new so_far of added is
+    told-step so_far of added is
 decided-step (Untold touched)
     {inputs} {bs} {number} {input} {alike} {joint} {old} {new} so_far of added is =
     let left = joined_needs joint.slot (drop (left_out_count joint.seam) input.needs.now) in
-    build (Untold touched) inputs bs number input alike joint old new so_far of added
+    build so_far of added
     (map silent_frame left)
     (brings-silent of.item.survey of.beginning) (silent-needs left) tt

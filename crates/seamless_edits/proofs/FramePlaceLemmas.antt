@@ -99,7 +99,7 @@ whole-at {file} (q ∷ rows) zero {r} are is = let same : q ≡ r = cc in
     subst (IsWholeRow file) same are.0
 whole-at {file} (q ∷ rows) (suc i) {r} are is = whole-at rows i are.1 is
 
-module _ (file : List ℕ) (s : SurveyFields) (i : ℕ) (r : Row)
+module _ (file : List ℕ) (s : SurveyFields) (i : ℕ) {r : Row}
     (found : slice_get s.frames i ≡ Some r) where
   abbrev in_stream : StreamFrame
   in_stream = stream_frame (main_bytes file s.head s.frames) s.head s.frames i r
@@ -129,7 +129,7 @@ module _ (file : List ℕ) (s : SurveyFields) (i : ℕ) (r : Row)
     entry-here = grind (arith, own-entry, found, whole-at)
 
     entry-in : stream_entry (survey_frame file s i r) ≡ in_stream
-    entry-in = own-stream file s.head s.class s.frames has.head has.rows has.placed i r found
+    entry-in = own-stream file has.head has.rows has.placed i found
         (whole-at s.frames i has.rows found)
 
     sound-in : (option_and_then (λ (frames : List SpliceFrame). slice_get frames i)
@@ -221,8 +221,8 @@ frame-at {f} {inputs} {place} {class} known one at =
 
 -- ---- two frames of inputs
 
-module _ (f : Contents) (inputs : List InputFields) (p q : FramePlace)
-    (class : ClassFields) (one : IsFrameAt f inputs p class)
+module _ {f : Contents} {inputs : List InputFields} {p q : FramePlace}
+    {class : ClassFields} (one : IsFrameAt f inputs p class)
     (other : IsFrameAt f inputs q class) where
   fronts-are : same_front class one.row other.row
       ≡ bytes_eq (header_bits (without_slot one.frame.kept.header))
@@ -248,8 +248,8 @@ module _ (f : Contents) (inputs : List InputFields) (p q : FramePlace)
 
 -- ---- what depends on the folder's contents
 
-module _ (inputs : List InputFields) (p q : FramePlace) (class : ClassFields)
-    (r t : Row)
+module _ {inputs : List InputFields} {p q : FramePlace} {class : ClassFields}
+    {r t : Row}
     (one : AreOfClass class inputs) (first : IsFramePlace inputs p) (second : IsFramePlace inputs q)
     (here : row_at inputs p ≡ Some r)
     (there : row_at inputs q ≡ Some t) where
@@ -264,7 +264,7 @@ module _ (inputs : List InputFields) (p q : FramePlace) (class : ClassFields)
   places-differ (Told f) known differ =
       let a = frame-at known one first in
       let b = frame-at known one second in
-      fronts-differ f inputs p q class a b (rows-here a b ∙ differ)
+      fronts-differ a b (rows-here a b ∙ differ)
 
   -- if both are the same, the frames sound alike exactly if their main data are the same
   pub places-compared : (files : Files) → AreHeld files inputs → same_front class r t ≡ true
@@ -276,7 +276,7 @@ module _ (inputs : List InputFields) (p q : FramePlace) (class : ClassFields)
   places-compared (Told f) known same xs ys left right =
       let a = frame-at known one first in
       let b = frame-at known one second in
-      ap₂ bytes_eq left right ∙ payloads-tested f inputs p q class a b (rows-here a b ∙ same)
+      ap₂ bytes_eq left right ∙ payloads-tested a b (rows-here a b ∙ same)
 
 -- a frame of inputs of one class is of this class
 pub class-here : (files : Files) {inputs : List InputFields} {place : FramePlace}
@@ -298,4 +298,4 @@ class-first f xs {place} {class} {x} one at is =
     let within : place.input < length xs =
     omega (arith, get-within (map f xs) place.input at.input, length-map xs f) in
     all-get (λ (i : InputFields). i.survey.class ≡ class) (map f xs) place.input one
-    (map-get f xs place.input (found-at xs place.input x within is))
+    (map-get f xs place.input (found-at xs within is))

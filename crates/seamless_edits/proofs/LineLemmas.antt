@@ -45,7 +45,8 @@ pub follows-line : (n : ℕ) (end : List ℕ)
 follows-line n end = grind (arith, append_assoc)
 
 -- the name, and the rest of the line after it
-module _ (waits name piece rest line mid : List ℕ) (s t u : Sent) (named : piece ≡ name)
+module _ (waits : List ℕ) {name piece rest line : List ℕ} (mid : List ℕ) (s t u : Sent)
+    (named : piece ≡ name)
     (is : line ≡ rest) where
   line-whole : (waits ++ piece) ++ line ≡ waits ++ (name ++ rest)
   line-whole = append_assoc waits piece line ∙ ap₂ (λ (a b : List ℕ). waits ++ (a ++ b)) named is

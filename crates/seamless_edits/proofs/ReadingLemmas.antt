@@ -24,9 +24,9 @@ pub record HoldsData (window input : List ℕ) (files : Files) (s : SurveyFields
       → AreBitsPacked bytes count (main_bits main (length main - area - begin) count))
       → AreBytes bytes → IsMainDataOf input files s i bytes
 
-module _ (window input : List ℕ) (files : Files) (s : SurveyFields) (i : ℕ) (r : Row)
+module _ {window input : List ℕ} {files : Files} {s : SurveyFields} (i : ℕ) {r : Row}
     (found : slice_get s.frames i ≡ Some r) (kept : r.lost ≡ false) (laid : IsSurveyLaidOut s)
-    (over : IsWindowOverFrames window input files s (i + 1)) (area begin count : ℕ)
+    (over : IsWindowOverFrames window input files s (i + 1)) {area begin count : ℕ}
     (area_is : area ≡ own_area r.header) (begin_is : begin ≡ r.side.main_data_begin)
     (count_is : count ≡ payload_bits r.side) where
   within : IsWithin s.head s.frames i r

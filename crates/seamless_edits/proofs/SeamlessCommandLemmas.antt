@@ -44,7 +44,7 @@ use Rattle.seamless_edits.specs.declared.seamless_file.{MadeSplice.MadeSplice, R
 use Rattle.slot_plan.specs.Plans.{entries}
 use Rattle.sync_survey.proofs.{ApartLemmas.placed-apart, EmptiedLemmas.{apart-laid, placed-emptied}}
 use Rattle.sync_survey.specs.Faults.{HoldsStream, longest_file, SurveyFields}
-use Rattle.sync_survey.specs.{HeadApart.rows_set_apart, Survey.IsSurveyLaidOut}
+use Rattle.sync_survey.specs.Survey.{IsSurveyLaidOut}
 
 -- ---- inputs whose heads are set apart
 
@@ -132,7 +132,7 @@ alone-apart : {s : SurveyFields} → IsSurveyLaidOut s → FitsAlone (survey_wit
 alone-apart {s} laid =
     let none = placed-apart s.head laid.placed in
     rows-alone
-    (placed-emptied None s.class (rows_set_apart s.head s.frames) none)
+    (placed-emptied None none)
 
 all-alone : (class : ClassFields) (inputs : List InputFields) → AreInputsOfClass class inputs
     → FitAlone (map input_without_head inputs)
@@ -211,8 +211,8 @@ parts-whole-in first allowed f (i ∷ inputs) are =
           (allowed - length i.survey.frames) f inputs are.3,
     )
 
-module _ (f : Contents) (i : InputFields) (inputs : List InputFields) (b : Beginning)
-    (bs : List Beginning) (made : MadeSplice)
+module _ {f : Contents} {i : InputFields} {inputs : List InputFields} {b : Beginning}
+    {bs : List Beginning} {made : MadeSplice}
     (are : AreJoinInputs None most_frames (Told f) (i ∷ inputs))
     (can : CanInputsBeJoined (i ∷ inputs))
     (begun : AreBeginnings (Told f) (i ∷ inputs) (b ∷ bs))
@@ -247,7 +247,7 @@ module _ (f : Contents) (i : InputFields) (inputs : List InputFields) (b : Begin
       ap (λ (l : List ℕ). (concat (front_blocks l s) ++ made.work.info.items)
       ++ bytes_of_frames (relaid_frames (flat_map part_frames (map (part_in f) left))
       (entries made.work.plan))) (sym file)
-      ∙ seamless-written f i inputs b bs made.decided (entries made.work.plan) heads of
+      ∙ seamless-written f i inputs bs heads of
       decided is.splice.plan is.splice.fits.fits is.splice.info within
 
   -- the lines that are sent are the text
@@ -273,7 +273,7 @@ pub apart-names : (inputs : List InputFields)
 apart-names [] = refl
 apart-names (i ∷ inputs) = ap (λ l. i.name ∷ l) (apart-names inputs)
 
-module _ (names : List (List ℕ)) (files : Files) (ready : Ready)
+module _ {names : List (List ℕ)} {files : Files} {ready : Ready}
     (is : IsSeamlessReady names files ready) where
   -- the prepared inputs have these names
   pub ready-names : input_names (map input_view ready.inputs.items) ≡ names
@@ -313,16 +313,16 @@ module _ (names : List (List ℕ)) (files : Files) (ready : Ready)
   abbrev pub made_of : List ℕ → List ℕ
   made_of = join_bytes files left_inputs ready.made.work
 
-module _ (names : List (List ℕ)) (some : 1 ≤ length names) where
+module _ {names : List (List ℕ)} (some : 1 ≤ length names) where
   -- what was prepared makes what the task makes
   pub ready-making : {files : Files} {ready : Ready} (is : IsSeamlessReady names files ready)
-      → IsMaking (seamless_task names) (made_of names files ready is) files
+      → IsMaking (seamless_task names) (made_of is) files
   ready-making {files} {ready} is =
       rw is.inputs (subst (λ ns. IsMaking (seamless_task ns) (join_bytes files
       (from_places (map input_without_head is.found) (left_out_of ready.made.decided))
       ready.made.work) files) is.named
       (inputs-making seamless_file seamless_stream files is.found
-      (omega (arith, many names files ready is, some)) is.are
+      (omega (arith, many is, some)) is.are
       (at files is.found is.bs is.are is.joined is.begun is.made)))
     where
       at : (fs : Files) (inputs : List InputFields) (bs : List Beginning)
@@ -336,7 +336,7 @@ module _ (names : List (List ℕ)) (some : 1 ≤ length names) where
       at fs (i ∷ inputs) [] are can begun made bytes held = absurd begun
       at (Untold touched) (i ∷ inputs) (b ∷ bs) are can begun made bytes held = absurd held
       at (Told f) (i ∷ inputs) (b ∷ bs) are can begun made bytes held =
-          made-file f i inputs b bs ready.made are can begun made held
+          made-file are can begun made held
           ∙ ap seamless_file (sym (parts-whole-in None most_frames f (i ∷ inputs) are))
 
   -- the file of the parts holds the stream of the splice
@@ -372,7 +372,7 @@ module _ (names : List (List ℕ)) (some : 1 ≤ length names) where
       (one_command (seamless_task names) output) text in
       ap (λ (l : List (List ℕ)). told_lines (drop 1 names) ready.made.decided.joints.items
       (drop 1 l)) is.lost
-      ∙ at files told.1 is.found is.bs (omega (arith, many names files ready is, some)) is.named
+      ∙ at files told.1 is.found is.bs (omega (arith, many is, some)) is.named
       is.are is.joined is.begun is.made ∙ sym told.2
     where
       told-same : (f g : Contents) → Told f ≡ Told g → f ≡ g
@@ -393,7 +393,7 @@ module _ (names : List (List ℕ)) (some : 1 ≤ length names) where
           let all : join_parts g names ≡ Ok (whole_parts g (i ∷ inputs)) =
           rw (← named) (parts-all 0 None most_frames g (i ∷ inputs) are
           ∙ ap Ok (parts-whole-in None most_frames g (i ∷ inputs) are)) in
-          made-text g i inputs b bs ready.made are can begun made names
+          made-text are can begun made names
           ∙ sym (ap (seamless_text_or_none names) all)
           ∙ ap (λ (h : Contents). seamless_text_or_none names (join_parts h names))
           (told-same g f e)
@@ -436,24 +436,24 @@ module _ (names : List (List ℕ)) where
 abbrev pub text_of : List (List ℕ) → Contents → List ℕ
 text_of names f = seamless_text_or_none names (join_parts f names)
 
-module _ (output : List ℕ) (names : List (List ℕ)) (free : clash_in (seamless_task names) output
+module _ {output : List ℕ} {names : List (List ℕ)} (free : clash_in (seamless_task names) output
     ≡ None) (some : 1 ≤ length names) {old new : Seen} {r : Result (Unit {0}) EditFault} where
   -- a call that wrote the splice, or a part of it, is a run of the command without a text
   pub written-run : {ready : Ready} (is : IsSeamlessReady names old.files ready)
       → IfErr r (HasJoinNumbers (length names))
-      → WritesOutput (made_of names old.files ready is) names output old new r
+      → WritesOutput (made_of is) names output old new r
       → NoneFell old.counts new.counts
       → IsRunOf (one_command (seamless_task names) output) old new r
   written-run {ready} is numbers wrote fell =
       let task = seamless_task names in
-      one_run task output free (made_of names old.files ready is)
-      (ready-making names some is) refl
+      one_run task output free
+      (ready-making some is) refl
       (one_streams task output free (λ _. seamless_file (parts_of old.files is.found)) old.files
       (subst (λ (ns : List (List ℕ)). IsMaking (seamless_task ns)
       (λ _. seamless_file (parts_of old.files is.found)) old.files) is.named
       (inputs-making seamless_file seamless_stream old.files is.found
       (omega (arith, named-long is.found is.named, some)) is.are (λ _ _. refl)))
-      (ready-holds names some is) r)
+      (ready-holds some is) r)
       (IfErr-weaker r _ _
       (λ fault. join-numbers seamless_file seamless_stream output names fault refl) numbers)
       wrote fell

@@ -222,8 +222,8 @@ padding-same f i _ _ of are = absurd are.1
 
 -- ---- the whole join
 
-module _ (f : Contents) (i : InputFields) (inputs : List InputFields) (b : Beginning)
-    (bs : List Beginning) (d : Decided) (placed : List Placed)
+module _ (f : Contents) (i : InputFields) (inputs : List InputFields) {b : Beginning}
+    (bs : List Beginning) {d : Decided} {placed : List Placed}
     (heads : AreHeads f (i ∷ inputs) (b ∷ bs)) (of : AllOf i.survey.class (i ∷ inputs))
     (decided : IsJoinedOf
     i.survey.class (broughts_in f (map input_without_head (i ∷ inputs)) (b ∷ bs)) d)

@@ -185,7 +185,7 @@ concat-parts (n ∷ ns) bs = grind (arith, take-add, sum-cons, concat-parts ns (
 
 -- ---- two frames
 
-module _ (c : ClassFields) (f : Frame) (is : IsStreamEntry c f) where
+module _ {c : ClassFields} {f : Frame} (is : IsStreamEntry c f) where
   abbrev side : Side
   side = f.kept.side
 
@@ -224,7 +224,7 @@ module _ (c : ClassFields) (f : Frame) (is : IsStreamEntry c f) where
       (without_slot f.kept.header) ++ (side_bits c (compared_side side) ++ data_bits)
   sound-is = grind (arith, parts-are)
 
-module _ (c : ClassFields) (f g : Frame) (first : IsStreamEntry c f)
+module _ {c : ClassFields} {f g : Frame} (first : IsStreamEntry c f)
     (second : IsStreamEntry c g) where
   abbrev same_header : Bool
   same_header = bytes_eq (header_bits (without_slot f.kept.header))
@@ -246,7 +246,7 @@ module _ (c : ClassFields) (f g : Frame) (first : IsStreamEntry c f)
   sides-many : side_bits c (compared_side f.kept.side) ≡ side_bits c (compared_side g.kept.side)
       → payload_bits f.kept.side ≡ payload_bits g.kept.side
   sides-many same =
-      let back = side_at-side_bits c (known c f first) in
+      let back = side_at-side_bits c (known first) in
       let sides : compared_side f.kept.side ≡ compared_side g.kept.side =
       sym (back (compared_side f.kept.side) (compared_side-shaped first.pairs)
       (compared_side-fits first.fits))
@@ -260,17 +260,17 @@ module _ (c : ClassFields) (f g : Frame) (first : IsStreamEntry c f)
   Sounds = sound_of c (stream_entry f) ≡ sound_of c (stream_entry g)
 
   sounds-parts : Sounds → (header_bits (without_slot f.kept.header) ++ (side_bits c
-      (compared_side f.kept.side) ++ data_bits c f first))
+      (compared_side f.kept.side) ++ data_bits first))
       ≡ header_bits (without_slot g.kept.header) ++ (side_bits c
-      (compared_side g.kept.side) ++ data_bits c g second)
-  sounds-parts same = sym (sound-is c f first) ∙ same ∙ sound-is c g second
+      (compared_side g.kept.side) ++ data_bits second)
+  sounds-parts same = sym (sound-is first) ∙ same ∙ sound-is second
 
   sound-headers : Sounds
       → header_bits (without_slot f.kept.header) ≡ header_bits (without_slot g.kept.header)
   sound-headers same = front-same _ _ header-long (sounds-parts same)
 
-  sound-rest : Sounds → side_bits c (compared_side f.kept.side) ++ data_bits c f first ≡ side_bits c
-      (compared_side g.kept.side) ++ data_bits c g second
+  sound-rest : Sounds → side_bits c (compared_side f.kept.side) ++ data_bits first ≡ side_bits c
+      (compared_side g.kept.side) ++ data_bits second
   sound-rest same = back-same _ _ header-long (sounds-parts same)
 
   sound-sides : Sounds
@@ -286,11 +286,11 @@ module _ (c : ClassFields) (f g : Frame) (first : IsStreamEntry c f)
   sound-payloads : Sounds → f.payload ≡ g.payload
   sound-payloads same =
       let datas = back-same _ _ side-long (sound-rest same) in
-      let many : payload_bits f.kept.side ≡ payload_bits g.kept.side = sym (data-many c f first)
-      ∙ ap length datas ∙ data-many c g second in
+      let many : payload_bits f.kept.side ≡ payload_bits g.kept.side = sym (data-many first)
+      ∙ ap length datas ∙ data-many second in
       bits-injective first.octets second.octets
-      (all-bits c f first ∙ ap₂ (λ (a b : List ℕ). a ++ b) datas (zeros-same many) ∙ sym
-      (all-bits c g second))
+      (all-bits first ∙ ap₂ (λ (a b : List ℕ). a ++ b) datas (zeros-same many) ∙ sym
+      (all-bits second))
 
   sounds-made : header_bits (without_slot f.kept.header) ≡ header_bits (without_slot g.kept.header)
       → side_bits c (compared_side f.kept.side) ≡ side_bits c (compared_side g.kept.side)

@@ -69,13 +69,13 @@ module _ (first : FilePart) (parts : List FilePart) where
 
     -- the first frame of the splice
     pub found : (row : Row) × (slice_get first.survey.frames front ≡ Some row)
-    found = first-there first.survey.frames front (front-within first parts is are)
+    found = first-there first.survey.frames front (front-within parts is are)
 
     abbrev pub info : Info
     info = seamless_info (delay_of_splice first parts) found.0 first parts
 
     laid : AreFramesOfStream class frames stream
-    laid = splice-laid first parts is are
+    laid = splice-laid parts is are
 
     -- its frames can be laid behind this Info frame
     pub file-is : IsLaidFile class blocks found.0.header info frames []

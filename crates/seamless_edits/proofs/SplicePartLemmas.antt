@@ -98,7 +98,7 @@ laid-from {c} (need ∷ needs) (f ∷ fs) (p ∷ placed)
     let stream : List StreamFrame = rest_behind p.lead_in (stream_entry f) (map stream_entry fs) in
     let there : Laid (relaid_frames left placed) (stream_with_lead_ins placed stream) =
     grind (arith, next-map) in
-    let is = one-entry c p f slots.0 (omega (arith, fits.0, near)) are.0 p.lead_in in
+    let is = one-entry p slots.0 (omega (arith, fits.0, near)) are.0 p.lead_in in
     let all : List StreamFrame = stream_with_lead_ins (p ∷ placed) (map stream_entry (f ∷ fs)) in
     subst (λ (l : List Frame). AreLaidFrom c end before l all)
     (sym (relaid_frames-cons p placed f fs))
@@ -196,7 +196,7 @@ range-behind : {X : Type 0} (xs : List X) (from : ℕ) {to : ℕ} → to ≡ len
     → slice_range xs from to ≡ drop from xs
 range-behind xs from {to} is = grind (arith, take_all, to, from, length-drop)
 
-module _ (c : ClassFields) (p : FilePart) (is : IsWholeFile c p) where
+module _ {c : ClassFields} {p : FilePart} (is : IsWholeFile c p) where
   abbrev own : SurveyFields
   own = survey_without_head p.survey
 
@@ -231,7 +231,7 @@ module _ (c : ClassFields) (p : FilePart) (is : IsWholeFile c p) where
   brought-alone =
       let none = placed-apart p.survey.head is.had.placed in
       let rows = rows_set_apart p.survey.head p.survey.frames in
-      let placed = placed-emptied None p.survey.class rows none in
+      let placed = placed-emptied None none in
       let fits = rows-alone placed in
       subst (λ (d : ClassFields). FitsAlone d (part_brought p)) is.same
       (subst (FitsBehind (window_of p.survey.class.version) 0) (sym needs-are) fits)
@@ -303,7 +303,7 @@ laid-parts {c} {parts} are =
 all-alone : (c : ClassFields) (parts : List FilePart) → AreWholeFiles c parts
     → AllFitAlone c (map part_brought parts)
 all-alone c [] are = tt
-all-alone c (p ∷ parts) are = (brought-alone c p are.0, all-alone c parts are.1)
+all-alone c (p ∷ parts) are = (brought-alone are.0, all-alone c parts are.1)
 
 joints-are : (c : ClassFields) (joints : List JointFrames) (parts : List FilePart)
     → AreWholeFiles c parts → AddOwn joints (map part_brought parts)
@@ -312,7 +312,7 @@ joints-are c [] [] are add = tt
 joints-are c [] (p ∷ parts) are add = absurd add
 joints-are c (j ∷ joints) [] are add = absurd add
 joints-are c (j ∷ joints) (p ∷ parts) are add =
-    (part-is c p are.0, joints-are c joints parts are.1 add.1)
+    (part-is are.0, joints-are c joints parts are.1 add.1)
 
 joints-moved : (c : ClassFields) (joints : List JointFrames) (parts : List FilePart)
     → AreWholeFiles c parts → AddOwn joints (map part_brought parts)
@@ -325,7 +325,7 @@ joints-moved c (j ∷ joints) (p ∷ parts) are add =
     let own = part_needs (part_from out p) in
     let later = flat_map part_needs (later_parts joints parts) in
     let later_frames = added joints in
-    let here : AreMoved own (needs_of j.frames) = grind (arith, own-needs c p are.0 out) in
+    let here : AreMoved own (needs_of j.frames) = grind (arith, own-needs are.0 out) in
     subst (AreMoved (own ++ later))
     (sym (map-append (λ (f : SpliceFrame). f.need) j.frames later_frames))
     (moved-append own later (needs_of j.frames) (needs_of later_frames) here
@@ -333,7 +333,7 @@ joints-moved c (j ∷ joints) (p ∷ parts) are add =
 
 -- ---- the splice
 
-module _ (first : FilePart) (parts : List FilePart) (is : IsWholeFile first.survey.class first)
+module _ {first : FilePart} (parts : List FilePart) (is : IsWholeFile first.survey.class first)
     (are : AreWholeFiles first.survey.class parts) where
   abbrev class : ClassFields
   class = first.survey.class
@@ -356,10 +356,10 @@ module _ (first : FilePart) (parts : List FilePart) (is : IsWholeFile first.surv
 
   -- at least one frame of the first input is written
   pub front-within : joined.front < length first.survey.frames
-  front-within = omega (arith, splice-joined.front, brought-many class first is)
+  front-within = omega (arith, splice-joined.front, brought-many is)
 
   front-part : IsPart class (part_from joined.front first)
-  front-part = part-is class first is (omega (arith, is.to, front-within))
+  front-part = part-is is (omega (arith, is.to, front-within))
 
   all-are : AreIf class all
   all-are = ((λ some. front-part), joints-are class joined.joints parts are splice-joined.own)

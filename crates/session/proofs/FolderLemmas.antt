@@ -47,7 +47,7 @@ module _ {X Y : Type 0} (bytes_of : X → List ℕ) (old new : BTreeMap (String 
     name_gone sets = held_set sets
 
     -- where the name had a content before:
-    module _ (before : X) (was : Some before ≡ get_by_text old name) where
+    module _ {before : X} (was : Some before ≡ get_by_text old name) where
       held_before : held old name ≡ Some (bytes_of before)
       held_before = sym (ap (option_map bytes_of) was)
 

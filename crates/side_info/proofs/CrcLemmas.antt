@@ -139,7 +139,7 @@ zeros_are_bits : AreBits eight_zeros
 zeros_are_bits = grind (arith, lit<)
 
 -- a word split into the byte that cancels, what that leaves of its upper byte, and its lower byte
-module _ (word byte : ℕ) (small : word < 2 ^ 16) (few : byte < 256) where
+module _ {word byte : ℕ} (small : word < 2 ^ 16) (few : byte < 256) where
   abbrev left : ℕ
   left = bit_xor (word / 256) byte
 
@@ -235,7 +235,7 @@ entry : (byte : ℕ) → byte < 256 → behind (byte * 256) ≡ get_or (table 0)
 entry byte few = eqb-true _ _ (all_below-pass 256
     (λ b. eqb (remainder (b * 256) eight_zeros) (get_or (table 0) b 0)) tabled few)
 
-module _ (word a b : ℕ) (small : word < 2 ^ 16) (a_few : a < 256) (b_few : b < 256) where
+module _ {word a b : ℕ} (small : word < 2 ^ 16) (a_few : a < 256) (b_few : b < 256) where
   -- what is added to the upper byte of the word, and what is added to the lower
   abbrev upper : ℕ
   upper = bit_xor (word / 256) a
@@ -286,7 +286,7 @@ remainder-pair word a b =
     ∙ remainder-append (bits_of 8 a) (bits_of 8 b) word
 
 -- eight bytes, the first two of which are added to the word
-module _ (word a b c d e f g h : ℕ) (small : word < 2 ^ 16) (a_few : a < 256) (b_few : b < 256)
+module _ {word a b c d e f g h : ℕ} (small : word < 2 ^ 16) (a_few : a < 256) (b_few : b < 256)
     (c_few : c < 256) (d_few : d < 256) (e_few : e < 256) (f_few : f < 256) (g_few : g < 256)
     (h_few : h < 256) where
   abbrev high : ℕ
@@ -303,7 +303,7 @@ module _ (word a b c d e f g h : ℕ) (small : word < 2 ^ 16) (a_few : a < 256) 
 
   behind_2 : remainder word (bits (a ∷ b ∷ []))
       ≡ bit_xor (get_or (table 1) high 0) (get_or (table 0) low 0)
-  behind_2 = remainder-pair word a b ∙ sym (remainder-two word a b small a_few b_few)
+  behind_2 = remainder-pair word a b ∙ sym (remainder-two small a_few b_few)
 
   behind_3 : remainder word (bits (a ∷ b ∷ c ∷ []))
       ≡ bit_xor (bit_xor (get_or (table 2) high 0) (get_or (table 1) low 0)) (get_or (table 0) c 0)

@@ -30,7 +30,8 @@ abbrev pub front_with : List ℕ → List ℕ → Inside
 front_with four room = record { header = four; side = room }
 
 -- four bytes of a header, and side information with zeros after it
-module _ (h : HeaderFields) (known : IsHeader h) (four part room : List ℕ) (head : bits four
+module _ {h : HeaderFields} (known : IsHeader h) (four part : List ℕ) {room : List ℕ}
+    (head : bits four
     ≡ header_bits h) (octets : AreBytes four) (size : length part ≡ side_size_of (class_of h))
     (all : AreBytes part) (is : room ≡ padded_side part) where
   header_is : header_of (front_with four room) ≡ h
@@ -201,12 +202,12 @@ padded_side-own {a} w =
     ∙ padded_side-other w (take (side_size_of (class_of (header_of a))) a.side) (written_size w)
 
 -- another header of the same class before the same side information
-module _ (a : Inside) (w : AreFrontBytes a) (h : HeaderFields) (known : IsHeader h) (four : List ℕ)
+module _ {a : Inside} (w : AreFrontBytes a) {h : HeaderFields} (known : IsHeader h) (four : List ℕ)
     (head : bits four ≡ header_bits h) (octets : AreBytes four)
     (same : class_of h ≡ class_of (header_of a)) where
   -- these bytes are the ones that their fields are written as
   pub header_written : AreFrontBytes (front_with four a.side)
-  header_written = are_written h known four (own_side (class_of (header_of a)) a.side) a.side head
+  header_written = are_written known four (own_side (class_of (header_of a)) a.side) head
       octets ((written w).size ∙ ap side_size_of (sym same))
       (written w).all (padded_side-own w)
 
@@ -214,13 +215,13 @@ module _ (a : Inside) (w : AreFrontBytes a) (h : HeaderFields) (known : IsHeader
   pub header_fields-written : front_view (front_with four a.side)
       ≡ record { header = h; side = side_of a }
   header_fields-written =
-      written_fields h known four (own_side (class_of (header_of a)) a.side) a.side head octets
+      written_fields known four (own_side (class_of (header_of a)) a.side) head octets
       ((written w).size ∙ ap side_size_of (sym same)) (written w).all (padded_side-own w)
       ∙ ap (λ (s : Side). record { header = h; side = s }) (ap (λ k. side_at k
       (bits (own_side (class_of (header_of a)) a.side))) same ∙ sym (side_read a))
 
 -- other side information after the same header
-module _ (a : Inside) (w : AreFrontBytes a) (part : List ℕ)
+module _ {a : Inside} (w : AreFrontBytes a) (part : List ℕ)
     (size : length part ≡ side_size_of (class_of (header_of a))) (all : AreBytes part) where
   -- these bytes are the ones that their fields are written as
   pub side_written : AreFrontBytes

@@ -22,7 +22,7 @@ use Rattle.side_info.specs.declared.{front.Front.Front, granule.Granule.Granule,
 total : (a b c d : ℕ) → sum (a ∷ b ∷ c ∷ d ∷ []) ≡ a + b + c + d
 total a b c d = grind (arith, sum-cons)
 
-module _ (bs : List ℕ) (begin private first second n : ℕ) (all : AreBits bs)
+module _ (bs : List ℕ) (begin private first second : ℕ) {n : ℕ} (all : AreBits bs)
     (enough : begin + private + first + second ≤ length bs)
     (small : n < 2 ^ (begin + private + first + second))
     (is : n ≡ group 0 (begin + private + first + second) bs) where
@@ -72,7 +72,7 @@ pub preflag_once : (version : Version) {last : ℕ} → last < 2 ^ (preflag_widt
     → last / 4 % 2 ≡ last / 4
 preflag_once version small = grind (arith, pow_mono, preflag_most, mod-eq_of_lt, shr_below)
 
-module _ (version : Version) (bs : List ℕ) (at first middle last : ℕ) (all : AreBits bs)
+module _ (version : Version) (bs : List ℕ) (at : ℕ) {first middle last : ℕ} (all : AreBits bs)
     (enough : at + granule_size version ≤ length bs) (first_small : first < 2 ^ 29)
     (middle_small : middle < 2 ^ (compress_width version + 23))
     (last_small : last < 2 ^ (preflag_width version + 2)) (first_is : first ≡ group at 29 bs)

@@ -50,8 +50,8 @@ pub upper_fits : (version : Version) {g : Granule} → GranuleFits version g
     → first * (1 * 2 ^ (compress + 23) % 2 ^ 64) + middle < 2 ^ 64
 upper_fits version fits compress_is first_is middle_is = grind arith
 
-module _ (version : Version) (g : Granule) (fits : GranuleFits version g)
-    (compress preflag first middle last : ℕ) (compress_is : compress ≡ compress_width version)
+module _ (version : Version) {g : Granule} (fits : GranuleFits version g)
+    {compress preflag first middle last : ℕ} (compress_is : compress ≡ compress_width version)
     (preflag_is : preflag ≡ preflag_width version) (first_is : first
     ≡ g.part2_3_length * 131072 + g.big_values * 256 + g.global_gain) (middle_is : middle
     ≡ g.scalefac_compress * 8388608 + flag_of g.window_switching * 4194304 + g.detail)
@@ -110,7 +110,7 @@ pub front-group_bits : {begin private first second : ℕ} {ws : List ℕ}
 front-group_bits is cs hm hp hs l e = grind (arith, front_is)
 
 -- ---- the words
-module _ (b0 b1 b2 : List ℕ) (front granule w : ℕ) (room : length b0 ≡ 72)
+module _ (b0 : List ℕ) {b1 b2 : List ℕ} (front granule w : ℕ) (room : length b0 ≡ 72)
     (word : bits_of 64 w ≡ bits_of 9 front ++ bits_of 55 (granule / 2 ^ 8))
     (e1 : b1 ≡ take 0 b0 ++ bits_of 64 w ++ drop 64 b0)
     (e2 : b2 ≡ take 64 b1 ++ bits_of 8 granule ++ drop 72 b1) where
@@ -123,7 +123,8 @@ module _ (b0 b1 b2 : List ℕ) (front granule w : ℕ) (room : length b0 ≡ 72)
       ∙ p2.0
       ∙ sym (into_last w 63 55 8 granule (bits_of 9 front) refl word)
 
-module _ (b0 b1 b2 b3 : List ℕ) (front width first second size left w x : ℕ) (room : length b0
+module _ (b0 : List ℕ) {b1 b2 b3 : List ℕ} (front : ℕ) {width : ℕ} (first second : ℕ) {size : ℕ}
+    (left w x : ℕ) (room : length b0
     ≡ 136) (few : width < 64) (is : size ≡ 64 - width + left) (last : size ≡ 64 - left + 8)
     (one : bits_of 64 w ≡ bits_of width front ++ bits_of (64 - width) (first / 2 ^ left))
     (two : bits_of 64 x ≡ bits_of left first ++ bits_of (64 - left) (second / 2 ^ 8)) (e1 : b1
@@ -143,7 +144,7 @@ module _ (b0 b1 b2 b3 : List ℕ) (front width first second size left w x : ℕ)
       ∙ sym (into_word w size (64 - width) left first (bits_of width front)
       (bits_of size second) is one)
 
-module _ (b0 b1 b2 b3 b4 : List ℕ) (front a b c d w x y z : ℕ) (room : length b0 ≡ 256)
+module _ (b0 : List ℕ) {b1 b2 b3 b4 : List ℕ} (front a b c d w x y z : ℕ) (room : length b0 ≡ 256)
     (one : bits_of 64 w ≡ bits_of 20 front ++ bits_of 44 (a / 2 ^ 15))
     (two : bits_of 64 x ≡ bits_of 15 a ++ bits_of 49 (b / 2 ^ 10))
     (three : bits_of 64 y ≡ bits_of 10 b ++ bits_of 54 (c / 2 ^ 5)) (four : bits_of 64 z

@@ -240,7 +240,7 @@ pub fits-front : (window free : ℕ) (first others : List Need)
 fits-front window free first others fits =
     grind (arith, fit-feasible, fits, map-append, feasible-fit, fit-append)
 
-module _ (window free mid : ℕ) (first others : List Need) (within : free ≤ window)
+module _ {window free mid : ℕ} {first : List Need} (others : List Need) (within : free ≤ window)
     (is : IsMostLeft window free first mid) where
   mid-is : mid ≡ left_after window free (map own_frame first)
   mid-is = left-value within is
@@ -312,7 +312,7 @@ pub wanted-all : {window : ℕ} {needs : List Need} {at wanted : ℕ} → at ≡
     → IsLeastWanted window needs wanted
 wanted-all none fits is = grind (arith, own-wanted, fits)
 
-module _ (window : ℕ) (needs : List Need) (i : ℕ) (need : Need) (within : i < length needs)
+module _ (window : ℕ) (needs : List Need) {i : ℕ} {need : Need} (within : i < length needs)
     (is : need ≡ get_or needs i need) where
   -- what the frames from one on want
   pub wanted-next : {after area : ℕ} → after ≡ own_needed (drop (i + 1) needs)
@@ -345,7 +345,7 @@ LeavesIn free needs i left =
 pub leaves-none : (free : ℕ) (needs : List Need) → LeavesIn free needs 0 free
 leaves-none free needs = grind arith
 
-module _ (window free : ℕ) (needs : List Need) (i : ℕ) (need : Need) (left area : ℕ)
+module _ {window free : ℕ} {needs : List Need} {i : ℕ} {need : Need} {left area : ℕ}
     (within : i < length needs) (is : need ≡ get_or needs i need) (own : area ≡ own_slot_area need)
     (from : LeavesFrom window free needs i left) where
   -- the frame has room in what is left and its own area
@@ -373,13 +373,13 @@ behind-left = λ window free first others within some. (
   (λ fits. (
     fits-front window free first others fits,
     (λ left wanted is wants. wants.least left
-        (fits-then window free left first others within is fits)),
+        (fits-then others within is fits)),
   )),
   (λ parts.
       let is = own-left within parts.0 in
       let wants = own-wanted window some in
       let left : ℕ = left_after window free (map own_frame first) in
-      then-fits window free left first others within is
+      then-fits others within is
       (more-behind window others (parts.1 left (own_needed others) is wants) wants.fits)),
 )
 

@@ -33,7 +33,7 @@ lead-header is gives = grind arith
 
 -- ---- frames that join others
 
-module _ (window free wanted : ℕ) (first : Need) (needs : List Need) (slot : SlotFields)
+module _ {window free : ℕ} (wanted : ℕ) (first : Need) (needs : List Need) (slot : SlotFields)
     (within : free ≤ window) where
   -- with its first frame in a slot, a list fits if the first
   -- frame's main data and what the others want have room
@@ -49,7 +49,7 @@ module _ (window free wanted : ℕ) (first : Need) (needs : List Need) (slot : S
       → first.bytes + wanted ≤ free + own_slot_area (need_in_slot slot first)
   fits-slot is fits = grind (arith, fits-cons (need_in_slot slot first) needs within fits)
 
-module _ (window free wanted area : ℕ) (first : Need) (needs : List Need) (within : free ≤ window)
+module _ {window free wanted area : ℕ} (first : Need) {needs : List Need} (within : free ≤ window)
     (most : wanted ≤ window) (is : IsLeastWanted window needs wanted)
     (gives : area ≡ max ((first.bytes + wanted) - free) (own_slot_area first)) where
   -- a slot in which the frames join has at least this area
@@ -179,7 +179,7 @@ module _ (window free wanted area : ℕ) (first : Need) (needs : List Need) wher
   first-joins {slot} of gives least =
       grind (
         arith,
-        least-joins window free wanted area first (drop 1 needs) of.within of.most
+        least-joins first of.within of.most
             of.wants gives least,
       )
 
@@ -191,7 +191,7 @@ module _ (window free wanted area : ℕ) (first : Need) (needs : List Need) wher
   first-none of gives less =
       grind (
         arith,
-        none-joins window free wanted area first (drop 1 needs) of.within of.most
+        none-joins first of.within of.most
             of.wants gives less,
       )
 

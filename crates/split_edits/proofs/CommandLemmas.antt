@@ -67,7 +67,7 @@ module _ {X : Type 0} (cut : Cutting X) (P : EditFault → Type 0) (between : (f
 takes : (r : Result Made EditFault) → IfErr r IsLateFault → TakesMemory r
 takes r late = grind arith
 
-module _ {X : Type 0} (cut : Cutting X) (proper : IsProperCutting cut) where
+module _ {X : Type 0} {cut : Cutting X} (proper : IsProperCutting cut) where
   -- ---- refusals that come after memory was taken
 
   made-late : (prefix file : List ℕ) (s : SurveyFields) (f : Contents)
@@ -179,7 +179,7 @@ module _ {X : Type 0} {cut : Cutting X} {input prefix : List ℕ}
     absent = λ f is. makes-where cut input prefix f can.apart is;
     refused = λ f bytes fault held is. makes-bytes f held is;
     takes = λ f bytes s held is.
-        rw (makes-bytes f held is) (takes _ (made-late cut can.proper prefix bytes s f));
+        rw (makes-bytes f held is) (takes _ (made-late can.proper prefix bytes s f));
   }
 
   -- a head that could not be read leaves everything as it was
@@ -212,13 +212,13 @@ module _ {X : Type 0} {cut : Cutting X} {input prefix : List ℕ} {s : SurveyFie
 
   behind-takes : IfTold old.files (λ f. TakesMemory ((split_command cut input prefix).makes f))
   behind-takes = if-told (λ f told. let made = makes-then told in
-      rw made.3 (takes _ (made-late cut source.can.proper prefix made.0 s f)))
+      rw made.3 (takes _ (made-late source.can.proper prefix made.0 s f)))
 
   -- no fault of the definition comes before the sheet that could not be read
   behind-before : IfTold old.files (λ f.
       IfErr ((split_command cut input prefix).makes f) (IsNotBefore (Input 1 Read)))
   behind-before = if-told (λ f told. let made = makes-then told in
-      rw made.3 (made-before cut source.can.proper prefix made.0 s f))
+      rw made.3 (made-before source.can.proper prefix made.0 s f))
 
   -- if there are no places, the command is refused
   places-refused : (fault : EditFault) → SaysPlaces cut old.files (Err fault)
@@ -234,17 +234,17 @@ module _ {X : Type 0} {cut : Cutting X} {input prefix : List ℕ} {s : SurveyFie
     rejected = λ r. record { defined = places-refused fault r.0; stays = r.1 };
     missing = λ m. record {
       defined = places-refused fault m.0;
-      rose = missed_name (input ∷ cut.more) 1 (first_at cut.more) m.1;
+      rose = missed_name (input ∷ cut.more) (first_at cut.more) m.1;
       files = m.1.files;
     };
     unread = λ u. record {
       names = source.can.apart;
       before = rw u.is behind-before;
-      rose = unread_name (input ∷ cut.more) 1 (first_at cut.more) u;
+      rose = unread_name (input ∷ cut.more) (first_at cut.more) u;
       files = inl u.files;
     };
     shorter = λ l. record {
-      ended = lost_name (input ∷ cut.more) 1 (first_at cut.more) l;
+      ended = lost_name (input ∷ cut.more) (first_at cut.more) l;
       touches = stays-touched prefix l.files;
     };
     unwritten = λ k w. absurd w;

@@ -81,7 +81,7 @@ frames-hold from to file {s} {laid} surveyed e =
     let same : own_slots_part parts.0 s ≡ laid = cc in
     let right = with_right None (replicate 36 0) (frame_at s.class (length s.frames) from)
     (frame_at s.class (length s.frames) to) {s = s} {chosen = parts.0} refl parts.1 in
-    rw (← same) (chosen-holds parts.0 file s
+    rw (← same) (chosen-holds parts.0
     (survey-had {file = file} most_frames {s = s} surveyed) right.some right.within right.extension)
 
 -- the cutting at positions is proper
@@ -95,7 +95,7 @@ pub points-refusal : (points : Points) (fault : EditFault) → IsEditRefusal cut
 points-refusal points fault is = grind arith
 
 -- the chosen frames in the slots of their plan, given the known survey
-module _ (from to : Place) (file : List ℕ) (s known : SurveyFields) (same : known ≡ s) where
+module _ (from to : Place) (file : List ℕ) {s known : SurveyFields} (same : known ≡ s) where
   -- these are what is laid from the one place to the other
   pub frames-laid : {chosen : Chosen} {laid : LaidPart} → cut_choice from to file known ≡ Ok chosen
       → laid ≡ placed_part chosen (first_plan own_choice known.class (chosen_needs chosen known))
@@ -127,7 +127,7 @@ exact-hold from to file {s} {laid} surveyed e =
     let parts =
     then_ok e in
     let same : span_piece head parts.0 file (survey_without_head s) ≡ laid = cc in
-    rw (← same) (piece-holds head (head_long file s.head) parts.0 file (survey_without_head s)
+    rw (← same) (piece-holds head (head_long file s.head)
     (survey_without_head-relaid surveyed)
     (span-survey_without_head (span-there from to head parts.1)))
 
@@ -149,9 +149,9 @@ unfolding file_span
 span_same from to head s = grind (arith, survey_without_head-length)
 
 -- the span that was found, given the known survey and head
-module _ (from to : ExactPlace) (file : List ℕ) (s known : SurveyFields)
+module _ (from to : ExactPlace) (file : List ℕ) (s : SurveyFields) {known : SurveyFields}
     (same : known ≡ survey_without_head s)
-    (head : Option Info) (head_is : head ≡ fields_of_head file s.head) where
+    {head : Option Info} (head_is : head ≡ fields_of_head file s.head) where
   found : {r : Result Span EditFault} → file_span from to head known ≡ r
       → file_span from to (fields_of_head file s.head) s ≡ r
   found is = grind (arith, span_same)

@@ -32,9 +32,9 @@ before-first : (done : List LaidPart) (first : LaidPart) (r : Result (List LaidP
 before-first done first r = grind (arith, append_assoc)
 
 module _ {P : Type 0} (cut : Cutting P) (file : List ℕ) (s : SurveyFields) (index : ℕ) (from : P)
-    (rest : List P) (done : List LaidPart) (whole : Result (List LaidPart) EditFault)
+    (rest : List P) (done : List LaidPart) {whole : Result (List LaidPart) EditFault}
     (before : laid_before done (piece_parts_from cut file s from (drop index rest)) ≡ whole) where
-  module _ (to : P) (next : drop index rest ≡ to ∷ drop (index + 1) rest) where
+  module _ {to : P} (next : drop index rest ≡ to ∷ drop (index + 1) rest) where
     -- one more pair of places is laid
     pub place-laid : {first : LaidPart} → cut.between from to file s ≡ Ok first
         → laid_before (done ++ first ∷ []) (piece_parts_from cut file s to (drop (index + 1) rest))

@@ -69,7 +69,7 @@ place-apart head rows i = omega arith
 -- What holds with the head, `area` bytes before the first area, and without it. `ended` and `other`
 -- are where the main data end before the frame, with it and without it; without the head's area
 -- they end no further on.
-module _ (area at ended other : ℕ) (r : Row) (less : other ≤ ended - area)
+module _ (area at : ℕ) {ended other : ℕ} {r : Row} (less : other ≤ ended - area)
     (well : lacks_data (area + at) ended r ≡ false → Stands (area + at) ended r) where
   far_lacks_by : {lost : Bool} → lacks_data (area + at) ended r ≡ lost → at < r.side.main_data_begin
       → lacks_data at other r ≡ true
@@ -104,7 +104,7 @@ module _ (area at ended other : ℕ) (r : Row) (less : other ≤ ended - area)
 
 -- ---- all frames
 
-module _ (head : Option Head) (class : ClassFields) (rows : List Row)
+module _ {head : Option Head} {class : ClassFields} {rows : List Row}
     (placed : AreWellPlaced head class rows) where
   abbrev area : ℕ
   area = head_area head
@@ -155,8 +155,8 @@ module _ (head : Option Head) (class : ClassFields) (rows : List Row)
       placed_by
       (sym (place-marked_rows None rows i))
       (sym (end-marked_rows None rows i)) is.known is.class_is is.fits refl
-      (sound-by (at i) ended r (lacks_data (at i) ended r) refl (λ kept. stands_apart area (at i)
-      (data_end_before head rows i) ended r (less_at i) (stands_at i found) kept))
+      (sound-by (at i) ended r (lacks_data (at i) ended r) refl
+      (λ kept. stands_apart area (at i) (less_at i) (stands_at i found) kept))
 
   placed-marked_rows : AreWellPlaced None class (marked_rows None rows)
   placed-marked_rows i q found = grind (arith, from_some, found-marked_rows, placed_apart)
@@ -183,8 +183,8 @@ pub placed-apart : (head : Option Head) {class : ClassFields} {rows : List Row}
     → AreWellPlaced head class rows → AreWellPlaced None class (rows_set_apart head rows)
 placed-apart None placed = placed
 placed-apart (Some head) {class} {rows} placed = subst (AreWellPlaced None class)
-    (sym (apart_rows-marked_rows (Some head) class rows placed))
-    (placed-marked_rows (Some head) class rows placed)
+    (sym (apart_rows-marked_rows placed))
+    (placed-marked_rows placed)
 
 -- every frame before a frame that is lost without the head is silent or lost in this sense
 pub apart-leads : (head : Option Head) (class : ClassFields) (rows : List Row)
@@ -192,7 +192,7 @@ pub apart-leads : (head : Option Head) (class : ClassFields) (rows : List Row)
     → points_too_far (place None rows i) r ≡ true
     → (is_lost None rows i r ≡ true) × AreSilentOrLost None rows i
 apart-leads head class rows placed i r found far =
-    grind (arith, apart-lost head class rows placed i found far, far, none-empty, lacks_parts)
+    grind (arith, apart-lost placed i found far, far, none-empty, lacks_parts)
 
 -- ---- if no frame is lost
 

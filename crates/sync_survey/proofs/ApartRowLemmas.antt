@@ -23,7 +23,8 @@ at_end [] x rest zero d e = refl
 at_end (y ∷ front) x rest (suc i) d e = at_end front x rest i d (omega (arith, e))
 at_end _ x rest _ d e = absurd (omega (arith, e))
 
-module _ (rows now front : List Row) (i : ℕ) (d : Row) (size : length front ≡ i)
+module _ (rows : List Row) {now : List Row} (front : List Row) {i : ℕ} (d : Row)
+    (size : length front ≡ i)
     (within : i < length rows) (is : now ≡ front ++ drop i rows) where
   split : now ≡ front ++ (get_or rows i d ∷ drop (i + 1) rows)
   split = is ∙ ap (λ t. front ++ t) (drop_more rows i d within)
@@ -46,8 +47,8 @@ pub emptied-step : (rows : List Row) {now : List Row} {i : ℕ} (d : Row) {new :
 emptied-step rows {now} {i} d within is one =
     let front = map emptied_row (take i rows) in
     let size : length front ≡ i = grind (arith, length-map, length-take-le) in
-    ap (set now i) (one ∙ ap emptied_row (here-is rows now front i d size within is))
-    ∙ written-one rows now front i d size within is (emptied_row (get_or rows i d))
+    ap (set now i) (one ∙ ap emptied_row (here-is rows front d size within is))
+    ∙ written-one rows front d size within is (emptied_row (get_or rows i d))
     ∙ ap (λ t. t ++ drop (i + 1) rows) (sym (map-append emptied_row (take i rows)
     (get_or rows i d ∷ [])) ∙ ap (map emptied_row) (sym (take_more rows i d within)))
 
@@ -133,8 +134,8 @@ module _ (rows : List Row) where
   unfolding data_end_before
   end_more i is = ap (data_end_after (place None rows i) (data_end_before None rows i)) is
 
-  module _ (now : List Row) (areas i : ℕ) (d : Row) (to : AreMarkedTo now areas i)
-      (within : i < length rows) (new : Row)
+  module _ {now : List Row} {areas i : ℕ} (d : Row) (to : AreMarkedTo now areas i)
+      (within : i < length rows) {new : Row}
       (row_is : new ≡ record (get_or now i d) {
         lost = (get_or now i d).lost || points_too_far areas (get_or now i d);
       })
@@ -146,7 +147,7 @@ module _ (rows : List Row) where
     front_size = length-apart 0 (take i rows) ∙ length-take-le i rows (omega (arith, within))
 
     here_same : get_or now i d ≡ here
-    here_same = here-is rows now (apart_from 0 (take i rows)) i d front_size within to.rows_are
+    here_same = here-is rows (apart_from 0 (take i rows)) d front_size within to.rows_are
 
     found : slice_get rows i ≡ Some here
     found = slice_get-get_or rows i d within
@@ -163,8 +164,8 @@ module _ (rows : List Row) where
         let one_more : suc i ≡ i + 1 = omega arith in
         ap (set now i) (row_is
         ∙ ap₂ (λ (q : Row) b. record q { lost = q.lost || b }) here_same (far_same ∙ sym lost_same))
-        ∙ written-one rows now
-        (apart_from 0 (take i rows)) i d front_size within to.rows_are (apart_row rows i here)
+        ∙ written-one rows
+        (apart_from 0 (take i rows)) d front_size within to.rows_are (apart_row rows i here)
         ∙ ap (λ t. t ++ drop (i + 1) rows)
         (ap (λ m. apart_from 0 (take i rows) ++ apart_row rows m here ∷ []) zero_more
         ∙ sym (apart_more 0 i rows d within) ∙ ap (λ m. apart_from 0 (take m rows)) one_more)

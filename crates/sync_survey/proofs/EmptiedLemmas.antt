@@ -60,7 +60,7 @@ pub record IsKept (class : ClassFields) (place ended behind : ℕ) (r : Row) : T
 
 -- What holds for it as an empty frame if it is lost, if the main data before it end no further on
 -- than those that were kept.
-module _ (class : ClassFields) (at ended behind other : ℕ) (r : Row)
+module _ {class : ClassFields} {at ended behind other : ℕ} {r : Row}
     (kept : IsKept class at ended behind r) (less : other ≤ ended) where
   stands_emptied_by : {lost : Bool} → r.lost ≡ lost → Stands at other (emptied_row r)
   stands_emptied_by is = grind (arith, emptied_true, no_bytes, emptied_false)
@@ -119,7 +119,7 @@ earlier (x ∷ rows) zero found = (x, refl)
 earlier (x ∷ rows) (suc i) {r} found = earlier rows i found
 
 -- Frames each of which is kept, given where the main data that are kept before it end.
-module _ (head : Option Head) (class : ClassFields) (rows : List Row) (ended : ℕ → ℕ)
+module _ (head : Option Head) {class : ClassFields} (rows : List Row) {ended : ℕ → ℕ}
     (kept : (i : ℕ) (r : Row) → slice_get rows i ≡ Some r
     → IsKept class (place head rows i) (ended i) (ended (suc i)) r) where
   abbrev other : ℕ → ℕ
@@ -134,7 +134,7 @@ module _ (head : Option Head) (class : ClassFields) (rows : List Row) (ended : �
       (sym (place-same head rows i))
       (subst (λ o. data_end_after (place head rows i) (other i) o ≤ ended (suc i))
       (sym (slice_get-map emptied_row rows i ∙ ap (option_map emptied_row) own.1))
-      (goes class (place head rows i) (ended i) (ended (suc i)) (other i) own.0
+      (goes
       (kept i own.0 own.1) (less_at i own.0 own.1)))
 
   placed_at : (i : ℕ) (r : Row) → slice_get rows i ≡ Some r
@@ -151,7 +151,7 @@ module _ (head : Option Head) (class : ClassFields) (rows : List Row) (ended : �
         sound = ap (λ n. data_faults n (other i) (emptied_row r)) (place-same head rows i)
             ∙ sound-by at (other i) (emptied_row r)
             (lacks_data at (other i) (emptied_row r)) refl
-            (λ none. stands_emptied class at (ended i) (ended (suc i)) (other i) r is less);
+            (λ none. stands_emptied is less);
       }
 
   -- with lost frames as empty ones they are well placed
@@ -161,7 +161,7 @@ module _ (head : Option Head) (class : ClassFields) (rows : List Row) (ended : �
       subst (IsWellPlaced head class (map emptied_row rows) i) own.2 (placed_at i own.0 own.1)
 
 -- Frames that are well placed without a head.
-module _ (head : Option Head) (class : ClassFields) (rows : List Row)
+module _ (head : Option Head) {class : ClassFields} {rows : List Row}
     (placed : AreWellPlaced None class rows) where
   abbrev at : ℕ → ℕ
   at i = place None rows i
@@ -215,7 +215,7 @@ module _ (head : Option Head) (class : ClassFields) (rows : List Row)
 
   -- with lost frames as empty ones, the frames are well placed with a head too
   pub placed-emptied : AreWellPlaced head class (map emptied_row rows)
-  placed-emptied = placed-kept head class rows (λ i. more + ended i) (λ i r found.
+  placed-emptied = placed-kept head rows (λ i r found.
       subst (λ n. IsKept class n (more + ended i) (more + ended (suc i)) r)
       (sym (place-apart head rows i)) (kept_at i found))
 

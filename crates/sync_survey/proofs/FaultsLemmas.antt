@@ -123,7 +123,7 @@ pub record IsRuled (head : Option Head) (rule : ℕ → ℕ → Option Row → �
   pub next : (rows : List Row) (r : Row) → end (rows ++ r ∷ []) (length (rows ++ r ∷ []))
       ≡ rule (place head rows (length rows)) (end rows (length rows)) (Some r)
 
-module _ (head : Option Head) (rule : ℕ → ℕ → Option Row → ℕ) (end : List Row → ℕ → ℕ)
+module _ (head : Option Head) (rule : ℕ → ℕ → Option Row → ℕ) {end : List Row → ℕ → ℕ}
     (none : (rows : List Row) → end rows zero ≡ 0)
     (one : (rows : List Row) (i : ℕ)
     → end rows (suc i) ≡ rule (place head rows i) (end rows i) (slice_get rows i)) where
@@ -162,7 +162,8 @@ module _ (head : Option Head) (rows : List Row) where
       → data_end_before head (rows ++ more) i ≡ data_end_before head rows i
   unfolding data_end_before
   end-more =
-      (ruled head data_end_after (data_end_before head) (λ rows. refl) (λ rows i. refl)).more rows
+      (ruled head data_end_after {end = data_end_before head} (λ rows. refl)
+      (λ rows i. refl)).more rows
 
   -- one more frame moves the end as its own main data do
   pub end-next : (r : Row) → data_end_before head (rows ++ r ∷ []) (length (rows ++ r ∷ []))
@@ -170,7 +171,8 @@ module _ (head : Option Head) (rows : List Row) where
       (Some r)
   unfolding data_end_before
   end-next =
-      (ruled head data_end_after (data_end_before head) (λ rows. refl) (λ rows i. refl)).next rows
+      (ruled head data_end_after {end = data_end_before head} (λ rows. refl)
+      (λ rows i. refl)).next rows
 
 -- ---- all frames, in order
 

@@ -181,7 +181,7 @@ module _ (part : Region) (file : List ℕ) where
 -- ---- frames and blocks among them
 
 -- what is taken of the items is moved with them
-module _ {A : Type 0} (part_of : ℕ → Item → Option A) (by : A → A) (to : ℕ → ℕ)
+module _ {A : Type 0} (part_of : ℕ → Item → Option A) (by : A → A) {to : ℕ → ℕ}
     (moved : (at : ℕ) (item : Item) → part_of (to at) item ≡ option_map by (part_of at item)) where
   taken_more : (o : Option A) (xs : List A)
       → cons_option (option_map by o) (map by xs) ≡ map by (cons_option o xs)
@@ -203,12 +203,12 @@ moved_block to at item = grind arith
 -- the frames of items that are moved are these frames moved
 pub frames-by : (to : ℕ → ℕ) (ps : List PlacedItem)
     → frames_of (map (placed_by to) ps) ≡ map (frame_by to) (frames_of ps)
-frames-by to ps = taken frame_of_item (frame_by to) to (moved_frame to) ps
+frames-by to ps = taken frame_of_item (frame_by to) (moved_frame to) ps
 
 -- the blocks of items that are moved are these blocks moved
 pub blocks-by : (to : ℕ → ℕ) (ps : List PlacedItem)
     → blocks_of (map (placed_by to) ps) ≡ map (piece_by to) (blocks_of ps)
-blocks-by to ps = taken block_of_item (piece_by to) to (moved_block to) ps
+blocks-by to ps = taken block_of_item (piece_by to) (moved_block to) ps
 
 abbrev pub nearer_frame : ℕ → PlacedFrame → PlacedFrame
 nearer_frame gap p = frame_by (λ at. at - gap) p

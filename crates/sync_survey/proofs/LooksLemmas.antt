@@ -47,7 +47,7 @@ abbrev pub zero_test : ℕ → Bool
 zero_test b = b == 0
 
 -- what one zero byte doesn't change, all zero bytes with which these bytes begin don't change
-module _ {X : Type 0} (file : List ℕ) (f : ℕ → X)
+module _ {X : Type 0} {file : List ℕ} {f : ℕ → X}
     (one : (bytes : List ℕ) (at : ℕ) → drop at file ≡ 0 ∷ bytes → f at ≡ f (at + 1)) where
   zeros_more : {rest : List ℕ} {at : ℕ} (n : ℕ) {b : ℕ} → drop at file ≡ b ∷ rest
       → (drop (at + 1) file ≡ rest → f (at + 1) ≡ f (at + 1 + n)) → (zero : Bool)
@@ -96,7 +96,7 @@ module _ (part : Region) (front : List ℕ) (left size : ℕ) where
       → ((item ≡ Zero → ⊥) → size ≡ size_of item) → IsSized item left size
   sized is here within all zeros other = grind (arith, sized_by, stands, within)
 
-module _ (file : List ℕ) (at : ℕ) (front : List ℕ) (left : ℕ)
+module _ {file : List ℕ} {at : ℕ} {front : List ℕ} {left : ℕ}
     (shows : Shows file at front left) where
   -- the item with which the look begins is the file's item there
   pub item_at-shown : item_front front ≡ item_at file at
@@ -143,7 +143,7 @@ module _ (file : List ℕ) (at : ℕ) (front : List ℕ) (left : ℕ)
       let rest : List ℕ = drop look_size (drop at file) in
       let split : drop at file ≡ front ++ rest =
       sym (take-append-drop look_size (drop at file)) ∙ ap (λ l. l ++ rest) (sym shows.front_is) in
-      zeros_same file f one front rest at split ∙ ap (λ n. f (at + n)) (sym many)
+      zeros_same one front rest at split ∙ ap (λ n. f (at + n)) (sym many)
 
   -- all zero bytes that are shown are passed at once
   pub passes_zeros : (part : Region) {size : ℕ} → size ≡ prefix_len zero_test front

@@ -68,8 +68,8 @@ placed_before : (head : Option Head) (class : ClassFields) (rows more : List Row
     → IsWellPlaced head class (rows ++ more) i r
 placed_before head class rows more i r lt is = grind (arith, placed_by, place-more, end-more)
 
-module _ (head : Option Head) (class : ClassFields) (said allowed : ℕ) (r : Row) (rows : List Row)
-    (place_now ended count : ℕ) (placed : ArePlacedTo head class rows place_now ended)
+module _ {head : Option Head} {class : ClassFields} (said allowed : ℕ) (r : Row) {rows : List Row}
+    {place_now ended : ℕ} (count : ℕ) (placed : ArePlacedTo head class rows place_now ended)
     (known : IsHeader r.header)
     (none : first_of (faults_at said class allowed place_now ended count r) ≡ None)
     (fits : SideFits (class_of r.header) r.side) where
@@ -107,8 +107,7 @@ pub placed_next : (head : Option Head) (class : ClassFields) (said allowed : ℕ
 placed_next head class said allowed r old new known keeps placed =
     grind (
       arith,
-      one_more head class said allowed r old.rows.items old.before.place
-          old.before.ended (length old.rows.items) placed known keeps.sound keeps.fits,
+      one_more said allowed r (length old.rows.items) placed known keeps.sound keeps.fits,
     )
 
 -- ---- the frames of a file without fault

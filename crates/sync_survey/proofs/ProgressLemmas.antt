@@ -62,7 +62,7 @@ first_of_stream file {start} is =
     whole_item_at-whole Stream file start.first.offset (Frame start.first.header)
     frame.is frame.belongs frame.within
 
-module _ (file : List ℕ) (start : Start) (head : Option Head) (allowed : ℕ)
+module _ {file : List ℕ} {start : Start} {head : Option Head} (allowed : ℕ)
     (begun : IsBegun file start head) where
   -- before the first numbered frame nothing of the stream was met
   pub surveyed_none : {blocks : List Piece} {place_now : ℕ}
@@ -78,8 +78,8 @@ module _ (file : List ℕ) (start : Start) (head : Option Head) (allowed : ℕ)
         ended_is = end-none head;
       }
 
-module _ (file : List ℕ) (start : Start) (head : Option Head) (allowed : ℕ) (rows : List Row)
-    (blocks : List Piece) (place_now ended at : ℕ)
+module _ {file : List ℕ} {start : Start} {head : Option Head} {allowed : ℕ} {rows : List Row}
+    {blocks : List Piece} {place_now ended at : ℕ}
     (so_far : IsSurveyedTo file start head allowed rows blocks place_now ended at) where
   abbrev class : ClassFields
   class = class_from start
@@ -165,7 +165,7 @@ module _ (file : List ℕ) (start : Start) (head : Option Head) (allowed : ℕ) 
     first_fault h size fault passes is =
         let r = row_of file (record { offset = at; header = h }) in
         let later = rows_of file (frames_of (item_chain Stream file (at + size)).items) in
-        survey-frame file allowed start head _ _ _ (found _ _ _ refl refl refl)
+        survey-frame allowed (found _ _ _ refl refl refl)
         (ap (λ l. first_of (all_faults file head class allowed l))
         (sym so_far.frames ∙ ap (λ l. rows ++ rows_of file l) passes.frames)
         ∙ first_more file head class allowed rows r so_far.none later
@@ -193,7 +193,7 @@ module _ (file : List ℕ) (start : Start) (head : Option Head) (allowed : ℕ) 
     pub stopped_fault : (fault : SurveyFault) → whole_item_at Stream file at ≡ None
         → fault_at at (item_at file at) ≡ Some fault → survey_fields file allowed ≡ Err fault
     stopped_fault fault none is =
-        survey-stopped file allowed start head _ _ _ (found _ _ at refl refl (all_met none).2) fault
+        survey-stopped allowed (found _ _ at refl refl (all_met none).2) fault
         (none_of_all none)
         (ap (end_fault file (numbered_frames head (frames_of (stream_chain file start).items))) is)
 
@@ -213,7 +213,7 @@ module _ (file : List ℕ) (start : Start) (head : Option Head) (allowed : ℕ) 
         → survey_fields file allowed ≡ Err (NoFrame (length file))
     no_frame past empty =
         let none = whole_item_at-past Stream file at past in
-        survey-stopped file allowed start head _ _ _ (found _ _ at refl refl (all_met none).2)
+        survey-stopped allowed (found _ _ at refl refl (all_met none).2)
         (NoFrame (length file)) (none_of_all none)
         ((frames_cases _ (all_met none).0 (ended_at past)).0 empty)
 
@@ -222,7 +222,7 @@ module _ (file : List ℕ) (start : Start) (head : Option Head) (allowed : ℕ) 
         → survey_fields file allowed ≡ Ok (told_by file start head rows blocks)
     whole past some =
         let none = whole_item_at-past Stream file at past in
-        survey-whole file allowed start head _ _ _
+        survey-whole allowed
         (found _ blocks at refl (all_met none).1 (all_met none).2) (none_of_all none)
         ((frames_cases _ (all_met none).0 (ended_at past)).1 some)
         ∙ ap (λ l. Ok (told_by file start head l blocks)) (sym (all_met none).0)

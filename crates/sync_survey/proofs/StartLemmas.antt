@@ -221,7 +221,7 @@ start-front file {s} e = front_cases file (item_at file (front_end_of file)) e
 
 -- ---- a frame that a look shows
 
-module _ (file : List ℕ) (at : ℕ) (front : List ℕ) (left : ℕ)
+module _ {file : List ℕ} {at : ℕ} {front : List ℕ} {left : ℕ}
     (shows : Shows file at front left) where
   none_by : {item : Item} → item_at file at ≡ item
       → ((h : HeaderFields) → item ≡ Frame h → has_anchor file at h ≡ false)
@@ -232,14 +232,14 @@ module _ (file : List ℕ) (at : ℕ) (front : List ℕ) (left : ℕ)
   -- if no frame is here, none is anchored
   pub shown_none : {item : Item} → item ≡ item_front front
       → ((h : HeaderFields) → item ≡ Frame h → ⊥) → anchored_frame file at ≡ None
-  shown_none {item} is none = none_by (sym (item_at-shown file at front left shows) ∙ sym is)
+  shown_none {item} is none = none_by (sym (item_at-shown shows) ∙ sym is)
       (λ h e. absurd (none h e))
 
   -- a frame that isn't whole isn't anchored
   pub shown_over : {h : HeaderFields} → item_front front ≡ Frame h
       → left < length_of (class_of h) h.slot → anchored_frame file at ≡ None
   shown_over {h} is past =
-      none_by (sym (item_at-shown file at front left shows) ∙ is) (λ g e.
+      none_by (sym (item_at-shown shows) ∙ is) (λ g e.
       let same : h ≡ g = cc in
       let over : item_fits file at (Frame h) ≡ false =
       grind (arith, item_fits-left, lt-leb) in
@@ -254,7 +254,7 @@ module _ (file : List ℕ) (at : ℕ) (front : List ℕ) (left : ℕ)
       (Some (record { offset = at; header = h })) None
   unfolding anchored_frame
   shown_before is within few end =
-      grind (arith, item_fits-left, le-leb, item_at-behind, item_at-shown file at front left shows)
+      grind (arith, item_fits-left, le-leb, item_at-behind, item_at-shown shows)
 
 -- ---- where the search ends
 

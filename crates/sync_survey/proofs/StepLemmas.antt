@@ -85,7 +85,7 @@ frame_passes class {front} {h} {size} is size_is within =
 
 -- ---- the side information and the check word that a look shows
 
-module _ (file : List ℕ) (at : ℕ) (front : List ℕ) (left : ℕ) (shows : Shows file at front left)
+module _ {file : List ℕ} {at : ℕ} {front : List ℕ} {left : ℕ} (shows : Shows file at front left)
     (h : HeaderFields) (few : overhead_of (class_of h) h.protected ≤ look_size) where
   -- the row of a frame that is read from a look is the row of the file
   pub row_shown : row_in at h front ≡ row_of file (record { offset = at; header = h })
@@ -112,10 +112,10 @@ pub few_by : (front : List ℕ) (item : Item) → item ≡ item_front front
     → ((h : HeaderFields) → item ≡ Frame h → size_of item ≤ 1441) → few_before item
 few_by front item is few = grind (arith, overhead_few)
 
-module _ (file : List ℕ) (start : Start) (head : Option Head) (allowed : ℕ) (old : SurveySoFar)
-    (at : ℕ)
+module _ {file : List ℕ} {start : Start} {head : Option Head} {allowed : ℕ} (old : SurveySoFar)
+    {at : ℕ}
     (so_far : IsMarkedTo file start head allowed old.rows.items old.pieces.items old.before.place
-    old.before.ended at) (front : List ℕ) (left : ℕ) (shows : Shows file at front left) where
+    old.before.ended at) {front : List ℕ} {left : ℕ} (shows : Shows file at front left) where
   abbrev IsOn : SurveySoFar → ℕ → Type 0
   IsOn new size = IsMarkedTo file start head allowed
       new.rows.items new.pieces.items new.before.place new.before.ended (at + size)
@@ -151,7 +151,7 @@ module _ (file : List ℕ) (start : Start) (head : Option Head) (allowed : ℕ) 
       → KeepsFrame (stored_crc front) (class_from start) allowed (row_in at h front) old new
       → IsOn new size
   frame_kept h new size few passes keeps =
-      let row = row_shown file at front left shows h few in
+      let row = row_shown shows h few in
       let r = row_of file (record { offset = at; header = h }) in
       same (frames ++ r ∷ []) old.pieces.items new.before.place new.before.ended new size
       (keeps.rows
@@ -160,11 +160,10 @@ module _ (file : List ℕ) (start : Start) (head : Option Head) (allowed : ℕ) 
       }) row ∙ mark_is r)
       ∙ sym (marked_rows-push head frames r))
       keeps.pieces refl refl
-      (passed_frame file start head allowed frames old.pieces.items old.before.place
-      old.before.ended at so_far.surveyed h size new.before.place new.before.ended passes
+      (passed_frame so_far.surveyed h size new.before.place new.before.ended passes
       (ap (λ n. first_of (faults_at (stored_crc (drop at file))
       (class_from start) allowed old.before.place old.before.ended n r)) (sym count)
-      ∙ sym (faults_shown file at front left shows h few
+      ∙ sym (faults_shown shows h few
       (class_from start) allowed old.before.place old.before.ended (length old.rows.items))
       ∙ keeps.sound)
       keeps.place
@@ -188,12 +187,11 @@ module _ (file : List ℕ) (start : Start) (head : Option Head) (allowed : ℕ) 
       → IsFrameFault (class_from start) allowed at item front old fault
       → survey_fields file allowed ≡ Err fault
   refused begun (Frame h) size fault few passes is =
-      first_fault file start head allowed frames old.pieces.items old.before.place old.before.ended
-      at so_far.surveyed begun h size fault passes
+      first_fault so_far.surveyed begun h size fault passes
       (ap (λ n. first_of (faults_at (stored_crc (drop at file)) (class_from start) allowed
       old.before.place old.before.ended n (row_of file (record { offset = at; header = h }))))
       (sym count)
-      ∙ sym (faults_shown file at front left shows h few
+      ∙ sym (faults_shown shows h few
       (class_from start) allowed old.before.place old.before.ended (length old.rows.items))
       ∙ is)
   refused begun Free size fault few passes is = absurd is
@@ -250,8 +248,10 @@ pub record IsLaidTo (head : Option Head) (class : ClassFields) (first : ℕ) (fo
   pub low : found.before.place ≤ 1441 + at
   pub placed : ArePlacedTo head class found.rows.items found.before.place found.before.ended
 
-module _ (head : Option Head) (first : ℕ) (class : ClassFields) (allowed at : ℕ) (front : List ℕ)
-    (old new : SurveySoFar) (size : ℕ) (laid : IsLaidTo head class first old at) where
+module _ {head : Option Head} {first : ℕ} {class : ClassFields} (allowed : ℕ) {at : ℕ}
+    (front : List ℕ)
+    {old : SurveySoFar} (new : SurveySoFar) (size : ℕ)
+    (laid : IsLaidTo head class first old at) where
   laid_blocks : (item : Item) (blocks : List Piece)
       → option_to_list (block_of_item at item) ≡ blocks → size_of item ≤ size
       → KeepsBlocks blocks old new → IsLaidTo head class first new (at + size)

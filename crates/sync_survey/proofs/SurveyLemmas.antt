@@ -43,8 +43,8 @@ survey-by : (file : List ℕ) (allowed : ℕ) {r : Result Start SurveyFault} →
 unfolding survey_fields
 survey-by file allowed is = ap (survey_from_start file allowed) is
 
-module _ (file : List ℕ) (allowed : ℕ) (start : Start) (head : Option Head)
-    (frames : List PlacedFrame) (blocks : List Piece) (stop : ℕ)
+module _ {file : List ℕ} (allowed : ℕ) {start : Start} {head : Option Head}
+    {frames : List PlacedFrame} {blocks : List Piece} {stop : ℕ}
     (found : IsFound file start head frames blocks stop) where
   abbrev end : Option SurveyFault
   end = end_fault file frames (fault_at stop (item_at file stop))

@@ -48,8 +48,7 @@ returns g c =
     let old = c.in_ok-push.ensures.items
     ∙ ap (λ l. l ++ c.lead_in-frame.result ∷ []) c.in_ok-placed.ensures.items in
     subst (λ n. IsBestPlan n choices needs (entries c.from_placed-2.result)) window
-    (plan-behind c.window-window.result choices needs c.index-needs-0.result c.class-class.result
-    sums places c.lead_in-frame.result c.free_behind-free.result c.requires.some
+    (plan-behind choices needs c.index-needs-0.result places c.requires.some
     c.class-class.ensures c.in_ok-table.ensures by
     (c.free_behind-free.ensures.free ∙ ap (λ n. free_bytes_behind c.window-window.result 0 0 n)
     c.area_of-area.ensures.area) c.push.new.self.items c.walk-2.new.placed.items

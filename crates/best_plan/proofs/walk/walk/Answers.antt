@@ -29,7 +29,7 @@ pub frame_at-frame-requires-clause-place : goal.frame_at-frame-requires-clause-p
 frame_at-frame-requires-clause-place g c =
     let front = walk-open c.args.needs.now
     c.loop-need.invariant.free c.loop-need-test.true c.need-item.is c.loop-need.invariant.can in
-    let place = place-is front c.loop-need.invariant.free c.len.result c.index-place.result.now
+    let place = place-is front c.loop-need.invariant.free
     (omega (arith, c.len.ensures)) c.index-place.ensures in
     omega (arith, front.choice.within front.some, place)
 
@@ -41,7 +41,7 @@ free_behind-free-requires-clause-fits g c =
     let front = walk-open c.args.needs.now
     c.loop-need.invariant.free c.loop-need-test.true c.need-item.is c.loop-need.invariant.can in
     let choices = g.P.Policy.choices_of c.args.policy.now in
-    let at = area-is front c.loop-need.invariant.free c.len.result c.index-place.result.now
+    let at = area-is front c.loop-need.invariant.free
     (omega (arith, c.len.ensures)) c.index-place.ensures
     c.frame_at-frame.ensures.area in
     omega (arith, front.choice.fits front.some, c.area_with-area.ensures.area, at)
@@ -53,7 +53,7 @@ loop-need-preserved g c =
     let choices = g.P.Policy.choices_of c.args.policy.now in
     let need = c.need-item.result in
     let slot = c.frame_at-frame.result.slot in
-    let at = area-is front c.loop-need.invariant.free c.len.result c.index-place.result.now
+    let at = area-is front c.loop-need.invariant.free
     (omega (arith, c.len.ensures)) c.index-place.ensures
     c.frame_at-frame.ensures.area in
     let free : c.free_behind-free.result ≡ free_bytes_behind c.args.room.window c.loop-need.free

@@ -15,9 +15,11 @@ above c = grind (arith, shr-shr)
 pub overflow_add-result : goal.overflow_add-result
 overflow_add-result c =
     let at = (goal.at.overflow_add-result c).After-from in
-    let kept = above_whole 64 c.args.window c.args.n c.args.low c.args.value (small at)
+    let kept = above_whole {total = 64} {window = c.args.window} c.args.n c.args.low {value =
+    c.args.value} (small at)
     (omega arith) c.requires.fits (omega arith) in
-    let upper = upper_small 64 c.args.window c.args.n c.args.low c.args.value (small at)
+    let upper = upper_small {total = 64} {window = c.args.window} c.args.n c.args.low {value =
+    c.args.value} (small at)
     (omega arith) c.requires.fits in
     let fewer : 64 - c.args.low ≤ 64 = omega arith in
     let fits : 2 ^ (64 - c.args.low) ≤ 2 ^ 64 = pow_mono fewer in
@@ -26,11 +28,14 @@ overflow_add-result c =
 pub overflow_add-result-2 : goal.overflow_add-result-2
 overflow_add-result-2 c =
     let at = (goal.at.overflow_add-result-2 c).After-from in
-    let kept = above_whole 64 c.args.window c.args.n c.args.low c.args.value (small at)
+    let kept = above_whole {total = 64} {window = c.args.window} c.args.n c.args.low {value =
+    c.args.value} (small at)
     (omega arith) c.requires.fits (omega arith) in
-    let upper = upper_whole 64 c.args.window c.args.n c.args.low c.args.value (small at)
+    let upper = upper_whole {total = 64} {window = c.args.window} c.args.n c.args.low {value =
+    c.args.value} (small at)
     (omega arith) c.requires.fits (omega arith) in
-    let whole = whole_small 64 c.args.window c.args.n c.args.low c.args.value (small at)
+    let whole = whole_small {total = 64} {window = c.args.window} c.args.n c.args.low {value =
+    c.args.value} (small at)
     (omega arith) c.requires.fits in
     let one = one_shl c.args.low 64 (omega arith) in
     rw (c.from.ensures, above at, kept, upper, one) (omega arith)
@@ -39,7 +44,8 @@ pub returns : goal.returns
 returns c =
     grind (
       arith,
-      upper_whole 64 c.args.window c.args.n c.args.low c.args.value (small c) (omega
+      upper_whole {total = 64} {window = c.args.window} c.args.n c.args.low {value =
+          c.args.value} (small c) (omega
           arith) c.requires.fits (omega arith),
       one_shl c.args.low 64 (omega arith),
       above c,

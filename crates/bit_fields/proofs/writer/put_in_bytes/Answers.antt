@@ -19,9 +19,7 @@ set_number-requires-clause-fits c =
     let k = size (goal.at.set_number-requires-clause-fits c).After-number_of in
     let h = below (goal.at.set_number-requires-clause-fits c).After-number_of in
     rw c.with_group-window.ensures
-    (whole_small
-    (8 * length (take (c.args.last - c.args.at / 8) (drop (c.args.at / 8) c.args.bytes.now)))
-    c.number_of.result c.args.n (8 * (c.args.last) - (c.args.at + c.args.n)) c.args.value h
+    (whole_small c.args.n (8 * (c.args.last) - (c.args.at + c.args.n)) h
     (omega arith) c.requires.fits)
 
 pub returns : goal.returns

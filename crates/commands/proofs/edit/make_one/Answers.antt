@@ -72,7 +72,7 @@ returns g c =
     ∙ ap₂ seen_folder c.prepare.ensures.files c.in_ok-work.ensures.done in
     asked_run (to_write g at c.in_ok-work.ensures.making) g.D.Folder.keeping
     (λ keep. rw c.prepare.ensures.files at (c.in_ok-ask_all.ensures.free keep))
-    (pass_run (task g at) c.args.output.now (free g at) _ c.in_ok-work.ensures.making
+    (pass_run (task g at) c.args.output.now (free g at) c.in_ok-work.ensures.making
     c.requires.proper c.write_output.ensures.numbers
     (rw (source g at, same) at c.write_output.ensures.wrote)
     (rw same at c.write_output.ensures.counts))

@@ -10,8 +10,8 @@ returns-in-Ok-append-clause-wrote g c =
     let created = c.in-Ok.ensures.answer.created in
     let written = c.in-Ok-append.ensures.written in
     record {
-      written = output_whole _ _ _ c.requires.apart _ _ _ created written;
-      touches = touches_whole _ _ _ c.requires.apart _ _ _ created written;
+      written = output_whole _ c.requires.apart _ _ created written;
+      touches = touches_whole _ c.requires.apart _ _ created written;
       done = search rules;
       left = tt;
     }
@@ -22,10 +22,10 @@ returns-in-Err-clause-wrote g c =
     let prefix = c.in-Err.ensures.prefix in
     record {
       written = tt;
-      touches = touches_prefix _ _ _ c.requires.apart _ _ _ created prefix;
+      touches = touches_prefix _ c.requires.apart _ _ created prefix;
       done = tt;
       left = rw c.of_pass.ensures
-          (pass_fault _ _ _ c.requires.apart _ _ _ created (c.args.input.now ∷ []) refl 0
+          (pass_fault _ c.requires.apart _ _ created (c.args.input.now ∷ []) refl 0
           c.in-Err.fault _ _
           c.in-Ok.ensures.answer.done prefix c.in-Err.ensures.cause.1);
     }

@@ -9,7 +9,7 @@ read_exact-requires-clause-found g c = search rules
 
 pub returns-in-Err-clause-sheet : goal.returns-in-Err-clause-sheet
 returns-in-Err-clause-sheet g c =
-    let stops = read-stops c.args.sheet.now _ _ _ _ _ _ _ c.sheet_length.ensures.sheet.reads.files
+    let stops = read-stops c.args.sheet.now _ _ c.sheet_length.ensures.sheet.reads.files
     c.read_exact.ensures.files c.in_ok-length.ensures.sheet.reads.done c.in-Err.fault
     (ap (λ f. Input 1 f) c.into.ensures) c.in-Err.ensures.cause in
     record {

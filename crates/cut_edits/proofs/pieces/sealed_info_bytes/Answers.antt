@@ -11,23 +11,21 @@ seal-requires c =
     let s = survey_view c.args.survey.now in
     let kept = c.args.kept.now in
     rw (c.class.ensures)
-    (info-room s c.requires.well c.args.from c.requires.within c.args.placed.now kept.quality
-    kept.extension c.has_all.ensures c.info_bytes-info.result.items c.info_bytes-info.ensures)
+    (info-room s c.requires.well c.requires.within c.args.placed.now kept.quality
+    kept.extension c.has_all.ensures c.info_bytes-info.ensures)
 
 pub returns-clause-room : goal.returns-clause-room
 returns-clause-room c =
     let s = survey_view c.args.survey.now in
     let kept = c.args.kept.now in
-    sealed-room s c.requires.well c.args.from c.requires.within c.args.placed.now kept.quality
-    kept.extension c.has_all.ensures c.info_bytes-info.result.items c.info_bytes-info.ensures
-    c.seal.new.frame.items (c.seal.ensures
+    sealed-room s c.requires.well c.requires.within c.args.placed.now kept.quality
+    kept.extension c.has_all.ensures c.info_bytes-info.ensures (c.seal.ensures
     ∙ ap (λ (k : ClassFields). sealed_frame k c.info_bytes-info.result.items) c.class.ensures)
 
 pub returns-clause-bytes : goal.returns-clause-bytes
 returns-clause-bytes c =
     let s = survey_view c.args.survey.now in
     let kept = c.args.kept.now in
-    sealed-is s c.requires.well c.args.from c.requires.within c.args.placed.now kept.quality
-    kept.extension c.has_all.ensures c.info_bytes-info.result.items c.info_bytes-info.ensures
-    c.seal.new.frame.items (c.seal.ensures
+    sealed-is s c.requires.well c.requires.within c.args.placed.now kept.quality
+    kept.extension c.has_all.ensures c.info_bytes-info.ensures (c.seal.ensures
     ∙ ap (λ (k : ClassFields). sealed_frame k c.info_bytes-info.result.items) c.class.ensures)

@@ -21,7 +21,7 @@ returns-clause-laid c = λ file has.
     let there =
     first-there s.frames c.args.from (omega (arith, c.requires.some, c.requires.within)) in
     let first = there.0 in
-    let slots = laid-slots plain file s has c.requires.some c.requires.within c.requires.fitting
+    let slots = laid-slots plain has c.requires.some c.requires.within c.requires.fitting
     ∙ sym (ap (map (λ (p : Placed). p.slot)) c.placed.ensures) in
     let bytes =
     c.sealed_info_bytes-info.ensures.bytes first (frames_laid plain file s) there.1 slots in
@@ -50,7 +50,7 @@ returns-clause-writable c = record {
       let s = survey_view c.args.survey.now in
       let plain = laid_part c.args.from c.args.to c.args.kept (entries c.args.plan) in
       let frames = frames_laid plain file s in
-      let slots = laid-slots plain file s has c.requires.some c.requires.within c.requires.fitting
+      let slots = laid-slots plain has c.requires.some c.requires.within c.requires.fitting
       ∙ sym (ap (map (λ (p : Placed). p.slot)) c.placed.ensures) in
       let bytes = c.sealed_info_bytes-info.ensures.bytes first frames found slots in
       let whole = for-whole s.class frames plain.quality c.has_all.ensures in

@@ -15,5 +15,5 @@ returns g c =
     let there = c.requires.there in
     IfOk-weaker c.plan.result _ _
     (λ plan is. plan_is (chosen_in c.args.chosen.now) (survey_view c.args.survey.now)
-    there.laid.placed there.some there.within _ c.requires.policy is.plan)
+    there.laid.placed there.some there.within c.requires.policy is.plan)
     (rw (c.needs.ensures, c.places.ensures, c.in_ok-parts.ensures.parts) at c.plan.ensures)

@@ -2,7 +2,7 @@
 use Rattle.std.proofs.Common.{ap, arith, drop, length, subst, sym, ◌-◌}
 use Rattle.std.proofs.lemmas.List.{length-map, length-take}
 use Rattle.cut_edits.proofs.ChosenLemmas.{by_usual, plan-few, plan-fitting}
-use Rattle.cut_edits.specs.Chosen.{chosen_in, chosen_needs, chosen_rows, slot_choices}
+use Rattle.cut_edits.specs.Chosen.{chosen_in, chosen_needs, chosen_rows}
 use Rattle.frame_header.specs.Tables.{window_of}
 use Rattle.laying.specs.{Fits.IsFittingPlan, Needs.need_of}
 use Rattle.sync_survey.specs.Faults.{survey_view}
@@ -12,8 +12,8 @@ pub new-requires-clause-few : goal.new-requires-clause-few
 new-requires-clause-few c =
     let s = survey_view c.args.survey.now in
     let chosen = chosen_in c.args.chosen.now in
-    let few = plan-few chosen s c.requires.laid.placed c.requires.some c.requires.within
-    (slot_choices c.args.least) (by_usual c.args.least) in
+    let few = plan-few chosen s
+    c.requires.laid.placed c.requires.some c.requires.within (by_usual c.args.least) in
     omega (
       arith,
       few,
@@ -30,8 +30,8 @@ new-requires-clause-fitting c =
     let chosen = chosen_in c.args.chosen.now in
     subst (IsFittingPlan (window_of s.class.version) (chosen_needs chosen s))
     (sym c.in_ok-plan.ensures)
-    (plan-fitting chosen s c.requires.laid.placed c.requires.some c.requires.within
-    (slot_choices c.args.least) (by_usual c.args.least))
+    (plan-fitting chosen s
+    c.requires.laid.placed c.requires.some c.requires.within (by_usual c.args.least))
 
 pub returns : goal.returns
 returns c = grind arith

@@ -7,7 +7,7 @@ use Rattle.drill.proofs.calls.summary_of.Goals as goal
 
 -- the packed file has as many frames as the stream
 found : (c : After-frames) → length c.frames.result.now ≡ c.args.count
-found c = ap length c.frames.ensures ∙ packed-frames c.args.seed c.args.count
+found c = ap length c.frames.ensures ∙ packed-frames c.args.seed
     (omega (arith, c.requires.some)) c.requires.few
     c.in_ok-survey.ensures
 
@@ -22,7 +22,7 @@ returns c =
     let none : length c.frames.result.now - c.from-frames.result
     ≡ lead_ins_in (packed_plan c.args.seed c.args.count) =
     omega
-    (arith, found, c.from-frames.ensures, no-lead_ins c.args.seed c.args.count some c.requires.few)
+    (arith, found, c.from-frames.ensures, no-lead_ins c.args.seed some c.requires.few)
     in
     let long : 417 * c.from-frames.result ≡ length (drill_stream c.args.seed c.args.count) =
     omega (arith, c.from-frames.ensures, c.streams_are_long.ensures c.args.seed c.args.count) in

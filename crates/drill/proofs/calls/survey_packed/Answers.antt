@@ -7,6 +7,6 @@ pub returns-in-Ok-survey : goal.returns-in-Ok-survey
 returns-in-Ok-survey c =
     let some : 0 < c.args.count = omega (arith, c.requires.some) in
     c.in-Ok-survey.ensures.exact (packed_file c.args.seed c.args.count)
-    (packed-there c.args.seed c.args.count some
+    (packed-there c.args.seed some
     c.requires.few c.args.stream.now c.args.packed.now c.in_ok-folder.ensures.stream
     c.in-Ok.ensures.done.made)

@@ -14,7 +14,7 @@ steps_of_both-requires c =
     c.in-Some-Some.before.now parted c.requires.kept (last_some c.split_at.result.0.now
     (sym (ap option_copied c.in-Some-Some.is-0) ∙ c.last.ensures.value)) in
     let first =
-    first_kept c.args.frame c.args.points.now c.split_at.result.0.now c.split_at.result.1.now
+    first_kept
     c.in-Some-Some.behind.now parted c.requires.kept (first_some c.split_at.result.1.now
     (sym (ap option_copied c.in-Some-Some.is-1) ∙ c.first.ensures.value)) in
     record { kept = last.0; behind_kept = first.0; before = last.1; behind = first.1 }
@@ -50,10 +50,9 @@ returns-in-None-Some-clause-steps c =
     let there = first_some c.split_at.result.1.now
     (sym (ap option_copied c.in-None-Some.is-1) ∙ c.first.ensures.value) in
     small_fits
-    (first_kept c.args.frame c.args.points.now c.split_at.result.0.now c.split_at.result.1.now
+    (first_kept
     c.in-None-Some.first.now parted c.requires.kept there).0.sound.1
-    ∙ sym (steps_of_first c.args.frame c.args.points.now c.split_at.result.0.now
-    c.split_at.result.1.now c.in-None-Some.first.now parted (last_none c.split_at.result.0.now
+    ∙ sym (steps_of_first c.in-None-Some.first.now parted (last_none c.split_at.result.0.now
     (sym (ap option_copied c.in-None-Some.is-0) ∙ c.last.ensures.value)) there)
 
 pub returns-in-None-None-clause-steps : goal.returns-in-None-None-clause-steps

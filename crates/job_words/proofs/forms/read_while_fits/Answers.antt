@@ -16,7 +16,7 @@ next : (c : After-read) (o : Option Value) → c.read.result ≡ o
 next c o is =
     goes_on word_kind string_bytes
     c.args.kinds.now c.args.words.now (map value_said c.loop-values.values.items)
-    c.len-place.result (rw c.len-place.ensures.value c.loop-values.invariant.0) _
+    (rw c.len-place.ensures.value c.loop-values.invariant.0) _
     c.index-words-place.result
     (omega (arith, c.loop-values-test.true, c.len.ensures.value, c.len-place.ensures.value)) (omega
     (arith, c.if-len-words.true, c.len-in-loop-values.ensures.value, c.len-place.ensures.value))

@@ -30,8 +30,8 @@ pub returns-in-Ok : goal.returns-in-Ok
 returns-in-Ok c =
     record {
       reading = accepted (map form_given c.args.forms.now)
-          (map string_bytes c.args.words.now) c.loop-form.form-index help_form
-          c.loop-form.place (rw length-map c.loop-form-test.true) c.loop-form.invariant.0
+          (map string_bytes c.args.words.now) help_form
+          (rw length-map c.loop-form-test.true) c.loop-form.invariant.0
           (sym (ap request_result c.in-Ok.is) ∙ here (goal.at.returns-in-Ok c).After-read);
       few = tt;
     }
@@ -41,8 +41,8 @@ loop-form-preserved c =
     let max-is : c.max-place.result ≡ max c.loop-form.place c.in-Err.bad =
     grind (arith, common_steps) in (
       table_reading-more (map form_given c.args.forms.now)
-          (map string_bytes c.args.words.now) c.loop-form.form-index help_form
-          c.loop-form.place (rw length-map c.loop-form-test.true) c.loop-form.invariant.0
+          (map string_bytes c.args.words.now) help_form
+          (rw length-map c.loop-form-test.true) c.loop-form.invariant.0
           (sym (ap request_result c.in-Err.is) ∙ here (goal.at.loop-form-preserved c).After-read)
           ∙ sym (ap Err max-is),
       omega (arith, max-is, c.in-Err.ensures.few, c.loop-form.invariant.1),

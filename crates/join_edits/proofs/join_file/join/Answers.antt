@@ -67,8 +67,8 @@ module _ (g : given.Over) (c : In_ok-sources g) where
   none = rw named (sym c.clash.ensures ∙ c.in_default.is)
 
   -- what is written from the inputs, given what is known of them after the survey
-  module _ (mid : Files) (known : List JoinInput) (same : mid ≡ old)
-      (items : known ≡ c.in_ok-sources.sources.items) (work : JoinWork)
+  module _ {mid : Files} {known : List JoinInput} (same : mid ≡ old)
+      (items : known ≡ c.in_ok-sources.sources.items) {work : JoinWork}
       (ready : IsJoinReady inputs work) where
     writable : CanJoinBeWritten c.args.output.now mid (map input_view known) work
     writable = rw (same, items) (ready-written none are ready)
@@ -107,7 +107,7 @@ returns-in_err-ask_all g c =
     let at = (goal.at.returns-in_err-ask_all g c).In_ok-sources in
     let same =
     ap₂ seen_folder c.survey_all.ensures.reads.files c.in_ok-sources.ensures.reads.done in
-    let made = making g at _ c.in_ok-sources.sources.items refl refl _
+    let made = making g at refl refl
     (rw c.deref.ensures.value at c.in_ok-work.ensures) in
     let stops = c.in_err-ask_all.ensures in
     asked_stopped (to_write g at made) c.from_residual-in_err-ask_all.ensures.1
@@ -116,8 +116,8 @@ returns-in_err-ask_all g c =
 pub write_joined-requires-clause-can : goal.write_joined-requires-clause-can
 write_joined-requires-clause-can g c =
     let at = (goal.at.write_joined-requires-clause-can g c).In_ok-sources in
-    writable g at _ _ (ap (λ (s : Seen). s.files) c.in_ok-ask_all.ensures.stays
-    ∙ c.survey_all.ensures.reads.files) c.deref-2.ensures.value _
+    writable g at (ap (λ (s : Seen). s.files) c.in_ok-ask_all.ensures.stays
+    ∙ c.survey_all.ensures.reads.files) c.deref-2.ensures.value
     (rw c.deref.ensures.value at c.in_ok-work.ensures)
 
 pub returns : goal.returns
@@ -131,7 +131,7 @@ returns g c =
     let before =
     ap₂ seen_folder c.survey_all.ensures.reads.files c.in_ok-sources.ensures.reads.done in
     let same = asked ∙ before in
-    let made = making g at _ _ refl c.deref-2.ensures.value _
+    let made = making g at refl c.deref-2.ensures.value
     (rw c.deref.ensures.value at c.in_ok-work.ensures) in
     let result = c.write_joined.result in
     let named-now : input_names (map input_view c.deref-2.result.now) ≡ names =
@@ -145,7 +145,7 @@ returns g c =
     ) in
     asked_run (to_write g at made) g.D.Folder.keeping
     (λ keep. rw before at (c.in_ok-ask_all.ensures.free keep))
-    (one_run (join_task names) output free _ made refl
+    (one_run (join_task names) output free made refl
     (one_streams (join_task names) output free _ _
     (rw (named g at) at
     (inputs-making joined_file joined_stream (old g at) (inputs g at) (some g at)

@@ -5,7 +5,7 @@ use Rattle.join_edits.proofs.planned.plan_all.Goals as goal
 
 pub plan-requires-clause-planned : goal.plan-requires-clause-planned
 plan-requires-clause-planned c =
-    rw (c.needs.ensures, c.places.ensures, c.in_ok-parts.ensures) (all-fit _ c.requires).planned
+    rw (c.needs.ensures, c.places.ensures, c.in_ok-parts.ensures) (all-fit c.requires).planned
 
 pub plan-requires-clause-needs : goal.plan-requires-clause-needs
 plan-requires-clause-needs c = grind (arith, needs-few)

@@ -59,7 +59,7 @@ returns-in-Err g c =
     let sofar = c.loop-i.invariant.laid.lays.lays in
     record {
       written = tt;
-      prefix = part-prefix pass frames b.waiting (writing_in b) old
+      prefix = part-prefix pass frames old
           (new-behind b.waiting c.requires.new) part.1;
       done = tt;
       cause =
@@ -119,9 +119,9 @@ returns-in-Ok-finish g c =
     let b = c.args.buffers.now in
     let seen = g.D.Folder.seen in
     record {
-      written = lays-written c.args.first.now.pass (frames g at) b.waiting (writing_in b)
-          (old g at) (new-behind b.waiting c.requires.new) (writing_in c.loop-i.buffers)
-          (seen c.loop-i.folder).files (laid_all g at) c.in-Ok-finish.ensures.passed;
+      written = lays-written c.args.first.now.pass (frames g at)
+          (old g at) (new-behind b.waiting c.requires.new)
+          (laid_all g at) c.in-Ok-finish.ensures.passed;
       prefix = tt;
       done = search rules;
       cause = tt;
@@ -136,9 +136,8 @@ returns-in-Err-finish g c =
     let sofar = c.loop-i.invariant.laid.lays.lays in
     record {
       written = tt;
-      prefix = lays-prefix pass (frames g at) b.waiting (writing_in b) (old g at)
-          (new-behind b.waiting c.requires.new) (writing_in c.loop-i.buffers)
-          (seen c.loop-i.folder).files (laid_all g at)
+      prefix = lays-prefix pass (frames g at) (old g at)
+          (new-behind b.waiting c.requires.new) (laid_all g at)
           c.in-Err-finish.ensures.prefix;
       done = tt;
       cause =

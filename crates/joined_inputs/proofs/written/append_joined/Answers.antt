@@ -59,7 +59,7 @@ module _ (g : given.Over) (c : After-append_front g) where
   all mid placed is only file holds = grind (arith, told-beside, rest-parts old inputs, flat_map)
 
   -- the front, and then the frames, or a part of them
-  module _ (mid : Files) (placed : List Placed) (is : placed ≡ entries c.args.work.now.plan)
+  module _ {mid : Files} {placed : List Placed} (is : placed ≡ entries c.args.work.now.plan)
       {waiting : List ℕ} (none : waiting ≡ [])
       (begins : AppendsMadeBytes
       c.args.first.now.pass.input.now c.args.first.now.pass.output.now front old
@@ -87,14 +87,14 @@ module _ (g : given.Over) (c : After-append_front g) where
           → WritesMadeBytes c.args.first.now.pass whole [] after old new
       both rest =
           let pass = c.args.first.now.pass in
-          writes_as pass (all mid placed is only) (writes_then pass apart begun rest)
+          writes_as pass (all mid placed is only) (writes_then apart begun rest)
 
       part : {new : Files} {fault : PassFault}
           → WritesPrefix c.args.first.now.pass (λ file. frames mid placed) waiting mid new fault
           → WritesPrefix c.args.first.now.pass whole [] old new fault
       part rest =
           let pass = c.args.first.now.pass in
-          appends-as_prefix (all mid placed is only) (prefix_then pass apart begun rest)
+          appends-as_prefix (all mid placed is only) (prefix_then apart begun rest)
 
 pub returns-in-Err : goal.returns-in-Err
 returns-in-Err g c =
@@ -144,7 +144,7 @@ returns-in_err-lay_all g c =
     let mid = (g.D.Folder.seen c.append_front.new.folder).files in
     let front = c.in_default.ensures.written in
     let h = c.in_err-lay_all.ensures.cause in
-    let rest = part g w mid c.placed.result.now c.placed.ensures c.in_default.ensures.none front
+    let rest = part g w c.placed.ensures c.in_default.ensures.none front
     c.in_err-lay_all.ensures.prefix in
     record {
       written = search rules;
@@ -160,10 +160,10 @@ pub returns-in-Ok : goal.returns-in-Ok
 returns-in-Ok g c =
     let w = (goal.at.returns-in-Ok g c).After-append_front in
     let mid = (g.D.Folder.seen c.append_front.new.folder).files in
-    let rest = both g w mid c.placed.result.now c.placed.ensures c.in_default.ensures.none
+    let rest = both g w c.placed.ensures c.in_default.ensures.none
     c.in_default.ensures.written c.in_ok-lay_all.ensures.written in
     record {
-      written = writes_all c.args.first.now.pass (whole g w) rest c.in-Ok.ensures.appended;
+      written = writes_all rest c.in-Ok.ensures.appended;
       prefix = tt;
       done = search rules;
       cause = tt;
@@ -175,11 +175,11 @@ returns-in-Err-finish g c =
     let mid = (g.D.Folder.seen c.append_front.new.folder).files in
     let front = c.in_default.ensures.written in
     let frames = c.in_ok-lay_all.ensures in
-    let rest = both g w mid c.placed.result.now c.placed.ensures c.in_default.ensures.none front
+    let rest = both g w c.placed.ensures c.in_default.ensures.none front
     frames.written in
     record {
       written = tt;
-      prefix = writes_end c.args.first.now.pass (whole g w) rest c.in-Err-finish.ensures.prefix;
+      prefix = writes_end rest c.in-Err-finish.ensures.prefix;
       done = tt;
       cause = record {
         within = some g w;
@@ -188,7 +188,7 @@ returns-in-Err-finish g c =
             (ap input_names c.requires.join.are)
             (cause_later _ _ c.args.first.now.pass.output.now front.bytes _
             c.in-Err-finish.fault front.files c.in_default.ensures.done
-            (cause_behind frames.written _ _ _ _ frames.done c.in-Err-finish.fault
+            (cause_behind frames.written _ _ frames.done c.in-Err-finish.fault
             c.in-Err-finish.ensures.cause));
       };
     }

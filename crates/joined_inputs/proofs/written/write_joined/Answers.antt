@@ -75,10 +75,10 @@ returns-in-Ok-append_joined-clause-wrote g c =
     let written = c.in-Ok-append_joined.ensures.written in
     record {
       written = λ bytes holds.
-          output_whole _ (input_view c.input_at.result.now).name output (apart g at) (old g at) _ _
+          output_whole _ (apart g at) (old g at) _
           created written bytes (rw c.input_at.ensures at holds)
           ∙ ap (files_holding (old g at) output) (beside g at bytes);
-      touches = touches_whole _ _ _ (apart g at) _ _ _ created written;
+      touches = touches_whole _ (apart g at) _ _ created written;
       done = search rules;
       left = tt;
     }
@@ -91,10 +91,10 @@ returns-in-Err-clause-wrote g c =
     let part = appends-as_prefix (λ file holds. beside g at file) c.in-Err.ensures.prefix in
     record {
       written = tt;
-      touches = touches_prefix _ _ _ (apart g at) _ _ _ created c.in-Err.ensures.prefix;
+      touches = touches_prefix _ (apart g at) _ _ created c.in-Err.ensures.prefix;
       done = tt;
       left = rw c.of_pass.ensures
-          (pass_fault _ (input_view c.input_at.result.now).name c.args.output.now (apart g at) _ _ _
+          (pass_fault _ (apart g at) _ _
           created (names g at) (ap (λ l. first_input (input_names l)) c.input_at.ensures)
           c.in-Err.stopped.number c.in-Err.stopped.fault cause.size _
           c.in-Ok.ensures.answer.done part

@@ -75,7 +75,7 @@ returns-in_err-copy g c = record {
 pub move_frames-requires-clause-told : goal.move_frames-requires-clause-told
 move_frames-requires-clause-told g c file holds =
     let s = survey_view c.args.survey.now in
-    let held = writes_held _ c.requires.apart c.in_ok-copy.ensures.written file holds in
+    let held = writes_held c.requires.apart c.in_ok-copy.ensures.written file holds in
     subst (AreRowsOf file) (sym c.frames.ensures)
     (survey_of-rows file most_frames (c.requires.exact file held))
 
@@ -95,7 +95,7 @@ returns-in_err-move_frames g c = record {
       (λ file holds. sym (append-nil (parts file)
       ∙ are_changed c.args.change.now _ file s _ first rows c.new_tag.ensures (ap (λ r. r.0)
       c.junk-junk.ensures) c.first.ensures c.frames.ensures (c.requires.exact file holds)))
-      (prefix_then _
+      (prefix_then
       c.requires.apart c.in_ok-copy.ensures.written c.in_err-move_frames.ensures.prefix)));
   done = search rules;
   cause = let p = err_from_is_err_and c.from_residual-in_err-move_frames.result
@@ -105,7 +105,7 @@ returns-in_err-move_frames g c = record {
       (g.D.Folder.seen c.move_frames.new.folder).counts c.in_err-move_frames.field-0.0)
       c.length.ensures c.in_err-move_frames.ensures.cause in
       rw (p.1, p.2)
-      (cause_behind c.in_ok-copy.ensures.written _ _ _ _ c.in_ok-copy.ensures.done _ cause);
+      (cause_behind c.in_ok-copy.ensures.written _ _ c.in_ok-copy.ensures.done _ cause);
 }
 
 pub finish-requires : goal.finish-requires
@@ -124,22 +124,22 @@ moved g c =
     (λ file holds. are_changed c.args.change.now c.new_tag.result file s c.junk-junk.result.0
     c.first.result c.frames.result.now c.new_tag.ensures (ap (λ r. r.0) c.junk-junk.ensures)
     c.first.ensures c.frames.ensures (c.requires.exact file holds))
-    (writes_then _
+    (writes_then
     c.requires.apart c.in_ok-copy.ensures.written c.in_ok-move_frames.ensures.written))
 
 pub returns : goal.returns
 returns g c = record {
-  written = on_ok_weaker c.finish.result (writes_all _ _
+  written = on_ok_weaker c.finish.result (writes_all
       (moved g (goal.at.returns g c).In_ok-move_frames)) c.finish.ensures.appended;
-  prefix = err_by c.finish.result (λ fault. writes_end _ _
+  prefix = err_by c.finish.result (λ fault. writes_end
       (moved g (goal.at.returns g c).In_ok-move_frames)) c.finish.ensures.prefix;
   done = search rules;
   cause = let cause = subst (λ n. IfErr c.finish.result (HasPassCause (route c.args.input.now
       c.args.output.now n) (g.D.Folder.seen c.move_frames.new.folder).files (g.D.Folder.seen
       c.move_frames.new.folder).counts (g.D.Folder.seen c.finish.new.folder).counts))
       c.length.ensures c.finish.ensures.cause in
-      causes_behind c.in_ok-copy.ensures.written _ _ _ _ c.in_ok-copy.ensures.done c.finish.result
-      (causes_behind c.in_ok-move_frames.ensures.written _ _ _ _
+      causes_behind c.in_ok-copy.ensures.written _ _ c.in_ok-copy.ensures.done c.finish.result
+      (causes_behind c.in_ok-move_frames.ensures.written _ _
       c.in_ok-move_frames.ensures.done c.finish.result cause);
 }
 

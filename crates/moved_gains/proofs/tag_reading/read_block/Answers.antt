@@ -2,14 +2,12 @@
 use Rattle.std.proofs.Common.{arith, sym, ◌∙◌}
 use Rattle.moved_gains.proofs.{FoundTagLemmas.tag-within, TagReadingLemmas.told-length}
 use Rattle.outside.proofs.BufferOutputLemmas.{err_at}
-use Rattle.sync_survey.specs.Faults.{survey_view}
 use Rattle.moved_gains.proofs.tag_reading.read_block.Goals as goal
 
 pub read_exact-requires-clause-found : goal.read_exact-requires-clause-found
 read_exact-requires-clause-found g c = λ bytes holds.
     told-length c.args.name.now (g.D.Folder.seen c.args.folder.now).files
-    (survey_view c.args.survey.now)
-    c.requires.found.known.surveyed c.args.piece.now c.requires.found.tag bytes holds
+    c.requires.found.known.surveyed c.requires.found.tag bytes holds
     ∙ sym c.length.ensures
 
 pub read_exact-requires-clause-within : goal.read_exact-requires-clause-within

@@ -12,8 +12,8 @@ pub returns-then-piece-gt-LONGEST_TAG-clause-cause :
 returns-then-piece-gt-LONGEST_TAG-clause-cause g c =
     let s = survey_view c.args.survey.now in
     let b = c.args.piece.now in (
-      too_large-refused c.args.name.now (g.D.Folder.seen c.args.folder.now).files s
-          c.requires.known.surveyed b
+      too_large-refused c.args.name.now (g.D.Folder.seen c.args.folder.now).files
+          c.requires.known.surveyed
           c.requires.tag (omega (arith, c.if-piece-gt-LONGEST_TAG.true)),
       sym (place-some s c.requires.tag).1,
       omega (arith, c.if-piece-gt-LONGEST_TAG.true),
@@ -34,8 +34,7 @@ returns-clause-exact g c =
     let same : own ≡ c.in_ok-block.block.items = c.deref.ensures.value in
     IfOk-weaker c.tag_at_offset.result _ _
     (block-tag c.args.name.now (g.D.Folder.seen c.args.folder.now).files
-    (survey_view c.args.survey.now)
-    c.requires.known.surveyed c.args.piece.now c.requires.tag own (λ bytes holds. same
+    c.requires.known.surveyed c.requires.tag (λ bytes holds. same
     ∙ c.in_ok-block.ensures.bytes bytes holds) (ap length same ∙ c.in_ok-block.ensures.length))
     c.tag_at_offset.ensures.tag
 

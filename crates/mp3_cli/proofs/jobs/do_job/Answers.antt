@@ -31,7 +31,7 @@ sheet_silent true input prefix sheet = split_silent (sheet_exact_cutting sheet) 
 pub returns-in-Help-clause-ends : goal.returns-in-Help-clause-ends
 returns-in-Help-clause-ends g c =
     rw c.in-Help.is (asked_ends g.D.Folder.keeping (fixed_text_command help_text)
-    (fixed_makes-none) (said_ends help_text some_help _ c.say_help.result
+    (fixed_makes-none) (said_ends some_help _ c.say_help.result
     (c.say_help.ensures.says (g.D.Folder.seen c.args.folder.now).files)
     (sent_alone c.say_help.result c.say_help.ensures.fault)))
 
@@ -43,7 +43,7 @@ pub returns-in-Version-clause-ends : goal.returns-in-Version-clause-ends
 returns-in-Version-clause-ends g c =
     rw c.in-Version.is (asked_ends g.D.Folder.keeping (fixed_text_command version_text)
     (fixed_makes-none)
-    (said_ends version_text some_version _ c.say_version.result
+    (said_ends some_version _ c.say_version.result
     (c.say_version.ensures.says (g.D.Folder.seen c.args.folder.now).files)
     (sent_alone c.say_version.result c.say_version.ensures.fault)))
 
@@ -56,7 +56,7 @@ returns-in-Drill-clause-ends g c =
     rw c.in-Drill.is
     (asked_ends g.D.Folder.keeping (drill_command c.in-Drill.seed c.in-Drill.count)
     (fixed_makes-none)
-    (said_ends (drill_text c.in-Drill.seed c.in-Drill.count)
+    (said_ends
     (drill_text-some c.in-Drill.seed c.in-Drill.count) _ c.drill.result
     (c.drill.ensures.says (g.D.Folder.seen c.args.folder.now).files) c.drill.ensures.fault))
 

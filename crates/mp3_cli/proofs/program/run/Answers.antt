@@ -16,7 +16,7 @@ pub returns-in-Ok : goal.returns-in-Ok
 returns-in-Ok g c =
     let keeps = c.keeps.ensures in
     program_ran
-    (command_ran _ (map string_bytes c.args.words.now) (job_request c.in-Ok.job)
+    (command_ran _ (map string_bytes c.args.words.now)
     (sym c.job.ensures.exact ∙ ap request_result c.in-Ok.is)
     (rw keeps at c.run_kept.ensures.answers)
     (subst (λ r. IfOk r (λ job. IsSoundRequest (job_request job)))

@@ -115,8 +115,8 @@ returns-in-Least c =
     rw (c.needs-needs.ensures, c.places.ensures, c.in_ok-parts.ensures.parts) at plan.ensures in
     subst (λ mode. mode_planning mode s.class (chosen_needs chosen s) ≡ Ok (entries plan.plan))
     (sym c.in-Least.is)
-    (ap Ok (sym (plan_is chosen s c.requires.laid.placed c.requires.some c.requires.within
-    any_choice (inr refl) asked.plan)))
+    (ap Ok (sym (plan_is chosen s
+    c.requires.laid.placed c.requires.some c.requires.within (inr refl) asked.plan)))
 
 pub returns-in-Best : goal.returns-in-Best
 returns-in-Best c =

@@ -10,10 +10,10 @@ loop-part-init g c = got_nothing _ _
 pub returns-in_err-send_part-clause-front : goal.returns-in_err-send_part-clause-front
 returns-in_err-send_part-clause-front g c =
     on_err c.from_residual.result
-    (got_front (λ part. part_text (line_part_of part)) c.args.parts.now c.loop-part.part-index _
+    (got_front (λ part. part_text (line_part_of part)) c.args.parts.now _
     c.loop-part-test.true c.loop-part.invariant c.in_err-send_part.ensures.front)
 
 pub loop-part-preserved : goal.loop-part-preserved
 loop-part-preserved g c =
-    got_more (λ part. part_text (line_part_of part)) c.args.parts.now c.loop-part.part-index _
+    got_more (λ part. part_text (line_part_of part)) c.args.parts.now _
     c.loop-part-test.true c.loop-part.invariant c.in_ok-send_part.ensures.whole

@@ -11,7 +11,7 @@ pub returns-in_err-send_all-clause-front : goal.returns-in_err-send_all-clause-f
 returns-in_err-send_all-clause-front g c =
     let front = rw c.as_bytes.ensures.value at c.in_err-send_all.ensures.front in
     on_err c.from_residual.result
-    (got_front (λ piece. piece.now) c.args.pieces.now c.loop-piece.piece-index
+    (got_front (λ piece. piece.now) c.args.pieces.now
     (record { ref_ptr = (0, 0); now = [] }) c.loop-piece-test.true c.loop-piece.invariant
     (record {
       count = front.0;
@@ -26,7 +26,7 @@ returns-in_err-send_all-clause-later g c =
 
 pub loop-piece-preserved : goal.loop-piece-preserved
 loop-piece-preserved g c =
-    got_more (λ piece. piece.now) c.args.pieces.now c.loop-piece.piece-index
+    got_more (λ piece. piece.now) c.args.pieces.now
     (record { ref_ptr = (0, 0); now = [] }) c.loop-piece-test.true c.loop-piece.invariant
     (record {
       sent = rw c.as_bytes.ensures.value at c.in_ok-send_all.ensures.written;

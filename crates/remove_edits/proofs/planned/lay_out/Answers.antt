@@ -42,7 +42,7 @@ pub splice_info_bytes-info-requires-clause-within :
     goal.splice_info_bytes-info-requires-clause-within
 splice_info_bytes-info-requires-clause-within c =
     let here = (goal.at.splice_info_bytes-info-requires-clause-within c).After-placed-placed in
-    rw (from-is here) (first-there-is (survey_view c.args.survey.now) c.args.parts.now
+    rw (from-is here) (first-there-is
     c.requires.splice.are)
 
 pub splice_info_bytes-info-requires-clause-few : goal.splice_info_bytes-info-requires-clause-few
@@ -70,7 +70,7 @@ returns c =
       info = λ file can first there.
           c.splice_info_bytes-info.ensures first (removal_frames parts file s)
           (ap (λ n. slice_get s.frames n) (from-is here) ∙ there)
-          (removal-slots s parts c.requires.splice.are file can
+          (removal-slots c.requires.splice.are can
           ∙ sym (ap (map (λ (p : Placed). p.slot)) (placed-is here)))
           ∙ ap (λ (k : Option Kept). info_frame first.header
           (info_kept k first.header s.class (removal_frames parts file s))) kept;

@@ -17,19 +17,16 @@ use Rattle.remove_edits.proofs.planned.plan_parts.Goals as goal
 pub plan_splice-requires-clause-some : goal.plan_splice-requires-clause-some
 plan_splice-requires-clause-some c =
     rw c.as_slice.ensures.value
-    (needs-splice (survey_view c.args.survey.now) c.args.parts.now c.requires
-    c.in_ok-needs.field-0 c.in_ok-needs.ensures).some
+    (needs-splice c.requires c.in_ok-needs.ensures).some
 
 pub plan_splice-requires-clause-few : goal.plan_splice-requires-clause-few
 plan_splice-requires-clause-few c =
     rw c.as_slice.ensures.value
-    (needs-few (survey_view c.args.survey.now) c.args.parts.now c.requires
-    c.in_ok-needs.field-0 c.in_ok-needs.ensures)
+    (needs-few c.requires c.in_ok-needs.ensures)
 
 pub plan_splice-requires-clause-fits : goal.plan_splice-requires-clause-fits
 plan_splice-requires-clause-fits c =
-    let splice = needs-splice (survey_view c.args.survey.now) c.args.parts.now c.requires
-    c.in_ok-needs.field-0 c.in_ok-needs.ensures in
+    let splice = needs-splice c.requires c.in_ok-needs.ensures in
     rw c.as_slice.ensures.value (record {
       class = (survey_view c.args.survey.now).class;
       same = splice.same;
@@ -57,7 +54,7 @@ module _ (c : After-len) where
   plan-is =
       c.in_ok-plan.ensures.plan s.class
       (subst (AreNeedsOfClass s.class) (sym c.as_slice.ensures.value)
-      (needs-splice s parts c.requires d splice).same)
+      (needs-splice c.requires splice).same)
       ∙ ap (plan_of_splice_needs (window_of s.class.version))
       (c.as_slice.ensures.value ∙ splice.needs)
 
@@ -65,11 +62,11 @@ module _ (c : After-len) where
   placed-is = c.placed.ensures ∙ plan-is
 
   len-is : c.len.result ≡ length (items_left s parts)
-  len-is = c.len.ensures ∙ c.in_ok-needs.field-0.needs.ok.0 ∙ needs-many s parts c.requires d splice
+  len-is = c.len.ensures ∙ c.in_ok-needs.field-0.needs.ok.0 ∙ needs-many c.requires splice
 
   long : (length (items_left s parts) ≤ length plan)
       × (length plan ≤ length (items_left s parts) + 1)
-  long = plan-long s parts c.requires d splice
+  long = plan-long c.requires splice
 
 pub overflow_sub-before : goal.overflow_sub-before
 overflow_sub-before c =
@@ -90,13 +87,13 @@ pub put_off-written-requires-clause-fits : goal.put_off-written-requires-clause-
 put_off-written-requires-clause-fits c =
     let here = (goal.at.put_off-written-requires-clause-fits c).After-len in
     rw (c.as_slice-2.ensures.value, placed-is here, len-is here)
-    (written-fits (s here) (parts here) c.requires (d here) (splice here))
+    (written-fits c.requires (splice here))
 
 pub marked-requires-clause-within : goal.marked-requires-clause-within
 marked-requires-clause-within c =
     let here = (goal.at.marked-requires-clause-within c).After-len in
     rw (c.as_slice-3.ensures.value, placed-is here, len-is here, plan-is here)
-    (places-fit (s here) (parts here) c.requires (d here) (splice here))
+    (places-fit c.requires (splice here))
 
 pub returns : goal.returns
 returns c =
@@ -113,12 +110,12 @@ returns c =
     ++ with_lead_ins l
     (drop (length (plan here) - length (items_left (s here) (parts here))) (plan here)))
     c.as_slice-3.ensures.value
-    ∙ plan-marked (s here) (parts here) c.requires (d here) (splice here) in
+    ∙ plan-marked c.requires (splice here) in
     record {
       plan = marked;
-      few = rw marked (marked-few (s here) (parts here) c.requires (d here) (splice here));
+      few = rw marked (marked-few c.requires (splice here));
       written =
           c.put_off-written.ensures
           ∙ ap₂ put_off_by is c.as_slice-2.ensures.value
-          ∙ written-are (s here) (parts here) c.requires (d here) (splice here);
+          ∙ written-are c.requires (splice here);
     }

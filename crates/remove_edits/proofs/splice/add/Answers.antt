@@ -23,7 +23,7 @@ none = record { from = 0; to = 0 }
 
 pub append-requires : goal.append-requires
 append-requires c =
-    let order = part-order (survey_view c.args.survey.now) c.args.parts.now c.args.number none
+    let order = part-order none
     c.requires.can.are c.requires.within.1 in
     record { ordered = omega (arith, order.2); within = order.3 }
 
@@ -70,16 +70,14 @@ module _ (c : After-deref) where
 
   behind : end_of_parts before + 1 ≤ part.from
   behind =
-      (part-order s c.args.parts.now c.args.number none c.requires.can.are c.requires.within.1).1
+      (part-order none c.requires.can.are c.requires.within.1).1
       c.requires.within.0
 
   frames : part.from < part.to
-  frames =
-      (part-order s c.args.parts.now c.args.number none c.requires.can.are c.requires.within.1).2
+  frames = (part-order none c.requires.can.are c.requires.within.1).2
 
   within : part.to ≤ length s.frames
-  within =
-      (part-order s c.args.parts.now c.args.number none c.requires.can.are c.requires.within.1).3
+  within = (part-order none c.requires.can.are c.requires.within.1).3
 
   before-many : length before ≡ c.args.number
   before-many = length-take-le c.args.number c.args.parts.now (omega (arith, c.requires.within.1))
@@ -106,7 +104,7 @@ join-requires-clause-few c =
     )
 
 -- what the splice is once the part has joined it
-module _ (c : After-deref) (joint : PartJoint) (joined : List Need)
+module _ (c : After-deref) (joint : PartJoint) {joined : List Need}
     (is : joined ≡ take c.len-from.result (all c)
     ++ item_needs (joint_items joint (drop c.len-from.result (all c)))) where
   abbrev more : List SpliceItem
@@ -128,14 +126,14 @@ module _ (c : After-deref) (joint : PartJoint) (joined : List Need)
 pub note-requires-clause-there : goal.note-requires-clause-there
 note-requires-clause-there c =
     let here = (goal.at.note-requires-clause-there c).After-deref in
-    omega (arith, size here c.join-joint.result _ c.in_ok-join.ensures.needs)
+    omega (arith, size here c.join-joint.result c.in_ok-join.ensures.needs)
 
 pub note-requires-clause-few : goal.note-requires-clause-few
 note-requires-clause-few c =
     let here = (goal.at.note-requires-clause-few c).After-deref in
     omega (
       arith,
-      size here c.join-joint.result _ c.in_ok-join.ensures.needs,
+      size here c.join-joint.result c.in_ok-join.ensures.needs,
       lead-most (joint_items c.join-joint.result (own here)),
       c.requires.before.of_parts.few,
       behind here,
@@ -169,7 +167,7 @@ returns c =
     (borrowed-is here) (c.join-joint.ensures.items (s here).class _ splice) in
     let some : 1 ≤ length (before here) = omega (arith, before-many here, c.requires.within.0) in
     let needs = ap (λ v. v.items) c.note.ensures.needs
-    ∙ joined-are here c.join-joint.result _ c.in_ok-join.ensures.needs in
+    ∙ joined-are here c.join-joint.result c.in_ok-join.ensures.needs in
     let lead_ins : c.note.new.self.lead_ins.items
     ≡ c.args.decided.now.lead_ins.items ++ joint_places (length (old here)) c.join-joint.result =
     ap (λ v. v.items) c.note.ensures.lead_ins ∙ c.in_ok-join.ensures.lead_ins
@@ -182,11 +180,11 @@ returns c =
     ∙ ap₂ (λ v w. v.items ++ written_last (length w.items) (part here) ∷ [])
     (c.join.ensures.written ∙ c.append.ensures.written) (sym c.note.ensures.needs) in
     rw (take-next c.args.parts.now c.args.number
-    (part-here (s here) c.args.parts.now c.args.number none c.requires.can.are
+    (part-here none c.requires.can.are
     c.requires.within.1)) (record {
       of_parts =
           splice-next (s here) (before here) (part here) c.join-joint.result some is
-          c.args.decided.now c.note.new.self c.requires.before.of_parts (behind here)
+          c.note.new.self c.requires.before.of_parts (behind here)
           (frames here) (within here) needs lead_ins written;
       is_splice =
           rw (needs-next (s here) (before here) (part here) c.join-joint.result some is)

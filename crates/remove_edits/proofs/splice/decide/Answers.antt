@@ -17,26 +17,26 @@ abbrev first : List Part → Part
 first parts = slice_index_or parts 0 none
 
 -- the first part has a frame, and is within the file
-module _ (s : SurveyFields) (parts : List Part) (can : CanBeSplice s parts) where
+module _ {s : SurveyFields} {parts : List Part} (can : CanBeSplice s parts) where
   some : (first parts).from < (first parts).to
-  some = (part-order s parts 0 none can.are can.are.some).2
+  some = (part-order none can.are can.are.some).2
 
   within : (first parts).to ≤ length s.frames
-  within = (part-order s parts 0 none can.are can.are.some).3
+  within = (part-order none can.are can.are.some).3
 
   one : take 1 parts ≡ first parts ∷ []
-  one = take-next parts 0 (part-here s parts 0 none can.are can.are.some)
+  one = take-next parts 0 (part-here none can.are can.are.some)
 
 pub begin-requires-clause-part : goal.begin-requires-clause-part
 begin-requires-clause-part c =
     let s = survey_view c.args.survey.now in
     record {
-      ordered = omega (arith, some s c.args.parts.now c.requires);
-      within = within s c.args.parts.now c.requires;
+      ordered = omega (arith, some c.requires);
+      within = within c.requires;
     }
 
 pub begin-requires-clause-some : goal.begin-requires-clause-some
-begin-requires-clause-some c = some (survey_view c.args.survey.now) c.args.parts.now c.requires
+begin-requires-clause-some c = some c.requires
 
 module _ (c : After-as_slice) where
   abbrev s : SurveyFields
@@ -52,11 +52,11 @@ pub begin-splice-requires : goal.begin-splice-requires
 begin-splice-requires c =
     rw (needs-are c)
     (rw c.class.ensures (part-needs-are (s c) c.requires.are.placed
-    (some (s c) c.args.parts.now c.requires) (within (s c) c.args.parts.now c.requires)))
+    (some c.requires) (within c.requires)))
 
 pub loop-number-init : goal.loop-number-init
 loop-number-init c =
-    rw (one (survey_view c.args.survey.now) c.args.parts.now c.requires) (record {
+    rw (one c.requires) (record {
       of_parts = c.in_ok-decided.ensures;
       is_splice =
           subst (λ l. IsPartSplice (survey_view c.args.survey.now).class l c.begin-splice.result)

@@ -33,7 +33,7 @@ returns-in_err-copy_blocks-clause-prefix g c =
     err_at c.from_residual-in_err-copy_blocks.result _
     c.from_residual-in_err-copy_blocks.ensures.1
     (part_behind_none c.requires.none
-    (prefix_then c.args.relay.now.pass c.requires.ready.pass.apart
+    (prefix_then c.requires.ready.pass.apart
     c.in_ok-write_parts.ensures.written c.in_err-copy_blocks.ensures.prefix))
 
 pub returns-in_err-copy_blocks-clause-cause : goal.returns-in_err-copy_blocks-clause-cause
@@ -41,7 +41,7 @@ returns-in_err-copy_blocks-clause-cause g c =
     err_at c.from_residual-in_err-copy_blocks.result _
     c.from_residual-in_err-copy_blocks.ensures.1 (
       c.args.relay.now.pass.length,
-      cause_behind c.in_ok-write_parts.ensures.written _ _ _ _
+      cause_behind c.in_ok-write_parts.ensures.written _ _
           c.in_ok-write_parts.ensures.done _ c.in_err-copy_blocks.ensures.cause,
     )
 
@@ -58,7 +58,7 @@ module _ (g : given.Over) (c : In_ok-copy_blocks g) where
 
   both : WritesMadeBytes c.args.relay.now.pass made c.args.work.now.buffers.waiting
       c.copy_blocks.new.waiting old new
-  both = writes_then c.args.relay.now.pass c.requires.ready.pass.apart
+  both = writes_then c.requires.ready.pass.apart
       c.in_ok-write_parts.ensures.written c.in_ok-copy_blocks.ensures.written
 
   all : WritesMadeBytes c.args.relay.now.pass made [] c.copy_blocks.new.waiting old new
@@ -66,12 +66,12 @@ module _ (g : given.Over) (c : In_ok-copy_blocks g) where
 
 pub returns-clause-written : goal.returns-clause-written
 returns-clause-written g c =
-    on_ok_weaker c.finish.result (λ is. writes_all c.args.relay.now.pass _
+    on_ok_weaker c.finish.result (λ is. writes_all
     (all g (goal.at.returns-clause-written g c).In_ok-copy_blocks) is) c.finish.ensures.appended
 
 pub returns-clause-prefix : goal.returns-clause-prefix
 returns-clause-prefix g c =
-    err_by c.finish.result (λ fault part. writes_end c.args.relay.now.pass _
+    err_by c.finish.result (λ fault part. writes_end
     (all g (goal.at.returns-clause-prefix g c).In_ok-copy_blocks) part) c.finish.ensures.prefix
 
 pub returns-clause-cause : goal.returns-clause-cause

@@ -21,14 +21,14 @@ returns-in_err-write_front-clause-prefix g c =
 pub returns-clause-written : goal.returns-clause-written
 returns-clause-written g c =
     on_ok_weaker c.lay_parts.result
-    (λ written. writes_then c.args.relay.now.pass c.requires.ready.pass.apart
+    (λ written. writes_then c.requires.ready.pass.apart
     (rw c.as_slice.ensures.value at c.in_ok-write_front.ensures.adds.written) written)
     (rw c.placed.ensures at c.lay_parts.ensures.written)
 
 pub returns-clause-prefix : goal.returns-clause-prefix
 returns-clause-prefix g c =
     err_by c.lay_parts.result
-    (λ fault part. prefix_then c.args.relay.now.pass c.requires.ready.pass.apart
+    (λ fault part. prefix_then c.requires.ready.pass.apart
     (rw c.as_slice.ensures.value at c.in_ok-write_front.ensures.adds.written) part)
     (rw c.placed.ensures at c.lay_parts.ensures.prefix)
 

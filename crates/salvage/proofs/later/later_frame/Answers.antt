@@ -42,7 +42,7 @@ has_right_crc-requires-clause-room c =
 
 pub returns-clause-read : goal.returns-clause-read
 returns-clause-read c = λ file shows.
-    item_judged file c.args.at c.args.front.now c.args.left shows (Later c.args.class)
+    item_judged shows (Later c.args.class)
     (own (goal.at.returns-clause-read c).Else-size-left) (admits c)
 
 pub returns-clause-passes : goal.returns-clause-passes

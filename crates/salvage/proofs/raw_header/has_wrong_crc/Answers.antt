@@ -12,8 +12,7 @@ returns c = λ told.
     let own = c.args.own.now in
     let side = c.raw_side_size-side.result in
     let many : 6 + side - 6 ≡ side = omega arith in
-    unusable_word own (λ i. omega (arith, c.type_inv.own i)) side
-    c.check_word_of_bytes.result c.raw_side_size-side.ensures.size
+    unusable_word own (λ i. omega (arith, c.type_inv.own i)) c.raw_side_size-side.ensures.size
     (omega (arith, c.if-own-eq1.false))
     (sym c.may_begin_text.ensures ∙ c.if-may_begin_text.false)
     (sym c.may_begin_text-else-may_begin_text.ensures ∙ c.if-may_begin_text-2.false)

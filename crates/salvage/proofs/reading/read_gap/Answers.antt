@@ -25,7 +25,7 @@ returns g c = record {
               (omega (arith, c.requires.before, c.requires.begun.known.long bytes holds))
               (c.requires.none bytes holds)
               (subst (λ n. AddsGap n old new) end c.in_ok-skip.ensures);
-          laid = gap_laid begun old new c.requires.reading.laid some
+          laid = gap_laid new c.requires.reading.laid some
               end_is.1 c.in_ok-skip.ensures;
         };
         on = omega (arith, some, c.in_ok-skip.ensures.at);

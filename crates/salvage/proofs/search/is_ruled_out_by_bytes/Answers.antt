@@ -14,7 +14,7 @@ returns-then-not-may_anchor c = λ _.
     let size = c.raw_frame_length-size.result in
     let own = take (length front - place) (drop place front) in
     let rest = take_rest front place in
-    plain_unanchored front place size
+    plain_unanchored front place
     (few_behind front place (λ i. omega (arith, c.type_inv.front i)))
     (c.raw_frame_length-size.ensures.length
     ∙ ap (λ l. raw_frame_length (get_or l 1 0) (get_or l 2 0)) rest)
@@ -28,8 +28,7 @@ returns-else-not-may_anchor c = λ told.
     let front = c.args.front.now in
     let place = c.args.place in
     let rest = take_rest front place in
-    plain_unusable front place
-    c.raw_frame_length-size.result (few_behind front place (λ i. omega (arith, c.type_inv.front i)))
+    plain_unusable front place (few_behind front place (λ i. omega (arith, c.type_inv.front i)))
     (c.raw_frame_length-size.ensures.length
     ∙ ap (λ l. raw_frame_length (get_or l 1 0) (get_or l 2 0)) rest)
     c.if-place-size-gt-REACH.false

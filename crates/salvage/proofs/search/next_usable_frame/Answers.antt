@@ -35,7 +35,7 @@ loop-at-preserved g c = record {
       none_later bytes
       c.args.role (c.loop-at.invariant.none bytes holds)
       (sym (c.in_default.ensures.frame bytes seen))
-      (λ k low high. passed_bare bytes c.loop-at.at c.bytes-in-loop-at.result.now c.in_ok-left.left
+      (λ k low high. passed_bare
       again c.args.role
       c.distance_to_candidate-at.ensures.few c.distance_to_candidate-at.ensures.none low high)
       low high;

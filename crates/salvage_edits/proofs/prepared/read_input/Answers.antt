@@ -11,8 +11,7 @@ returns-in-Err-clause-reads g c =
     let state = g.D.Folder.seen in
     record {
       refused = rw c.into.ensures
-          (early-fault c.args.input.now (state c.args.folder.now).files
-          (state c.read_damaged.new.folder).files (state c.args.folder.now).counts
+          (early-fault c.args.input.now (state c.args.folder.now).counts
           (state c.read_damaged.new.folder).counts c.read_damaged.ensures.files c.in-Err.fault
           c.in-Err.ensures.refused);
       numbers =

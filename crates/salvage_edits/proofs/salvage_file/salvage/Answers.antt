@@ -36,7 +36,7 @@ to_write : (input output : List ℕ) (files : Files) (work : SalvageWork)
     → clash_in (salvage_task input) output ≡ None → IsSalvageReady input files work
     → IsToWrite (salvage_command input output) (output ∷ []) files
 to_write input output files work free ready = to_write_told (text_of input)
-    (to_write_one free (ready-makes input files work ready))
+    (to_write_one free (ready-makes input ready))
 
 pub returns-in_err-ask_all-clause-run : goal.returns-in_err-ask_all-clause-run
 returns-in_err-ask_all-clause-run g c =

@@ -18,8 +18,7 @@ pub write_output-requires-clause-ready : goal.write_output-requires-clause-ready
 write_output-requires-clause-ready g c = c.requires.ready.layable
 
 pub send_report-requires-clause-order : goal.send_report-requires-clause-order
-send_report-requires-clause-order g c = ready-order c.args.input.now
-    (g.D.Folder.seen c.args.folder.now).files c.args.work.now c.requires.ready
+send_report-requires-clause-order g c = ready-order c.args.input.now c.requires.ready
 
 pub returns-in_err-write_output-clause-run : goal.returns-in_err-write_output-clause-run
 returns-in_err-write_output-clause-run g c =
@@ -46,13 +45,13 @@ told : (g : given.Over) (c : After-send_report g) (all : List ℕ)
     → report_text (length c.frames.result.now) c.args.work.now.report ≡ all
 told g c all is =
     ap (λ (rows : List Row). report_text (length rows) c.args.work.now.report) c.frames.ensures
-    ∙ sym (ready-text c.args.input.now (g.D.Folder.seen c.args.folder.now).files c.args.work.now
+    ∙ sym (ready-text c.args.input.now
     c.requires.ready c.args.output.now is)
 
 pub returns-in-Ok-clause-says : goal.returns-in-Ok-clause-says
 returns-in-Ok-clause-says g c =
     let said = (goal.at.returns-in-Ok-clause-says g c).After-send_report in
-    says-all (salvage_command c.args.input.now c.args.output.now) _ _ _ _ (told g said)
+    says-all _ _ (told g said)
     c.in-Ok.ensures.sent c.in-Ok.ensures.cause.done
 
 pub returns-in-Err-clause-run : goal.returns-in-Err-clause-run
@@ -66,5 +65,5 @@ returns-in-Err-clause-run g c =
 pub returns-in-Err-clause-says : goal.returns-in-Err-clause-says
 returns-in-Err-clause-says g c =
     let said = (goal.at.returns-in-Err-clause-says g c).After-send_report in
-    says-prefix (salvage_command c.args.input.now c.args.output.now) _ _ _ _ (told g said)
+    says-prefix _ _ (told g said)
     c.in-Err.ensures.prefix c.in-Err.ensures.cause.failed

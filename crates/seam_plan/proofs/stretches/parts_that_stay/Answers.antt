@@ -24,8 +24,7 @@ returns-then-from-to-clause-parts c =
       | then-from-to-via-else-from-to+then-to-from w ↦
           inr (omega (arith, w.if-to-from.true, w.from-else-from-to.ensures))
     ] in
-    stays-wrong c.args.frames c.args.stretches.now c.loop-from.from-index c.loop-from.before
-    c.loop-from.parts.items at c.loop-from.invariant c.loop-from-test.true refl
+    stays-wrong c.loop-from.invariant c.loop-from-test.true refl
     (omega (arith, c.if-from.false, c.from.ensures)) wrong
 
 pub add_part-requires : goal.add_part-requires
@@ -34,8 +33,7 @@ add_part-requires c = omega (arith, c.loop-from.invariant.few, c.loop-from-test.
 pub loop-from-preserved : goal.loop-from-preserved
 loop-from-preserved c =
     let at : ℕ × ℕ = slice_index_or c.args.stretches.now c.loop-from.from-index (0, 0) in
-    stays-more c.args.frames c.args.stretches.now c.loop-from.from-index c.loop-from.before
-    c.loop-from.parts.items at c.loop-from.invariant c.loop-from-test.true refl
+    stays-more c.loop-from.invariant c.loop-from-test.true refl
     c.add_part.new.parts.items (omega (arith, c.if-from.false, c.from.ensures))
     (omega (arith, c.if-from-to.false))
     (omega (arith, c.if-to-from.false, c.from-else-from-to.ensures)) c.add_part.ensures.added

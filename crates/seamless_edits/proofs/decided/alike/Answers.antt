@@ -41,8 +41,8 @@ all-compared files inputs number frame n places all past is = search (rules, dro
 
 pub returns-in_default-last-clause-alike : goal.returns-in_default-last-clause-alike
 returns-in_default-last-clause-alike g c =
-    none-alike (map input_view c.args.inputs.now) c.args.number c.args.splice.now c.args.input.now
-    c.in-Some.overlap c.in-Some.ensures.overlap c.in-Some.ensures.can
+    none-alike (map input_view c.args.inputs.now)
+    c.args.number c.in-Some.ensures.overlap c.in-Some.ensures.can
     (g.D.Folder.seen c.args.folder.now).files c.in_default-last.ensures refl
 
 -- the places of the frames that are compared, and how many they are
@@ -103,9 +103,9 @@ returns-then-not-branch-clause-alike g c =
     subst (λ fs. IfTold fs (λ f. c.in_ok-sound_alike.field-0 ≡ same_sounds (all_splice_frames f
     inputs) p (frame_place c.args.number c.loop-place.frame))) c.loop-place.invariant.files
     c.in_ok-sound_alike.ensures.same in
-    tested-alike inputs c.args.number c.args.splice.now c.args.input.now o
+    tested-alike inputs c.args.number
     c.in-Some.ensures.overlap c.in-Some.ensures.can files false c.in-Some-last.ensures
-    (ends-here inputs c.args.number c.loop-place.frame p (drop n places) (drop (n + 1) places)
+    (ends-here inputs c.args.number c.loop-place.frame
     (drop-here n places (record { input = 0; frame = 0 }) (omega (arith, c.loop-place-test.true)))
     files (λ f. sounds_from (all_splice_frames f inputs) c.args.number o.first_alike places) no same
     c.loop-place.invariant.alike)
@@ -127,7 +127,7 @@ returns-clause-alike g c =
     let o = c.in-Some.overlap in
     let places = c.in-Some-last.places.now in
     let files = (g.D.Folder.seen c.args.folder.now).files in
-    tested-alike inputs c.args.number c.args.splice.now c.args.input.now o
+    tested-alike inputs c.args.number
     c.in-Some.ensures.overlap c.in-Some.ensures.can files true c.in-Some-last.ensures
     (all-compared files inputs c.args.number c.loop-place.frame c.loop-place.place-index places
     (λ f. sounds_from (all_splice_frames f inputs) c.args.number o.first_alike places)

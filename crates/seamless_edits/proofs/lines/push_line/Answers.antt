@@ -18,7 +18,7 @@ pub returns-clause-passed : goal.returns-clause-passed
 returns-clause-passed g c =
     let at = (goal.at.returns-clause-passed g c).After-push-2 in
     on_ok_weaker c.push-2.result
-    (line-on c.args.buffer.now c.args.name.now c.as_bytes.result.now _ c.bytes.result.now
+    (line-on c.args.buffer.now
     c.push.new.self _ _ _
     c.as_bytes.ensures.value (line-is g at)
     c.in_ok-push.ensures.passed)
@@ -28,7 +28,7 @@ pub returns-clause-prefix : goal.returns-clause-prefix
 returns-clause-prefix g c =
     let at = (goal.at.returns-clause-prefix g c).After-push-2 in
     on_err_weaker c.push-2.result
-    (line-part c.args.buffer.now c.args.name.now c.as_bytes.result.now _ c.bytes.result.now
+    (line-part c.args.buffer.now
     c.push.new.self _ _ _
     c.as_bytes.ensures.value (line-is g at) c.in_ok-push.ensures.passed)
     c.push-2.ensures.prefix

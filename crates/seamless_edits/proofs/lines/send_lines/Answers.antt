@@ -52,7 +52,7 @@ module _ (g : given.Over) (c : After-push_line g) where
       let there : place + 1 < length items = omega (arith, within, c.requires.lost) in
       told-cons
       (name-next (map input_view c.args.inputs.now) (place + 1) c.input_at-input.ensures)
-      (item-next joints place c.index-joints-place.result within c.index-joints-place.is)
+      (item-next joints within c.index-joints-place.is)
       (map-next vec_items items there c.index-lost-place.is)
 
   -- the joint, as it is read

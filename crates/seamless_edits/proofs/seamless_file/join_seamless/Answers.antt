@@ -45,7 +45,7 @@ to_write : (output : List ℕ) (names : List (List ℕ)) (files : Files) (ready 
     → IsSeamlessReady names files ready
     → IsToWrite (seamless_command output names) (output ∷ []) files
 to_write output names files ready some free is = to_write_told (text_of names)
-    (to_write_one free (ready-making names some is))
+    (to_write_one free (ready-making some is))
 
 pub returns-in_err-ask_all-clause-run : goal.returns-in_err-ask_all-clause-run
 returns-in_err-ask_all-clause-run g c =
@@ -73,7 +73,7 @@ write_and_tell-requires-clause-some g c =
       arith,
       c.requires.some,
       length-map c.args.inputs.now string_bytes,
-      items-long ready names (ready-names names _ ready c.in_ok-ready.ensures.ready),
+      items-long ready names (ready-names c.in_ok-ready.ensures.ready),
     )
 
 pub write_and_tell-requires-clause-few : goal.write_and_tell-requires-clause-few
@@ -84,18 +84,18 @@ write_and_tell-requires-clause-few g c =
       arith,
       c.requires.few,
       length-map c.args.inputs.now string_bytes,
-      items-long ready names (ready-names names _ ready c.in_ok-ready.ensures.ready),
+      items-long ready names (ready-names c.in_ok-ready.ensures.ready),
     )
 
 pub write_and_tell-requires-clause-free : goal.write_and_tell-requires-clause-free
 write_and_tell-requires-clause-free g c =
-    rw (ready-names (map string_bytes c.args.inputs.now) _ c.in_ok-ready.ready
+    rw (ready-names
     c.in_ok-ready.ensures.ready) (sym c.clash.ensures ∙ c.in_default.is)
 
 pub write_and_tell-requires-clause-ready : goal.write_and_tell-requires-clause-ready
 write_and_tell-requires-clause-ready g c =
     rw (
-      ready-names (map string_bytes c.args.inputs.now) _ c.in_ok-ready.ready
+      ready-names
           c.in_ok-ready.ensures.ready,
       ap (λ (s : Seen). s.files) c.in_ok-ask_all.ensures.stays,
       c.prepare_all.ensures.reads.files,
@@ -106,7 +106,7 @@ pub returns-clause-run : goal.returns-clause-run
 returns-clause-run g c =
     let names = map string_bytes c.args.inputs.now in
     let reads = c.prepare_all.ensures.reads in
-    let named = ready-names names _ c.in_ok-ready.ready c.in_ok-ready.ensures.ready in
+    let named = ready-names c.in_ok-ready.ensures.ready in
     let before = ap₂ seen_folder reads.files c.in_ok-ready.ensures.reads.done in
     let same = c.in_ok-ask_all.ensures.stays ∙ before in
     asked_run (to_write c.args.output.now names _ _
@@ -119,7 +119,7 @@ pub returns-clause-says : goal.returns-clause-says
 returns-clause-says g c =
     let names = map string_bytes c.args.inputs.now in
     let reads = c.prepare_all.ensures.reads in
-    let named = ready-names names _ c.in_ok-ready.ready c.in_ok-ready.ensures.ready in
+    let named = ready-names c.in_ok-ready.ensures.ready in
     let same = c.in_ok-ask_all.ensures.stays
     ∙ ap₂ seen_folder reads.files c.in_ok-ready.ensures.reads.done in
     asked_says g.D.Folder.keeping (seamless_command c.args.output.now names) _ _ _ _

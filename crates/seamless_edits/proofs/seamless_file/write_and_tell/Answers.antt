@@ -22,11 +22,11 @@ module _ (g : given.Over) (c : After-deref g) where
   names = input_names (map input_view c.args.ready.now.inputs.items)
 
   abbrev left : List InputFields
-  left = left_inputs names (g.D.Folder.seen c.args.folder.now).files c.args.ready.now
+  left = left_inputs
       c.requires.ready
 
   named : input_names left ≡ names
-  named = left-names names (g.D.Folder.seen c.args.folder.now).files c.args.ready.now
+  named = left-names
       c.requires.ready
 
   new-is : map input_view c.leave_out.new.inputs ≡ left
@@ -71,7 +71,7 @@ module _ (g : given.Over) (c : After-deref g) where
       → told_lines (drop 1 (input_names known)) joints (drop 1 lost) ≡ all
   lines-text are joined counted all is =
       rw (are, now, named, joined, counted)
-      (ready-text names some
+      (ready-text some
       c.args.output.now c.requires.ready is)
 
   abbrev silent : Command
@@ -79,8 +79,7 @@ module _ (g : given.Over) (c : After-deref g) where
 
 pub write_joined-requires-clause-can : goal.write_joined-requires-clause-can
 write_joined-requires-clause-can g c =
-    rw (now g c) (ready-writable (names g c) (g.D.Folder.seen c.args.folder.now).files
-    c.args.ready.now c.requires.ready c.requires.free)
+    rw (now g c) (ready-writable c.requires.ready c.requires.free)
 
 pub returns-in_err-write_joined-clause-run : goal.returns-in_err-write_joined-clause-run
 returns-in_err-write_joined-clause-run g c =
@@ -88,7 +87,7 @@ returns-in_err-write_joined-clause-run g c =
     let met = c.in_err-write_joined.ensures in
     returned_run c.from_residual.ensures.1
     (telling_run (text_of (names g at)) (silent g at)
-    (written-run c.args.output.now (names g at) c.requires.free (some g at)
+    (written-run c.requires.free (some g at)
     c.requires.ready (rw (long-now g at) at met.numbers) (rw (now g at, named g at) at met.wrote)
     c.write_joined.ensures.counts))
 
@@ -97,7 +96,7 @@ send_lines-requires-clause-inputs g c =
     let at = (goal.at.send_lines-requires-clause-inputs g c).After-deref in
     omega (
       arith,
-      joints-many (names g at) _ c.args.ready.now c.requires.ready,
+      joints-many c.requires.ready,
       ap (λ (l : List Joint). length l) c.as_slice.ensures.value,
       ap length c.deref-2.ensures.value,
       ap length c.deref.ensures.value,
@@ -108,7 +107,7 @@ pub returns-in-Ok-clause-run : goal.returns-in-Ok-clause-run
 returns-in-Ok-clause-run g c =
     let at = (goal.at.returns-in-Ok-clause-run g c).After-deref in
     telling_run (text_of (names g at)) (silent g at)
-    (written-run c.args.output.now (names g at) c.requires.free (some g at)
+    (written-run c.requires.free (some g at)
     c.requires.ready tt (rw (now g at, named g at) at c.in_ok-write_joined.ensures.wrote)
     c.write_joined.ensures.counts)
 
@@ -117,8 +116,8 @@ returns-in-Ok-clause-says g c =
     let at = (goal.at.returns-in-Ok-clause-says g c).After-deref in
     let old = (g.D.Folder.seen c.args.folder.now).files in
     let output = c.args.output.now in
-    says-all (seamless_command output (names g at)) old
-    (g.T.Sink.heard c.args.out.now) (g.T.Sink.heard c.send_lines.new.out) _
+    says-all
+    (g.T.Sink.heard c.args.out.now) (g.T.Sink.heard c.send_lines.new.out)
     (lines-text g at (ap (map input_view) (c.deref-2.ensures.value ∙ sym c.deref.ensures.value))
     c.as_slice.ensures.value (ap (map vec_items) c.deref-3.ensures.value))
     c.in-Ok.ensures.sent c.in-Ok.ensures.cause.done
@@ -127,7 +126,7 @@ pub returns-in-Err-clause-run : goal.returns-in-Err-clause-run
 returns-in-Err-clause-run g c =
     let at = (goal.at.returns-in-Err-clause-run g c).After-deref in
     unsent_run (text_of (names g at)) (silent g at)
-    (written-run c.args.output.now (names g at) c.requires.free (some g at)
+    (written-run c.requires.free (some g at)
     c.requires.ready tt (rw (now g at, named g at) at c.in_ok-write_joined.ensures.wrote)
     c.write_joined.ensures.counts)
 
@@ -136,8 +135,8 @@ returns-in-Err-clause-says g c =
     let at = (goal.at.returns-in-Err-clause-says g c).After-deref in
     let old = (g.D.Folder.seen c.args.folder.now).files in
     let output = c.args.output.now in
-    says-prefix (seamless_command output (names g at)) old
-    (g.T.Sink.heard c.args.out.now) (g.T.Sink.heard c.send_lines.new.out) _
+    says-prefix
+    (g.T.Sink.heard c.args.out.now) (g.T.Sink.heard c.send_lines.new.out)
     (lines-text g at (ap (map input_view) (c.deref-2.ensures.value ∙ sym c.deref.ensures.value))
     c.as_slice.ensures.value (ap (map vec_items) c.deref-3.ensures.value))
     c.in-Err.ensures.prefix c.in-Err.ensures.cause.failed

@@ -47,7 +47,7 @@ returns-then-not-same_front-clause-same g c =
     let differ =
     ap (λ k. same_front k c.row_at.result.now c.row_at-2.result.now) (sym class)
     ∙ sym c.same_front.ensures ∙ c.if-not-same_front.true in
-    places-differ inputs c.args.first c.args.second one.0 c.row_at.result.now c.row_at-2.result.now
+    places-differ
     one.1 c.requires.first c.requires.second c.row_at.ensures c.row_at-2.ensures
     files c.requires.held differ
 
@@ -71,7 +71,6 @@ returns-clause-same g c =
     (λ b. IfTold files
     (λ f. b ≡ same_sounds (all_splice_frames f inputs) c.args.first c.args.second))
     (sym tested)
-    (places-compared inputs
-    c.args.first c.args.second one.0 c.row_at.result.now c.row_at-2.result.now
+    (places-compared
     one.1 c.requires.first c.requires.second c.row_at.ensures c.row_at-2.ensures
     files c.requires.held same first second c.in_ok-main_data.ensures.payload others)

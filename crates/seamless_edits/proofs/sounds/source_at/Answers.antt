@@ -9,7 +9,7 @@ pub returns : goal.returns
 returns c = record {
   item = input_view c.index-inputs-place.result;
   at = map-get input_view c.args.inputs.now c.args.place
-      (found-at c.args.inputs.now c.args.place c.index-inputs-place.result c.requires
+      (found-at c.args.inputs.now c.requires
       c.index-inputs-place.is);
   name = refl;
   survey = refl;

@@ -29,7 +29,7 @@ returns c =
           arith),
       one_shl c.args.second 32 (omega arith),
       front_fields (bits c.args.bytes.now)
-          c.args.begin c.args.private_bits c.args.first c.args.second c.number_at-fields.result
+          c.args.begin c.args.private_bits c.args.first c.args.second
           (AreBits-bits c.args.bytes.now) (enough c) c.number_at-fields.ensures.below
           c.number_at-fields.ensures.value,
       AreBits-bits c.args.bytes.now,

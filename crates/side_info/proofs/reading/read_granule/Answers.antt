@@ -10,7 +10,7 @@ returns c =
     let once = preflag_once c.args.version
     (rw preflag at c.number_at-last.ensures.below) in
     rw once (granule_from c.args.version (bits c.args.bytes.now)
-    c.args.at c.number_at-first.result c.number_at-middle.result c.number_at-last.result
+    c.args.at
     (AreBits-bits c.args.bytes.now) (rw length-bits c.requires.enough)
     c.number_at-first.ensures.below (rw compress at c.number_at-middle.ensures.below)
     (rw preflag at c.number_at-last.ensures.below)

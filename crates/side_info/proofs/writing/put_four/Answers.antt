@@ -7,8 +7,7 @@ use Rattle.side_info.proofs.writing.put_four.Goals as goal
 pub returns : goal.returns
 returns c =
     let gs = c.args.granules in
-    four_put (bits c.args.bytes.now) (bits c.set_word.new.bytes) (bits c.set_word-2.new.bytes)
-    (bits c.set_word-3.new.bytes) (bits c.set_word-4.new.bytes)
+    four_put (bits c.args.bytes.now)
     c.args.front (get_or gs 0 0) (get_or gs 1 0) (get_or gs 2 0)
     (get_or gs 3 0) c.spanned.result c.spanned-2.result c.spanned-3.result c.spanned-4.result
     (length-bits c.args.bytes.now ∙ ap (λ n. 8 * n) c.requires.room)

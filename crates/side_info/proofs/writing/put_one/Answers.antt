@@ -6,7 +6,6 @@ use Rattle.side_info.proofs.writing.put_one.Goals as goal
 
 pub returns : goal.returns
 returns c =
-    one_put (bits c.args.bytes.now) (bits c.set_word.new.bytes)
-    (bits c.set_low_byte.new.bytes) c.args.front c.args.granule c.spanned.result
+    one_put (bits c.args.bytes.now) c.args.front c.args.granule c.spanned.result
     (length-bits c.args.bytes.now ∙ ap (λ n. 8 * n) c.requires.room)
     c.spanned.ensures c.set_word.ensures c.set_low_byte.ensures

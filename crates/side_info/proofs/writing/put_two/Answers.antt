@@ -6,9 +6,8 @@ use Rattle.side_info.proofs.writing.put_two.Goals as goal
 
 pub returns : goal.returns
 returns c =
-    two_put (bits c.args.bytes.now) (bits c.set_word.new.bytes) (bits c.set_word-2.new.bytes)
-    (bits c.set_low_byte.new.bytes)
-    c.args.front c.args.width c.args.first c.args.second c.args.size
+    two_put (bits c.args.bytes.now)
+    c.args.front c.args.first c.args.second
     (c.args.size + c.args.width - 64) c.spanned.result c.spanned-2.result
     (length-bits c.args.bytes.now ∙ ap (λ n. 8 * n) c.requires.room)
     c.requires.widths.few (omega (arith, c.requires.widths.long, c.requires.widths.few))

@@ -1,6 +1,5 @@
 -- One more frame, and the last.
 use Rattle.std.proofs.Common.{ap, arith, ◌∙◌}
-use Rattle.frame_header.specs.Tables.{window_of}
 use Rattle.slot_plan.proofs.FreeByteLemmas.{fits-in, leaves-all, leaves-more, leaves-none}
 use Rattle.slot_plan.proofs.FreeByteLemmas.{leaves-room, window-read}
 use Rattle.slot_plan.specs.Reserve.{free_bytes_behind}
@@ -19,9 +18,7 @@ pub loop-need-preserved : goal.loop-need-preserved
 loop-need-preserved c = λ class same within fits.
     let window = window-read class c.args.needs.now same
     c.loop-need-test.true c.need-item.is c.class.ensures c.window-window.ensures.window in
-    leaves-more (window_of class.version)
-    c.args.free c.args.needs.now c.loop-need.need-index c.need-item.result c.loop-need.left
-    c.area.result c.loop-need-test.true c.need-item.is c.area.ensures.area
+    leaves-more c.loop-need-test.true c.need-item.is c.area.ensures.area
     (c.loop-need.invariant class same within fits)
     (c.free_behind-left.ensures.free
     ∙ ap (λ n. free_bytes_behind n c.loop-need.left c.need-item.result.bytes c.area.result) window)

@@ -23,7 +23,7 @@ loop-to-preserved g c =
     let cut = g.C.Cut.cutting c.args.cut.now in
     let rest = take (length c.args.places.now - 1) (drop 1 c.args.places.now) in
     let to = c.to-item.result in
-    let next = item-next rest at.to-index to (omega (arith, c.loop-to-test.true)) c.to-item.is in
+    let next = item-next rest (omega (arith, c.loop-to-test.true)) c.to-item.is in
     let piece = c.in_ok-piece.piece in
     let items = c.in_ok-push.ensures.items in
     let more = ap (map piece_part) items ∙ map-append piece_part at.pieces.items (piece ∷ []) in
@@ -44,8 +44,8 @@ loop-to-preserved g c =
       sound = sound g (goal.at.loop-to-preserved g c).After-to-item;
       laid = λ file s is.
           rw more
-          (place-laid cut file s at.to-index at.from.now rest (map piece_part at.pieces.items) _
-          (at.invariant.laid file s is) to next
+          (place-laid cut file s at.to-index at.from.now rest (map piece_part at.pieces.items)
+          (at.invariant.laid file s is) next
           (c.in_ok-selected.ensures.laid file s is
           ∙ ap (λ (x : Selected). Ok (selected_part x)) (sym c.in_ok-piece.ensures.selected)));
     }
@@ -59,13 +59,13 @@ returns-in_err-selected-clause-laid g c =
     let cut = g.C.Cut.cutting c.args.cut.now in
     let rest = take (length c.args.places.now - 1) (drop 1 c.args.places.now) in
     let to = c.to-item.result in
-    let next = item-next rest at.to-index to (omega (arith, c.loop-to-test.true)) c.to-item.is in
+    let next = item-next rest (omega (arith, c.loop-to-test.true)) c.to-item.is in
     match_err c.from_residual.result _ _ c.from_residual.ensures.1
     (fault-of-all
     (λ is file s known.
     laid-is cut file s c.args.places.now c.requires.places.1 c.index-places-0.is
-    ∙ place-refused cut file s at.to-index at.from.now rest (map piece_part at.pieces.items) _
-    (at.invariant.laid file s known) to next (is file s known))
+    ∙ place-refused cut file s at.to-index at.from.now rest (map piece_part at.pieces.items)
+    (at.invariant.laid file s known) next (is file s known))
     c.in_err-selected.ensures.laid)
 
 pub returns-clause-laid : goal.returns-clause-laid

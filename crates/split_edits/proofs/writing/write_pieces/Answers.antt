@@ -36,7 +36,7 @@ module _ (g : given.Over) (c : After-create g) where
 
   next : drop c.loop-piece.piece-index c.args.pieces.now
       ≡ piece ∷ drop (c.loop-piece.piece-index + 1) c.args.pieces.now
-  next = item-next c.args.pieces.now c.loop-piece.piece-index piece
+  next = item-next c.args.pieces.now
       (omega (arith, c.loop-piece-test.true)) c.piece-item.is
 
   place-is : c.loop-piece.place ≡ length (take c.loop-piece.piece-index c.args.pieces.now)
@@ -98,13 +98,13 @@ pub returns-in-Err : goal.returns-in-Err
 returns-in-Err g c =
     let at = (goal.at.returns-in-Err g c).After-create in
     let made = piece_made (survey_view c.args.survey.now) (piece g at) in
-    let touches = touches_prefix made _ _
-    (apart g at) _ _ _ c.in-Ok.ensures.answer.created c.in-Err.ensures.prefix in
-    let fault = pass_fault made _ _ (apart g at) _ _ _ c.in-Ok.ensures.answer.created
+    let touches = touches_prefix made
+    (apart g at) _ _ c.in-Ok.ensures.answer.created c.in-Err.ensures.prefix in
+    let fault = pass_fault made (apart g at) _ _ c.in-Ok.ensures.answer.created
     (c.args.input.now ∷ []) refl 0 c.in-Err.fault _ _
     c.in-Ok.ensures.answer.done c.in-Err.ensures.prefix c.in-Err.ensures.cause in
-    let touches = touches_prefix _ _ _
-    (apart g at) _ _ _ c.in-Ok.ensures.answer.created c.in-Err.ensures.prefix in
+    let touches = touches_prefix _
+    (apart g at) _ _ c.in-Ok.ensures.answer.created c.in-Err.ensures.prefix in
     record {
       written = tt;
       touches = all-touched (next-piece g at (rw c.as_str.ensures.value at touches));
@@ -121,10 +121,10 @@ returns-in-Err g c =
 pub loop-piece-preserved : goal.loop-piece-preserved
 loop-piece-preserved g c =
     let at = (goal.at.loop-piece-preserved g c).After-create in
-    let touches = touches_whole _ _ _
-    (apart g at) _ _ _ c.in-Ok.ensures.answer.created c.in_default-write.ensures.written in
-    let whole = output_whole (piece_made (survey_view c.args.survey.now) (piece g at)) _ _
-    (apart g at) _ _ _ c.in-Ok.ensures.answer.created c.in_default-write.ensures.written in
+    let touches = touches_whole _
+    (apart g at) _ _ c.in-Ok.ensures.answer.created c.in_default-write.ensures.written in
+    let whole = output_whole (piece_made (survey_view c.args.survey.now) (piece g at))
+    (apart g at) _ _ c.in-Ok.ensures.answer.created c.in_default-write.ensures.written in
     record {
       wrote = more-wrote (next-piece g at (rw c.as_str.ensures.value at touches))
           (ready g at).0 (rw c.as_str.ensures.value at whole);

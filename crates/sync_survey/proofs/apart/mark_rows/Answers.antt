@@ -13,7 +13,7 @@ loop-row-preserved c =
     let within : at.row-index < length c.args.rows.now =
     omega (arith, c.loop-row-test.true, at.auto.rows) in
     let header = c.header.ensures ∙ ap (λ (q : Row). q.header) c.mark_apart.ensures.row in
-    marked-next c.args.rows.now at.rows at.areas at.row-index _ at.invariant within _
+    marked-next c.args.rows.now _ at.invariant within
     c.mark_apart.ensures.row c.mark_apart.ensures.near (sym c.if-not-mark_apart.ensures.empty)
     (c.saturating_add-areas.ensures ∙ ap (λ n. min (at.areas + n) (2 ^ 64 - 1))
     (c.from.ensures ∙ c.area.ensures.area ∙ ap own_area header))

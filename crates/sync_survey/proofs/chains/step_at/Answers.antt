@@ -11,7 +11,7 @@ returns-then-own-left-clause-step c = grind (arith, not_here)
 
 pub returns-clause-step : goal.returns-clause-step
 returns-clause-step c = λ file at shows.
-    step_passes file at c.args.front.now c.args.left shows
+    step_passes shows
     c.args.part c.passed-size.result c.item_front-item.result c.item_front-item.ensures
     (sym c.belongs.ensures ∙ c.if-not-belongs.false)
     (omega (arith, c.size-own.ensures.size, c.if-own-left.false))

@@ -46,7 +46,7 @@ loop-at-init g c = record {
     surveyed =
         subst (IsSurveyedTo bytes c.args.walk.start c.args.walk.head c.args.allowed []
         c.args.walk.pieces.items c.head_area.result 0) (sym c.numbered_from-at.ensures.at)
-        (surveyed_none bytes c.args.walk.start c.args.walk.head c.args.allowed
+        (surveyed_none c.args.allowed
         (begun_as (c.requires.walk.told bytes holds))
         {blocks = c.args.walk.pieces.items} {place_now = c.head_area.result}
         (c.requires.walk.told bytes holds).kept c.head_area.ensures.area);
@@ -99,16 +99,15 @@ returns-in_err-at g c = record {
       c.args.walk.size fault (class_from start) at front left now c.requires.walk.known
       (c.in_ok-left.ensures.reads.done ∙ c.loop-at.invariant.read.counts)
       (λ file holds is.
-      refused file start c.args.walk.head c.args.allowed now at
-      (c.loop-at.invariant.surveyed file holds) front left (seen file holds) (begun file holds)
+      refused now
+      (c.loop-at.invariant.surveyed file holds) (seen file holds) (begun file holds)
       (item_front front) is.size fault (few_by front (item_front front) refl is.front.most)
       (is.passes file (seen file holds)) is.faulty)
       (λ file holds is.
       let so_far = c.loop-at.invariant.surveyed file holds in
-      stopped_fault file start c.args.walk.head c.args.allowed so_far.frames now.pieces.items
-      now.before.place now.before.ended at so_far.surveyed (begun file holds) fault
+      stopped_fault so_far.surveyed (begun file holds) fault
       (is.none file (seen file holds))
-      (ap (fault_at at) (sym (item_at-shown file at front left (seen file holds))) ∙ is.why))
+      (ap (fault_at at) (sym (item_at-shown (seen file holds))) ∙ is.why))
       (subst (λ class. IsNotPassed class c.args.allowed at front left now fault)
       c.class-class.ensures c.in_err-at.ensures));
   files = c.in_ok-left.ensures.reads.files ∙ c.loop-at.invariant.read.files;
@@ -126,13 +125,13 @@ loop-at-preserved g c =
     let seen = shown g (goal.at.loop-at-preserved g c).After-bytes in
     record {
       surveyed = λ file holds.
-          kept file c.args.walk.start c.args.walk.head c.args.allowed now c.loop-at.at
-          (c.loop-at.invariant.surveyed file holds) front c.in_ok-left.left (seen file holds) item
+          kept now
+          (c.loop-at.invariant.surveyed file holds) (seen file holds) item
           c.pass.new.self size (few_by front item refl passed.front.most)
           (passed.passes file (seen file holds)) passed.keeps;
       laid =
-          laid_more c.args.walk.head c.args.walk.start.first.offset (class_from c.args.walk.start)
-          c.args.allowed c.loop-at.at front now c.pass.new.self size c.loop-at.invariant.laid item
+          laid_more
+          c.args.allowed front c.pass.new.self size c.loop-at.invariant.laid item
           (item_header front item refl) passed.front.least passed.keeps;
       few = grind (arith, few_more);
       within =
@@ -152,8 +151,7 @@ returns-then-is_empty g c = record {
       let now = c.loop-at.found in
       let is_size = c.requires.walk.known.long bytes holds in
       let so_far = c.loop-at.invariant.surveyed bytes holds in
-      no_frame bytes c.args.walk.start c.args.walk.head c.args.allowed so_far.frames
-      now.pieces.items now.before.place now.before.ended c.loop-at.at so_far.surveyed
+      no_frame so_far.surveyed
       (begun_as (c.requires.walk.told bytes holds)) (omega (arith, c.loop-at-test.false, is_size))
       (nothing_in so_far.frames (omega (
         arith,

@@ -10,7 +10,7 @@ returns-in_default c = grind (arith, shown_none)
 
 pub returns-then-from-left-clause-frame : goal.returns-then-from-left-clause-frame
 returns-then-from-left-clause-frame c = λ file shows.
-    sym (shown_over file c.args.offset c.args.front.now c.args.left shows
+    sym (shown_over shows
     (sym c.item_front.ensures ∙ c.in-Frame.is)
     (omega (arith, c.if-from-left.true, c.from.ensures, c.length-length.ensures.length)))
 

@@ -13,7 +13,7 @@ use Rattle.sync_survey.proofs.starts.find_start.Goals as goal
 started : (file front : List ℕ) (at left : ℕ) → at ≡ front_end_of file → Shows file at front left
     → start_of file ≡ start_at file at (item_front front)
 started file front at left end shows =
-    start_is file at (item_front front) end (sym (item_at-shown file at front left shows))
+    start_is file at (item_front front) end (sym (item_at-shown shows))
 
 -- the start, given the item that was shown
 module _ (g : given.Over) (c : After-item_front g) where

@@ -75,7 +75,7 @@ returns-in_err-work-clause-refused g c =
 
 pub returns-clause-ready : goal.returns-clause-ready
 returns-clause-ready g c =
-    work_layable c.in_ok-survey.survey c.in_ok-selected.selected c.in_ok-work.work
+    work_layable
     c.in_ok-work.ensures
     c.in_ok-survey.ensures.there c.in_ok-survey.ensures.laid
     (λ bytes holds. survey-had most_frames
@@ -86,7 +86,7 @@ returns-clause-making g c =
     let edit = c.args.self.now in
     let files = (g.D.Folder.seen c.args.folder.now).files in
     let s = survey_view c.in_ok-survey.survey in
-    work_makes c.in_ok-survey.survey c.in_ok-selected.selected c.in_ok-work.work
+    work_makes
     c.in_ok-work.ensures
     (task_makes (choosing_of edit.choice) (plan_in edit)
     (refuses_of_choice edit.choice)

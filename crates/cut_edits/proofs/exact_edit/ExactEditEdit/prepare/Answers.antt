@@ -110,7 +110,7 @@ select_piece-requires-clause-there g c =
 pub returns-clause-ready : goal.returns-clause-ready
 returns-clause-ready g c =
     let s = survey_view c.in_ok-survey.survey in
-    work_layable c.set_apart.new.survey c.in_ok-selected.selected c.in_ok-work.work
+    work_layable
     c.in_ok-work.ensures c.in_ok-survey.ensures.there
     (subst IsSurveyLaidOut (sym c.set_apart.ensures) (apart-laid s c.in_ok-survey.ensures.laid))
     (λ bytes holds. subst (CanBeRelaid bytes) (sym c.set_apart.ensures)
@@ -129,7 +129,7 @@ returns-clause-making g c =
     → c.in_ok-head.head ≡ fields_of_head bytes s.head =
     λ bytes holds. c.in_ok-head.ensures.head bytes
     (subst (λ f. Holds f edit.input.now bytes) (sym c.survey_at.ensures.reads.files) holds) in
-    work_makes c.set_apart.new.survey c.in_ok-selected.selected c.in_ok-work.work
+    work_makes
     c.in_ok-work.ensures
     (subst (λ (t : SurveyFields). IsMaking task (λ file. file_laid laid file t) files)
     (sym c.set_apart.ensures)

@@ -19,9 +19,7 @@ returns-in_err-frame-clause-prefix g c =
     let seen = g.D.Folder.seen in
     let inv = c.loop-i.invariant in
     on_err c.from_residual.result
-    (made-part c.args.name.now c.args.self.now.draws.state c.loop-i._i c.loop-i.self inv.next
-    (seen c.args.folder.now).files
-    (seen c.loop-i.folder).files inv.made c.loop-i-test.true c.frame.ensures.reach
+    (made-part c.args.name.now inv.next inv.made c.loop-i-test.true c.frame.ensures.reach
     c.in_err-frame.ensures.part)
 
 pub loop-i-preserved : goal.loop-i-preserved
@@ -36,7 +34,6 @@ loop-i-preserved g c =
       made =
           subst (λ n. HasMade c.args.name.now (drill_writing c.frame.new.self) (drill_frames seed n)
           (seen c.args.folder.now).files (seen c.frame.new.folder).files) one
-          (made-more c.args.name.now seed i c.loop-i.self inv.next (seen c.args.folder.now).files
-          (seen c.loop-i.folder).files inv.made c.in_ok-frame.ensures.written);
+          (made-more c.args.name.now inv.next inv.made c.in_ok-frame.ensures.written);
       counts = c.in_ok-frame.ensures.done ∙ inv.counts;
     }

@@ -48,15 +48,12 @@ step g c =
 pub returns : goal.returns
 returns g c = record {
   passed = grind (arith, common_steps);
-  moved = first-handed c.args.self.now c.self.inside.class c.unwrap-first.result.now
-      c.self.inside.kept.items c.pop_front.new.self.items c.self.inside.areas c.drop_first.new.self
+  moved = first-handed
       c.self.view_is (first g (goal.at.returns g c).After-unwrap-first)
       (ap (λ (b : Buffer FrameFields). b.items) c.pop_front.ensures.items) (drops g c) (step g c)
       (within g (goal.at.returns g c).After-unwrap-first);
   part = err-map c.add_frame-added.result
-      (first-part c.args.self.now c.self.inside.class
-      c.unwrap-first.result.now c.self.inside.kept.items c.pop_front.new.self.items
-      c.self.inside.areas c.drop_first.new.self
+      (first-part
       c.self.view_is (first g (goal.at.returns g c).After-unwrap-first)
       (ap (λ (b : Buffer FrameFields). b.items) c.pop_front.ensures.items) (drops g c) (step g c)
       (within g (goal.at.returns g c).After-unwrap-first))

@@ -46,7 +46,7 @@ returns-in_err-finish-clause-answer g c = record {
       (g.D.Folder.seen c.args.folder.now).files (g.D.Folder.seen c.finish.new.folder).files)
       (given_is c.args.header.now c.args.side.now c.args.payload.now c.new-front.result
       c.whole.result c.new-frame.result c.new-frame.ensures c.new-front.ensures c.whole.ensures)
-      (writes-unsent new c.in_ok-frame.ensures.answer.written c.in_err-finish.ensures.prefix)));
+      (writes-unsent c.in_ok-frame.ensures.answer.written c.in_err-finish.ensures.prefix)));
   prefix = let old = nothing c.self.inside.queue c.self.inside.unsent c.self.inside.state
       c.args.self.now c.self.invariant c.self.view_is c.requires.ready in
       let new = writing_of c.frame.new.self c.frame.new.unsent in
@@ -81,7 +81,7 @@ returns-clause-answer g c = record {
       (g.D.Folder.seen c.args.folder.now).files (g.D.Folder.seen c.finish.new.folder).files)
       (given_is c.args.header.now c.args.side.now c.args.payload.now c.new-front.result
       c.whole.result c.new-frame.result c.new-frame.ensures c.new-front.ensures c.whole.ensures)
-      (writes-sent new c.in_ok-frame.ensures.answer.written c.in_ok-finish.ensures.appended));
+      (writes-sent c.in_ok-frame.ensures.answer.written c.in_ok-finish.ensures.appended));
   passed = let old = nothing c.self.inside.queue c.self.inside.unsent c.self.inside.state
       c.args.self.now c.self.invariant c.self.view_is c.requires.ready in
       let new = writing_of c.frame.new.self c.frame.new.unsent in

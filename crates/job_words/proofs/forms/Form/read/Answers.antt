@@ -39,7 +39,7 @@ returns-then-count-words-clause-answer c =
     let many : length values ≡ length c.as_slice-values.result.now = grind (arith, length-map) in
     let short : (length values < length words) ⊎ (length values < length kinds) =
     grind (arith, length-map) in
-    rw (← many) (refuses _ c.requires words _ _ kinds values
+    rw (← many) (refuses c.requires
     (found (goal.at.returns-then-count-words-clause-answer c).After-as_slice-values) short)
 
 pub job-requires : goal.job-requires
@@ -51,7 +51,7 @@ job-requires c =
       length-drop c.len-front.result values,
       length-drop c.len-front.result (map value_said values),
       length-map values value_said,
-      few _ c.requires _ _ _ _ _ (found (goal.at.job-requires c).After-as_slice-values),
+      few c.requires (found (goal.at.job-requires c).After-as_slice-values),
     )
 
 pub returns-clause-answer : goal.returns-clause-answer
@@ -62,7 +62,7 @@ returns-clause-answer c =
     rw (c.skip.ensures, drop-map) refl in
     let words-are : map string_bytes c.skip-2.result.now ≡ drop c.len-front.result words =
     rw (c.skip-2.ensures, drop-map) refl in
-    accepts _ c.requires words _ _ _ values
+    accepts c.requires
     (found (goal.at.returns-clause-answer c).After-as_slice-values)
     (omega (
       arith,

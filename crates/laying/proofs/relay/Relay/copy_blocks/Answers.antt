@@ -48,14 +48,14 @@ returns-in_err-copy_chosen g c = record {
   written = search rules;
   prefix = let at = (goal.at.returns-in_err-copy_chosen g c).After-copy_chosen in
       err_at c.from_residual.result _ c.from_residual.ensures.1
-      (up_to_prefix c.args.self.now.pass c.requires.ready.pass.apart c.loop-block.invariant.up_to _
+      (up_to_prefix c.requires.ready.pass.apart c.loop-block.invariant.up_to _
       (chosen g at
       (drop (c.loop-block.block-index + 1) (survey_view c.args.self.now.survey.now).blocks))
       (λ file holds. next g at file) c.in_err-copy_chosen.ensures.prefix);
   done = search rules;
   cause = let p = err_from_is_err_and c.from_residual.result c.from_residual.ensures.1 in
       rw (p.1, p.2)
-      (cause_behind c.loop-block.invariant.up_to.written _ _ _ _ c.loop-block.invariant.counts _
+      (cause_behind c.loop-block.invariant.up_to.written _ _ c.loop-block.invariant.counts _
       c.in_err-copy_chosen.ensures.cause);
   ready = search rules;
 }

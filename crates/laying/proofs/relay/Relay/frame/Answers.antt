@@ -200,7 +200,6 @@ returns-clause-stands g c = record {
       c.in_ok-span.ensures.given.ends in
       holds-later on.passed
       c.requires.stands.on.ready.pass.apart on.files
-      (holds-next c.fill_frame.new.window c.pass_area.new.window (take span.before bytes) input mid
-      s i over own row c.requires.next.found has well taken_is
+      (holds-next c.pass_area.new.window over c.requires.next.found has well taken_is
       c.pass_area.ensures c.in_ok-span.ensures.given.at within);
 }

@@ -78,19 +78,19 @@ module _ (g : given.Over) (c : After-index-rows-reading g) where
   found : slice_get s.frames i ≡ Some row
   found = grind (arith, found-at, some)
 
-  module _ (next : ℕ) (next_is : next ≡ i + cond p.lead_in 0 1) where
+  module _ {next : ℕ} (next_is : next ≡ i + cond p.lead_in 0 1) where
     opened : (p.begin ≤ reach)
         × (placed_bytes p.lead_in (need_of row) ≤ p.begin + placed_area p (need_of row))
         × FitsFromReach window
         (reach_behind window p (need_of row)) (map need_of (slice_range s.frames next to)) more
-    opened = fits-next s i to next row p more found some next_is window fits
+    opened = fits-next s p more found some next_is window fits
 
     last_is : last_reach window (reach_behind window p (need_of row))
         (map need_of (slice_range s.frames next to)) more
         ≡ last_reach window (reach_of c.args.buffers.now.writer)
         (map need_of (slice_range s.frames c.args.from to)) c.args.placed.now
     last_is = sym (ap (last_reach window reach (map need_of (slice_range s.frames i to))) left
-        ∙ last-next s i to next row p more found some next_is window reach)
+        ∙ last-next s p more found some next_is window reach)
         ∙ c.loop-place.invariant.reach
 
     abbrev one : List ℕ → List Frame
@@ -107,7 +107,7 @@ module _ (g : given.Over) (c : After-index-rows-reading g) where
         append_assoc (c.loop-place.invariant.lays.made file) (one file) (rest file)
         ∙ ap (λ (l : List Frame). c.loop-place.invariant.lays.made file ++ l)
         (sym (ap (relaid_frames (slice_range (all_frames file s) i to)) left
-        ∙ relaid_frames-next s i to next row p more found some next_is file))
+        ∙ relaid_frames-next s p more found some next_is file))
         ∙ sym (c.loop-place.invariant.lays.left file holds)
 
 pub place-requires-clause-next : goal.place-requires-clause-next
@@ -115,11 +115,11 @@ place-requires-clause-next g c = search (rules, found)
 
 pub place-requires-clause-begin : goal.place-requires-clause-begin
 place-requires-clause-begin g c =
-    (opened g (goal.at.place-requires-clause-begin g c).After-index-rows-reading _ refl).0
+    (opened g (goal.at.place-requires-clause-begin g c).After-index-rows-reading refl).0
 
 pub place-requires-clause-within : goal.place-requires-clause-within
 place-requires-clause-within g c =
-    (opened g (goal.at.place-requires-clause-within g c).After-index-rows-reading _ refl).1
+    (opened g (goal.at.place-requires-clause-within g c).After-index-rows-reading refl).1
 
 pub returns-in_err-reading-clause-gives : goal.returns-in_err-reading-clause-gives
 returns-in_err-reading-clause-gives g c = record {
@@ -142,17 +142,16 @@ returns-in_err-reading-clause-gives g c = record {
       λ (file : List ℕ). planned_frame p (survey_frame file s c.loop-place.reading.next row) ∷ [] in
       err_at c.from_residual.result _ c.from_residual.ensures.1
       (part_more
-      (rest g at next refl)
+      (rest g at refl)
       (λ file holds later begins.
       let has = c.requires.stands.ready.exact file holds in
       begins-left window reach (map need_of (slice_range s.frames next to))
       (slice_range (all_frames file s) next to) (drop (c.loop-place.place-index + 1) placed) later
-      (needs-range next to has) (opened g at next refl).2
-      (subst (λ n. BeginsWithin n (all_frame_data later)) (sym (last_is g at next refl)) begins))
-      (split g at next refl)
-      (part_then self.pass.input.now self.pass.output.now sofar.made one (writing_in
-      c.args.buffers.now) (writing_in c.loop-place.buffers) (seen c.args.folder.now).files
-      (seen c.loop-place.folder).files c.requires.stands.ready.pass.apart sofar.lays
+      (needs-range next to has) (opened g at refl).2
+      (subst (λ n. BeginsWithin n (all_frame_data later)) (sym (last_is g at refl)) begins))
+      (split g at refl)
+      (part_then self.pass.input.now self.pass.output.now one
+      c.requires.stands.ready.pass.apart sofar.lays
       c.in_err-reading.ensures.gives.part));
   reach = search rules;
   done = search rules;
@@ -185,17 +184,15 @@ loop-place-preserved g c =
       early = omega (arith, next_is, step-most p.lead_in, some g at);
       fits =
           subst (λ n. FitsFromReach window n needs more) (sym c.in_ok-reading.ensures.gives.reach)
-          (opened g at c.in_ok-reading.reading.next next_is).2;
+          (opened g at next_is).2;
       reach = ap (λ n. last_reach window n needs more) c.in_ok-reading.ensures.gives.reach
-          ∙ last_is g at c.in_ok-reading.reading.next next_is;
+          ∙ last_is g at next_is;
       lays = record {
         made = λ file. inv.lays.made file ++ one file;
-        lays = lays_then self.pass.input.now self.pass.output.now inv.lays.made one
-            (writing_in c.args.buffers.now) (writing_in c.loop-place.buffers)
-            (seen c.args.folder.now).files (seen c.loop-place.folder).files
+        lays = lays_then self.pass.input.now self.pass.output.now one
             c.requires.stands.ready.pass.apart inv.lays.lays
             c.in_ok-reading.ensures.gives.lays;
-        left = λ file holds. sym (split g at c.in_ok-reading.reading.next next_is file holds);
+        left = λ file holds. sym (split g at next_is file holds);
       };
       counts = c.in_ok-reading.ensures.gives.done ∙ inv.counts;
     }

@@ -2,7 +2,7 @@
 use Rattle.std.proofs.{Common.{ap, rules, subst, ◌∙◌}, lemmas.Result.on_ok_weaker}
 use Rattle.frame_writer.specs.Frames.{bytes_of_frames}
 use Rattle.laying.proofs.EndLemmas.{lays-prefix, lays-written, new-behind, part-prefix}
-use Rattle.laying.{proofs.PassLemmas.ready-passed, specs.{Laid.selected_frames, Passing.writing_in}}
+use Rattle.laying.{proofs.PassLemmas.ready-passed, specs.Laid.selected_frames}
 use Rattle.outside.proofs.BufferOutputLemmas.{err_at, err_by}
 use Rattle.outside.proofs.PassLemmas.{causes_later, prefix_nothing}
 use Rattle.outside.specs.{Files.with_appended_bytes, Pass.{WritesMadeBytes, WritesPrefix}}
@@ -22,7 +22,7 @@ returns-in_err-frames g c = record {
       err_at c.from_residual-in_err-frames.result _ c.from_residual-in_err-frames.ensures.1
       (subst (λ f. WritesPrefix self.pass (λ file. bytes_of_frames (made file)) b.waiting f
       (seen c.frames.new.folder).files c.in_err-frames.field-0.0) c.read_before.ensures.reads.files
-      (part-prefix self.pass made b.waiting (writing_in b)
+      (part-prefix self.pass made
       (seen c.read_before.new.folder).files (new-behind b.waiting c.requires.new)
       (rw c.placed.ensures at c.in_err-frames.ensures.gives.part)));
   ready = search rules;
@@ -40,8 +40,8 @@ returns g c = record {
       subst (λ f. WritesMadeBytes c.args.self.now.pass (λ file. bytes_of_frames (made file))
       b.waiting c.finish.new.unsent f (g.D.Folder.seen c.finish.new.folder).files)
       c.read_before.ensures.reads.files
-      (lays-written c.args.self.now.pass made b.waiting (writing_in b) _
-      (new-behind b.waiting c.requires.new) (writing_in c.frames.new.buffers) _
+      (lays-written c.args.self.now.pass made _
+      (new-behind b.waiting c.requires.new)
       (rw c.placed.ensures at c.in_ok-frames.ensures.gives.lays) passed))
       c.finish.ensures.passed;
   prefix =
@@ -52,8 +52,8 @@ returns g c = record {
       subst (λ f. WritesPrefix c.args.self.now.pass (λ file. bytes_of_frames (made file))
       b.waiting f (g.D.Folder.seen c.finish.new.folder).files fault)
       c.read_before.ensures.reads.files
-      (lays-prefix c.args.self.now.pass made b.waiting (writing_in b) _
-      (new-behind b.waiting c.requires.new) (writing_in c.frames.new.buffers) _
+      (lays-prefix c.args.self.now.pass made _
+      (new-behind b.waiting c.requires.new)
       (rw c.placed.ensures at c.in_ok-frames.ensures.gives.lays) part))
       c.finish.ensures.prefix;
   ready = on_ok_weaker c.finish.result (λ passed. ready-passed passed

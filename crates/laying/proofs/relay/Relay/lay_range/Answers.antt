@@ -26,7 +26,7 @@ returns-in_err-read_before-clause-gives g c = record {
       (part_none relay.pass.input.now relay.pass.output.now
       c.in_err-read_before.ensures.reads.read c.requires.stands.ready.pass.target
       (λ file holds more.
-      range-begins s from to c.requires.within placed
+      range-begins s from c.requires.within placed
       more (c.requires.stands.ready.exact file holds) (omega arith) c.requires.fits)));
   reach = search rules;
   done = search rules;
@@ -41,9 +41,9 @@ returns-in_err-frames-clause-gives g c = record {
   lays = search rules;
   part = let b = c.args.buffers.now in
       err_at c.from_residual-in_err-frames.result _ c.from_residual-in_err-frames.ensures.1
-      (part-range (survey_view c.args.self.now.survey.now) c.args.from c.args.to c.requires.within
-      c.args.placed.now _ c.places_for-count.ensures.places _ _ (writing_in b)
-      _ _ _ c.read_before.ensures.reads.files (reach_of b.writer)
+      (part-range (survey_view c.args.self.now.survey.now) c.args.from c.requires.within
+      c.args.placed.now c.places_for-count.ensures.places _ _
+      (writing_in b) _ c.read_before.ensures.reads.files (reach_of b.writer)
       c.in_err-frames.ensures.gives.part);
   reach = search rules;
   done = search rules;
@@ -53,14 +53,14 @@ returns-in_err-frames-clause-gives g c = record {
 pub returns-clause-gives : goal.returns-clause-gives
 returns-clause-gives g c = record {
   lays =
-      lays-range (survey_view c.args.self.now.survey.now) c.args.from c.args.to c.requires.within
-      c.args.placed.now _ c.places_for-count.ensures.places _ _
-      (writing_in c.args.buffers.now) _ _ _
+      lays-range (survey_view c.args.self.now.survey.now) c.args.from c.requires.within
+      c.args.placed.now c.places_for-count.ensures.places _ _
+      (writing_in c.args.buffers.now) _
       c.read_before.ensures.reads.files c.in_ok-frames.ensures.gives.lays;
   part = search rules;
   reach = c.in_ok-frames.ensures.gives.reach
-      ∙ reach-is (survey_view c.args.self.now.survey.now) c.args.from c.args.to c.requires.within
-      c.args.placed.now _ c.places_for-count.ensures.places (reach_of c.args.buffers.now.writer);
+      ∙ reach-is (survey_view c.args.self.now.survey.now) c.args.from c.requires.within
+      c.args.placed.now c.places_for-count.ensures.places (reach_of c.args.buffers.now.writer);
   done = search rules;
   cause = search rules;
 }

@@ -13,6 +13,5 @@ returns-clause-over g c = λ at within.
     let given = c.fill.new.feed.given in
     let over = subst (λ f. HoldsLastAreas c.args.window.now input f s
     reading.at reading.count reading.next) (sym c.fill.ensures.reads.files) c.requires.over in
-    holds-pushed c.args.window.now c.push_area.new.self given input files s
-    reading.next (holds-given over c.in_ok-fill.ensures.given) within
+    holds-pushed c.push_area.new.self (holds-given over c.in_ok-fill.ensures.given) within
     (rw c.bytes.ensures at c.push_area.ensures.held)

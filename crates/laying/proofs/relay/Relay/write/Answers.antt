@@ -46,13 +46,13 @@ returns-in_err-copy_blocks g c = record {
       (prefix_as pass (λ file. file_laid (selected_part selected) file s) (λ file. [])
       (λ file holds. sym (append-nil (selected_front s selected file ++ back s file)
       ∙ written-is c.requires.writable (c.requires.ready.exact file holds)))
-      (prefix_then pass c.requires.ready.pass.apart c.in_ok-write_frames.ensures.written
+      (prefix_then c.requires.ready.pass.apart c.in_ok-write_frames.ensures.written
       c.in_err-copy_blocks.ensures.prefix)));
   none = search rules;
   done = search rules;
   cause = let p = err_from_is_err_and c.from_residual-in_err-copy_blocks.result
       c.from_residual-in_err-copy_blocks.ensures.1 in
-      rw (p.1, p.2) (cause_behind c.in_ok-write_frames.ensures.written _ _ _ _
+      rw (p.1, p.2) (cause_behind c.in_ok-write_frames.ensures.written _ _
       c.in_ok-write_frames.ensures.done _ c.in_err-copy_blocks.ensures.cause);
   ready = search rules;
 }
@@ -73,7 +73,7 @@ module _ (g : given.Over) (c : In_ok-copy_blocks g) where
 
   both : WritesMadeBytes c.args.self.now.pass (λ file. selected_front s c.args.selected.now file
       ++ back s file) c.args.buffers.now.waiting c.copy_blocks.new.waiting old new
-  both = writes_then c.args.self.now.pass c.requires.ready.pass.apart
+  both = writes_then c.requires.ready.pass.apart
       c.in_ok-write_frames.ensures.written c.in_ok-copy_blocks.ensures.written
 
   all : WritesMadeBytes c.args.self.now.pass made [] c.copy_blocks.new.waiting old new
@@ -83,13 +83,13 @@ module _ (g : given.Over) (c : In_ok-copy_blocks g) where
 
 pub returns : goal.returns
 returns g c = record {
-  written = on_ok_weaker c.finish.result (λ is. writes_all c.args.self.now.pass _
+  written = on_ok_weaker c.finish.result (λ is. writes_all
       (all g (goal.at.returns g c).In_ok-copy_blocks) is) c.finish.ensures.appended;
-  prefix = err_by c.finish.result (λ fault part. writes_end c.args.self.now.pass _
+  prefix = err_by c.finish.result (λ fault part. writes_end
       (all g (goal.at.returns g c).In_ok-copy_blocks) part) c.finish.ensures.prefix;
   none = search rules;
   done = search rules;
-  cause = causes_behind (both g (goal.at.returns g c).In_ok-copy_blocks) _ _ _ _
+  cause = causes_behind (both g (goal.at.returns g c).In_ok-copy_blocks) _ _
       (c.in_ok-copy_blocks.ensures.done ∙ c.in_ok-write_frames.ensures.done)
       c.finish.result c.finish.ensures.cause;
   ready = on_ok_weaker c.finish.result (λ is. ready-later _ is

@@ -25,15 +25,15 @@ returns-in_err-write_front g c = record {
 pub returns : goal.returns
 returns g c = record {
   written = on_ok_weaker c.lay.result
-      (λ written. writes_then c.args.self.now.pass c.requires.ready.pass.apart
+      (λ written. writes_then c.requires.ready.pass.apart
       (rw c.as_slice.ensures.value at c.in_ok-write_front.ensures.adds.written) written)
       c.lay.ensures.written;
   prefix = err_by c.lay.result
-      (λ fault part. prefix_then c.args.self.now.pass c.requires.ready.pass.apart
+      (λ fault part. prefix_then c.requires.ready.pass.apart
       (rw c.as_slice.ensures.value at c.in_ok-write_front.ensures.adds.written) part)
       c.lay.ensures.prefix;
   done = search rules;
-  cause = causes_behind c.in_ok-write_front.ensures.adds.written _ _ _ _
+  cause = causes_behind c.in_ok-write_front.ensures.adds.written _ _
       c.in_ok-write_front.ensures.adds.done c.lay.result c.lay.ensures.cause;
   ready = search rules;
 }

@@ -24,15 +24,15 @@ returns-in_err-copy_blocks-clause-adds g c = record {
 pub returns-clause-adds : goal.returns-clause-adds
 returns-clause-adds g c = record {
   written = on_ok_weaker c.send.result
-      (λ passed. writes_then c.args.self.now.pass c.requires.ready.pass.apart
+      (λ passed. writes_then c.requires.ready.pass.apart
       c.in_ok-copy_blocks.ensures.written
       (writes_piece c.args.self.now.pass (λ file holds. refl) passed)) c.send.ensures.hands.passed;
   prefix = err_by c.send.result
-      (λ fault part. prefix_then c.args.self.now.pass c.requires.ready.pass.apart
+      (λ fault part. prefix_then c.requires.ready.pass.apart
       c.in_ok-copy_blocks.ensures.written
       (prefix_piece c.args.self.now.pass (λ file holds. refl) part)) c.send.ensures.hands.prefix;
   done = search rules;
-  cause = causes_behind c.in_ok-copy_blocks.ensures.written _ _ _ _
+  cause = causes_behind c.in_ok-copy_blocks.ensures.written _ _
       c.in_ok-copy_blocks.ensures.done c.send.result c.send.ensures.hands.cause;
   ready = on_ok_weaker c.send.result (λ passed. ready-passed passed
       c.in_ok-copy_blocks.ensures.ready) c.send.ensures.hands.passed;

@@ -14,6 +14,6 @@ returns-clause-writable c = record {
       let s = survey_view c.args.survey.now in
       let laid = laid_part c.args.from c.args.to c.args.kept (entries c.args.plan) in
       c.info_bytes-info.ensures first (frames_laid laid file s) found
-      (laid-slots laid file s is c.requires.some c.requires.within c.requires.fitting
+      (laid-slots laid is c.requires.some c.requires.within c.requires.fitting
       ∙ sym (ap (map (λ (p : Placed). p.slot)) c.placed.ensures));
 }

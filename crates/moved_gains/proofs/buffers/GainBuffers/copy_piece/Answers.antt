@@ -27,8 +27,7 @@ returns g c = record {
         is = λ file holds.
             held_piece c.in_ok-fill.ensures.file_offset c.in_ok-fill.ensures.enough
             c.in_ok-fill.ensures.ready.fed_from file
-            (input_holds (g.D.Folder.seen c.args.folder.now).files
-            (g.D.Folder.seen c.fill.new.folder).files pass.input.now pass.output.now passed.passed
+            (input_holds (g.D.Folder.seen c.args.folder.now).files passed.passed
             file c.requires.ready.apart passed.files holds);
         passed = subst (λ (l : List ℕ).
             AppendsWaiting pass.output.now (c.args.self.now.waiting ++ take c.args.n fed.held) l

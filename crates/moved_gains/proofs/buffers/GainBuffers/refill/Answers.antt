@@ -23,7 +23,7 @@ returns-in_err-self-inside g c = record {
       (ap (take c.self.inside.done) c.deref.ensures.value ∙ ap (λ p. p.waiting) c.self.view_is) in
       err_at c.from_residual-in_err-self-inside.result _
       c.from_residual-in_err-self-inside.ensures.1
-      (prefix_then pass c.requires.ready.apart (all_on first)
+      (prefix_then {pass = pass} c.requires.ready.apart (all_on first)
       (prefix_nothing pass (λ file. []) []
       c.in_err-self-inside.ensures.read c.in_err-self-inside.ensures.files (still_there _
       pass.output.now _ pass.output.now c.in_ok-hand_on.ensures.appended c.requires.ready.target)));
@@ -64,7 +64,7 @@ returns g c = record {
           same = λ file holds.
               let mid =
               subst (λ f. Holds f pass.input.now file) c.in_ok-self-inside.ensures.files holds in
-              let old = input_held _ _ pass.input.now pass.output.now _ file
+              let old = input_held _ _ file
               c.requires.ready.apart c.in_ok-hand_on.ensures.appended mid in
               let was = subst (λ p. take (length p.feed.held) (drop p.feed.file_offset file)
               ≡ p.feed.held) (sym c.self.view_is) (c.requires.ready.fed_from.same file old) in

@@ -30,7 +30,7 @@ returns-in_err-push g c = record {
   prefix = let pass = c.args.self.now.pass in
       let tag = c.args.tag.now in
       err_at c.from_residual-in_err-push.result _ c.from_residual-in_err-push.ensures.1
-      (prefix_then pass c.requires.ready.apart c.in_ok-copy.ensures.written
+      (prefix_then c.requires.ready.apart c.in_ok-copy.ensures.written
       (prefix_as pass (rest tag c.args.to) (λ file. bytes_between file tag.end c.args.to)
       (λ file holds. refl)
       (prefix_piece pass
@@ -38,7 +38,7 @@ returns-in_err-push g c = record {
   done = search rules;
   cause = let p = err_from_is_err_and c.from_residual-in_err-push.result
       c.from_residual-in_err-push.ensures.1 in
-      rw (p.1, p.2) (cause_behind c.in_ok-copy.ensures.written _ _ _ _ c.in_ok-copy.ensures.done _
+      rw (p.1, p.2) (cause_behind c.in_ok-copy.ensures.written _ _ c.in_ok-copy.ensures.done _
       c.in_err-push.ensures.cause);
   ready = search rules;
 }
@@ -49,13 +49,13 @@ returns g c = record {
       let apart = c.requires.ready.apart in
       let second = writes_piece pass {made = λ file. c.args.tag.now.bytes.now}
       (λ file holds. refl) c.in_ok-push.ensures.passed in
-      on_ok_weaker c.copy-2.result (λ third. writes_then pass apart
-      c.in_ok-copy.ensures.written (writes_then pass apart second third))
+      on_ok_weaker c.copy-2.result (λ third. writes_then apart
+      c.in_ok-copy.ensures.written (writes_then apart second third))
       c.copy-2.ensures.written;
   prefix = err_by c.copy-2.result
       (λ fault third.
-      prefix_then c.args.self.now.pass c.requires.ready.apart c.in_ok-copy.ensures.written
-      (prefix_then c.args.self.now.pass c.requires.ready.apart (writes_piece c.args.self.now.pass
+      prefix_then c.requires.ready.apart c.in_ok-copy.ensures.written
+      (prefix_then c.requires.ready.apart (writes_piece c.args.self.now.pass
       {made = λ file. c.args.tag.now.bytes.now} (λ file holds. refl) c.in_ok-push.ensures.passed)
       third))
       c.copy-2.ensures.prefix;
@@ -63,8 +63,8 @@ returns g c = record {
   cause = let pass = c.args.self.now.pass in
       let second = writes_piece pass {made = λ file. c.args.tag.now.bytes.now}
       (λ file holds. refl) c.in_ok-push.ensures.passed in
-      causes_behind c.in_ok-copy.ensures.written _ _ _ _ c.in_ok-copy.ensures.done c.copy-2.result
-      (causes_behind second _ _ _ _
+      causes_behind c.in_ok-copy.ensures.written _ _ c.in_ok-copy.ensures.done c.copy-2.result
+      (causes_behind second _ _
       c.in_ok-push.ensures.done c.copy-2.result c.copy-2.ensures.cause);
   ready = search rules;
 }

@@ -106,11 +106,11 @@ returns-in_err-copy g c = record {
   written = search rules;
   prefix = let at = (goal.at.returns-in_err-copy g c).After-from in
       err_at c.from_residual.result _ c.from_residual.ensures.1
-      (up_to_prefix c.args.self.now.pass c.requires.ready.apart c.loop-frame.invariant.up_to
+      (up_to_prefix c.requires.ready.apart c.loop-frame.invariant.up_to
       (up_to_row g at) (later g at) (next g at) c.in_err-copy.ensures.prefix);
   done = search rules;
   cause = let p = err_from_is_err_and c.from_residual.result c.from_residual.ensures.1 in
-      rw (p.1, p.2) (cause_behind c.loop-frame.invariant.up_to.written _ _ _ _
+      rw (p.1, p.2) (cause_behind c.loop-frame.invariant.up_to.written _ _
       c.loop-frame.invariant.counts _ c.in_err-copy.ensures.cause);
 }
 
@@ -125,11 +125,11 @@ move_frame-requires-clause-within g c =
 pub move_frame-requires-clause-told : goal.move_frame-requires-clause-told
 move_frame-requires-clause-told g c file holds =
     let at = (goal.at.move_frame-requires-clause-told g c).After-from in
-    let before = up_to_more c.args.self.now.pass c.requires.ready.apart c.loop-frame.invariant.up_to
+    let before = up_to_more c.requires.ready.apart c.loop-frame.invariant.up_to
     (up_to_row g at) (later g at) (next g at) c.in_ok-copy.ensures.written in
     (told file c.args.rows.now c.loop-frame.frame c.index-rows-frame.result (is g at)
     (c.loop-frame.invariant.told file
-    (up_to_held c.args.self.now.pass c.requires.ready.apart before file holds))).0
+    (up_to_held c.requires.ready.apart before file holds))).0
 
 pub returns-in_err-at : goal.returns-in_err-at
 returns-in_err-at g c = record {
@@ -137,10 +137,10 @@ returns-in_err-at g c = record {
   prefix = let at = (goal.at.returns-in_err-at g c).After-from in
       let self = c.args.self.now in
       let row = c.index-rows-frame.result in
-      let before = up_to_more self.pass c.requires.ready.apart c.loop-frame.invariant.up_to
+      let before = up_to_more c.requires.ready.apart c.loop-frame.invariant.up_to
       (up_to_row g at) (later g at) (next g at) c.in_ok-copy.ensures.written in
       err_at c.from_residual-in_err-at.result _ c.from_residual-in_err-at.ensures.1
-      (up_to_prefix self.pass c.requires.ready.apart before
+      (up_to_prefix c.requires.ready.apart before
       (λ file. moved_row_bytes c.steps-steps.result file row)
       (λ file. bytes_written_from (steps g at)
       self.tag file (row_end row) (drop (c.loop-frame.frame + 1) c.args.rows.now))
@@ -152,8 +152,8 @@ returns-in_err-at g c = record {
   cause = let p =
       err_from_is_err_and c.from_residual-in_err-at.result c.from_residual-in_err-at.ensures.1 in
       rw (p.1, p.2)
-      (cause_behind c.loop-frame.invariant.up_to.written _ _ _ _ c.loop-frame.invariant.counts _
-      (cause_behind c.in_ok-copy.ensures.written _ _ _ _ c.in_ok-copy.ensures.done _
+      (cause_behind c.loop-frame.invariant.up_to.written _ _ c.loop-frame.invariant.counts _
+      (cause_behind c.in_ok-copy.ensures.written _ _ c.in_ok-copy.ensures.done _
       c.in_err-at.ensures.cause));
 }
 
@@ -165,12 +165,12 @@ loop-frame-preserved g c =
     let behind = drop (c.loop-frame.frame + 1) c.args.rows.now in
     let end = c.in_ok-at.at in
     let end_is : row_end row ≡ end = sym c.in_ok-at.ensures.end in
-    let before = up_to_more self.pass c.requires.ready.apart c.loop-frame.invariant.up_to
+    let before = up_to_more c.requires.ready.apart c.loop-frame.invariant.up_to
     (up_to_row g at) (later g at) (next g at) c.in_ok-copy.ensures.written in
     record {
       laid = subst (λ n. FramesAreLaid n behind self.pass.length) end_is (all_laid g at).2;
       told = grind (arith, told, is g, c.loop-frame.frame, c.loop-frame.invariant.told);
-      up_to = up_to_more self.pass c.requires.ready.apart before
+      up_to = up_to_more c.requires.ready.apart before
           (λ file. moved_row_bytes c.steps-steps.result file row)
           (λ file. bytes_written_from (steps g at) self.tag file end behind)
           (λ file holds. ap₂ (λ s n. moved_row_bytes s file row
@@ -194,12 +194,12 @@ module _ (g : given.Over) (c : After-copy-2 g) where
 pub returns : goal.returns
 returns g c = record {
   written = on_ok_weaker c.copy-2.result
-      (up_to_last c.args.self.now.pass c.requires.ready.apart c.loop-frame.invariant.up_to _
+      (up_to_last c.requires.ready.apart c.loop-frame.invariant.up_to
       (last g (goal.at.returns g c).After-copy-2)) c.copy-2.ensures.written;
   prefix = err_by c.copy-2.result (λ fault.
-      up_to_last_prefix c.args.self.now.pass c.requires.ready.apart c.loop-frame.invariant.up_to _
+      up_to_last_prefix c.requires.ready.apart c.loop-frame.invariant.up_to
       (last g (goal.at.returns g c).After-copy-2)) c.copy-2.ensures.prefix;
   done = search rules;
-  cause = causes_behind c.loop-frame.invariant.up_to.written _ _ _ _
+  cause = causes_behind c.loop-frame.invariant.up_to.written _ _
       c.loop-frame.invariant.counts c.copy-2.result c.copy-2.ensures.cause;
 }

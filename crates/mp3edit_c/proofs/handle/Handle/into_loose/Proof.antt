@@ -30,7 +30,7 @@ use Rattle.std.specs.contracts.alloc.Global as global
 pub into_loose_spec : {M : Type 1} → statement M
 into_loose_spec 𝓤 𝓛 𝓜 𝓡 wired =
     let R = session.the_row in let Z = global.the_row in let LZ = global_laws.the_row_laws in
-    let Lr : RattleType = Loose R Z LZ ghosts in
+    let Lr : RattleType = Loose R LZ ghosts in
     let al : Al = record {
       row = Z;
       laws = LZ;
@@ -76,7 +76,7 @@ into_loose_spec 𝓤 𝓛 𝓜 𝓡 wired =
     nothing ! $ nothing ! $ join ! $ nothing ! $ join ! $ nothing ! $ done !)
     (λ wrong. absurd wrong)))
     (λ b o x is held test.
-    let made : Val = both (vptr b o) u in let typed = loose_good R Z LZ ghosts b o u fits in
+    let made : Val = both (vptr b o) u in let typed = loose_good R LZ ghosts b o u fits in
     let out : Val = live 1 (vcons made vnil) in
     let d : Lr.Denot = record { at = block_ptr b o; alloc = a; value = x } in
     let good : Good (layout Out) out =
@@ -95,6 +95,6 @@ into_loose_spec 𝓤 𝓛 𝓜 𝓡 wired =
     sets ! (agg ! (and_then ! (lit ! tt) (and_then ! (get ! refl) (no_more !)))) refl good $
     returns ! (look_at ! 0 refl) $ free_all ! refl $
     suffices ! _ (ends_at 𝓛 f.ended hs c z out (Some d) (tt, (tt, tt)) (tt, (tt, tt))) $
-    says ! (sym held) $ loose_in R Z LZ ghosts ! b o u a x $
+    says ! (sym held) $ loose_in R LZ ghosts ! b o u a x $
     use1 𝓛 (‵ (Out.own_val (Some d) (out ∷ []))) (Some-of 𝓛 Lr d made) $
     nothing ! $ nothing ! $ join ! $ nothing ! $ join ! $ nothing ! $ done !))))))

@@ -24,7 +24,7 @@ use Rattle.std.specs.contracts.alloc.Global as global
 pub of_loose_spec : {M : Type 1} → statement M
 of_loose_spec 𝓤 𝓛 𝓜 𝓡 wired =
     let R = session.the_row in let Z = global.the_row in let LZ = global_laws.the_row_laws in
-    let From = plain (λ _. Loose R Z LZ ghosts) in
+    let From = plain (λ _. Loose R LZ ghosts) in
     let hs : Stays f.ended.signature.params f.ended.kept = (stay_dropped From yes, tt) in
     let c = f.clauses 𝓛 𝓜.mem 𝓡.returns in let W = walk_of 𝓛 f.ended hs c in
     let 𝓣 = tables 𝓤 𝓛.H 𝓜 𝓡 𝓡.env in
@@ -35,13 +35,13 @@ of_loose_spec 𝓤 𝓛 𝓜 𝓡 wired =
     qed 𝓛 ((‵ ftrue ⊛ ‵ (owns (types_at f.signature.params z.0.0) z.0.3 z.0.4))
     ∷ raw ((c z.0.0 z.0.3).requires z.1) ∷ []) ∵
     split ! $ move ! (1 ∷ []) $ fsplit ! $
-    loose_out R Z LZ ghosts ! v z.0.4.0 (λ b o h e ws fits. keep ! (0 ∷ []) $
+    loose_out R LZ ghosts ! v z.0.4.0 (λ b o h e ws fits. keep ! (0 ∷ []) $
     -- [the box]
     let w : Val = both (vptr b o) h in
     let r : the_row.Denot = record { at = block_ptr b o; inner = Some v.value } in
     suffices ! (Run (w ∷ [])) (respelled 𝓤 Run (λ i. ws i ++ [])) $
     enter ! 𝓣.C 𝓣.Λ code.function (w ∷ []) Post $
-    alloc_all ! (λ l. pass_all ! refl (loose_good R Z LZ ghosts b o h fits, tt) $
+    alloc_all ! (λ l. pass_all ! refl (loose_good R LZ ghosts b o h fits, tt) $
     sets ! (of_opd ! (get_in ! (fld ! refl (stop !)) (sub ! 0 refl (whole !)))) refl (tt, tt) $
     sets ! (of_opd ! (get ! refl)) refl (tt, tt) $
     sets ! (agg ! (and_then ! (get ! refl) (no_more !))) refl (tt, (tt, tt)) $

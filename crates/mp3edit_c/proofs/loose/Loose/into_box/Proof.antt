@@ -36,7 +36,7 @@ into_box_spec 𝓤 𝓛 𝓜 𝓡 wired T A L LA g d dx dd allocator glue glued 
     } in
     let inst = bounded (a_type ∷ a_type ∷ []) (T, (A, tt)) (dcons d (dcons dx (dcons dd dnil))) in
     let fn = inst_fn inst code.function in
-    let From = plain (λ _. Loose R Z LZ g) in
+    let From = plain (λ _. Loose R LZ g) in
     let hs : Stays En.signature.params En.kept = (stay_dropped From no, tt) in
     proved_at 𝓛 En hs c 𝓜 𝓡 (Goes-blank 𝓛 2 From no (λ κs x f. tt), tt)
     (#self inst) fn (code.unfolded 𝓤 H 𝓜 𝓡 wired (T, (A, tt)) d dx dd) (λ z are.
@@ -47,8 +47,8 @@ into_box_spec 𝓤 𝓛 𝓜 𝓡 wired T A L LA g d dx dd allocator glue glued 
     let asked = raw ((c κs z.0.3).requires z.1) in
     qed 𝓛 ((toks ⊛ ‵ (owns (types_at En.signature.params κs) z.0.3 z.0.4)) ∷ asked ∷ []) ∵
     split ! $ move ! (1 ∷ []) $ fsplit ! $
-    loose_out R Z LZ g ! v z.0.4.0 (λ b o h e ws fits.
-    let w : Val = both (vptr b o) h in let typed = loose_good R Z LZ g b o h fits in
+    loose_out R LZ g ! v z.0.4.0 (λ b o h e ws fits.
+    let w : Val = both (vptr b o) h in let typed = loose_good R LZ g b o h fits in
     let k = triple_of 𝓛 (callee.signature T A g d dd)
     (callee.spec T A g d dd 𝓛 𝓜.mem 𝓡.returns) in
     let y : k.Ghost =
@@ -82,7 +82,7 @@ into_box_spec 𝓤 𝓛 𝓜 𝓡 wired T A L LA g d dx dd allocator glue glued 
     box_out E ! r (u ∷ []) (λ b' o' h' e' us fits'. box_in E ! r b' o' r.value e' refl $
     rewrite ! 0 (λ (xs : List Val). ‵ (B.own_val r xs)) (sym us) refl $
     let good : Good (layout B) u =
-    subst (Good (layout B)) (sym (ap only us)) (loose_good R Z LZ g b' o' h' fits') in
+    subst (Good (layout B)) (sym (ap only us)) (loose_good R LZ g b' o' h' fits') in
     lands_last ! refl good $ exec ! 𝓣.C 𝓣.Λ Ev (after 3 fn.body) (at_ret Ev Post) $
     sets ! (of_opd ! (get ! refl)) refl good $ nothing ! $ nothing ! $ fjoin ! $
     returns ! (look_at ! 0 refl) $ free_all ! refl $ keep ! (2 ∷ 0 ∷ 1 ∷ 3 ∷ []) $

@@ -49,7 +49,7 @@ of_spec 𝓤 𝓛 𝓜 𝓡 wired T A L LA g d dx dd allocator glue glued =
     qed 𝓛 ((toks ⊛ ‵ (owns (types_at En.signature.params κs) z.0.3 z.0.4)) ∷ asked ∷ []) ∵
     split ! $ move ! (1 ∷ []) $ fsplit ! $ box_out E ! v z.0.4.0 (λ b o h e ws fits.
     box_in E ! v b o v.value e refl $
-    let w : Val = box.word E h b o in let typed = loose_good R Z LZ g b o h fits in
+    let w : Val = box.word E h b o in let typed = loose_good R LZ g b o h fits in
     let k = triple_of 𝓛 (callee.signature T A g d dd dx)
     (callee.spec T A g d dd dx 𝓛 𝓜.mem 𝓡.returns) in
     let y : k.Ghost = ((κs, qs, tt, (v, tt), (w ∷ [], tt)), tt) in
@@ -74,14 +74,14 @@ of_spec 𝓤 𝓛 𝓜 𝓡 wired T A L LA g d dx dd allocator glue glued =
     fsplit ! $ feq_l ! (λ ep. fsplit ! $
     rewrite ! 0 (λ (s : A.Denot). ‵ (A.own_val s vss.1.0)) ea refl $
     handle_tells E.al ! a vss.1.0 (λ h' eh fits'.
-    let made = loose_good R Z LZ g b' o' h' fits' in
+    let made = loose_good R LZ g b' o' h' fits' in
     lands_as ! (ap only (eu ∙ (λ j. vstruct (of_list
     ((ep ∙ ap (λ (p : Ptr). ptr_val p ∷ []) e') j ++ (eh j ++ []))) ∷ []))) refl made $
     sets ! (of_opd ! (get_in ! (fld ! refl (stop !)) (sub ! 0 refl (whole !)))) refl (tt, tt) $
     sets ! (of_opd ! (get_in ! (fld ! refl (stop !)) (sub ! 1 refl (whole !)))) refl fits' $
     sets ! (of_opd ! (get ! refl)) refl fits' $
     sets ! (agg ! (and_then ! (get ! refl) (and_then ! (get ! refl) (no_more !)))) refl made $
-    move ! (3 ∷ 0 ∷ []) $ loose_in R Z LZ g ! b' o' h' a v.value $
+    move ! (3 ∷ 0 ∷ []) $ loose_in R LZ g ! b' o' h' a v.value $
     use0 𝓛 (raw (fact 𝓤 (v.value ≡ v.value)))
     (fact_i 𝓤 (v.value ≡ v.value) (emp 𝓤) refl) $
     nothing ! $ nothing ! $ fjoin ! $

@@ -13,12 +13,12 @@ make_empty-requires g c = record {
 
 pub returns-clause-emptied : goal.returns-clause-emptied
 returns-clause-emptied g c =
-    touch_emptied (touched_in c.args.self.now.touched) _ _ c.args.name.now
+    touch_emptied (touched_in c.args.self.now.touched) c.args.name.now
     (ap touched_in c.make_empty.ensures.touched) c.in_ok-add_created.ensures.added
     c.make_empty.result
 
 pub returns-clause-kept : goal.returns-clause-kept
 returns-clause-kept g c =
-    touch_failed (touched_in c.args.self.now.touched) _ _ c.args.name.now
+    touch_failed (touched_in c.args.self.now.touched) c.args.name.now
     (ap touched_in c.make_empty.ensures.touched) c.in_ok-add_created.ensures.added
     c.make_empty.result

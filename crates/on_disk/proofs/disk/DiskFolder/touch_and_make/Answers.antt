@@ -13,12 +13,12 @@ make_new-requires g c = record {
 
 pub returns-clause-made : goal.returns-clause-made
 returns-clause-made g c =
-    touch_made (touched_in c.args.self.now.touched) _ _ c.args.name.now
+    touch_made (touched_in c.args.self.now.touched) c.args.name.now
     (ap touched_in c.make_new.ensures.touched) c.in_ok-add_made.ensures.added
     c.make_new.result
 
 pub returns-clause-kept : goal.returns-clause-kept
 returns-clause-kept g c =
-    touch_unmade (touched_in c.args.self.now.touched) _ _ c.args.name.now
+    touch_unmade (touched_in c.args.self.now.touched) c.args.name.now
     (ap touched_in c.make_new.ensures.touched) c.in_ok-add_made.ensures.added
     c.make_new.result

@@ -36,9 +36,8 @@ returns-in_err-selected-clause-refused g c =
     err_with _ _ c.from_residual-in_err-selected.ensures.1
     (mode_early edit.mode edit.input.now old _ _
     (λ file holds. (_, c.in_ok-survey.ensures.limited file holds))
-    (plan_is_input (mode_planning edit.mode) (mode_refuses edit.mode) edit.input.now old _
-    (survey_view c.in_ok-survey.survey)
-    (chosen_in c.in_ok-chosen.chosen) c.in_ok-survey.ensures.there c.in_ok-survey.ensures.surveyed
+    (plan_is_input (mode_planning edit.mode) (mode_refuses edit.mode)
+    edit.input.now c.in_ok-survey.ensures.there c.in_ok-survey.ensures.surveyed
     (λ bytes holds. c.in_ok-chosen.ensures.chosen bytes
     (subst (λ f. Holds f edit.input.now bytes) (sym c.survey_packed.ensures.reads.files) holds))
     (ap₂ seen_folder (c.all_choice.ensures.reads.files ∙ c.survey_packed.ensures.reads.files)
@@ -68,7 +67,7 @@ returns-in_err-work-clause-refused g c =
 
 pub returns-clause-ready : goal.returns-clause-ready
 returns-clause-ready g c =
-    work_layable c.in_ok-survey.survey c.in_ok-selected.selected c.in_ok-work.work
+    work_layable
     c.in_ok-work.ensures
     c.in_ok-survey.ensures.there c.in_ok-survey.ensures.laid
     (λ bytes holds. survey-had most_frames (c.in_ok-survey.ensures.surveyed bytes holds))
@@ -80,8 +79,7 @@ returns-clause-making g c =
     let files = (g.D.Folder.seen c.args.folder.now).files in
     let s = survey_view c.in_ok-survey.survey in
     let selected = c.in_ok-selected.selected in
-    work_makes c.in_ok-survey.survey selected
-    c.in_ok-work.work c.in_ok-work.ensures
+    work_makes c.in_ok-work.ensures
     (mode_makes edit.mode
     (λ file holds. (_, c.in_ok-survey.ensures.limited file holds))
     (task_makes all_choice (mode_planning edit.mode) (mode_refuses edit.mode)

@@ -99,8 +99,7 @@ pub returns-clause-ready : goal.returns-clause-ready
 returns-clause-ready g c =
     let before = (goal.at.returns-clause-ready g c).After-as_ref in
     let s = survey_view c.in_ok-survey.survey in
-    planned-ready (survey_view c.set_apart.new.survey) c.in_ok-parts.parts.items
-    (option_copied c.as_ref.result) c.in_ok-work.work c.in_ok-work.ensures (splice g before)
+    planned-ready c.in_ok-work.ensures (splice g before)
     c.in_ok-survey.ensures.there (apart g before)
     (λ bytes holds. subst (CanBeRelaid bytes) (sym c.set_apart.ensures)
     (survey_without_head-relaid (c.in_ok-survey.ensures.surveyed bytes holds)))
@@ -127,7 +126,7 @@ returns-clause-making g c =
     remove-makes edit.stretches.now
     c.in_ok-survey.ensures.there c.in_ok-survey.ensures.surveyed c.in_ok-survey.ensures.octets
     c.in_ok-parts.ensures.parts
-    (λ bytes holds. planned-file (survey_without_head s) parts (fields_of_head bytes s.head) work
+    (λ bytes holds. planned-file
     (planned bytes holds)
     (subst (λ (t : SurveyFields). ArePartsLeft t parts) c.set_apart.ensures (splice g before))
     (survey_without_head-relaid (c.in_ok-survey.ensures.surveyed bytes holds))

@@ -6,7 +6,7 @@ use Rattle.salvage.proofs.usable.Role.anchored.Goals as goal
 
 pub returns-in_default-clause-frame : goal.returns-in_default-clause-frame
 returns-in_default-clause-frame c =
-    λ file shows. none_anchored file c.args.at c.args.front.now c.args.left shows
+    λ file shows. none_anchored shows
     c.args.self.now (sym c.in_default.is ∙ c.anchored_frame.ensures.frame file shows)
 
 pub admits-requires : goal.admits-requires
@@ -18,12 +18,12 @@ admits-requires c = record {
 
 pub returns-then-admits-clause-frame : goal.returns-then-admits-clause-frame
 returns-then-admits-clause-frame c = λ file shows.
-    frame_judged file c.args.at c.args.front.now c.args.left shows c.args.self.now
+    frame_judged shows c.args.self.now
     (c.in-Some.ensures.frame file shows)
     c.in-Some.ensures.offset c.in-Some.ensures.header (sym c.admits.ensures ∙ c.if-admits.true)
 
 pub returns-else-admits-clause-frame : goal.returns-else-admits-clause-frame
 returns-else-admits-clause-frame c = λ file shows.
-    frame_judged file c.args.at c.args.front.now c.args.left shows c.args.self.now
+    frame_judged shows c.args.self.now
     (c.in-Some.ensures.frame file shows)
     c.in-Some.ensures.offset c.in-Some.ensures.header (sym c.admits.ensures ∙ c.if-admits.false)

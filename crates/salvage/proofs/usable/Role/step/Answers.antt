@@ -5,8 +5,8 @@ use Rattle.sync_survey.proofs.StepLemmas.{room_passed}
 use Rattle.salvage.proofs.usable.Role.step.Goals as goal
 
 pub returns-in_default-clause-read : goal.returns-in_default-clause-read
-returns-in_default-clause-read c = λ file shows. none_read file c.args.at c.args.front.now
-    c.args.left shows c.args.self.now (c.in_default.ensures.step file c.args.at shows)
+returns-in_default-clause-read c =
+    λ file shows. none_read shows c.args.self.now (c.in_default.ensures.step file c.args.at shows)
 
 pub admits_item-requires : goal.admits_item-requires
 admits_item-requires c = record {
@@ -16,10 +16,10 @@ admits_item-requires c = record {
 
 pub returns-then-admits_item-clause-read : goal.returns-then-admits_item-clause-read
 returns-then-admits_item-clause-read c = λ file shows.
-    item_judged file c.args.at c.args.front.now c.args.left shows c.args.self.now
+    item_judged shows c.args.self.now
     c.in-Some.ensures.passes (sym c.admits_item.ensures ∙ c.if-admits_item.true)
 
 pub returns-else-admits_item-clause-read : goal.returns-else-admits_item-clause-read
 returns-else-admits_item-clause-read c = λ file shows.
-    item_judged file c.args.at c.args.front.now c.args.left shows c.args.self.now
+    item_judged shows c.args.self.now
     c.in-Some.ensures.passes (sym c.admits_item.ensures ∙ c.if-admits_item.false)

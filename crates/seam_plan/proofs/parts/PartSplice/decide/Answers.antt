@@ -9,7 +9,7 @@ use Rattle.seam_plan.proofs.parts.PartSplice.decide.Goals as goal
 pub returns-in-Some-clause-items : goal.returns-in-Some-clause-items
 returns-in-Some-clause-items c = λ class splice is.
     let same = subst (λ k. AreNeedsOfClass k c.args.needs.now) is.of_class c.requires.part.same in
-    in-slot-items class c.args.self.now.left splice is.known is.left c.args.needs.now c.in-Some.slot
+    in-slot-items class is.known is.left c.args.needs.now c.in-Some.slot
     same (subst (IsJoinSlot (window_of class.version) c.args.self.now.left c.args.needs.now)
     c.in-Some.is (c.joins.ensures class same))
 
@@ -23,7 +23,7 @@ returns-in-Some-clause-joint c =
 pub returns-in-None-clause-items : goal.returns-in-None-clause-items
 returns-in-None-clause-items c = λ class splice is.
     let same = subst (λ k. AreNeedsOfClass k c.args.needs.now) is.of_class c.requires.part.same in
-    led-part-items class c.args.self.now.left splice is.known is.left c.args.needs.now same
+    led-part-items class is.known is.left c.args.needs.now same
     (subst (IsJoinSlot (window_of class.version) c.args.self.now.left c.args.needs.now)
     c.in-None.is (c.joins.ensures class same)) (c.lead_in.ensures class same)
 

@@ -27,8 +27,7 @@ returns-clause-goes_on c = λ class frames more places before brought is brings 
     let added = c.add.ensures.left (needs_of frames) before_left in
     let left = subst (λ l. IsMostLeft window window (needs_of frames ++ joined_needs joint.slot l)
     c.add.new.self.left) (c.needs_after.ensures ∙ ap (λ n. drop n needs) out) added in
-    splice-goes class c.args.number frames more places before brought
-    c.args.input.now c.args.self.now _ joint is brings adds
+    splice-goes c.args.number more _ joint is brings adds
     (c.note.ensures.class ∙ c.add.ensures.class)
     (subst (IsMostLeft window window (needs_of frames
     ++ joined_needs joint.slot (drop (left_out_count joint.seam) needs)))

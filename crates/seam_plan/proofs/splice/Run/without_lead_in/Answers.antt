@@ -27,7 +27,7 @@ joining-requires-clause-fits c =
     subst (FitsBehind window window) (sym c.needs_after-others.ensures)
     (fits-drop window 0 1 c.args.input.now.needs.now c.requires.input.fits)
 
-module _ (c : Else-not-has_lead_in) (class : ClassFields) (of_class : c.args.self.now.class ≡ class)
+module _ (c : Else-not-has_lead_in) {class : ClassFields} (of_class : c.args.self.now.class ≡ class)
   where
     same : AreNeedsOfClass class c.args.input.now.needs.now
     same = subst (λ k. AreNeedsOfClass k c.args.input.now.needs.now) of_class c.requires.input.same
@@ -40,23 +40,23 @@ pub returns-then-not-has_lead_in-clause-joint : goal.returns-then-not-has_lead_i
 returns-then-not-has_lead_in-clause-joint c = λ class frames places before brought is brings.
     let same =
     subst (λ k. AreNeedsOfClass k c.args.input.now.needs.now) is.of_class c.requires.input.same in
-    without-lead class frames c.args.input.now brought c.has_lead_in.result brings
+    without-lead class frames brings
     (c.has_lead_in.ensures class brought same brings) c.if-not-has_lead_in.true
 
 pub returns-then-fit_alone-clause-joint : goal.returns-then-fit_alone-clause-joint
 returns-then-fit_alone-clause-joint c = λ class frames places before brought is brings.
     let at = (goal.at.returns-then-fit_alone-clause-joint c).Else-not-has_lead_in in
-    without-want class frames c.args.input.now brought c.has_lead_in.result brings
-    (c.has_lead_in.ensures class brought (same at class is.of_class) brings)
-    (c.fit_alone.ensures class (others at class is.of_class)
+    without-want class frames brings
+    (c.has_lead_in.ensures class brought (same at is.of_class) brings)
+    (c.fit_alone.ensures class (others at is.of_class)
     ∙ ap (fits_behind (window_of class.version) 0) c.needs_after-others.ensures) c.if-fit_alone.true
 
 pub returns-clause-joint : goal.returns-clause-joint
 returns-clause-joint c = λ class frames places before brought is brings.
     let at = (goal.at.returns-clause-joint c).Else-not-has_lead_in in
-    without-some class frames c.args.input.now brought c.has_lead_in.result brings
-    (c.has_lead_in.ensures class brought (same at class is.of_class) brings)
-    c.joining.result (c.fit_alone.ensures class (others at class is.of_class)
+    without-some class frames brings
+    (c.has_lead_in.ensures class brought (same at is.of_class) brings)
+    c.joining.result (c.fit_alone.ensures class (others at is.of_class)
     ∙ ap (fits_behind (window_of class.version) 0) c.needs_after-others.ensures)
     c.if-not-has_lead_in.false c.if-fit_alone.false
     (c.joining.ensures.joining class frames (drop 1 brought.frames) places before is

@@ -104,15 +104,13 @@ module _ (g : given.Over) (c : After-brought-input g) where
   next-of : IsNextInput (map input_view c.args.inputs.now)
       c.args.number c.args.self.now.splice c.brought-input.result
   next-of =
-      is-next _ (map input_view c.args.inputs.now)
-      c.args.beginnings.now c.args.number c.args.self.now c.requires.can c.requires.before i found _
+      is-next c.requires.can c.requires.before found
       begun-here c.brought-input.result parts c.brought-input.ensures.blank played counted
 
   of : IsInputOf (map input_view c.args.inputs.now)
       c.args.beginnings.now c.args.number c.requires.before.class c.brought-input.result
   of =
-      input-of _ (map input_view c.args.inputs.now)
-      c.args.beginnings.now c.args.number c.args.self.now c.requires.can c.requires.before i found _
+      input-of c.requires.can c.requires.before found
       begun-here c.brought-input.result parts c.brought-input.ensures.blank played counted
 
 pub alike-requires-clause-next : goal.alike-requires-clause-next

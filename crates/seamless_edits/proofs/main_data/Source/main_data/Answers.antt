@@ -28,14 +28,12 @@ held : (g : given.Over) (c : After-from g) → HoldsData c.read_before.new.windo
 held g c =
     let s = survey_view c.args.self.now.survey.now in
     let row = c.index-frames-i.result in
-    holds-data c.read_before.new.window c.args.self.now.name.now
-    (g.D.Folder.seen c.args.folder.now).files s c.args.i row
+    holds-data c.args.i
     (read-at c.requires.within c.frames.ensures
     c.index-frames-i.is)
     (sym c.lost.ensures ∙ c.if-lost.false) c.requires.held.laid
     (subst (λ f. IsWindowOverFrames c.read_before.new.window c.args.self.now.name.now f s
     (c.args.i + 1)) c.read_before.ensures.reads.files c.in_ok-read_before.ensures.over)
-    c.area-area.result c.from.result c.extent-extent.result.bits
     (c.area-area.ensures.area ∙ ap own_area c.header.ensures)
     (c.from.ensures ∙ c.extent-extent.ensures.begin) c.extent-extent.ensures.bits
 

@@ -14,7 +14,7 @@ returns-in-Some-clause-appended c = grind (
   rules,
   name_appended (λ content. content.items)
       c.args.self.now.by_name (c.get_mut.follows.lender c.extend_from_slice.new.self)
-      c.args.name.now c.in-Some.content.now c.in-Some.ensures.value
+      c.args.name.now c.in-Some.ensures.value
       c.args.bytes.now
       ((c.get_mut.follows.holds c.extend_from_slice.new.self).3 (search rules)),
 )
@@ -23,6 +23,6 @@ pub returns-in-Some-clause-kept : goal.returns-in-Some-clause-kept
 returns-in-Some-clause-kept c = on_err_weaker c.extend_from_slice.result
     (name_kept (λ content. content.items)
     c.args.self.now.by_name (c.get_mut.follows.lender c.extend_from_slice.new.self)
-    c.args.name.now c.in-Some.content.now c.in-Some.ensures.value
+    c.args.name.now c.in-Some.ensures.value
     ((c.get_mut.follows.holds c.extend_from_slice.new.self).3 (search rules)))
     (was_kept c.extend_from_slice.result _ _ _ c.extend_from_slice.ensures.items)

@@ -39,13 +39,13 @@ back c = subst (λ d. side_at d (bits (bytes (side_bits d c.args.side.now))) ≡
 pub invariant_of-result : goal.invariant_of-result
 invariant_of-result c =
     let at = (goal.at.invariant_of-result c).After-room_of in
-    are_written c.args.header.now (known at) c.bytes.result (part at)
-    c.room_of.result c.bytes.ensures.bits c.bytes.ensures.octets (size at) (all at) (room at)
+    are_written (known at) c.bytes.result (part at)
+    c.bytes.ensures.bits c.bytes.ensures.octets (size at) (all at) (room at)
 
 pub returns : goal.returns
 returns c =
     let at = (goal.at.returns c).After-room_of in
-    written_fields c.args.header.now (known at) c.bytes.result (part at)
-    c.room_of.result c.bytes.ensures.bits c.bytes.ensures.octets (size at) (all at) (room at)
+    written_fields (known at) c.bytes.result (part at)
+    c.bytes.ensures.bits c.bytes.ensures.octets (size at) (all at) (room at)
     ∙ ap {A = Side} {B = FrameFields} (λ s. record { header = c.args.header.now; side = s })
     (back at)

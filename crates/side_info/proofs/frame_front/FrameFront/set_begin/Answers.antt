@@ -65,7 +65,7 @@ returns c =
     side_at-begin (written c.self.invariant).class (shaped a)
     (fits c.self.invariant) (small at) (written c.self.invariant).side first in
     ap front_view (sym (counted at part))
-    ∙ side_fields-written a c.self.invariant part
+    ∙ side_fields-written c.self.invariant part
     (part_size at part (omega (arith, c.put_begin.auto.part))) c.put_begin.ensures.octets
     ∙ ap {A = Side} {B = FrameFields} (λ s. record { header = header_of a; side = s }) side
     ∙ ap {A = FrameFields} {B = FrameFields} (λ f. record {

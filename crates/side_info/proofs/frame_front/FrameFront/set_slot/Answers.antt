@@ -27,13 +27,13 @@ head c = c.put_slot.ensures.bits (header_of c.self.inside) (written c.self.invar
 pub invariant_of-self : goal.invariant_of-self
 invariant_of-self c =
     let at = (goal.at.invariant_of-self c).After-put_slot in
-    header_written c.self.inside c.self.invariant (slotted (header_of c.self.inside) c.args.slot)
+    header_written c.self.invariant
     (known at) c.put_slot.new.four (head at) c.put_slot.ensures.octets refl
 
 pub returns : goal.returns
 returns c =
     let at = (goal.at.returns c).After-put_slot in
-    header_fields-written c.self.inside c.self.invariant (slotted (header_of c.self.inside)
-    c.args.slot) (known at) c.put_slot.new.four (head at) c.put_slot.ensures.octets refl
+    header_fields-written c.self.invariant (known at) c.put_slot.new.four (head at)
+    c.put_slot.ensures.octets refl
     ∙ ap {A = FrameFields} {B = FrameFields}
     (λ f. record { header = slotted f.header c.args.slot; side = f.side }) c.self.view_is

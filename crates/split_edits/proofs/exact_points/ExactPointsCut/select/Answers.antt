@@ -16,7 +16,7 @@ returns-in_err-span-clause-laid c =
     (inr (
       exact-points-refusal c.args.self.now _ c.in_err-span.ensures.refusal,
       λ file s is.
-          exact-laid-refused from to file s t is.survey c.args.source.now.head is.head_is
+          exact-laid-refused from to file s is.survey is.head_is
           (ap (λ (h : Option Info). file_span from to h t) (sym c.as_ref-head.ensures.value)
           ∙ c.in_err-span.ensures.span),
     ))
@@ -27,7 +27,7 @@ returns-clause-laid c = λ file s is.
     let from = c.args.from.now in
     let to = c.args.to.now in
     let span = c.in_ok-span.span in
-    exact-laid-is from to file s t is.survey c.args.source.now.head is.head_is
+    exact-laid-is from to file s is.survey is.head_is
     (ap (λ (h : Option Info). file_span from to h t) (sym c.as_ref-head.ensures.value)
     ∙ c.in_ok-span.ensures.span)
     (c.in_ok-selected.ensures.laid file (rw is.survey is.has)

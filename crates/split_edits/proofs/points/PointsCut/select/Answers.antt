@@ -2,7 +2,6 @@
 use Rattle.std.proofs.Common.{inr}
 use Rattle.split_edits.proofs.CutLemmas.{frames-laid, frames-refused, points-refusal}
 use Rattle.split_edits.proofs.PiecesLemmas.{match_err}
-use Rattle.sync_survey.specs.Faults.{survey_view}
 use Rattle.split_edits.proofs.points.PointsCut.select.Goals as goal
 
 pub returns-in_err-chosen-clause-laid : goal.returns-in_err-chosen-clause-laid
@@ -10,12 +9,12 @@ returns-in_err-chosen-clause-laid c =
     match_err c.from_residual.result _ _ c.from_residual.ensures.1
     (inr (
       points-refusal c.args.self.now _ c.in_err-chosen.ensures.refusal,
-      λ file s is. frames-refused c.args.from.now c.args.to.now file s
-          (survey_view c.args.source.now.survey) is.survey (c.in_err-chosen.ensures.chosen file),
+      λ file s is. frames-refused c.args.from.now c.args.to.now file
+          is.survey (c.in_err-chosen.ensures.chosen file),
     ))
 
 pub returns-clause-laid : goal.returns-clause-laid
 returns-clause-laid c = λ file s is.
-    frames-laid c.args.from.now c.args.to.now file s (survey_view c.args.source.now.survey)
+    frames-laid c.args.from.now c.args.to.now file
     is.survey
     (c.in_ok-chosen.ensures.chosen file) c.in_ok-selected.ensures.laid

@@ -25,7 +25,7 @@ passes : (c : Then-size-left) → (file : List ℕ)
 passes c file shows =
     let own = own c in
     subst (λ (i : Item). Passes Stream file c.args.offset i c.from-size.result) own.item
-    (step_passes file c.args.offset c.args.bytes.now c.args.left shows Stream
+    (step_passes shows Stream
     c.from-size.result (Frame c.in-Some.header) own.item refl
     (omega (arith, own.least, own.within)) own.zeros own.own)
 
