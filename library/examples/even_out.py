@@ -18,8 +18,8 @@ import mp3edit
 def steps_of(songs: Sequence[Path]) -> dict[Path, int]:
     """By how many steps of 1.5 dB each file differs from 89 dB."""
     words = ["mp3gain", "-q", "-s", "s", "-o", *map(str, songs)]
-    said = subprocess.run(words, stdout=subprocess.PIPE, stderr=subprocess.DEVNULL, text=True)
-    rows = [it.split("\t") for it in said.stdout.splitlines()[1:]]
+    said = subprocess.run(words, stdout=subprocess.PIPE, stderr=subprocess.DEVNULL)
+    rows = [it.split("\t") for it in os.fsdecode(said.stdout).split("\n")[1:]]
     return {Path(it[0]): int(it[1]) for it in rows if Path(it[0]) in songs}
 
 
@@ -39,6 +39,7 @@ def even_out(song: Path, steps: Optional[int], folder: Path) -> tuple[bool, str]
 
 
 def main(source: str, target: str) -> int:
+    sys.stdout.reconfigure(errors="surrogateescape")  # for names that aren't UTF-8
     songs = sorted(it for it in Path(source).iterdir() if it.suffix.lower() == ".mp3")
     Path(target).mkdir(exist_ok=True)
     steps: dict[Path, int] = {}
@@ -54,4 +55,4 @@ def main(source: str, target: str) -> int:
 
 
 if __name__ == "__main__":
-    sys.exit(main(*sys.argv[1:]))
+    sys.exit(main(*sys.argv[1:]) if len(sys.argv) == 3 else "even_out.py FOLDER OUT")
