@@ -44,7 +44,8 @@ program:
 library:
 	scripts/build-library $(ARCH)
 
-install: install-program install-library install-development install-python
+# All is built before anything is installed.
+install: all install-program install-library install-development install-python
 
 install-program: program
 	install -D -m 755 "$(PROGRAM)" "$(BIN)/mp3edit"
