@@ -1,4 +1,4 @@
-/* Cuts a clip out of an MP3 file, to the sample: clip IN FROM TO OUT. */
+/* clip IN FROM TO OUT: cuts a clip out of an MP3 file, to the sample. OUT is a new file. */
 #include <mp3edit.h>
 #include <stdio.h>
 #include <stdlib.h>
@@ -21,12 +21,12 @@ static uint8_t *bytes_of(const char *path, size_t *size)
     return bytes;
 }
 
-/* Writes what the session has under the name out: a room of 0 asks for its size. */
+/* Writes what the session has under the name out to a new file: a room of 0 asks for its size. */
 static int is_written(mp3edit_session *session, const char *path)
 {
     size_t size = 0;
     uint8_t none, *clip = NULL;
-    FILE *file = fopen(path, "wb");
+    FILE *file = fopen(path, "wbx");
     if (file && mp3edit_get(session, out, sizeof out, &none, 0, &size) == MP3EDIT_DONE)
         clip = malloc(size + 1);
     if (clip)
@@ -52,8 +52,10 @@ int main(int count, char **words)
                                (char *)0);
     mp3edit_line(&session, line, sizeof line, &size);
     fwrite(line, 1, size < sizeof line ? size : sizeof line, stderr);
-    if (answer == MP3EDIT_DONE && !is_written(&session, words[4]))
+    if (answer == MP3EDIT_DONE && !is_written(&session, words[4])) {
+        perror(words[4]);
         answer = MP3EDIT_FAILED;
+    }
     mp3edit_free(&session);
     return answer;
 }
