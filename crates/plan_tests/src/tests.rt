@@ -10,6 +10,6 @@ mod menus;
 mod part_splices;
 mod parts;
 mod rows;
-mod splices;
 mod seams;
+mod splices;
 mod stretches;

@@ -4,21 +4,18 @@ use Rattle.plan_tests.proofs.tests.checked.fit_behind.Goals as goal
 
 pub returns-clause-free : goal.returns-clause-free
 returns-clause-free c = λ is.
-    behind-free c.class-class.result c.args.needs.now c.index-needs-0.result c.window-window.result
-    c.args.free (c.are_of_one_class.ensures c.if-not-are_of_one_class.false)
+    behind-free c.index-needs-0.result (c.are_of_one_class.ensures c.if-not-are_of_one_class.false)
     c.class-class.ensures c.window-window.ensures.window c.if-free-window.false (c.fit.ensures is)
 
 pub returns-clause-window : goal.returns-clause-window
 returns-clause-window c = λ is.
-    behind-window c.args.free c.args.needs.now
-    (behind-free c.class-class.result c.args.needs.now c.index-needs-0.result c.window-window.result
-    c.args.free (c.are_of_one_class.ensures c.if-not-are_of_one_class.false)
+    behind-window
+    (behind-free c.index-needs-0.result (c.are_of_one_class.ensures c.if-not-are_of_one_class.false)
     c.class-class.ensures c.window-window.ensures.window c.if-free-window.false (c.fit.ensures is))
 
 pub returns-clause-join : goal.returns-clause-join
 returns-clause-join c = λ is left less.
-    joins-window c.args.free left c.args.needs.now c.requires.some
-    (behind-free c.class-class.result c.args.needs.now c.index-needs-0.result c.window-window.result
-    c.args.free (c.are_of_one_class.ensures c.if-not-are_of_one_class.false)
+    joins-window c.requires.some
+    (behind-free c.index-needs-0.result (c.are_of_one_class.ensures c.if-not-are_of_one_class.false)
     c.class-class.ensures c.window-window.ensures.window c.if-free-window.false (c.fit.ensures is))
     less
