@@ -313,9 +313,9 @@ module _ (keeps : Bool) (words : List (List ℕ)) {asked : Request} (is : job_of
               missing = λ keep. subst (OutputsAreMissing f) (sym is) (kept.1 keep);
             }),
         (λ legal. done_where_made all told calls found (takes.0 (
-              law.0 (subst (IsLegalBy f) is legal.legal),
-              λ keep. subst (OutputsAreMissing f) is (legal.missing keep),
-            ))),
+          law.0 (subst (IsLegalBy f) is legal.legal),
+          λ keep. subst (OutputsAreMissing f) is (legal.missing keep),
+        ))),
       )
 
   -- ---- where what is there is kept

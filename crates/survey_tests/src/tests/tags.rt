@@ -126,7 +126,9 @@ fn put_parts(alloc: Global, folder: &mut MemFolder, parts: &[Stretch]) -> Result
 
 fn is_found(found: &Found, tagged: Tagged) -> bool {
     let (offset, length, bytes) = tagged;
-    found.extent.offset == offset && found.extent.length == length && found.bytes.as_slice() == bytes
+    found.extent.offset == offset
+        && found.extent.length == length
+        && found.bytes.as_slice() == bytes
 }
 
 /// Whether the file `a` has this tag, or its tag isn't read for this reason.
